@@ -1,0 +1,12 @@
+pub mod Sums
+pub mod Plant
+pub mod Fits
+pub mod Batches
+pub mod Stock
+pub mod Load
+pub mod Feasible
+pub mod Violations
+pub mod Profit
+pub mod Best
+pub mod Points
+pub mod Sound

@@ -1,0 +1,76 @@
+-- What the records of a plant say of its runs, durations, gaps and outages.
+use Rattle.std.specs.Prelude.{ℕ, ℤ, pos, ◌+◌, ◌==◌, ◌&&◌, ◌||◌, not, nat_le, Bool, List, [], ◌∷◌, Option, Some, None, find, position, filter, slice_index_or}
+use Rattle.std.specs.List.{list_all}
+use Rattle.stn_model.specs.declared.plant.Plant.{Plant}
+use Rattle.stn_model.specs.declared.plant.State.{State}
+use Rattle.stn_model.specs.declared.plant.Utility.{Utility}
+use Rattle.stn_model.specs.declared.plant.Task.{Task}
+use Rattle.stn_model.specs.declared.plant.Run.{Run}
+use Rattle.stn_model.specs.declared.plant.Gap.{Gap}
+use Rattle.stn_model.specs.declared.plant.Outage.{Outage}
+use Rattle.stn_model.specs.declared.start.Start.{Start}
+use Rattle.stn_model.specs.Sums.{greatest_by}
+
+-- a task that takes and gives nothing, in the place of one that is not there
+abbrev pub no_task : Task
+no_task = record { name = []; quantum = 0; inputs = []; outputs = []; draws = [] }
+
+-- a state without stock or limit, in the place of one that is not there
+abbrev pub no_state : State
+no_state = record { name = []; initial = 0; limits = []; price = pos 0; holding = pos 0 }
+
+-- a utility of which nothing is there, in the place of one that is not there
+abbrev pub no_utility : Utility
+no_utility = record { name = []; limits = []; rate = pos 0 }
+
+-- the task of this number
+abbrev pub task_at : Plant → ℕ → Task
+task_at plant task = slice_index_or plant.tasks task no_task
+
+-- the state of this number
+abbrev pub state_at : Plant → ℕ → State
+state_at plant state = slice_index_or plant.states state no_state
+
+-- the utility of this number
+abbrev pub utility_at : Plant → ℕ → Utility
+utility_at plant utility = slice_index_or plant.utilities utility no_utility
+
+-- how many periods a batch of the task takes: the greatest delay of its outputs
+unfoldable pub duration_of : Task → ℕ
+duration_of task = greatest_by (λ output. output.delay) task.outputs
+
+-- the run is of this task and unit
+abbrev pub is_of : ℕ → ℕ → Run → Bool
+is_of task unit run = run.task == task && run.unit == unit
+
+-- the number of the run of a task on a unit, if there is one
+unfoldable pub run_number : Plant → ℕ → ℕ → Option ℕ
+run_number plant task unit = position (is_of task unit) plant.runs
+
+-- the run of a task on a unit, if there is one
+unfoldable pub run_on : Plant → ℕ → ℕ → Option Run
+run_on plant task unit = find (is_of task unit) plant.runs
+
+-- the gap is listed for this unit, from a batch of the one task to a batch of the other
+abbrev pub is_between : ℕ → ℕ → ℕ → Gap → Bool
+is_between unit from to gap = gap.unit == unit && gap.from == from && gap.to == to
+
+-- how many periods the unit is cleaned between the tasks: the most that are listed for them
+unfoldable pub gap_between : Plant → ℕ → ℕ → ℕ → ℕ
+gap_between plant unit from to = greatest_by (λ gap. gap.periods) (filter (is_between unit from to) plant.gaps)
+
+-- what the changeover of the unit between the tasks costs: the most that is listed for them
+unfoldable pub cost_between : Plant → ℕ → ℕ → ℕ → ℕ
+cost_between plant unit from to = greatest_by (λ gap. gap.cost) (filter (is_between unit from to) plant.gaps)
+
+-- the outage leaves the unit free from one time to another
+abbrev pub is_clear_of : ℕ → ℕ → ℕ → Outage → Bool
+is_clear_of unit from to outage = not (outage.unit == unit) || nat_le to outage.from || nat_le outage.to from
+
+-- no outage of the unit lies between the two times
+unfoldable pub is_in_use : Plant → ℕ → ℕ → ℕ → Bool
+is_in_use plant unit from to = list_all (is_clear_of unit from to) plant.outages
+
+-- the time at which the batch ends
+unfoldable pub end_of : Plant → Start → ℕ
+end_of plant start = start.period + duration_of (task_at plant start.task)

@@ -1,0 +1,42 @@
+-- How many choices a plant has, without regard to stocks and loads.
+use Rattle.std.specs.Prelude.{ℕ, ◌+◌, ◌-◌, ◌*◌, ◌==◌, ◌&&◌, nat_le, nat_lt, Bool, if◌then◌else◌, sum_by}
+use Rattle.stn_model.specs.declared.plant.Plant.{Plant}
+use Rattle.stn_model.specs.declared.plant.Run.{Run}
+use Rattle.stn_model.specs.Plant.{task_at, duration_of, is_in_use, gap_between}
+use Rattle.stn_model.specs.Sums.{product_by, product_below, sum_below, count_below}
+
+-- a start of the run fits in the period: it ends within the horizon, and the unit is in use meanwhile
+unfoldable pub has_slot : Plant → Run → ℕ → Bool
+has_slot plant run period =
+    let ending = period + duration_of (task_at plant run.task)
+    in nat_le ending plant.periods && is_in_use plant run.unit period ending
+
+-- how many choices there are for a run in a period: no start, or one of each size
+unfoldable pub choices : Plant → Run → ℕ → ℕ
+choices plant run period = if has_slot plant run period then run.max - run.min + 2 else 1
+
+-- how many choices there are for all runs and periods together
+unfoldable pub points : Plant → ℕ
+points plant = product_by (λ run. product_below (choices plant run) plant.periods) plant.runs
+
+-- how many boxes a search needs at most: each split leaves two boxes with fewer points
+unfoldable pub boxes : Plant → ℕ
+boxes plant = 2 * points plant - 1
+
+-- how many periods have a slot of the run
+unfoldable pub slots_of : Plant → Run → ℕ
+slots_of plant run = count_below (has_slot plant run) plant.periods
+
+-- how many slots the plant has: runs and periods in which a start fits
+unfoldable pub slot_count : Plant → ℕ
+slot_count plant = sum_by (slots_of plant) plant.runs
+
+-- a start of the second run in period q would come after the first run's in period p, on one unit, but too soon for the cleaning
+unfoldable pub meets_gap : Plant → Run → ℕ → Run → ℕ → Bool
+meets_gap plant a p b q =
+    let ending = p + duration_of (task_at plant a.task)
+    in a.unit == b.unit && has_slot plant a p && has_slot plant b q && nat_le ending q && nat_lt q (ending + gap_between plant a.unit a.task b.task)
+
+-- how many pairs of slots the cleaning keeps apart
+unfoldable pub gap_pairs : Plant → ℕ
+gap_pairs plant = sum_by (λ a. sum_below (λ p. sum_by (λ b. count_below (meets_gap plant a p b) plant.periods) plant.runs) plant.periods) plant.runs

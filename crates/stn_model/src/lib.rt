@@ -1,0 +1,19 @@
+//! What a plant is and what a plan for it means: the records of a plant, its limits, and in
+//! `specs/` the definitions that every other crate of the product is proved against.
+//!
+//! `gap_of`, `change_cost`, `fits`) are answered exactly as the definitions say, with no memory.
+#![tactic(auto)]
+
+pub mod limits;
+pub mod list;
+pub mod plant;
+pub mod start;
+pub mod violation;
+
+pub use list::List;
+pub use plant::{
+    Delivery, Draw, Gap, Input, Name, Outage, Output, Plant, Receipt, Run, State, StnUnit, Task,
+    Utility,
+};
+pub use start::Start;
+pub use violation::Violation;
