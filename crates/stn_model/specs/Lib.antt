@@ -10,3 +10,4 @@ pub mod Profit
 pub mod Best
 pub mod Points
 pub mod Sound
+pub mod Answers

@@ -4,12 +4,14 @@
 //! `gap_of`, `change_cost`, `fits`) are answered exactly as the definitions say, with no memory.
 #![tactic(auto)]
 
+pub mod answer;
 pub mod limits;
 pub mod list;
 pub mod plant;
 pub mod start;
 pub mod violation;
 
+pub use answer::{Answer, Outcome};
 pub use list::List;
 pub use plant::{
     Delivery, Draw, Gap, Input, Name, Outage, Output, Plant, Receipt, Run, State, StnUnit, Task,
