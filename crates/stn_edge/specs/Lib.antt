@@ -1,0 +1,5 @@
+pub mod Count
+pub mod Files
+pub mod FixedFiles
+pub mod Text
+pub mod Entries
