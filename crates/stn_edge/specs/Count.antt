@@ -1,5 +1,5 @@
 -- Counts of faults and of calls, which stand still at the last value of a `u64`.
-use Rattle.std.specs.Prelude.{◌≢◌, ℕ, ◌+◌, ◌-◌, ◌^◌, ◌<◌, if◌then◌else◌, nat_lt}
+use Rattle.std.specs.Prelude.{◌≢◌, ℕ, ◌+◌, ◌-◌, ◌^◌, ◌<◌, min}
 
 -- the last value of a count
 abbrev pub last_count : ℕ
@@ -11,4 +11,4 @@ Rose before after = after ≢ last_count → before < after
 
 -- the count after one more, which stands still at the last value
 abbrev pub next_count : ℕ → ℕ
-next_count count = if nat_lt count last_count then count + 1 else last_count
+next_count count = min (count + 1) last_count

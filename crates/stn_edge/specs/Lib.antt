@@ -3,3 +3,4 @@ pub mod Files
 pub mod FixedFiles
 pub mod Text
 pub mod Entries
+pub mod FaultCounts

@@ -5,6 +5,8 @@
 //! names, and answers a fault only where the count of such faults rose.
 #![tactic(auto)]
 
+mod faults;
+mod file_shelf;
 mod fixed_shelf;
 mod fixed_sink;
 mod named_files;
@@ -12,11 +14,16 @@ mod pieces;
 mod reading;
 mod shelf;
 mod sink;
+mod std_sink;
 mod stop;
+#[cfg(test)]
+mod tests;
 
+pub use file_shelf::FileShelf;
 pub use fixed_shelf::FixedShelf;
 pub use fixed_sink::FixedSink;
 pub use reading::read_all;
 pub use shelf::Shelf;
 pub use sink::Sink;
+pub use std_sink::StdSink;
 pub use stop::{Failed, ReadStop, Stop};
