@@ -1,2 +1,4 @@
 mod FrontLemmas
+pub mod FileLemmas
 mod StoredFiles
+mod FailingCalls

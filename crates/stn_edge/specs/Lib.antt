@@ -4,3 +4,6 @@ pub mod FixedFiles
 pub mod Text
 pub mod Entries
 pub mod FaultCounts
+pub mod Calls
+pub mod MemFiles
+pub mod MemText

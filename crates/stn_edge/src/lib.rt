@@ -5,10 +5,13 @@
 //! names, and answers a fault only where the count of such faults rose.
 #![tactic(auto)]
 
+mod calls;
 mod faults;
 mod file_shelf;
 mod fixed_shelf;
 mod fixed_sink;
+mod mem_shelf;
+mod mem_sink;
 mod named_files;
 mod pieces;
 mod reading;
@@ -22,6 +25,8 @@ mod tests;
 pub use file_shelf::FileShelf;
 pub use fixed_shelf::FixedShelf;
 pub use fixed_sink::FixedSink;
+pub use mem_shelf::MemShelf;
+pub use mem_sink::MemSink;
 pub use reading::read_all;
 pub use shelf::Shelf;
 pub use sink::Sink;

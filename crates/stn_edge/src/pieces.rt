@@ -1,5 +1,5 @@
 //! A piece of a file in memory.
-ghost use Rattle.std.specs.Prelude.{◌≡◌, ◌-◌, ◌<◌, length, min};
+ghost use Rattle.std.specs.Prelude.{◌≡◌, ◌-◌, ◌<◌, length, take, min};
 ghost use Rattle.stn_edge.specs.Files.{IsPiece};
 
 /// Copies the bytes of the file from `place` on to the front of `into`, as many as fit and at most
@@ -16,4 +16,14 @@ pub fn copy_piece(file: &[u8], place: u64, into: &mut [u8], most: usize) -> usiz
     let count = into.len().min(most).min(rest.len());
     into[..count].copy_from_slice(&rest[..count]);
     count
+}
+
+/// The first `count` of the bytes, or all of them where there are fewer.
+pub fn first_part(bytes: &[u8], count: u64) -> &[u8]
+    ensures { result.now ≡ take count bytes.now }
+{
+    if count >= bytes.len() as u64 {
+        return bytes;
+    }
+    &bytes[..count as usize]
 }
