@@ -20,6 +20,6 @@ pub failing-set : (m n : tree.BTreeMap ℕ ℕ) (call bytes : ℕ) → tree.Upda
 failing-set m n call bytes changes =
     same_map nat_cmp_total nat_cmp-IsAntisymmetric _ _
     (λ q. get-failing n q ∙ changes.0 q
-      ∙ ap (λ o. cond (eq_by_cmp nat_cmp call q) (Some bytes) o) (sym (get-failing m q))
-      ∙ ap (λ b. cond b (Some bytes) (get {R = nat_cmp} (from_entries m.entries) q)) ((eq_by_cmp_equiv nat_cmp_total).symm call q)
-      ∙ sym (get-insert nat_cmp_total (from_entries m.entries) call bytes q))
+    ∙ ap (λ o. cond (eq_by_cmp nat_cmp call q) (Some bytes) o) (sym (get-failing m q))
+    ∙ ap (λ b. cond b (Some bytes) (get {R = nat_cmp} (from_entries m.entries) q)) ((eq_by_cmp_equiv nat_cmp_total).symm call q)
+    ∙ sym (get-insert nat_cmp_total (from_entries m.entries) call bytes q))

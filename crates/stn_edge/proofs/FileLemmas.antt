@@ -60,9 +60,9 @@ pub insert-insert : (files : FileMap) (name first second : List ℕ) → insert 
 insert-insert files name first second =
     same_map nat_list_cmp_total (slice_cmp-IsAntisymmetric nat_cmp-IsAntisymmetric) _ _
     (λ q. get-insert nat_list_cmp_total (insert files name first) name second q
-      ∙ ap (cond (eq_by_cmp (slice_cmp nat_cmp) q name) (Some second)) (get-insert nat_list_cmp_total files name first q)
-      ∙ shadowed (eq_by_cmp (slice_cmp nat_cmp) q name) (Some second) (Some first) (get files q)
-      ∙ sym (get-insert nat_list_cmp_total files name second q))
+    ∙ ap (cond (eq_by_cmp (slice_cmp nat_cmp) q name) (Some second)) (get-insert nat_list_cmp_total files name first q)
+    ∙ shadowed (eq_by_cmp (slice_cmp nat_cmp) q name) (Some second) (Some first) (get files q)
+    ∙ sym (get-insert nat_list_cmp_total files name second q))
 
 -- to append twice is to append both
 pub appended-appended : (name first second : List ℕ) (files : FileMap)

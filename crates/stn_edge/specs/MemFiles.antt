@@ -30,14 +30,14 @@ read_fails shelf name = is_some (due shelf.calls) || is_none (get shelf.files na
 -- the store after a read of the file
 abbrev pub after_read : MemFiles → List ℕ → MemFiles
 after_read shelf name = record shelf {
-    read_faults = count_after (read_fails shelf name) shelf.read_faults;
-    calls = after_call shelf.calls
-  }
+  read_faults = count_after (read_fails shelf name) shelf.read_faults;
+  calls = after_call shelf.calls;
+}
 
 -- the store after a call that writes, when it has left these files
 abbrev pub after_write : MemFiles → FileMap → MemFiles
 after_write shelf files = record shelf {
-    files = files;
-    write_faults = count_after (is_some (due shelf.calls)) shelf.write_faults;
-    calls = after_call shelf.calls
-  }
+  files = files;
+  write_faults = count_after (is_some (due shelf.calls)) shelf.write_faults;
+  calls = after_call shelf.calls;
+}

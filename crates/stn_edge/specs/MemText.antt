@@ -21,7 +21,7 @@ no_text = record { text = []; faults = 0; calls = no_calls }
 -- the sink after a call, when it has left this text
 abbrev pub after_put : MemText → List ℕ → MemText
 after_put sink text = record {
-    text = text;
-    faults = count_after (is_some (due sink.calls)) sink.faults;
-    calls = after_call sink.calls
-  }
+  text = text;
+  faults = count_after (is_some (due sink.calls)) sink.faults;
+  calls = after_call sink.calls;
+}

@@ -1,6 +1,9 @@
 ghost use Rattle.std.specs.Prelude.{◌<◌};
 
-use crate::{FileShelf, FixedShelf, FixedSink, ReadStop, Shelf, Sink, StdSink, read_all};
+use crate::{
+    FileShelf, FixedShelf, FixedSink, MemShelf, MemSink, ReadStop, Shelf, Sink, StdSink, Stop,
+    read_all,
+};
 use std::alloc::{AllocError, Global};
 use std::fs;
 use std::test::Fail;
@@ -65,6 +68,46 @@ fn keeps_files_and_text_in_memory(rt: HostRuntime) -> Result<(), Fail> {
     sink.put(b"yes ")?;
     sink.put(b"optimal")?;
     assert_eq!(rt; sink.written(), b"yes optimal".as_slice());
+    Ok(())
+}
+
+fn log(shelf: &MemShelf) -> &[u8] {
+    shelf.file("log").unwrap_or(b"no log".as_slice())
+}
+
+#[test]
+fn fails_the_calls_that_are_to_fail(rt: HostRuntime) -> Result<(), Fail> {
+    let mut shelf = MemShelf::new(rt.alloc());
+    shelf.put_file("plan", [b'p'; 10_000].as_slice())?;
+    shelf.fail_call(2, 0)?;
+    shelf.fail_call(6, 3)?;
+    shelf.fail_call(7, 0)?;
+    let stop = read_all(rt.alloc(), &mut shelf, "plan", 10_000).err();
+    assert_eq!(rt; stop, Some(ReadStop::Fault), "call 2");
+    let whole = read_all(rt.alloc(), &mut shelf, "plan", 10_000)?;
+    assert_eq!(rt; whole.len(), 10_000, "calls 3 to 5");
+    assert_eq!(rt; shelf.append("log", b"12345"), Err(Stop::Failed));
+    assert_eq!(rt; log(&shelf), b"123".as_slice());
+    assert_eq!(rt; shelf.clear("log"), Err(Stop::Failed));
+    assert_eq!(rt; log(&shelf), b"123".as_slice());
+    shelf.append("log", b"67")?;
+    assert_eq!(rt; log(&shelf), b"12367".as_slice());
+    shelf.clear("log")?;
+    assert_eq!(rt; log(&shelf), b"".as_slice());
+    let stop = read_all(rt.alloc(), &mut shelf, "absent", 1).err();
+    assert_eq!(rt; stop, Some(ReadStop::Fault));
+    Ok(())
+}
+
+#[test]
+fn puts_a_first_part_where_a_put_is_to_fail(rt: HostRuntime) -> Result<(), Fail> {
+    let mut sink = MemSink::new(rt.alloc());
+    sink.fail_call(2, 5)?;
+    sink.put(b"one ")?;
+    assert_eq!(rt; sink.put(b"# optimal"), Err(Stop::Failed));
+    assert_eq!(rt; sink.written(), b"one # opt".as_slice());
+    sink.put(b"!")?;
+    assert_eq!(rt; sink.written(), b"one # opt!".as_slice());
     Ok(())
 }
 

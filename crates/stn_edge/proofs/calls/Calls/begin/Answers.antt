@@ -9,4 +9,4 @@ returns-clause-value c =
     let found = get-failing c.self.inside.failing c.saturating_add-self-inside.result in
     rw (← c.self.view_is)
     (c.copied.ensures ∙ c.get.ensures.value ∙ sym found
-      ∙ ap (get {R = nat_cmp} (from_entries c.self.inside.failing.entries)) c.saturating_add-self-inside.ensures)
+    ∙ ap (get {R = nat_cmp} (from_entries c.self.inside.failing.entries)) c.saturating_add-self-inside.ensures)
