@@ -2,6 +2,7 @@ pub mod Count
 pub mod Files
 pub mod FixedFiles
 pub mod Text
+pub mod Written
 pub mod Entries
 pub mod FaultCounts
 pub mod Calls

@@ -1,6 +1,9 @@
 //! Counting the errors of the operating system.
-ghost use Rattle.std.specs.Prelude.{◌≡◌, ◌≤◌, length, IfOk, OnErr};
+ghost use Rattle.std.specs.Prelude.{◌≡◌, ◌↔◌, ◌≤◌, ℕ, List, IsTrue, OnOk, OnErr};
+ghost use Rattle.std.specs.Io.KnownBytes.{Appends};
+ghost use Rattle.std.specs.IoError.{error_kind};
 ghost use Rattle.stn_edge.specs.Count.{Rose, next_count};
+ghost use Rattle.stn_edge.specs.Written.{IsLeft};
 
 use crate::stop::Failed;
 use std::io::{self, ErrorKind, Write};
@@ -14,13 +17,18 @@ pub fn raise(count: &mut u64)
 }
 
 /// A call was interrupted before it did anything, and is tried again.
-pub fn is_interrupted(error: &io::Error) -> bool {
+pub fn is_interrupted(error: &io::Error) -> bool
+    ensures { IsTrue result ↔ (error_kind error.now ≡ ErrorKind.Interrupted) }
+{
     error.kind() == ErrorKind::Interrupted
 }
 
 /// Writes all of the bytes, piece after piece. Each error raises the count, and after one that is no
 /// interruption the rest is not written. So it is after a write that takes nothing.
 pub fn write_whole<W: Write>(to: &mut W, bytes: &[u8], faults: &mut u64) -> Result<(), Failed>
+    ensures ok { OnOk result (Appends (W.contents to.old) (W.contents to.new) bytes.now) }
+    ensures err { OnErr result ((rest : List ℕ)
+        × IsLeft bytes.now (W.contents to.old) (W.contents to.new) rest) }
     ensures later { faults.old ≤ faults.new }
     ensures cause { OnErr result (Rose faults.old faults.new) }
 {
