@@ -1,0 +1,25 @@
+-- The bounds that a program's numbers keep.
+use Rattle.std.specs.Prelude.{ℕ, ◌<◌, ◌≤◌, List, map, pos, ◌≤ℤ◌, unsigned_abs}
+use Rattle.std.specs.List.{All}
+use Rattle.std.specs.List.Sorted.{IsStrictlyIncreasing}
+use Rattle.row_kit.specs.declared.row.Entry.{Entry}
+use Rattle.row_kit.specs.declared.row.Row.{Row}
+use Rattle.row_kit.specs.declared.row.Change.{Change}
+use Rattle.row_kit.specs.declared.limits.TheConstants.{MOST_ROW_ENTRY, MOST_LIMIT, MOST_CHANGE_COST}
+
+-- the entries name slots of a root with this many, in ascending order, and neither of their parts exceeds a bound
+pub record AreBounded (slots most : ℕ) (entries : List Entry) : Type 0 where
+  pub named : All (λ e. e.slot < slots) entries
+  pub ascending : IsStrictlyIncreasing (map (λ e. e.slot) entries)
+  pub fixed_small : All (λ e. unsigned_abs e.fixed ≤ most) entries
+  pub per_small : All (λ e. unsigned_abs e.per ≤ most) entries
+
+-- a row whose entries and limit keep the bounds of rows
+pub record IsBoundedRow (slots : ℕ) (row : Row) : Type 0 where
+  pub entries : AreBounded slots MOST_ROW_ENTRY row.entries
+  pub limit : unsigned_abs row.limit ≤ MOST_LIMIT
+
+-- a change whose cost lies in its range
+pub record IsBoundedChange (change : Change) : Type 0 where
+  pub least : pos 0 ≤ℤ change.cost
+  pub most : change.cost ≤ℤ pos MOST_CHANGE_COST
