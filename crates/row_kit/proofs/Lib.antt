@@ -1,2 +1,3 @@
 pub mod Domains
 pub mod Histories
+pub mod Starts

@@ -5,7 +5,7 @@ use Rattle.std.specs.List.Sorted.{IsStrictlyIncreasing}
 use Rattle.row_kit.specs.declared.row.Entry.{Entry}
 use Rattle.row_kit.specs.declared.row.Row.{Row}
 use Rattle.row_kit.specs.declared.row.Change.{Change}
-use Rattle.row_kit.specs.declared.limits.TheConstants.{MOST_ROW_ENTRY, MOST_LIMIT, MOST_CHANGE_COST}
+use Rattle.row_kit.specs.declared.limits.TheConstants.{MOST_ROW_ENTRY, MOST_LIMIT, MOST_CHANGE_COST, MOST_PROFIT_ENTRY}
 
 -- the entries name slots of a root with this many, in ascending order, and neither of their parts exceeds a bound
 pub record AreBounded (slots most : ℕ) (entries : List Entry) : Type 0 where
@@ -23,3 +23,8 @@ pub record IsBoundedRow (slots : ℕ) (row : Row) : Type 0 where
 pub record IsBoundedChange (change : Change) : Type 0 where
   pub least : pos 0 ≤ℤ change.cost
   pub most : change.cost ≤ℤ pos MOST_CHANGE_COST
+
+-- an entry whose parts are no greater than those of profit entries may be
+pub record IsSmall (entry : Entry) : Type 0 where
+  pub fixed : unsigned_abs entry.fixed ≤ MOST_PROFIT_ENTRY
+  pub per : unsigned_abs entry.per ≤ MOST_PROFIT_ENTRY

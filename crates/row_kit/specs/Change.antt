@@ -1,5 +1,5 @@
 -- What the changeovers of a point cost.
-use Rattle.std.specs.Prelude.{ℕ, ◌==◌, nat_lt, Bool, ◌&&◌, not, max, if◌then◌else◌, List, [], ◌∷◌, unsigned_abs}
+use Rattle.std.specs.Prelude.{ℕ, ◌==◌, nat_lt, Bool, ◌&&◌, not, min, max, if◌then◌else◌, List, [], ◌∷◌, unsigned_abs}
 use Rattle.std.specs.List.{list_any, sum_by}
 use Rattle.row_kit.specs.declared.row.Change.{Change}
 use Rattle.row_kit.specs.declared.row.Tag.{Tag}
@@ -38,10 +38,15 @@ listed_cost (change ∷ changes) lane from to =
 abbrev pub pair_cost : List Change → List Tag → Tag → Tag → ℕ
 pair_cost changes starts a b = if comes_next starts a b then listed_cost changes a.lane a.kind b.kind else 0
 
--- what the changeovers of starts cost: the sum over all pairs of them
-abbrev pub starts_cost : List Change → List Tag → ℕ
-starts_cost changes starts = sum_by (λ a. sum_by (pair_cost changes starts a) starts) starts
+-- what the changeovers from one start cost: the sum over all starts that may come next
+abbrev pub costs_after : List Change → List Tag → Tag → ℕ
+costs_after changes starts a = sum_by (pair_cost changes starts a) starts
 
--- what the changeovers of a point cost
+-- what the changeovers of a point cost: the sum over all pairs of its starts
 abbrev pub changeovers : List Change → List Tag → List ℕ → ℕ
-changeovers changes tags point = starts_cost changes (started tags point)
+changeovers changes tags point = let starts = started tags point in sum_by (costs_after changes starts) starts
+
+-- the least place of a start after a in its lane, and 2 to the power 32 where there is none
+abbrev pub least_after : List Tag → Tag → ℕ
+least_after [] a = 4294967296
+least_after (b ∷ bs) a = if is_after a b then min b.place (least_after bs a) else least_after bs a

@@ -6,12 +6,14 @@
 #![tactic(auto)]
 
 mod area;
+mod changeover;
 mod counts;
 mod domain;
 mod former;
 mod found;
 mod limits;
 mod list;
+mod point;
 mod program;
 mod row;
 mod trail;
@@ -19,6 +21,7 @@ mod trail;
 pub use area::Area;
 pub use domain::Domain;
 // A crate can name an area in a contract only if the types of its fields are exported.
+pub use changeover::worth;
 #[doc(hidden)]
 pub use former::Former;
 pub use found::Found;
@@ -27,5 +30,6 @@ pub use limits::{
     MOST_SLOTS,
 };
 pub use list::List;
+pub use point::{is_lawful, lies_in, value};
 pub use program::Program;
 pub use row::{Change, Entry, Row, Tag};
