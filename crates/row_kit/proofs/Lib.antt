@@ -1,3 +1,4 @@
+pub mod Ascending
 pub mod Domains
 pub mod Histories
 pub mod Starts

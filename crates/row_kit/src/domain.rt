@@ -44,6 +44,13 @@ impl Domain {
         if self.zero { above + 1 } else { above }
     }
 
+    /// Whether it is normal.
+    pub fn is_normal(&self) -> bool
+        ensures { IsTrue result ↔ IsNormal self.now }
+    {
+        self.lo >= 1 && (self.lo <= self.hi || (self.lo == 1 && self.hi == 0))
+    }
+
     /// Whether it holds a value.
     pub fn holds(&self, value: u8) -> bool
         ensures { IsTrue result ↔ Holds self.now value }

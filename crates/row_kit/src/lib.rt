@@ -6,6 +6,7 @@
 #![tactic(auto)]
 
 mod area;
+mod bounds;
 mod changeover;
 mod counts;
 mod domain;
@@ -16,6 +17,8 @@ mod list;
 mod point;
 mod program;
 mod row;
+#[cfg(test)]
+mod tests;
 mod trail;
 
 pub use area::Area;
