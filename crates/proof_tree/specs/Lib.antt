@@ -1,0 +1,3 @@
+pub mod Cap
+pub mod Relaxation
+pub mod Tree

@@ -1,0 +1,84 @@
+ghost use Rattle.std.specs.Prelude.{◌≡◌, [], MatchBool};
+ghost use Rattle.proof_tree.specs.Relaxation.{present, KeepsViews, MovesTo};
+ghost use Rattle.proof_tree.specs.Tree.{tree_at, tree_of, tree_cap, after_cuts};
+
+use crate::capped::{Capped, greater_cap};
+use crate::proof::{End, Proof};
+use crate::relaxation::Relaxation;
+
+/// Makes all cuts of a node. False says that one of them names nothing; the area then has those before it.
+fn cut_all<R: Relaxation>(r: &R, area: &mut R::Area, cuts: &[R::Trim]) -> bool
+    requires { R.fits r.now (present (R.views area.old)) }
+    ensures fits { R.fits r.now (present (R.views area.new)) }
+    ensures cuts { MatchBool result
+        (after_cuts (R.steps r.now) (present (R.views area.old)) cuts.now ≡ Some (present (R.views area.new)))
+        (after_cuts (R.steps r.now) (present (R.views area.old)) cuts.now ≡ None) }
+    ensures keeps { KeepsViews (R.views area.old) (R.views area.new) }
+{
+    for cut in cuts {
+        if !r.cut(area, cut) {
+            return false;
+        }
+    }
+    true
+}
+
+/// The cap of a proof over the area, `Bad` exactly where the proof has none. The area is afterwards as
+/// before.
+#[cycle(cap)]
+pub fn cap_of<R: Relaxation>(
+    r: &R,
+    area: &mut R::Area,
+    proof: &Proof<R::Trim, R::Cert, R::Pick, R::Found>,
+) -> Capped
+    requires { R.fits r.now (present (R.views area.old)) }
+    ensures cap { result ≡ tree_cap (R.steps r.now) (present (R.views area.old)) (tree_of proof.now) }
+    ensures same { R.views area.new ≡ R.views area.old }
+{
+    let mark = r.mark(area);
+    let cap = if cut_all(r, area, proof.cuts.as_slice()) {
+        cap_end(r, area, &proof.end)
+    } else {
+        Capped::Bad
+    };
+    r.back(area, mark);
+    cap
+}
+
+/// The cap of a node over its area after its cuts. The area may stay narrowed.
+#[cycle(cap)]
+fn cap_end<R: Relaxation>(
+    r: &R,
+    area: &mut R::Area,
+    end: &End<R::Trim, R::Cert, R::Pick, R::Found>,
+) -> Capped
+    requires { R.fits r.now (present (R.views area.old)) }
+    ensures fits { R.fits r.now (present (R.views area.new)) }
+    ensures cap { result ≡ tree_cap (R.steps r.now) (present (R.views area.old)) (tree_at [] None end.now) }
+    ensures keeps { KeepsViews (R.views area.old) (R.views area.new) }
+{
+    match end {
+        End::Empty => {
+            if r.empty(area) {
+                Capped::NoPoint
+            } else {
+                Capped::Bad
+            }
+        }
+        End::Dual(cert) => r.cap(area, cert),
+        End::Point => r.settle(area),
+        End::Pending(cert) => r.cap(area, cert),
+        End::Split(pick, _, left, right) => {
+            let mark = r.mark(area);
+            if !r.left(area, pick) {
+                return Capped::Bad;
+            }
+            let left_cap = cap_of(r, area, left);
+            r.back(area, mark);
+            if !r.right(area, pick) {
+                return Capped::Bad;
+            }
+            greater_cap(left_cap, cap_of(r, area, right))
+        }
+    }
+}
