@@ -1,7 +1,8 @@
 -- Lemmas on the caps of trees.
 use Rattle.std.proofs.Common.{◌≡◌, List, [], Option, None, refl}
 use Rattle.proof_tree.specs.declared.proof.End.{End, Empty, Dual, Point, Pending, Split'}
-use Rattle.proof_tree.specs.Relaxation.{View, Steps}
+use Rattle.proof_tree.specs.Relaxation.{Steps}
+use Rattle.proof_tree.specs.Views.{View}
 use Rattle.proof_tree.specs.Tree.{tree_at, tree_cap, after_cuts, cap_if}
 
 -- the cap of a node is that of its end over the view after its cuts

@@ -1,7 +1,7 @@
 -- Lemmas on the views that a call keeps.
 use Rattle.std.proofs.Common.{◌≡◌, ℕ, ◌≤◌, List, length, take, refl, arith, ap, sym, ◌∙◌, length-take}
 use Rattle.std.proofs.lemmas.Grind.{common_steps}
-use Rattle.proof_tree.specs.Relaxation.{View, KeepsViews}
+use Rattle.proof_tree.specs.Views.{View, KeepsViews}
 
 -- what two calls in a row keep, both keep together
 pub KeepsViews-then : (a b c : List View) → KeepsViews a b → KeepsViews b c → KeepsViews a c

@@ -3,7 +3,7 @@ use Rattle.std.specs.Prelude.{◌≡◌, ℤ, ◌≤ℤ◌, List, ℕ, ⊤}
 use Rattle.std.specs.Int.{int_max}
 use Rattle.proof_tree.specs.declared.capped.Capped.{Capped}
 use Rattle.proof_tree.specs.declared.capped.Capped.TheVariants.{AtMost, NoPoint, Bad}
-use Rattle.proof_tree.specs.Relaxation.{Point}
+use Rattle.proof_tree.specs.Views.{Point}
 
 -- the greater of two caps: no point where both have none, undefined where one is
 abbrev pub greater : Capped → Capped → Capped

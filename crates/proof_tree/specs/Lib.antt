@@ -1,3 +1,4 @@
 pub mod Cap
 pub mod Relaxation
 pub mod Tree
+pub mod Views

@@ -5,7 +5,8 @@ use Rattle.proof_tree.specs.declared.capped.Capped.TheVariants.{AtMost, NoPoint,
 use Rattle.proof_tree.specs.declared.proof.Proof.{Proof}
 use Rattle.proof_tree.specs.declared.proof.End.{End, Empty, Dual, Point, Pending, Split'}
 use Rattle.proof_tree.specs.Cap.{greater}
-use Rattle.proof_tree.specs.Relaxation.{View, Steps}
+use Rattle.proof_tree.specs.Relaxation.{Steps}
+use Rattle.proof_tree.specs.Views.{View}
 
 -- an end that splits nothing
 pub data Leaf (C : Type 0) : Type 0 where

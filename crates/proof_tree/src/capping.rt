@@ -1,5 +1,6 @@
 ghost use Rattle.std.specs.Prelude.{◌≡◌, [], MatchBool};
-ghost use Rattle.proof_tree.specs.Relaxation.{present, KeepsViews, MovesTo};
+ghost use Rattle.proof_tree.specs.Cap.{Bounds};
+ghost use Rattle.proof_tree.specs.Views.{present, KeepsViews};
 ghost use Rattle.proof_tree.specs.Tree.{tree_at, tree_of, tree_cap, after_cuts};
 
 use crate::capped::{Capped, greater_cap};
@@ -33,6 +34,9 @@ pub fn cap_of<R: Relaxation>(
 ) -> Capped
     requires { R.fits r.now (present (R.views area.old)) }
     ensures cap { result ≡ tree_cap (R.steps r.now) (present (R.views area.old)) (tree_of proof.now) }
+    ensures bounds {
+        Bounds (R.is_point r.now (present (R.views area.old))) (R.is_lawful r.now) (R.worth r.now) result
+    }
     ensures same { R.views area.new ≡ R.views area.old }
 {
     let mark = r.mark(area);

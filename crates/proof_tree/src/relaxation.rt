@@ -1,6 +1,6 @@
-ghost use Rattle.std.specs.Prelude.{◌≡◌, ◌≢◌, ◌+◌, ◌<◌, ◌⊎◌, ℤ, List as Listed, length, take, true, Some, None};
-ghost use Rattle.proof_tree.specs.Cap.{Bounds, Settles};
-ghost use Rattle.proof_tree.specs.Relaxation.{View, Point, Steps, present, KeepsViews, MovesTo};
+ghost use Rattle.std.specs.Prelude.{◌≡◌, ◌+◌, ◌<◌, ℤ, List as Listed, length, take};
+ghost use Rattle.proof_tree.specs.Relaxation.{Steps, IsSound};
+ghost use Rattle.proof_tree.specs.Views.{View, Point, present, MovesTo};
 
 use crate::capped::Capped;
 
@@ -87,26 +87,5 @@ pub trait Relaxation {
         ensures fits { fits self.now (present (views area.new)) }
         ensures views { views area.new ≡ take (mark + 1) (views area.old) };
 
-    ghost cut_fits: { (r : Self) (v w : View) (u : Self.Trim) → fits r v → (steps r).cut v u ≡ Some w → fits r w };
-
-    ghost left_fits: { (r : Self) (v w : View) (p : Self.Pick) → fits r v → (steps r).left v p ≡ Some w → fits r w };
-
-    ghost right_fits: { (r : Self) (v w : View) (p : Self.Pick) → fits r v → (steps r).right v p ≡ Some w → fits r w };
-
-    ghost parts_alike: { (r : Self) (v w : View) (p : Self.Pick) → fits r v → (steps r).left v p ≡ Some w → (steps r).right v p ≢ None };
-
-    ghost cut_keeps: { (r : Self) (v w : View) (u : Self.Trim) → fits r v → (steps r).cut v u ≡ Some w
-        → (p : Point) → is_point r v p → is_lawful r p → is_point r w p };
-
-    ghost parts_cover: { (r : Self) (v w x : View) (k : Self.Pick) → fits r v
-        → (steps r).left v k ≡ Some w → (steps r).right v k ≡ Some x
-        → (p : Point) → is_point r v p → is_point r w p ⊎ is_point r x p };
-
-    ghost empty_holds: { (r : Self) (v : View) → fits r v → (steps r).empty v ≡ true → (p : Point) → ¬ is_point r v p };
-
-    ghost cap_bounds: { (r : Self) (v : View) (c : Self.Cert) → fits r v
-        → Bounds (is_point r v) (is_lawful r) (worth r) ((steps r).cap v c) };
-
-    ghost settle_settles: { (r : Self) (v : View) → fits r v
-        → Settles (is_point r v) (is_lawful r) (worth r) ((steps r).settle v) };
+    ghost sound: { (r : Self) → IsSound (steps r) (fits r) (is_point r) (is_lawful r) (worth r) };
 }

@@ -1,6 +1,6 @@
 -- The cuts that are left lead from the present view to what all cuts lead to from the first one.
 use Rattle.std.proofs.Common.{◌≡◌, drop}
-use Rattle.proof_tree.specs.Relaxation.{present, KeepsViews}
+use Rattle.proof_tree.specs.Views.{present, KeepsViews}
 use Rattle.proof_tree.specs.Tree.{after_cuts}
 use Rattle.proof_tree.proofs.capping.cut_all.Given as goal
 
