@@ -1,4 +1,6 @@
 pub mod Cap
+pub mod Items
 pub mod Relaxation
+pub mod Taker
 pub mod Tree
 pub mod Views

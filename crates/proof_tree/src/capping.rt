@@ -34,9 +34,7 @@ pub fn cap_of<R: Relaxation>(
 ) -> Capped
     requires { R.fits r.now (present (R.views area.old)) }
     ensures cap { result ≡ tree_cap (R.steps r.now) (present (R.views area.old)) (tree_of proof.now) }
-    ensures bounds {
-        Bounds (R.is_point r.now (present (R.views area.old))) (R.is_lawful r.now) (R.worth r.now) result
-    }
+    ensures bounds { Bounds (R.is_point r.now (present (R.views area.old))) (R.is_lawful r.now) (R.worth r.now) result }
     ensures same { R.views area.new ≡ R.views area.old }
 {
     let mark = r.mark(area);

@@ -7,12 +7,16 @@
 
 mod capped;
 mod capping;
+mod item;
 mod list;
 mod proof;
 mod relaxation;
+mod taker;
 
 pub use capped::Capped;
 pub use capping::cap_of;
+pub use item::Item;
 pub use list::List;
 pub use proof::{End, Proof};
 pub use relaxation::Relaxation;
+pub use taker::{NodeTaker, TakeStop};

@@ -7,8 +7,8 @@ use Rattle.proof_tree.proofs.capping.cut_all.Given as goal
 abbrev pub invariant-loop-cut : goal.invariant-loop-cut
 invariant-loop-cut g l =
     record {
-        fits : g.R.Relaxation.fits l.r (present (g.R.Relaxation.views l.area));
-        rest : after_cuts (g.R.Relaxation.steps l.r) (present (g.R.Relaxation.views l.area)) (drop l.cut-index l.cuts)
-            ≡ after_cuts (g.R.Relaxation.steps l.r) (present (g.R.Relaxation.views l.initial.area)) l.cuts;
-        keeps : KeepsViews (g.R.Relaxation.views l.initial.area) (g.R.Relaxation.views l.area)
+      fits : g.R.Relaxation.fits l.r (present (g.R.Relaxation.views l.area));
+      rest : after_cuts (g.R.Relaxation.steps l.r) (present (g.R.Relaxation.views l.area)) (drop l.cut-index l.cuts)
+          ≡ after_cuts (g.R.Relaxation.steps l.r) (present (g.R.Relaxation.views l.initial.area)) l.cuts;
+      keeps : KeepsViews (g.R.Relaxation.views l.initial.area) (g.R.Relaxation.views l.area);
     }
