@@ -1,3 +1,4 @@
 pub mod Sound
 pub mod Trees
 pub mod Views
+pub mod Walking

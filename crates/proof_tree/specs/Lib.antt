@@ -4,3 +4,4 @@ pub mod Relaxation
 pub mod Taker
 pub mod Tree
 pub mod Views
+pub mod Walk

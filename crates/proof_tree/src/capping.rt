@@ -1,7 +1,7 @@
 ghost use Rattle.std.specs.Prelude.{◌≡◌, [], MatchBool};
 ghost use Rattle.proof_tree.specs.Cap.{Bounds};
 ghost use Rattle.proof_tree.specs.Views.{present, KeepsViews};
-ghost use Rattle.proof_tree.specs.Tree.{tree_at, tree_of, tree_cap, after_cuts};
+ghost use Rattle.proof_tree.specs.Tree.{tree_at, tree_of, tree_cap, after_cuts, leaf_cap, no_point};
 
 use crate::capped::{Capped, greater_cap};
 use crate::proof::{End, Proof};
@@ -22,6 +22,18 @@ fn cut_all<R: Relaxation>(r: &R, area: &mut R::Area, cuts: &[R::Trim]) -> bool
         }
     }
     true
+}
+
+/// The cap of an end that says that the area has no point.
+pub(crate) fn empty_cap<R: Relaxation>(r: &R, area: &R::Area) -> Capped
+    requires { R.fits r.now (present (R.views area.now)) }
+    ensures { result ≡ leaf_cap (R.steps r.now) (present (R.views area.now)) no_point }
+{
+    if r.empty(area) {
+        Capped::NoPoint
+    } else {
+        Capped::Bad
+    }
 }
 
 /// The cap of a proof over the area, `Bad` exactly where the proof has none. The area is afterwards as
@@ -60,13 +72,7 @@ fn cap_end<R: Relaxation>(
     ensures keeps { KeepsViews (R.views area.old) (R.views area.new) }
 {
     match end {
-        End::Empty => {
-            if r.empty(area) {
-                Capped::NoPoint
-            } else {
-                Capped::Bad
-            }
-        }
+        End::Empty => empty_cap(r, area),
         End::Dual(cert) => r.cap(area, cert),
         End::Point => r.settle(area),
         End::Pending(cert) => r.cap(area, cert),

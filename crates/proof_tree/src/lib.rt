@@ -11,7 +11,9 @@ mod item;
 mod list;
 mod proof;
 mod relaxation;
+mod stack;
 mod taker;
+mod walk;
 
 pub use capped::Capped;
 pub use capping::cap_of;
@@ -19,4 +21,6 @@ pub use item::Item;
 pub use list::List;
 pub use proof::{End, Proof};
 pub use relaxation::Relaxation;
+pub use stack::Stack;
 pub use taker::{NodeTaker, TakeStop};
+pub use walk::{Expected, OpenSplit, Took, Walk};
