@@ -1,14 +1,16 @@
 -- Lemmas on what a walk holds while its area moves.
-use Rattle.std.proofs.Common.{◌≡◌, ℕ, suc, ◌+◌, ◌-◌, ◌<◌, ◌≤◌, List, [], ◌∷◌, map, length, take, get_or, Option, Some, None, IsSome, refl, ap, sym, ◌∙◌, subst, arith, length-take, get_or-take}
+use Rattle.std.proofs.Common.{◌≡◌, ◌≢◌, ℕ, suc, ◌+◌, ◌-◌, ◌<◌, ◌≤◌, List, [], ◌∷◌, map, length, take, drop, get_or, Option, Some, None, IsSome, refl, ap, sym, ◌∙◌, subst, arith, length-take, get_or-take}
 use Rattle.std.proofs.lemmas.Grind.{common_steps}
 use Rattle.proof_tree.specs.declared.capped.Capped.{Capped}
 use Rattle.proof_tree.specs.declared.walk.OpenSplit.{OpenSplit}
 use Rattle.proof_tree.specs.declared.walk.Walk.{Walk}
 use Rattle.proof_tree.specs.declared.walk.Took.TheVariants.{More}
 use Rattle.proof_tree.specs.declared.walk.Expected.{Expected}
+use Rattle.proof_tree.specs.declared.walk.Expected.TheVariants.{Node}
+use Rattle.proof_tree.specs.Cap.{greater}
 use Rattle.proof_tree.specs.Relaxation.{Steps}
 use Rattle.proof_tree.specs.Views.{View, view_at, present, KeepsViews}
-use Rattle.proof_tree.specs.Walk.{Opened, opened, StandBelow, Led, going, going_to, stage_of}
+use Rattle.proof_tree.specs.Walk.{Opened, opened, innermost_left, StandBelow, Led, going, going_to, stage_of, close}
 
 -- a view at an earlier mark stays
 pub view_at-kept : (old new : List View) (mark : ℕ) → KeepsViews old new → mark < length old → view_at new mark ≡ view_at old mark
@@ -87,3 +89,45 @@ module _ {R A U C P F : Type 0} (s : Steps U C P) (first : ℕ) where
         same_first = same;
         goes_back = led.goes_back ∙ grind (arith, common_steps)
       }
+
+-- what is not none is some
+pub IsSome-named : (next : Option View) → next ≢ None → IsSome next
+IsSome-named None not_none = absurd (not_none refl)
+IsSome-named (Some v) not_none = refl
+
+module _ {R A U C P F : Type 0} (s : Steps U C P) (first : ℕ) where
+  -- a split that is opened at the area's own mark leads to the stage over the view of its left part
+  pub Led-split : (old new : Walk R A U C P F) (views later : List View) (mark : ℕ) (pick : P) (splits : List (OpenSplit P)) (next : Option View) → new.first ≡ old.first → mark + 1 ≡ length views → next ≡ Some (present later) → KeepsViews views later → IsSome (s.right (present views) pick) → StandBelow s views (length views) first splits → new.splits ≡ record { mark = mark; pick = pick; left = None } ∷ splits → Led s first old views More new later (going_to new.expected (record { view = present views; pick = pick; left = None } ∷ map (opened views) splits) next)
+  Led-split old new views later mark pick splits next same own leads keeps named stand held =
+      let at : mark ≡ length views - 1 = omega arith in
+      let seen : view_at views mark ≡ present views = ap (view_at views) at in
+      let below : StandBelow s views (mark + 1) first splits = subst (λ m. StandBelow s views m first splits) (sym own) stand in
+      let under : mark < length views = omega arith in
+      let all : StandBelow s views (length views) first new.splits = rw held (under, subst (λ v. IsSome (s.right v pick)) (sym seen) named, below) in
+      let led = Led-forward s first old new views later next same leads keeps all in
+      let drawn : map (opened views) new.splits ≡ record { view = present views; pick = pick; left = None } ∷ map (opened views) splits = rw (held, seen) refl in
+      record {
+        answer = subst (λ xs. going_to new.expected xs next ≡ going (stage_of new later)) drawn led.answer;
+        stands = led.stands;
+        same_first = same;
+        goes_back = led.goes_back
+      }
+
+-- a split whose left part has ended closes with the greater of the two caps
+pub close-innermost : {U C P : Type 0} (s : Steps U C P) (views : List View) (all : List (OpenSplit P)) (split : OpenSplit P) (splits : List (OpenSplit P)) (left cap_so_far : Capped) → all ≡ split ∷ splits → innermost_left all ≡ Some left → close s (map (opened views) all) cap_so_far ≡ close s (map (opened views) splits) (greater left cap_so_far)
+close-innermost s views all split splits left cap_so_far held is =
+    let its : split.left ≡ Some left = subst (λ xs. innermost_left xs ≡ Some left) held is in
+    rw (held, its) refl
+
+-- a split whose left part has not ended goes on to its right part
+pub close-begin : {U C P : Type 0} (s : Steps U C P) (views : List View) (all : List (OpenSplit P)) (split : OpenSplit P) (splits : List (OpenSplit P)) (cap_so_far : Capped) → all ≡ split ∷ splits → innermost_left all ≡ None → close s (map (opened views) all) cap_so_far ≡ going_to Node (record { view = view_at views split.mark; pick = split.pick; left = Some cap_so_far } ∷ map (opened views) splits) (s.right (view_at views split.mark) split.pick)
+close-begin s views all split splits cap_so_far held is =
+    let its : split.left ≡ None = subst (λ xs. innermost_left xs ≡ None) held is in
+    rw (held, its) refl
+
+-- without the innermost split the others still stand
+pub StandBelow-rest : {U C P : Type 0} (s : Steps U C P) (views : List View) (mark first : ℕ) (all : List (OpenSplit P)) (split : OpenSplit P) (splits : List (OpenSplit P)) → all ≡ split ∷ splits → StandBelow s views mark first all → StandBelow s views mark first splits
+StandBelow-rest s views mark first all split splits held stand =
+    let both : StandBelow s views mark first (split ∷ splits) = subst (StandBelow s views mark first) held stand in
+    let here : split.mark < mark = both.0 in
+    StandBelow-moved s views views (split.mark + 1) mark first splits (omega arith) (λ m below. refl) both.2
