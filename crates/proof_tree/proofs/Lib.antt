@@ -1,4 +1,5 @@
 pub mod Sound
 pub mod Trees
 pub mod Views
+pub mod WalkLaw
 pub mod Walking

@@ -40,10 +40,11 @@ module _ {U C P : Type 0} (s : Steps U C P) where
   pub StandBelow-moved : (a b : List View) (mark later first : ℕ) (splits : List (OpenSplit P)) → mark ≤ later → ((m : ℕ) → m < mark → view_at b m ≡ view_at a m) → StandBelow s a mark first splits → StandBelow s b later first splits
   StandBelow-moved a b mark later first [] up same stand = omega arith
   StandBelow-moved a b mark later first (split ∷ splits) up same stand =
-      let here : split.mark < mark = stand.0 in
-      (omega arith
-      , subst (λ v. IsSome (s.right v split.pick)) (sym (same split.mark here)) stand.1
-      , StandBelow-moved a b (split.mark + 1) (split.mark + 1) first splits (omega arith) (λ m below. same m (omega arith)) stand.2)
+      let here : split.mark < mark = stand.0 in (
+        omega arith,
+        subst (λ v. IsSome (s.right v split.pick)) (sym (same split.mark here)) stand.1,
+        StandBelow-moved a b (split.mark + 1) (split.mark + 1) first splits (omega arith) (λ m below. same m (omega arith)) stand.2,
+      )
 
   -- and they show the same there
   pub opened-moved : (a b : List View) (mark first : ℕ) (splits : List (OpenSplit P)) → ((m : ℕ) → m < mark → view_at b m ≡ view_at a m) → StandBelow s a mark first splits → map (opened b) splits ≡ map (opened a) splits
@@ -66,7 +67,7 @@ module _ {R A U C P F : Type 0} (s : Steps U C P) (first : ℕ) where
         answer = rw (leads, shown) refl;
         stands = StandBelow-moved s views later (length views) (length later) first new.splits up kept stand;
         same_first = same;
-        goes_back = take-kept views later first keeps start
+        goes_back = take-kept views later first keeps start;
       }
 
   -- a step that goes back to a split and on to its right part leads to the stage over the new view
@@ -87,7 +88,7 @@ module _ {R A U C P F : Type 0} (s : Steps U C P) (first : ℕ) where
         answer = subst (λ xs. going_to new.expected xs next ≡ going (stage_of new later)) drawn led.answer;
         stands = led.stands;
         same_first = same;
-        goes_back = led.goes_back ∙ grind (arith, common_steps)
+        goes_back = led.goes_back ∙ grind (arith, common_steps);
       }
 
 -- what is not none is some
@@ -110,7 +111,7 @@ module _ {R A U C P F : Type 0} (s : Steps U C P) (first : ℕ) where
         answer = subst (λ xs. going_to new.expected xs next ≡ going (stage_of new later)) drawn led.answer;
         stands = led.stands;
         same_first = same;
-        goes_back = led.goes_back
+        goes_back = led.goes_back;
       }
 
 -- a split whose left part has ended closes with the greater of the two caps

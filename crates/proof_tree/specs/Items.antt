@@ -16,3 +16,8 @@ abbrev pub tree_items : {R A U C P F : Type 0} → Tree U C P F → List (Item R
 tree_items (leaf cuts found end) = Node ∷ (map Cut cuts ++ (map Found (option_to_list found) ++ (leaf_item end ∷ [])))
 tree_items (split cuts found pick cert a b) =
     Node ∷ (map Cut cuts ++ (map Found (option_to_list found) ++ (Split pick cert ∷ (tree_items a ++ tree_items b))))
+
+-- how many nodes stand one below another, at most
+abbrev pub depth : {U C P F : Type 0} → Tree U C P F → ℕ
+depth (leaf cuts found end) = 1
+depth (split cuts found pick cert a b) = 1 + max (depth a) (depth b)

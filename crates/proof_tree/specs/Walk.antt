@@ -1,5 +1,5 @@
 -- The walk over a proof's items: where it stands, what an item leads to, and what a list of items leads to.
-use Rattle.std.specs.Prelude.{◌≡◌, ℕ, ◌+◌, ◌<◌, ◌-◌, Bool, true, false, List, [], ◌∷◌, map, length, take, Option, Some, None, IsSome, MatchOption, unwrap_or, if◌then◌else◌}
+use Rattle.std.specs.Prelude.{◌≡◌, ℕ, ◌+◌, ◌<◌, ◌-◌, Bool, true, false, List, [], ◌∷◌, map, length, take, Option, Some, None, IsSome, MatchOption, unwrap_or, if◌then◌else◌, fold, IsTrue, ⊤}
 use Rattle.proof_tree.specs.declared.capped.Capped.{Capped}
 use Rattle.proof_tree.specs.declared.capped.Capped.TheVariants.{AtMost, NoPoint, Bad}
 use Rattle.proof_tree.specs.declared.item.Item.{Item}
@@ -82,17 +82,40 @@ taken s splits v (Split pick cert) = going_to ExpectNode (record { view = v; pic
 abbrev pub step : {R A U C P F : Type 0} → Steps U C P → Stage P → Item R A U C P F → Outcome P
 step s stage item = if may_come stage.expected item then taken s stage.splits stage.view item else misplaced
 
--- what items lead to, one after another; where one has led to no cap, the rest stays without one, and after the end none may come
+-- what a further item leads to: where one has led to no cap, the rest stays without one, and after the end none may come
+abbrev pub after : {R A U C P F : Type 0} → Steps U C P → Outcome P → Item R A U C P F → Outcome P
+after s (going stage) item = step s stage item
+after s (ended cap) item = misplaced
+after s undefined item = undefined
+after s misplaced item = misplaced
+
+-- what items lead to, one after another
 abbrev pub walked : {R A U C P F : Type 0} → Steps U C P → Outcome P → List (Item R A U C P F) → Outcome P
-walked s outcome [] = outcome
-walked s (going stage) (item ∷ items) = walked s (step s stage item) items
-walked s (ended cap) (item ∷ items) = misplaced
-walked s undefined (item ∷ items) = undefined
-walked s misplaced (item ∷ items) = misplaced
+walked s outcome items = fold (after s) outcome items
 
 -- the outcome before the first item, over a view
 abbrev pub start : {P : Type 0} → View → Outcome P
 start v = going (record { expected = ExpectNode; splits = []; view = v })
+
+-- a proof that has a cap ends with it, and one that has none is undefined
+abbrev pub outcome_of : {P : Type 0} → Capped → Outcome P
+outcome_of Bad = undefined
+outcome_of NoPoint = ended NoPoint
+outcome_of (AtMost n) = ended (AtMost n)
+
+-- how many splits are open
+abbrev pub open_count : {P : Type 0} → Outcome P → ℕ
+open_count (going stage) = length stage.splits
+open_count (ended cap) = 0
+open_count undefined = 0
+open_count misplaced = 0
+
+-- an item of a proof comes where it may come, or where an earlier one has led to no cap
+abbrev pub ComesNext : {R A U C P F : Type 0} → Outcome P → Item R A U C P F → Type 0
+ComesNext (going stage) item = IsTrue (may_come stage.expected item)
+ComesNext (ended cap) item = ⊥
+ComesNext undefined item = ⊤
+ComesNext misplaced item = ⊥
 
 -- an open split as the views of its area show it
 abbrev pub opened : {P : Type 0} → List View → OpenSplit P → Opened P

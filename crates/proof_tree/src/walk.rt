@@ -1,7 +1,9 @@
-ghost use Rattle.std.specs.Prelude.{◌≡◌, [], ◌∷◌, length, drop, map, IsTrue, IfOk, OnOk, OnErr};
-ghost use Rattle.proof_tree.specs.Tree.{leaf_cap, no_point};
-ghost use Rattle.proof_tree.specs.Views.{present, view_at};
-ghost use Rattle.proof_tree.specs.Walk.{may_come, stage_of, opened, first_mark, innermost_left, StandBelow, Stands, IsAnswer, GoesBack, Led, going_to, step, taken, part_ended, close};
+ghost use Rattle.std.specs.Prelude.{List as Items, ◌++◌, ◌<◌, ◌≡◌, [], ◌∷◌, length, drop, map, IsTrue, IfOk, OnOk, OnErr};
+ghost use Rattle.proof_tree.specs.Items.{tree_items, depth};
+ghost use Rattle.proof_tree.specs.declared.item.Item.{Item};
+ghost use Rattle.proof_tree.specs.Tree.{Tree, tree_cap};
+ghost use Rattle.proof_tree.specs.Views.{View, present, view_at};
+ghost use Rattle.proof_tree.specs.Walk.{may_come, stage_of, opened, first_mark, innermost_left, StandBelow, Stands, IsAnswer, GoesBack, Led, going_to, step, taken, part_ended, close, walked, start, outcome_of, open_count, ComesNext};
 
 use crate::capped::{Capped, greater_cap};
 use crate::capping::empty_cap;
@@ -79,6 +81,25 @@ impl<R: Relaxation> Walk<R> {
             splits: Stack::new(alloc),
             expected: Expected::Node,
         }
+    }
+
+    /// The law of the walk. The items of a proof lead from a new walk to the cap of the proof, or to `Bad`
+    /// exactly where it has none; each of them may come where it comes; and fewer splits are open than
+    /// the proof has nodes one below another.
+    pub fn law(r: &R)
+        ensures whole { (tree : Tree R.Trim R.Cert R.Pick R.Found) (view : View)
+            → walked {R = R} {A = R.Area} (R.steps r.now) (start view) (tree_items tree)
+            ≡ outcome_of (tree_cap (R.steps r.now) view tree) }
+        ensures comes { (tree : Tree R.Trim R.Cert R.Pick R.Found) (view : View)
+            (before : Items (Item R R.Area R.Trim R.Cert R.Pick R.Found)) (item : _) (later : _)
+            → tree_items tree ≡ before ++ item ∷ later
+            → ComesNext (walked (R.steps r.now) (start view) before) item }
+        ensures depth { (tree : Tree R.Trim R.Cert R.Pick R.Found) (view : View)
+            (before : Items (Item R R.Area R.Trim R.Cert R.Pick R.Found)) (later : _)
+            → tree_items tree ≡ before ++ later
+            → open_count (walked (R.steps r.now) (start view) before) < depth tree }
+    {
+        let _ = r;
     }
 
     /// Whether the item may come next.

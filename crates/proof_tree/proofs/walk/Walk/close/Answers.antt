@@ -14,7 +14,7 @@ loop-left-preserved g c =
     let is : innermost_left all ≡ Some c.in-Some.left = search rules in
     let closed = close-innermost s views all c.pop-split.result rest c.in-Some.left c.loop-left.cap held is in
     record {
-        stands = StandBelow-rest s views (length views) c.args.first all c.pop-split.result rest held c.loop-left.invariant.stands;
-        closes = ap (close s (map (opened views) rest)) c.greater_cap-cap.ensures ∙ (sym closed ∙ c.loop-left.invariant.closes);
-        same_first = c.loop-left.invariant.same_first
+      stands = StandBelow-rest s views (length views) c.args.first all c.pop-split.result rest held c.loop-left.invariant.stands;
+      closes = ap (close s (map (opened views) rest)) c.greater_cap-cap.ensures ∙ (sym closed ∙ c.loop-left.invariant.closes);
+      same_first = c.loop-left.invariant.same_first;
     }
