@@ -1,3 +1,4 @@
+pub mod ByteRange
 pub mod Cap
 pub mod Items
 pub mod Relaxation

@@ -13,6 +13,8 @@ mod proof;
 mod relaxation;
 mod stack;
 mod taker;
+#[cfg(test)]
+mod tests;
 mod walk;
 
 pub use capped::Capped;
