@@ -1,6 +1,7 @@
 pub mod ByteRange
 pub mod Cap
 pub mod Items
+pub mod Nodes
 pub mod Relaxation
 pub mod Taker
 pub mod Tree

@@ -1,7 +1,7 @@
 ghost use Rattle.std.specs.Prelude.{◌≡◌, [], MatchBool};
 ghost use Rattle.proof_tree.specs.Cap.{Bounds};
-ghost use Rattle.proof_tree.specs.Views.{present, KeepsViews};
-ghost use Rattle.proof_tree.specs.Tree.{tree_at, tree_of, tree_cap, after_cuts, leaf_cap, no_point};
+ghost use Rattle.proof_tree.specs.Views.{View, present, KeepsViews};
+ghost use Rattle.proof_tree.specs.Tree.{Tree, tree_at, tree_of, tree_cap, after_cuts, leaf_cap, no_point};
 
 use crate::capped::{Capped, greater_cap};
 use crate::proof::{End, Proof};
@@ -89,4 +89,14 @@ fn cap_end<R: Relaxation>(
             greater_cap(left_cap, cap_of(r, area, right))
         }
     }
+}
+
+/// The law of caps: the cap of a proof over a view that fits, however it was found, bounds the worth of
+/// every lawful point of the view.
+pub fn cap_law<R: Relaxation>(r: &R)
+    ensures { (tree : Tree R.Trim R.Cert R.Pick R.Found) (view : View) → R.fits r.now view
+        → Bounds (R.is_point r.now view) (R.is_lawful r.now) (R.worth r.now)
+        (tree_cap (R.steps r.now) view tree) }
+{
+    let _ = r;
 }

@@ -18,7 +18,7 @@ mod tests;
 mod walk;
 
 pub use capped::Capped;
-pub use capping::cap_of;
+pub use capping::{cap_law, cap_of};
 pub use item::Item;
 pub use list::List;
 pub use proof::{End, Proof};
