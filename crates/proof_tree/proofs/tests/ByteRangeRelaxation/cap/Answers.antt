@@ -1,0 +1,18 @@
+-- The present view of a range is that range.
+use Rattle.std.proofs.Common.{◌≡◌, ◌+◌, ◌-◌, ◌*◌, ◌<◌, ◌≤◌, ◌/◌, ◌%◌, refl, ap, sym, ◌∙◌, subst, arith, length, take, max, cond, true, false, nat_le, pos}
+use Rattle.std.proofs.lemmas.Bool.Decides.{nat_tests}
+use Rattle.std.proofs.lemmas.Int.{ints}
+use Rattle.proof_tree.specs.ByteRange.{ranges, range, up_to, above, number_cap, only_cap, below_of, above_of}
+use Rattle.proof_tree.specs.Views.{View}
+use Rattle.proof_tree.proofs.Ranges.{present_at, keeps_at, moves_at, length-ranges, take-ranges, place_back, enough_at, short_at, one_at, more_at}
+use Rattle.proof_tree.proofs.tests.ByteRangeRelaxation.cap.Goals as goal
+
+pub returns-then-from-area-ge255 : goal.returns-then-from-area-ge255
+returns-then-from-area-ge255 c =
+    let s = c.args.area.now in
+    enough_at s.below s.above c.args.cert.now _ s.small.1 (omega arith) (omega (arith, ints))
+
+pub returns-else-from-area-ge255 : goal.returns-else-from-area-ge255
+returns-else-from-area-ge255 c =
+    let s = c.args.area.now in
+    short_at s.below s.above c.args.cert.now s.small.1 (omega arith)

@@ -1,0 +1,14 @@
+-- The present view of a range is that range.
+use Rattle.std.proofs.Common.{◌≡◌, ◌+◌, ◌-◌, ◌*◌, ◌<◌, ◌≤◌, ◌/◌, ◌%◌, refl, ap, sym, ◌∙◌, subst, arith, length, take, max, cond, true, false, nat_le, pos}
+use Rattle.std.proofs.lemmas.Bool.Decides.{nat_tests}
+use Rattle.std.proofs.lemmas.Int.{ints}
+use Rattle.proof_tree.specs.ByteRange.{ranges, range, up_to, above, number_cap, only_cap, below_of, above_of}
+use Rattle.proof_tree.specs.Views.{View}
+use Rattle.proof_tree.proofs.Ranges.{present_at, keeps_at, moves_at, length-ranges, take-ranges, place_back, enough_at, short_at, one_at, more_at}
+use Rattle.proof_tree.proofs.tests.ByteRangeRelaxation.left.Goals as goal
+
+pub returns-clause-moves : goal.returns-clause-moves
+returns-clause-moves c =
+    let s = c.args.area.now in
+    let up : c.max-area.result ≡ max s.above (255 - c.args.pick.now) = omega arith in
+    moves_at (λ v. up_to v c.args.pick.now) s.below s.above s.below c.max-area.result s.small.1 (omega arith) (omega arith) (omega arith) (ap (range s.below) (sym up))
