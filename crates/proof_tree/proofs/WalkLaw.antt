@@ -1,13 +1,11 @@
 -- The law of the walk: the items of a tree lead to its cap, and no more splits are open than the tree is deep.
-use Rattle.std.proofs.Common.{◌≡◌, ◌≢◌, ℕ, ◌+◌, ◌-◌, ◌<◌, ◌≤◌, max, Bool, true, false, List, [], ◌∷◌, ◌++◌, map, length, Option, Some, None, option_to_list, option_and_then, if◌then◌else◌, refl, ap, sym, ◌∙◌, subst, arith, fold, IsTrue}
-use Rattle.std.specs.Bool.{⊤}
-use Rattle.std.proofs.lemmas.Grind.{common_steps}
+use Rattle.std.proofs.Common.{◌≡◌, ◌≢◌, ℕ, ◌+◌, ◌-◌, ◌<◌, ◌≤◌, Bool, true, false, List, [], ◌∷◌, ◌++◌, map, length, Option, Some, None, option_to_list, option_and_then, if◌then◌else◌, refl, ap, sym, ◌∙◌, subst, arith}
 use Rattle.proof_tree.specs.declared.capped.Capped.{Capped}
 use Rattle.proof_tree.specs.declared.capped.Capped.TheVariants.{AtMost, NoPoint, Bad}
 use Rattle.proof_tree.specs.declared.item.Item.{Item}
-use Rattle.proof_tree.specs.declared.item.Item.TheVariants.{Node, Cut, Found, Empty, Dual, Point, Pending, Split}
+use Rattle.proof_tree.specs.declared.item.Item.TheVariants.{Cut, Found, Empty, Dual, Point, Pending, Split}
 use Rattle.proof_tree.specs.declared.walk.Expected.{Expected}
-use Rattle.proof_tree.specs.declared.walk.Expected.TheVariants.{Node as ExpectNode, Inside, End, Nothing}
+use Rattle.proof_tree.specs.declared.walk.Expected.TheVariants.{Node as ExpectNode, Inside, End}
 use Rattle.proof_tree.specs.Cap.{greater}
 use Rattle.proof_tree.specs.Items.{leaf_item, tree_items, depth}
 use Rattle.proof_tree.specs.Relaxation.{Steps}

@@ -51,12 +51,12 @@ pub enum Took {
 /// split for each split on the way down to the present node, so it grows with the depth of the proof
 /// and not with its nodes.
 pub struct Walk<R: Relaxation> {
-    /// The mark of the area before the first item.
-    pub first: Option<u32>,
-    /// The splits that are not closed yet, innermost first.
-    pub splits: Stack<OpenSplit<R::Pick>>,
-    /// Which items may come next.
-    pub expected: Expected,
+    // The mark of the area before the first item.
+    first: Option<u32>,
+    // The splits that are not closed yet, innermost first.
+    splits: Stack<OpenSplit<R::Pick>>,
+    // Which items may come next.
+    expected: Expected,
 }
 
 impl<R: Relaxation> Drop for Walk<R> {
@@ -276,7 +276,7 @@ impl<R: Relaxation> Walk<R> {
     {
         let mut cap = cap;
         while let Some(left) = self.innermost_left() {
-            let _split = self.splits.pop();
+            let _closed = self.splits.pop();
             cap = greater_cap(left, cap);
         }
         match self.splits.top() {

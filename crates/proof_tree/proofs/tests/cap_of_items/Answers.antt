@@ -1,9 +1,9 @@
 -- The law of the walk, at the items so far.
-use Rattle.std.proofs.Common.{◌≡◌, ℕ, ◌+◌, ◌<◌, ◌≤◌, List, [], ◌∷◌, ◌++◌, length, take, drop, get_or, refl, ap, sym, ◌∙◌, subst, arith, append_assoc}
+use Rattle.std.proofs.Common.{◌≡◌, ℕ, ◌+◌, ◌<◌, List, [], ◌∷◌, ◌++◌, length, take, drop, get_or, ap, sym, ◌∙◌, subst, arith, append_assoc}
 use Rattle.std.proofs.lemmas.Grind.{common_steps}
 use Rattle.std.proofs.lemmas.List.{append-nil}
 use Rattle.proof_tree.specs.declared.item.Item.{Item}
-use Rattle.proof_tree.specs.Tree.{Tree, tree_cap}
+use Rattle.proof_tree.specs.Tree.{tree_cap}
 use Rattle.proof_tree.specs.Views.{present}
 use Rattle.proof_tree.specs.Walk.{walked, start, ComesNext, IsAnswer, Tells, stage_of, step}
 use Rattle.proof_tree.proofs.WalkLaw.{walked-next}

@@ -1,7 +1,7 @@
 -- The walk stands in the area where the items so far have led.
-use Rattle.std.proofs.Common.{◌≡◌, take, length}
+use Rattle.std.proofs.Common.{◌≡◌, take}
 use Rattle.proof_tree.specs.Views.{present}
-use Rattle.proof_tree.specs.Walk.{Stands, walked, start, going, stage_of, first_mark}
+use Rattle.proof_tree.specs.Walk.{Stands, walked, start, going, stage_of}
 use Rattle.proof_tree.proofs.tests.cap_of_items.Given as goal
 
 abbrev pub invariant-loop-item : goal.invariant-loop-item
