@@ -1,11 +1,10 @@
 -- Lemmas on the list of all ranges.
-use Rattle.std.proofs.Common.{◌≡◌, ℕ, zero, suc, ◌+◌, ◌-◌, ◌*◌, ◌/◌, ◌%◌, ◌<◌, ◌≤◌, List, [], ◌∷◌, ◌++◌, length, take, get_or, refl, ap, sym, ◌∙◌, arith, length-append, subst, ⊎_elim, add-one, Some, true, false, cond, nat_le, ◌≢◌, ℤ, pos}
+use Rattle.std.proofs.Common.{◌≡◌, ℕ, zero, suc, ◌+◌, ◌*◌, ◌/◌, ◌%◌, ◌<◌, ◌≤◌, List, [], ◌∷◌, ◌++◌, length, take, refl, ap, sym, ◌∙◌, arith, subst, ⊎_elim, add-one, Some, true, false, cond, nat_le, ◌≢◌, ℤ, pos}
 use Rattle.std.specs.Prelude.{◌==◌}
 use Rattle.std.proofs.lemmas.Bool.Decides.{nat_tests}
 use Rattle.proof_tree.specs.declared.capped.Capped.TheVariants.{AtMost, Bad}
 use Rattle.std.proofs.lemmas.Bool.{cases_lt}
 use Rattle.std.proofs.lemmas.Grind.{common_steps}
-use Rattle.std.proofs.lemmas.Nat.{div-mul-add, mod-mul-add}
 use Rattle.proof_tree.specs.ByteRange.{ranges, range_at, range, number_cap, only_cap}
 use Rattle.proof_tree.specs.Views.{View, present, KeepsViews, MovesTo}
 

@@ -1,5 +1,5 @@
 -- Lemmas on the views that a call keeps.
-use Rattle.std.proofs.Common.{◌≡◌, ℕ, ◌≤◌, List, length, take, refl, arith, ap, sym, ◌∙◌, length-take}
+use Rattle.std.proofs.Common.{List, arith}
 use Rattle.std.proofs.lemmas.Grind.{common_steps}
 use Rattle.proof_tree.specs.Views.{View, KeepsViews}
 

@@ -1,19 +1,17 @@
 -- The law of the walk: the items of a tree lead to its cap, and no more splits are open than the tree is deep.
-use Rattle.std.proofs.Common.{◌≡◌, ◌≢◌, ℕ, ◌+◌, ◌-◌, ◌<◌, ◌≤◌, max, Bool, true, false, List, [], ◌∷◌, ◌++◌, map, length, Option, Some, None, option_to_list, option_and_then, if◌then◌else◌, refl, ap, sym, ◌∙◌, subst, arith, fold, IsTrue}
-use Rattle.std.specs.Bool.{⊤}
-use Rattle.std.proofs.lemmas.Grind.{common_steps}
+use Rattle.std.proofs.Common.{◌≡◌, ◌≢◌, ℕ, ◌+◌, ◌-◌, ◌<◌, ◌≤◌, Bool, true, false, List, [], ◌∷◌, ◌++◌, map, length, Option, Some, None, option_to_list, option_and_then, if◌then◌else◌, refl, ap, sym, ◌∙◌, subst, arith}
 use Rattle.proof_tree.specs.declared.capped.Capped.{Capped}
 use Rattle.proof_tree.specs.declared.capped.Capped.TheVariants.{AtMost, NoPoint, Bad}
 use Rattle.proof_tree.specs.declared.item.Item.{Item}
-use Rattle.proof_tree.specs.declared.item.Item.TheVariants.{Node, Cut, Found, Empty, Dual, Point, Pending, Split}
+use Rattle.proof_tree.specs.declared.item.Item.TheVariants.{Cut, Found, Empty, Dual, Point, Pending, Split}
 use Rattle.proof_tree.specs.declared.walk.Expected.{Expected}
-use Rattle.proof_tree.specs.declared.walk.Expected.TheVariants.{Node as ExpectNode, Inside, End, Nothing}
+use Rattle.proof_tree.specs.declared.walk.Expected.TheVariants.{Node as ExpectNode, Inside, End}
 use Rattle.proof_tree.specs.Cap.{greater}
 use Rattle.proof_tree.specs.Items.{leaf_item, tree_items, depth}
 use Rattle.proof_tree.specs.Relaxation.{Steps}
 use Rattle.proof_tree.specs.Tree.{Leaf, no_point, dual, one_point, pending, Tree, leaf, split, tree_cap, leaf_cap, after_cuts, cap_if}
 use Rattle.proof_tree.specs.Views.{View}
-use Rattle.proof_tree.specs.Walk.{Opened, Stage, Outcome, going, ended, undefined, misplaced, may_come, going_to, close, close_split, part_ended, taken, step, after, walked, start, outcome_of, open_count, ComesNext}
+use Rattle.proof_tree.specs.Walk.{Opened, Stage, Outcome, going, ended, undefined, misplaced, may_come, going_to, close, close_split, part_ended, taken, step, after, walked, start, outcome_of, open_count, ComesNext, Tells}
 
 -- the stage where these items may come, with these splits open, over this view
 abbrev stage_at : {P : Type 0} → Expected → List (Opened P) → View → Outcome P
@@ -30,6 +28,10 @@ module _ (R A F : Type 0) {U C P : Type 0} (s : Steps U C P) where
   pub walked-append : (outcome : Outcome P) (xs ys : List (Item R A U C P F)) → walked s outcome (xs ++ ys) ≡ walked s (walked s outcome xs) ys
   walked-append outcome [] ys = refl
   walked-append outcome (x ∷ xs) ys = walked-append (after s outcome x) xs ys
+
+  -- what one more item leads to
+  pub walked-next : (outcome : Outcome P) (xs : List (Item R A U C P F)) (x : Item R A U C P F) (stage : Stage P) → walked s outcome xs ≡ going stage → walked s outcome (xs ++ x ∷ []) ≡ step s stage x
+  walked-next outcome xs x stage so_far = walked-append outcome xs (x ∷ []) ∙ ap (λ o. after s o x) so_far
 
   -- what has no cap gets none
   pub walked-undefined : (xs : List (Item R A U C P F)) → walked s undefined xs ≡ undefined
@@ -140,6 +142,26 @@ module _ (R A F : Type 0) {U C P : Type 0} (s : Steps U C P) where
   walked-comes tree v before item later is =
       comes_next (walked s (start v) before) item later (tree_cap s v tree)
       (sym (walked-append (start v) before (item ∷ later)) ∙ (ap (walked s (start v)) (sym is) ∙ walked-whole tree v))
+
+  tells : (outcome : Outcome P) (later : List (Item R A U C P F)) (proof_cap : Capped) → walked s outcome later ≡ outcome_of proof_cap → Tells outcome later proof_cap
+  tells (going stage) [] Bad led = cc
+  tells (going stage) [] NoPoint led = cc
+  tells (going stage) [] (AtMost n) led = cc
+  tells (going stage) (x ∷ xs) proof_cap led = omega arith
+  tells (ended c) [] Bad led = cc
+  tells (ended c) [] NoPoint led = (refl, cc)
+  tells (ended c) [] (AtMost n) led = (refl, cc)
+  tells (ended c) (x ∷ xs) proof_cap led = absurd (not_misplaced proof_cap (sym (walked-misplaced xs) ∙ led))
+  tells undefined later Bad led = refl
+  tells undefined later NoPoint led = let none = walked-undefined later in cc
+  tells undefined later (AtMost n) led = let none = walked-undefined later in cc
+  tells misplaced later proof_cap led = not_misplaced proof_cap (sym (walked-misplaced later) ∙ led)
+
+  -- what the items so far tell of a proof's cap
+  pub walked-so_far : (tree : Tree U C P F) (v : View) (before later : List (Item R A U C P F)) → tree_items tree ≡ before ++ later → Tells (walked s (start v) before) later (tree_cap s v tree)
+  walked-so_far tree v before later is =
+      tells (walked s (start v) before) later (tree_cap s v tree)
+      (sym (walked-append (start v) before later) ∙ (ap (walked s (start v)) (sym is) ∙ walked-whole tree v))
 
   -- no more than n splits are open at any time
   abbrev Within : ℕ → Outcome P → List (Item R A U C P F) → Type 0

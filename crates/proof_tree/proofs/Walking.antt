@@ -1,16 +1,15 @@
 -- Lemmas on what a walk holds while its area moves.
-use Rattle.std.proofs.Common.{◌≡◌, ◌≢◌, ℕ, suc, ◌+◌, ◌-◌, ◌<◌, ◌≤◌, List, [], ◌∷◌, map, length, take, drop, get_or, Option, Some, None, IsSome, refl, ap, sym, ◌∙◌, subst, arith, length-take, get_or-take}
+use Rattle.std.proofs.Common.{◌≡◌, ◌≢◌, ℕ, ◌+◌, ◌-◌, ◌<◌, ◌≤◌, List, [], ◌∷◌, map, length, take, Option, Some, None, IsSome, refl, ap, sym, ◌∙◌, subst, arith}
 use Rattle.std.proofs.lemmas.Grind.{common_steps}
 use Rattle.proof_tree.specs.declared.capped.Capped.{Capped}
 use Rattle.proof_tree.specs.declared.walk.OpenSplit.{OpenSplit}
 use Rattle.proof_tree.specs.declared.walk.Walk.{Walk}
 use Rattle.proof_tree.specs.declared.walk.Took.TheVariants.{More}
-use Rattle.proof_tree.specs.declared.walk.Expected.{Expected}
 use Rattle.proof_tree.specs.declared.walk.Expected.TheVariants.{Node}
 use Rattle.proof_tree.specs.Cap.{greater}
 use Rattle.proof_tree.specs.Relaxation.{Steps}
 use Rattle.proof_tree.specs.Views.{View, view_at, present, KeepsViews}
-use Rattle.proof_tree.specs.Walk.{Opened, opened, innermost_left, StandBelow, Led, going, going_to, stage_of, close}
+use Rattle.proof_tree.specs.Walk.{opened, innermost_left, StandBelow, Led, going, going_to, stage_of, close}
 
 -- a view at an earlier mark stays
 pub view_at-kept : (old new : List View) (mark : ℕ) → KeepsViews old new → mark < length old → view_at new mark ≡ view_at old mark

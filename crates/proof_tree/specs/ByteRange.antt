@@ -1,12 +1,12 @@
 -- The relaxation of the tests: an area is one range of the whole numbers 0 to 255, and every point is lawful with itself as worth.
-use Rattle.std.specs.Prelude.{◌≡◌, ℕ, zero, suc, ◌+◌, ◌-◌, ◌*◌, ◌/◌, ◌%◌, ◌<◌, ◌≤◌, max, Bool, true, false, cond, List, [], ◌∷◌, ◌++◌, slice_index, nat_le, ◌==◌, Option, Some, None, ℤ, pos, ⊤}
+use Rattle.std.specs.Prelude.{◌≡◌, ℕ, zero, suc, ◌+◌, ◌-◌, ◌/◌, ◌%◌, ◌<◌, ◌≤◌, max, Bool, true, false, cond, List, [], ◌∷◌, ◌++◌, slice_index, nat_le, ◌==◌, Option, Some, None, ℤ, pos, ⊤}
 use Rattle.std.proofs.Common.{refl, sym, ap, subst, ◌∙◌, arith, ⊎_elim, inl, inr, ◌⊎◌, ◌≢◌, ◌≤ℤ◌}
 use Rattle.std.proofs.lemmas.Int.{ints}
 use Rattle.std.proofs.lemmas.Bool.{cases_lt}
 use Rattle.std.proofs.lemmas.Bool.Decides.{nat_tests}
 use Rattle.proof_tree.specs.Cap.{Bounds, Settles}
 use Rattle.proof_tree.specs.declared.capped.Capped.{Capped}
-use Rattle.proof_tree.specs.declared.capped.Capped.TheVariants.{AtMost, NoPoint, Bad}
+use Rattle.proof_tree.specs.declared.capped.Capped.TheVariants.{AtMost, Bad}
 use Rattle.proof_tree.specs.Relaxation.{Steps, IsSound}
 use Rattle.proof_tree.specs.Views.{View, Point}
 

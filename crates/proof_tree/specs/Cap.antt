@@ -1,5 +1,5 @@
 -- What caps say of points.
-use Rattle.std.specs.Prelude.{◌≡◌, ℤ, ◌≤ℤ◌, List, ℕ, ⊤}
+use Rattle.std.specs.Prelude.{◌≡◌, ℤ, ◌≤ℤ◌, ⊤}
 use Rattle.std.specs.Int.{int_max}
 use Rattle.proof_tree.specs.declared.capped.Capped.{Capped}
 use Rattle.proof_tree.specs.declared.capped.Capped.TheVariants.{AtMost, NoPoint, Bad}

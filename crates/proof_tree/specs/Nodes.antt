@@ -1,5 +1,5 @@
 -- What holds at each node of a tree, and what a tree holds in all.
-use Rattle.std.specs.Prelude.{◌≡◌, ℕ, ◌+◌, List, [], ◌∷◌, ◌++◌, Option, Some, None, option_to_list, IsSomeAnd, ⊤}
+use Rattle.std.specs.Prelude.{ℕ, ◌+◌, List, [], ◌++◌, Option, Some, None, option_to_list, IsSomeAnd, ⊤}
 use Rattle.proof_tree.specs.Relaxation.{Steps}
 use Rattle.proof_tree.specs.Tree.{Leaf, no_point, dual, one_point, pending, Tree, leaf, split, after_cuts}
 use Rattle.proof_tree.specs.Views.{View}

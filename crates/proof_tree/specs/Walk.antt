@@ -117,6 +117,13 @@ ComesNext (ended cap) item = ⊥
 ComesNext undefined item = ⊤
 ComesNext misplaced item = ⊥
 
+-- what the items of a proof tell of its cap before the later ones: more have to come, or it ends with its cap, or it has none
+abbrev pub Tells : {P I : Type 0} → Outcome P → List I → Capped → Type 0
+Tells (going stage) later proof_cap = 0 < length later
+Tells (ended cap) later proof_cap = (later ≡ []) × (cap ≡ proof_cap)
+Tells undefined later proof_cap = proof_cap ≡ Bad
+Tells misplaced later proof_cap = ⊥
+
 -- an open split as the views of its area show it
 abbrev pub opened : {P : Type 0} → List View → OpenSplit P → Opened P
 opened views split = record { view = view_at views split.mark; pick = split.pick; left = split.left }

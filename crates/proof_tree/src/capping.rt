@@ -77,12 +77,12 @@ fn cap_end<R: Relaxation>(
         End::Point => r.settle(area),
         End::Pending(cert) => r.cap(area, cert),
         End::Split(pick, _, left, right) => {
-            let mark = r.mark(area);
+            let at_split = r.mark(area);
             if !r.left(area, pick) {
                 return Capped::Bad;
             }
             let left_cap = cap_of(r, area, left);
-            r.back(area, mark);
+            r.back(area, at_split);
             if !r.right(area, pick) {
                 return Capped::Bad;
             }

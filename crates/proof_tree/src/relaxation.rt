@@ -22,16 +22,22 @@ pub trait Relaxation {
     /// A point that was found, as a proof records it.
     type Found: Drop;
 
+    // What an area shows at the marks 0 to its own; the last is the present view.
     ghost views: { Self.Area → Listed View };
 
+    // What the calls answer on a view.
     ghost steps: { Self → Steps Self.Trim Self.Cert Self.Pick };
 
+    // Which views the relaxation is for.
     ghost fits: { Self → View → Type 0 };
 
+    // Which points a view has.
     ghost is_point: { Self → View → Point → Type 0 };
 
+    // Which points are lawful.
     ghost is_lawful: { Self → Point → Type 0 };
 
+    // What a point is worth, in money units.
     ghost worth: { Self → Point → ℤ };
 
     /// Narrows the area by the cut. The answer is false exactly where the cut names nothing that is
@@ -87,5 +93,6 @@ pub trait Relaxation {
         ensures fits { fits self.now (present (views area.new)) }
         ensures views { views area.new ≡ take (mark + 1) (views area.old) };
 
+    // The laws: cuts and parts keep what they have to keep, and caps bound what they have to bound.
     ghost sound: { (r : Self) → IsSound (steps r) (fits r) (is_point r) (is_lawful r) (worth r) };
 }

@@ -17,12 +17,16 @@ pub enum TakeStop {
 /// What takes the items of a proof one after another, as a log or a tree that is built does. `O` is the
 /// outside thing to which it writes.
 pub trait NodeTaker<R: Relaxation, O> {
+    // How many faults the outside has counted; the number never falls.
     ghost faults: { O → ℕ };
 
+    // When an item may be put.
     ghost ready: { Self → O → Type 0 };
 
+    // A taker with its outside took these items, and is now this taker with this outside.
     ghost took: { Self → O → List (Item R R.Area R.Trim R.Cert R.Pick R.Found) → Self → O → Type 0 };
 
+    // The same, where the last of the items was not taken, or in part.
     ghost broke: { Self → O → List (Item R R.Area R.Trim R.Cert R.Pick R.Found) → Self → O → Type 0 };
 
     /// Takes the next item. After an error the taker is not used again, and `Failed` comes only where
@@ -39,5 +43,6 @@ pub trait NodeTaker<R: Relaxation, O> {
         ensures later { faults out.old ≤ faults out.new }
         ensures failed { IsErrOf result TakeStop.Failed → Rose (faults out.old) (faults out.new) };
 
+    // Where nothing changed, no item was taken.
     ghost took_none: { (taker : Self) (outside : O) → took taker outside [] taker outside };
 }

@@ -1,10 +1,12 @@
-ghost use Rattle.std.specs.Prelude.{◌≡◌, ◌+◌, ◌*◌, ◌<◌, ◌≤◌, length, ⊤};
+ghost use Rattle.std.specs.Prelude.{IfOk, ◌≡◌, ◌+◌, ◌*◌, ◌<◌, ◌≤◌, length, ⊤};
 ghost use Rattle.std.proofs.Common.{arith};
+ghost use Rattle.proof_tree.specs.Items.{tree_items};
+ghost use Rattle.proof_tree.specs.Tree.{Tree, tree_cap};
+ghost use Rattle.proof_tree.specs.Views.{present};
 ghost use Rattle.proof_tree.specs.ByteRange.{IsNumberIn, number_of, range_steps, ranges, range_sound};
 
 use crate::{Capped, End, Item, List, NodeTaker, Proof, Relaxation, TakeStop, Took, Walk, cap_of};
 use std::alloc::{AllocError, Global};
-use std::process::Abort;
 use std::test::Fail;
 
 /// The relaxation of one range of the whole numbers 0 to 255, each of which is worth itself.
@@ -177,26 +179,34 @@ fn deep(rt: HostRuntime) -> Result<(), Fail> {
     Ok(())
 }
 
-/// What a walk over all numbers answers to the last of the items that it takes.
-fn walk_over_all(
-    rt: &impl Abort,
+/// The cap of the proof of which these are the items, over any relaxation.
+fn cap_of_items<R: Relaxation>(
     alloc: Global,
-    items: &[Item<ByteRange>],
-) -> Result<Took, AllocError> {
-    let mut walk: Walk<ByteRange> = Walk::new(alloc);
-    let mut area = all_numbers();
-    let mut took = Took::More;
+    r: &R,
+    area: &mut R::Area,
+    items: &[Item<R>],
+) -> Result<Capped, AllocError>
+    requires fits { R.fits r.now (present (R.views area.old)) }
+    requires tree { (tree : Tree R.Trim R.Cert R.Pick R.Found) × (tree_items tree ≡ items.now) }
+    ensures { IfOk result (λ cap. (tree : Tree R.Trim R.Cert R.Pick R.Found) → tree_items tree ≡ items.now
+        → cap ≡ tree_cap (R.steps r.now) (present (R.views area.old)) tree) }
+{
+    Walk::<R>::law(r);
+    let mut walk: Walk<R> = Walk::new(alloc);
     for item in items {
-        assert!(rt; walk.may_take(item));
-        took = walk.take(&ByteRange, &mut area, item)?;
+        match walk.take(r, area, item)? {
+            Took::More => {}
+            Took::Done(cap) => return Ok(cap),
+            Took::Bad => return Ok(Capped::Bad),
+        }
     }
-    assert_eq!(rt; ByteRange.mark(&area), 0);
-    Ok(took)
+    unreachable!()
 }
 
 #[test]
 fn walks(rt: HostRuntime) -> Result<(), Fail> {
     let alloc = rt.alloc();
+    let mut area = all_numbers();
     let tree = [
         Item::Node,
         Item::Cut(true),
@@ -216,13 +226,15 @@ fn walks(rt: HostRuntime) -> Result<(), Fail> {
         Item::Point,
     ];
     assert_eq!(rt;
-        walk_over_all(&rt, alloc, &tree)?,
-        Took::Done(Capped::AtMost(255))
+        cap_of_items(alloc, &ByteRange, &mut area, &tree)?,
+        Capped::AtMost(255)
     );
-    let wrong = [Item::Node, Item::Cut(false)];
-    assert_eq!(rt; walk_over_all(&rt, alloc, &wrong)?, Took::Bad);
-    let open = [Item::Node, Item::Point];
-    assert_eq!(rt; walk_over_all(&rt, alloc, &open)?, Took::Bad);
+    assert_eq!(rt; ByteRange.mark(&area), 0);
+    let wrong = [Item::Node, Item::Cut(false), Item::Empty];
+    assert_eq!(rt;
+        cap_of_items(alloc, &ByteRange, &mut area, &wrong)?,
+        Capped::Bad
+    );
     Ok(())
 }
 

@@ -3,7 +3,7 @@ ghost use Rattle.proof_tree.specs.Items.{tree_items, depth};
 ghost use Rattle.proof_tree.specs.declared.item.Item.{Item};
 ghost use Rattle.proof_tree.specs.Tree.{Tree, tree_cap};
 ghost use Rattle.proof_tree.specs.Views.{View, present, view_at};
-ghost use Rattle.proof_tree.specs.Walk.{may_come, stage_of, opened, first_mark, innermost_left, StandBelow, Stands, IsAnswer, GoesBack, Led, going_to, step, taken, part_ended, close, walked, start, outcome_of, open_count, ComesNext};
+ghost use Rattle.proof_tree.specs.Walk.{may_come, stage_of, opened, first_mark, innermost_left, StandBelow, Stands, IsAnswer, GoesBack, Led, going_to, step, taken, part_ended, close, walked, start, outcome_of, open_count, ComesNext, Tells};
 
 use crate::capped::{Capped, greater_cap};
 use crate::capping::empty_cap;
@@ -51,12 +51,12 @@ pub enum Took {
 /// split for each split on the way down to the present node, so it grows with the depth of the proof
 /// and not with its nodes.
 pub struct Walk<R: Relaxation> {
-    /// The mark of the area before the first item.
-    pub first: Option<u32>,
-    /// The splits that are not closed yet, innermost first.
-    pub splits: Stack<OpenSplit<R::Pick>>,
-    /// Which items may come next.
-    pub expected: Expected,
+    // The mark of the area before the first item.
+    first: Option<u32>,
+    // The splits that are not closed yet, innermost first.
+    splits: Stack<OpenSplit<R::Pick>>,
+    // Which items may come next.
+    expected: Expected,
 }
 
 impl<R: Relaxation> Drop for Walk<R> {
@@ -84,8 +84,9 @@ impl<R: Relaxation> Walk<R> {
     }
 
     /// The law of the walk. The items of a proof lead from a new walk to the cap of the proof, or to `Bad`
-    /// exactly where it has none; each of them may come where it comes; and fewer splits are open than
-    /// the proof has nodes one below another.
+    /// exactly where it has none. Each of them may come where it comes, and what came so far tells of the
+    /// cap: `More` that later items have to come, `Done` that none has and that this is the cap, `Bad`
+    /// that there is none. Fewer splits are open than the proof has nodes one below another.
     pub fn law(r: &R)
         ensures whole { (tree : Tree R.Trim R.Cert R.Pick R.Found) (view : View)
             → walked {R = R} {A = R.Area} (R.steps r.now) (start view) (tree_items tree)
@@ -94,6 +95,10 @@ impl<R: Relaxation> Walk<R> {
             (before : Items (Item R R.Area R.Trim R.Cert R.Pick R.Found)) (item : _) (later : _)
             → tree_items tree ≡ before ++ item ∷ later
             → ComesNext (walked (R.steps r.now) (start view) before) item }
+        ensures so_far { (tree : Tree R.Trim R.Cert R.Pick R.Found) (view : View)
+            (before : Items (Item R R.Area R.Trim R.Cert R.Pick R.Found)) (later : _)
+            → tree_items tree ≡ before ++ later
+            → Tells (walked (R.steps r.now) (start view) before) later (tree_cap (R.steps r.now) view tree) }
         ensures depth { (tree : Tree R.Trim R.Cert R.Pick R.Found) (view : View)
             (before : Items (Item R R.Area R.Trim R.Cert R.Pick R.Found)) (later : _)
             → tree_items tree ≡ before ++ later
@@ -271,7 +276,7 @@ impl<R: Relaxation> Walk<R> {
     {
         let mut cap = cap;
         while let Some(left) = self.innermost_left() {
-            let _split = self.splits.pop();
+            let _closed = self.splits.pop();
             cap = greater_cap(left, cap);
         }
         match self.splits.top() {

@@ -1,5 +1,5 @@
 -- The cap of a box is that of its end over the view after its cuts.
-use Rattle.std.proofs.Common.{◌≡◌, arith, sym, subst}
+use Rattle.std.proofs.Common.{arith, sym, subst}
 use Rattle.std.proofs.lemmas.Grind.{common_steps}
 use Rattle.proof_tree.specs.Views.{present}
 use Rattle.proof_tree.specs.Cap.{Bounds}

@@ -1,5 +1,5 @@
 -- The right part of the split begins where the area has gone back to it.
-use Rattle.std.proofs.Common.{◌≡◌, ◌∷◌, ◌+◌, ◌<◌, refl, ap, sym, ◌∙◌, subst, length, drop, take, Some}
+use Rattle.std.proofs.Common.{◌≡◌, ◌∷◌, ◌+◌, refl, ap, ◌∙◌, subst, length, drop, take, Some}
 use Rattle.proof_tree.specs.declared.walk.Expected.TheVariants.{Node}
 use Rattle.proof_tree.specs.Views.{present, view_at, KeepsViews}
 use Rattle.proof_tree.specs.Walk.{StandBelow}

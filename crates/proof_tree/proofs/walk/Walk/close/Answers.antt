@@ -9,12 +9,12 @@ loop-left-preserved g c =
     let s = g.R.Relaxation.steps c.args.r.now in
     let views = g.R.Relaxation.views c.args.area.now in
     let all = c.loop-left.self.splits in
-    let rest = c.pop-split.new.self in
-    let held : all ≡ c.pop-split.result ∷ rest = c.pop-split.ensures in
+    let rest = c.pop-closed.new.self in
+    let held : all ≡ c.pop-closed.result ∷ rest = c.pop-closed.ensures in
     let is : innermost_left all ≡ Some c.in-Some.left = search rules in
-    let closed = close-innermost s views all c.pop-split.result rest c.in-Some.left c.loop-left.cap held is in
+    let closed = close-innermost s views all c.pop-closed.result rest c.in-Some.left c.loop-left.cap held is in
     record {
-      stands = StandBelow-rest s views (length views) c.args.first all c.pop-split.result rest held c.loop-left.invariant.stands;
+      stands = StandBelow-rest s views (length views) c.args.first all c.pop-closed.result rest held c.loop-left.invariant.stands;
       closes = ap (close s (map (opened views) rest)) c.greater_cap-cap.ensures ∙ (sym closed ∙ c.loop-left.invariant.closes);
       same_first = c.loop-left.invariant.same_first;
     }

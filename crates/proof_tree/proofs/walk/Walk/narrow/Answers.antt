@@ -1,5 +1,5 @@
 -- The open splits show the same after a cut.
-use Rattle.std.proofs.Common.{refl, map}
+use Rattle.std.proofs.Common.{refl}
 use Rattle.proof_tree.specs.declared.walk.Expected.TheVariants.{Inside}
 use Rattle.proof_tree.proofs.Walking.{Led-forward}
 use Rattle.proof_tree.proofs.walk.Walk.narrow.Goals as goal
