@@ -5,6 +5,7 @@ ghost use Rattle.plan_text.specs.PlanLines.{IsNamed, plan_line, plan_lines};
 
 use std::alloc::{AllocError, Global};
 use stn_model::{Plant, Start};
+use text_words::put_number;
 
 /// Appends the lines of the plan, one for each start, in the order of the plan. After want of memory
 /// `into` is as before. It takes time linear in the length of the lines.
@@ -35,11 +36,11 @@ fn put_line(
     requires { IsNamed plant.now start }
     ensures { OnOk result (lines.new.items ≡ lines.old.items ++ plan_line plant.now start) }
 {
-    put_number(alloc, start.period, lines)?;
+    put_number(alloc, u64::from(start.period), lines)?;
     put_name(plant.units.get(start.unit as usize).name.as_slice(), lines)?;
     put_name(plant.tasks.get(start.task as usize).name.as_slice(), lines)?;
     lines.push(b' ')?;
-    put_number(alloc, start.quanta, lines)?;
+    put_number(alloc, u64::from(start.quanta), lines)?;
     lines.push(b'\n')?;
     Ok(())
 }
@@ -50,12 +51,4 @@ fn put_name(name: &[u8], lines: &mut Vec<u8>) -> Result<(), AllocError>
 {
     lines.push(b' ')?;
     lines.extend_from_slice(name)
-}
-
-// Appends the decimal digits of the number.
-fn put_number(alloc: Global, number: u32, lines: &mut Vec<u8>) -> Result<(), AllocError>
-    ensures { OnOk result (lines.new.items ≡ lines.old.items ++ decimal number) }
-{
-    let digits = format!(in alloc; "{number}")?;
-    lines.extend_from_slice(digits.as_bytes())
 }
