@@ -1,0 +1,3 @@
+pub mod LowestTerms
+pub mod Sums
+pub mod Written

@@ -1,0 +1,7 @@
+use Rattle.std.proofs.Common.{◌≡◌, ◌*◌, ◌^◌, ◌<◌, ◌≤◌, drop}
+use Rattle.fraction.specs.Fractions.{common_under}
+use Rattle.fraction.proofs.Sums.{IsProductSoFar}
+use Rattle.fraction.proofs.sum.common_denominator.Given as goal
+
+abbrev pub invariant-loop-part : goal.invariant-loop-part
+invariant-loop-part l = IsProductSoFar l.parts l.part-index l.whole
