@@ -1,12 +1,12 @@
 -- Lowest terms, by Euclid's algorithm.
-use Rattle.std.proofs.Common.{◌≡◌, ℕ, zero, suc, ◌+◌, ◌-◌, ◌*◌, ◌/◌, ◌%◌, ◌<◌, ◌≤◌, sym, ap, subst, ◌∙◌, refl, arith}
+use Rattle.std.proofs.Common.{◌≡◌, ℕ, zero, suc, ◌+◌, ◌-◌, ◌*◌, ◌/◌, ◌%◌, ◌<◌, ◌≤◌, sym, ap, arith}
 use Rattle.std.specs.Int.{◌∣◌, IsGcd}
 use Rattle.std.proofs.Math.Nat.{dvd-mul_right_of_dvd, dvd-mul_left, mul-div_cancel', dvd_of_mul-dvd-mul_left, mul-le-mul_right, mul-le-mul_left}
 use Rattle.std.proofs.lemmas.Nat.Gcd.{dvd_refl, dvd-zero, le_of_dvd, IsGcd-from_zero, IsGcd-from_mod}
 use Rattle.fraction.specs.Fractions.{Reduces}
 
 -- equal products of one positive factor have equal other factors
-same_factor : (r x y : ℕ) → 0 < r → x * r ≡ y * r → x ≡ y
+pub same_factor : (r x y : ℕ) → 0 < r → x * r ≡ y * r → x ≡ y
 same_factor r x y some same =
     let low : suc x ≤ y → suc x * r ≤ y * r = mul-le-mul_right r in
     let high : suc y ≤ x → suc y * r ≤ x * r = mul-le-mul_right r in
@@ -17,8 +17,8 @@ pub Reduces-zero : (a b : ℕ) → b ≡ 0 → Reduces a b a
 Reduces-zero a b none = record {
   gcd = IsGcd-from_zero a b none;
   multiple = λ over under same.
-    let empty : a * under ≡ 0 = omega (arith, rw none at same) in
-    rw none (rw empty (dvd-zero 0));
+      let empty : a * under ≡ 0 = omega (arith, rw none at same) in
+      rw none (rw empty (dvd-zero 0));
 }
 
 -- what is left of a ratio after its whole part
@@ -48,8 +48,8 @@ pub Reduces-rest : (a b divisor : ℕ) → 0 < b → Reduces b (a % b) divisor �
 Reduces-rest a b divisor some rest = record {
   gcd = IsGcd-from_mod a b divisor rest.gcd;
   multiple = λ over under same.
-    let left = remainder_of a b (a / b) (a % b) over under some (omega arith) same in
-    multiple_step b (a % b) divisor under left.0 rest.gcd left.1 rest.multiple;
+      let left = remainder_of a b (a / b) (a % b) over under some (omega arith) same in
+      multiple_step b (a % b) divisor under left.0 rest.gcd left.1 rest.multiple;
 }
 
 -- the divisor of a positive number is positive
@@ -69,9 +69,9 @@ lowest amount quantum divisor over under some most positive reduces is_over is_u
   some = let none : over ≤ 0 → divisor * over ≤ divisor * 0 = mul-le-mul_left divisor in grind (arith, none);
   most = let above : suc under ≤ over → divisor * suc under ≤ divisor * over = mul-le-mul_left divisor in grind (arith, above);
   same =
-    let left : over * (divisor * under) ≡ over * quantum = ap (λ (x : ℕ). over * x) is_under in
-    let right : under * (divisor * over) ≡ under * amount = ap (λ (x : ℕ). under * x) is_over in
-    omega arith;
+      let left : over * (divisor * under) ≡ over * quantum = ap (λ (x : ℕ). over * x) is_under in
+      let right : under * (divisor * over) ≡ under * amount = ap (λ (x : ℕ). under * x) is_over in
+      omega arith;
   least = λ o u there same. le_of_dvd there (dvd_of_mul-dvd-mul_left under positive (rw is_under (reduces.multiple o u same)));
 }
 

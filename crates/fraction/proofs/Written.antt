@@ -1,10 +1,9 @@
 -- What is written of a fraction, and what is read of it.
-use Rattle.std.proofs.Common.{◌≡◌, ◌≢◌, ℕ, ◌+◌, ◌<◌, ◌≤◌, ◌^◌, Bool, true, false, ◌&&◌, nat_le, eqb, if◌then◌else◌, Option, Some, None, MatchOption, option_and_then, List, [], ◌∷◌, ◌++◌, All, length, decimal, sym, ap, ◌∙◌, refl, arith}
+use Rattle.std.proofs.Common.{◌≡◌, ◌≢◌, ℕ, ◌+◌, ◌<◌, ◌≤◌, ◌^◌, Bool, true, false, ◌&&◌, nat_le, eqb, if◌then◌else◌, Option, Some, None, MatchOption, option_and_then, List, ◌∷◌, ◌++◌, length, decimal, sym, ap, ◌∙◌, refl, arith}
 use Rattle.std.specs.List.{before_first, after_first}
-use Rattle.std.specs.Int.{IsInRange}
 use Rattle.std.proofs.lemmas.Bool.Decides.{nat_tests}
 use Rattle.std.proofs.lemmas.Fmt.{decimal_injective, decimal_nonempty}
-use Rattle.text_words.specs.Numbers.{number_below, IsNumberBelow}
+use Rattle.text_words.specs.Numbers.{IsNumberBelow}
 use Rattle.text_words.proofs.Cuts.{cut_first, cut_rejoins, there-after}
 use Rattle.text_words.proofs.Printed.{number_below-printed, decimal-lacks}
 use Rattle.fraction.specs.declared.fraction_of.Fraction.{Fraction}
@@ -46,9 +45,9 @@ terms_written text (Some over) (Some under) is_over is_under =
     by_choice text (nat_le 1 over && nat_le over under) (record { over = over; under = under })
     (λ is. (record { some = (test_tells over under is).0; most = (test_tells over under is).1; small = omega (arith, is_under.0) }, joined))
     (λ is f is_proper written.
-        let same_over : over ≡ f.over = decimal_injective over f.over (omega (arith, is_over.0)) (omega (arith, is_proper.most, is_proper.small)) (sym is_over.1 ∙ ap (before_first slash) written ∙ (cut_written f is_proper).0) in
-        let same_under : under ≡ f.under = decimal_injective under f.under fits (omega (arith, is_proper.small)) (sym is_under.1 ∙ ap (after_first slash) written ∙ (cut_written f is_proper).1) in
-        test_fails over under is (omega (arith, is_proper.some)) (omega (arith, is_proper.most)))
+    let same_over : over ≡ f.over = decimal_injective over f.over (omega (arith, is_over.0)) (omega (arith, is_proper.most, is_proper.small)) (sym is_over.1 ∙ ap (before_first slash) written ∙ (cut_written f is_proper).0) in
+    let same_under : under ≡ f.under = decimal_injective under f.under fits (omega (arith, is_proper.small)) (sym is_under.1 ∙ ap (after_first slash) written ∙ (cut_written f is_proper).1) in
+    test_fails over under is (omega (arith, is_proper.some)) (omega (arith, is_proper.most)))
 
 -- `fraction_in` gives the fraction that is written as the text
 pub IsWrittenAs-fraction_in : (text : List ℕ) (answer : Option Fraction) → answer ≡ fraction_in text → IsWrittenAs text answer

@@ -1,8 +1,7 @@
 //! A fraction, what it is of a whole, and how it is written.
 
-use text_words::{cut_at, read_number};
-
 use crate::reduce::divisor_of;
+use text_words::{cut_at, read_number};
 
 /// The greatest numerator and the greatest denominator.
 pub const MAX_PART: u32 = 10_000;

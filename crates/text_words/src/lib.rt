@@ -12,3 +12,6 @@ pub mod read;
 pub use cut::cut_at;
 pub use print::put_number;
 pub use read::read_number;
+
+#[cfg(test)]
+mod tests;

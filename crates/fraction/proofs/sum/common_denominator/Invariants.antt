@@ -1,5 +1,3 @@
-use Rattle.std.proofs.Common.{◌≡◌, ◌*◌, ◌^◌, ◌<◌, ◌≤◌, drop}
-use Rattle.fraction.specs.Fractions.{common_under}
 use Rattle.fraction.proofs.Sums.{IsProductSoFar}
 use Rattle.fraction.proofs.sum.common_denominator.Given as goal
 

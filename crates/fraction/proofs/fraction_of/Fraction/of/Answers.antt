@@ -1,4 +1,4 @@
-use Rattle.std.proofs.Common.{arith, ◌/◌}
+use Rattle.std.proofs.Common.{arith}
 use Rattle.fraction.proofs.LowestTerms.{Reduces-positive, AreLowest-reduced}
 use Rattle.fraction.proofs.fraction_of.Fraction.of.Goals as goal
 
