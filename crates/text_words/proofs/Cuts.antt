@@ -1,11 +1,11 @@
 -- A text cut at a place.
-use Rattle.std.proofs.Common.{◌≡◌, ℕ, ◌+◌, ◌-◌, ◌<◌, ◌≤◌, Bool, true, false, cond, ltb, eqb, Some, None, List, [], ◌∷◌, ◌++◌, All, length, take, drop, sym, ap, ◌∙◌, refl, arith, position, length-append, length-drop}
-use Rattle.std.proofs.lemmas.List.{get_or_append_left}
-use Rattle.std.proofs.lemmas.List.Sums.{position_or_len_is}
-use Rattle.std.proofs.lemmas.List.Splits.{join_with_byte-slice_split, slice_split_first, length-slice_split}
+use Rattle.std.proofs.Common.{◌⊎◌, inl, inr, ◌≡◌, ℕ, ◌+◌, ◌-◌, ◌<◌, ◌≤◌, Bool, true, false, cond, ltb, eqb, Some, None, List, [], ◌∷◌, ◌++◌, All, length, take, drop, sym, ap, ◌∙◌, refl, arith, position, length-append, length-drop}
+use Rattle.std.proofs.lemmas.List.{get_or_append_left, take_all, drop_all}
+use Rattle.std.proofs.lemmas.List.Sums.{fails_before_first, position_or_len_is}
+use Rattle.std.proofs.lemmas.List.Splits.{join_with_byte-slice_split, slice_split_first, slice_split_none, length-slice_split}
 use Rattle.std.proofs.Math.Seq.{get_or-append_seam, take-append_seam, drop-append-add}
 use Rattle.std.specs.List.{slice_split, join_with_byte, before_first, after_first, position_or_len}
-use Rattle.std.proofs.lemmas.Bool.Decides.{nat_tests}
+use Rattle.std.proofs.lemmas.Bool.Decides.{nat_tests, leb_tells}
 use Rattle.std.proofs.lemmas.Grind.{common_steps}
 
 -- what a choice by an order tells
@@ -48,3 +48,16 @@ cut_rejoins byte text there =
 -- where something stands after the byte, the byte is there
 pub there-after : (p : ℕ → Bool) (text : List ℕ) → 0 < length (after_first p text) → position_or_len p text < length text
 there-after p text some = omega (arith, length-drop (position_or_len p text + 1) text)
+
+-- no byte before the place fails to be told apart, so a text without the byte is one part
+uncut : (p : ℕ → Bool) (text : List ℕ) → length text ≤ position_or_len p text → slice_split p text ≡ text ∷ []
+uncut p text past = slice_split_none p text (λ k d within. fails_before_first p text k d (omega arith))
+
+-- a text has the byte, and its first part stands before the parts of what comes after; or it is one part
+pub cut_cases : (p : ℕ → Bool) (text : List ℕ)
+    → ((position_or_len p text < length text) × (slice_split p text ≡ before_first p text ∷ slice_split p (after_first p text))) ⊎ ((before_first p text ≡ text) × (after_first p text ≡ []) × (slice_split p text ≡ text ∷ []))
+cut_cases p text =
+    elim (leb_tells (length text) (position_or_len p text)) [
+      inl tells ↦ inr (take_all (position_or_len p text) text tells.1, drop_all (position_or_len p text + 1) text (omega (arith, tells.1)), uncut p text tells.1)
+    | inr tells ↦ inl (tells.1, slice_split_first p text 0 tells.1)
+    ]
