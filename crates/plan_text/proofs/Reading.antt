@@ -23,7 +23,7 @@ use Rattle.plan_text.specs.declared.fault.PlanStop.TheVariants.{Fault, Memory}
 use Rattle.plan_text.specs.PlanText.{lines_of_parts, text_lines, line_words, is_comment, is_empty, named_start, start_of, start_of_words, line_start, start_count, fault_at, first_fault, said, fault_or, plan_of_lines, plan_of_text, IsStop, Gives, with_start, after_line}
 
 -- a first part that is followed by others is a line
-lines_of_parts-cons : (part : List ℕ) (parts : List (List ℕ)) → 0 < length parts → lines_of_parts (part ∷ parts) ≡ part ∷ lines_of_parts parts
+pub lines_of_parts-cons : (part : List ℕ) (parts : List (List ℕ)) → 0 < length parts → lines_of_parts (part ∷ parts) ≡ part ∷ lines_of_parts parts
 lines_of_parts-cons part [] some = absurd (omega arith)
 lines_of_parts-cons part (next ∷ parts) some = refl
 

@@ -2,6 +2,7 @@
 
 ghost use Rattle.std.specs.Prelude.{◌≡◌, ◌++◌, ◌∷◌, [], decimal, OnOk, OnErr, All};
 ghost use Rattle.plan_text.specs.PlanLines.{IsNamed, plan_line, plan_lines};
+ghost use Rattle.plan_text.specs.ReadsBack.{ReadsBack};
 
 use std::alloc::{AllocError, Global};
 use stn_model::{Plant, Start};
@@ -18,6 +19,9 @@ pub fn put_plan(
     requires { All (IsNamed plant.now) plan.now }
     ensures ok { OnOk result (into.new.items ≡ into.old.items ++ plan_lines plant.now plan.now) }
     ensures err { OnErr result (into.new.items ≡ into.old.items) }
+
+    // `read_plan` gives the plan again of its lines, also after comments.
+    ensures again { ReadsBack plant.now plan.now }
 {
     let mut lines = Vec::new(alloc);
     for start in plan {
