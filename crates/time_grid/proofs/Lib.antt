@@ -1,2 +1,5 @@
 pub mod Lists
 pub mod SlotList
+pub mod Fitting
+pub mod PlanPoints
+pub mod PointStarts

@@ -1,10 +1,10 @@
 -- The slots of a plant: which they are, in which order, and how many.
-use Rattle.std.proofs.Common.{◌≡◌, ℕ, zero, suc, ◌+◌, ◌-◌, ◌*◌, ◌<◌, ◌≤◌, ◌⊎◌, Bool, true, false, cond, if◌then◌else◌, List, [], ◌∷◌, ◌++◌, length, get_or, map, filter, sum_by, count_by, sym, refl, ap, ◌∙◌, subst, inl, inr, ap₂, arith, rules, one-mul, mul_assoc, mul-one}
+use Rattle.std.proofs.Common.{◌≡◌, ℕ, zero, suc, ◌+◌, ◌-◌, ◌*◌, ◌<◌, ◌≤◌, ◌⊎◌, Bool, true, false, cond, if◌then◌else◌, List, [], ◌∷◌, ◌++◌, length, get_or, map, filter, sum_by, count_by, sym, refl, ap, ◌∙◌, subst, inl, inr, ap₂, arith, rules, one-mul, mul_assoc, mul-one, add-one, append-nil}
 use Rattle.std.specs.List.{All, AllPairs, Contains, flat_map, range_with_len}
 use Rattle.std.proofs.lemmas.List.{length-map, map-append}
 use Rattle.std.proofs.lemmas.List.Elements.{All-nil, All-cons, All-head, All-tail, All-append, All-map, All-filter, All-weaker, filter-append, filter_passes}
 use Rattle.std.proofs.lemmas.List.Kept.{AllPairs-filter}
-use Rattle.std.proofs.lemmas.List.Concat.{length-flat_map}
+use Rattle.std.proofs.lemmas.List.Concat.{length-flat_map, flat_map-append}
 use Rattle.std.proofs.lemmas.List.Sums.{sum_by-cons, sum_by_push, length-filter}
 use Rattle.std.proofs.lemmas.Bool.{cases_Bool}
 use Rattle.std.proofs.lemmas.Grind.{common_steps}
@@ -12,11 +12,11 @@ use Rattle.stn_model.specs.declared.plant.Plant.{Plant}
 use Rattle.stn_model.specs.declared.plant.Run.{Run}
 use Rattle.stn_model.specs.Sums.{sum_below, count_below, product_by, product_below}
 use Rattle.stn_model.specs.Points.{has_slot, choices, points, slots_of, slot_count}
-use Rattle.time_grid.specs.Slots.{no_run, run_at, run_slots, slots, slot_choices, IsSlotOf, Earlier}
+use Rattle.time_grid.specs.Slots.{no_run, run_at, run_slots, slots_before, slots, slot_choices, IsSlotOf, Earlier}
 use Rattle.time_grid.proofs.Lists.{range-push, map-range_get_or, All-below, range-more, All-flat_map, Contains-map, Contains-filter, Contains-range, Contains-flat_map, AllPairs-map, AllPairs-range, AllPairs-flat_map}
 
 run_slots-are : (plant : Plant) (run : ℕ) → run < length plant.runs → All (IsSlotOf plant) (run_slots plant run)
-unfolding run_slots
+unfolding slots_before
 run_slots-are plant run l =
     let p = has_slot plant (run_at plant run) in
     let range = range_with_len 0 plant.periods in
@@ -36,7 +36,7 @@ slots-are plant =
 
 -- every slot is among them
 pub Contains-slots : (plant : Plant) (slot : ℕ × ℕ) → IsSlotOf plant slot → Contains (slots plant) slot
-unfolding slots run_slots
+unfolding slots slots_before
 Contains-slots plant slot is =
     Contains-flat_map (run_slots plant) (range_with_len 0 (length plant.runs)) slot.0 slot
     (Contains-range 0 (length plant.runs) slot.0 (omega arith) (omega (arith, is.run)))
@@ -46,7 +46,7 @@ Contains-slots plant slot is =
 
 -- the slots stand by run, then by period
 pub slots-rise : (plant : Plant) → AllPairs Earlier (slots plant)
-unfolding slots run_slots
+unfolding slots slots_before
 slots-rise plant =
     AllPairs-flat_map (λ a b. a < b) Earlier (run_slots plant)
     (λ run. AllPairs-map Earlier (λ period. (run, period)) (filter (has_slot plant (run_at plant run)) (range_with_len 0 plant.periods))
@@ -71,7 +71,7 @@ count-below p (suc n) =
     ∙ ap (λ k. k + cond (p n) 1 0) (count-below p n)
 
 length-run_slots : (plant : Plant) (run : ℕ) → length (run_slots plant run) ≡ slots_of plant (run_at plant run)
-unfolding run_slots slots_of
+unfolding slots_before slots_of
 length-run_slots plant run =
     let p = has_slot plant (run_at plant run) in
     let range = range_with_len 0 plant.periods in
@@ -118,7 +118,7 @@ product-below f (suc n) =
     ∙ ap₂ (λ a b. a * b) (product-below f n) (mul-one (f n))
 
 product-run_slots : (plant : Plant) (run : ℕ) → product_by (slot_choices plant) (run_slots plant run) ≡ product_below (choices plant (run_at plant run)) plant.periods
-unfolding run_slots choices
+unfolding slots_before choices
 product-run_slots plant run =
     let p = has_slot plant (run_at plant run) in
     let range = range_with_len 0 plant.periods in
@@ -136,3 +136,20 @@ product-slots plant =
     ∙ product_by-same (λ run. product_by (slot_choices plant) (run_slots plant run)) (λ run. each (run_at plant run)) (product-run_slots plant) range
     ∙ sym (product_by-map each (run_at plant) range)
     ∙ ap (product_by each) (map-range_get_or plant.runs no_run)
+
+-- the slots of a run, with one more period
+pub slots_before-more : (plant : Plant) (run n : ℕ) → slots_before plant run (n + 1) ≡ slots_before plant run n ++ (if has_slot plant (run_at plant run) n then (run, n) ∷ [] else [])
+unfolding slots_before
+slots_before-more plant run n =
+    let p = has_slot plant (run_at plant run) in
+    let slot : ℕ → ℕ × ℕ = λ period. (run, period) in
+    let step : filter p (range_with_len 0 (suc n)) ≡ filter p (range_with_len 0 n) ++ filter p (n ∷ []) =
+      ap (filter p) (range-more n) ∙ filter-append p (range_with_len 0 n) (n ∷ []) in
+    rw add-one (ap (map slot) step ∙ map-append slot (filter p (range_with_len 0 n)) (filter p (n ∷ []))
+      ∙ elim (cases_Bool (p n)) [ inl t ↦ rw t | inr t ↦ rw t ])
+
+-- the slots of the first runs, with one more run
+pub runs_before-more : (plant : Plant) (n : ℕ) → flat_map (run_slots plant) (range_with_len 0 (n + 1)) ≡ flat_map (run_slots plant) (range_with_len 0 n) ++ run_slots plant n
+runs_before-more plant n =
+    rw add-one (ap (flat_map (run_slots plant)) (range-more n) ∙ flat_map-append (run_slots plant) (range_with_len 0 n) (n ∷ [])
+      ∙ ap (λ xs. flat_map (run_slots plant) (range_with_len 0 n) ++ xs) (append-nil (run_slots plant n)))

@@ -1,5 +1,5 @@
 -- Plans as points: for each slot the quanta that start in it.
-use Rattle.std.specs.Prelude.{◌≡◌, ℕ, ◌<◌, ◌≤◌, ◌==◌, ◌&&◌, ◌⊎◌, Bool, if◌then◌else◌, List, [], ◌∷◌, map, length, sum_by, All, AllPairs, IsPermutation}
+use Rattle.std.specs.Prelude.{◌≡◌, ℕ, ◌<◌, ◌≤◌, ◌==◌, ◌&&◌, ◌⊎◌, Bool, true, false, if◌then◌else◌, List, [], ◌∷◌, map, length, sum_by, All, AllPairs, IsPermutation, slice_index, slice_index_or, slice_set}
 use Rattle.std.specs.List.{AllAdjacentBelow}
 use Rattle.stn_model.specs.declared.plant.Plant.{Plant}
 use Rattle.stn_model.specs.declared.start.Start.{Start}
@@ -57,3 +57,15 @@ pub record IsPlanOf (plant : Plant) (point : List ℕ) (plan : List Start) : Typ
 -- the value is one that the slot can take: 0, or a size of a batch of its run
 abbrev pub IsChoice : Plant → ℕ × ℕ → ℕ → Type 0
 IsChoice plant slot value = (value ≡ 0) ⊎ (((run_at plant slot.0).min ≤ value) × (value ≤ (run_at plant slot.0).max))
+
+-- the place is that of the start's slot
+pub record IsPlaceOf (plant : Plant) (start : Start) (place : ℕ) : Type 0 where
+  pub within : place < length (slots plant)
+  pub holds : is_in plant (slice_index_or (slots plant) place (0, 0)) start ≡ true
+
+-- a start goes into its slot, or changes nothing: where it does not fit, and where its slot is taken
+abbrev pub PutsStart : Plant → Start → List ℕ → List ℕ → Bool → Type 0
+PutsStart plant start old new true =
+    Fits plant start × ((place : ℕ) × (IsPlaceOf plant start place × (slice_index old place ≡ 0) × (new ≡ slice_set old place start.quanta)))
+PutsStart plant start old new false =
+    (new ≡ old) × (Fits plant start → (place : ℕ) × (IsPlaceOf plant start place × (0 < slice_index old place)))

@@ -13,9 +13,13 @@ no_run = record { task = 0; unit = 0; min = 0; max = 0; cost = pos 0 }
 abbrev pub run_at : Plant → ℕ → Run
 run_at plant run = slice_index_or plant.runs run no_run
 
--- the slots of a run: its number with each period in which a start of it fits, by period
-unfoldable pub run_slots : Plant → ℕ → List (ℕ × ℕ)
-run_slots plant run = map (λ period. (run, period)) (filter (has_slot plant (run_at plant run)) (range_with_len 0 plant.periods))
+-- the slots of a run in the first periods: its number with each period in which a start of it fits, by period
+unfoldable pub slots_before : Plant → ℕ → ℕ → List (ℕ × ℕ)
+slots_before plant run periods = map (λ period. (run, period)) (filter (has_slot plant (run_at plant run)) (range_with_len 0 periods))
+
+-- the slots of a run, by period
+abbrev pub run_slots : Plant → ℕ → List (ℕ × ℕ)
+run_slots plant run = slots_before plant run plant.periods
 
 -- the slots of the plant, each a run and a period in which a start of it fits: by run, then by period
 unfoldable pub slots : Plant → List (ℕ × ℕ)
