@@ -1,26 +1,23 @@
 -- Starts that fit, and the slots that they are in.
-use Rattle.std.proofs.Common.{◌≡◌, ℕ, zero, suc, ◌+◌, ◌<◌, ◌≤◌, ◌⊎◌, max, Bool, true, false, Option, Some, None, IsSomeAnd, IfSome, List, [], ◌∷◌, length, get_or, position, slice_get, find, sym, refl, ap, ◌∙◌, subst, arith, rules, inl, inr, ap₂, ltb, leb, eqb, ◌&&◌, cond, nat_lt}
-use Rattle.std.specs.List.{All, AllPairs, Contains, position_or_len}
-use Rattle.std.proofs.lemmas.Option.{none-some, same_Some, slice_get_within, get_or_from_slice_get, slice_get-get_or}
+use Rattle.std.proofs.Common.{◌≡◌, ℕ, ◌+◌, ◌<◌, ◌≤◌, Bool, true, false, Option, Some, None, IsSomeAnd, List, [], ◌∷◌, length, get_or, position, slice_get, find, sym, refl, ◌∙◌, arith, inl, inr, ap₂}
+use Rattle.std.specs.List.{All, position_or_len}
+use Rattle.std.proofs.lemmas.Option.{none-some, same_Some, slice_get_within, get_or_from_slice_get}
 use Rattle.std.proofs.lemmas.List.{get_or_default}
-use Rattle.std.proofs.lemmas.List.Sums.{passes_at_first, fails_before_first, position_or_len_is}
+use Rattle.std.proofs.lemmas.List.Sums.{passes_at_first, fails_before_first}
 use Rattle.std.proofs.lemmas.List.Folds.{find_at}
-use Rattle.std.proofs.lemmas.List.Elements.{All-head, All-get_or, All-contains}
+use Rattle.std.proofs.lemmas.List.Elements.{All-head}
 use Rattle.std.proofs.lemmas.List.Quantifiers.{position-Some}
-use Rattle.std.proofs.lemmas.Bool.{eqb-true, eq-eqb, leb-true, le-leb, lt-ltb, ltb-true, and_parts, and_from, cases_Bool, cases_lt, true≢false}
+use Rattle.std.proofs.lemmas.Bool.{eqb-true, eq-eqb, le-leb, lt-ltb, and_parts, and_from, cases_lt, true≢false}
 use Rattle.stn_model.specs.declared.plant.Plant.{Plant}
-use Rattle.stn_model.specs.declared.plant.Run.{Run}
-use Rattle.stn_model.specs.declared.plant.Output.{Output}
 use Rattle.stn_model.specs.declared.start.Start.{Start}
-use Rattle.stn_model.specs.declared.limits.TheConstants.{MAX_QUANTA}
-use Rattle.stn_model.specs.Plant.{task_at, no_task, duration_of, is_of, run_on, run_number, end_of, is_in_use}
+use Rattle.stn_model.specs.Plant.{task_at, no_task, duration_of, is_of, run_on, run_number, end_of}
 use Rattle.stn_model.specs.Fits.{Fits}
 use Rattle.stn_model.specs.Sums.{greatest_by}
 use Rattle.stn_model.specs.Points.{has_slot}
-use Rattle.stn_model.specs.Sound.{Sound, SoundTask, SoundRun, SoundOutput}
+use Rattle.stn_model.specs.Sound.{Sound, SoundTask, SoundRun}
 use Rattle.time_grid.specs.Slots.{no_run, run_at, slots, is_slot, IsSlotOf}
-use Rattle.time_grid.specs.PlanPoint.{ShareSlot, is_in, start_in, IsPlaceOf}
-use Rattle.time_grid.proofs.SlotList.{slots-are, Contains-slots}
+use Rattle.time_grid.specs.PlanPoint.{is_in, IsPlaceOf}
+use Rattle.time_grid.proofs.SlotList.{Contains-slots}
 
 -- the greatest is at least the first
 least_of : {X : Type 0} (f : X → ℕ) (xs : List X) (n : ℕ) → 1 ≤ length xs → All (λ x. n ≤ f x) xs → n ≤ greatest_by f xs
@@ -125,8 +122,9 @@ no_place plant start run sound fits number none =
     let there = Contains-slots plant (at.run, start.period) at.slot in
     let p = is_slot run start.period in
     elim (cases_lt (position_or_len p (slots plant)) (length (slots plant))) [
-      inl l ↦ none-some (position_or_len p (slots plant)) (sym none ∙ rw (lt-ltb (position_or_len p (slots plant)) (length (slots plant)) l))
-    | inr l ↦
-      let fails : p (get_or (slots plant) there.0 (at.run, start.period)) ≡ false = fails_before_first p (slots plant) there.0 (at.run, start.period) (omega (arith, there.1)) in
-      let holds : p (at.run, start.period) ≡ true = and_from _ _ (eq-eqb _ _ same) (eq-eqb start.period start.period refl) in
-      true≢false (sym holds ∙ rw there.2 at fails) ]
+      | inl l ↦ none-some (position_or_len p (slots plant)) (sym none ∙ rw (lt-ltb (position_or_len p (slots plant)) (length (slots plant)) l))
+      | inr l ↦
+          let fails : p (get_or (slots plant) there.0 (at.run, start.period)) ≡ false = fails_before_first p (slots plant) there.0 (at.run, start.period) (omega (arith, there.1)) in
+          let holds : p (at.run, start.period) ≡ true = and_from _ _ (eq-eqb _ _ same) (eq-eqb start.period start.period refl) in
+          true≢false (sym holds ∙ rw there.2 at fails)
+    ]

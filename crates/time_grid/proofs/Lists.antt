@@ -1,11 +1,10 @@
 -- Lists: ranges, membership, and what holds of each two places.
-use Rattle.std.proofs.Common.{◌≡◌, ◌≢◌, ℕ, zero, suc, ◌+◌, ◌<◌, ◌≤◌, ◌⊎◌, Bool, true, false, cond, List, [], ◌∷◌, ◌++◌, length, get_or, take, map, filter, sym, refl, ap, ◌∙◌, subst, inl, inr, arith, rules, append_assoc, add-zero, zero-add, add-one}
-use Rattle.std.specs.List.{All, AllPairs, Contains, flat_map, range_with_len, position, slice_get, find}
-use Rattle.std.proofs.lemmas.List.{append-nil, get_or_default, length_push, append_assoc, get_or-append-add, length-map}
+use Rattle.std.proofs.Common.{◌≡◌, ℕ, zero, suc, ◌+◌, ◌<◌, ◌≤◌, ◌⊎◌, Bool, true, List, [], ◌∷◌, ◌++◌, length, get_or, map, filter, sym, refl, ap, ◌∙◌, subst, inl, inr, arith, append_assoc, add-zero, zero-add, add-one}
+use Rattle.std.specs.List.{All, AllPairs, Contains, flat_map, range_with_len}
+use Rattle.std.proofs.lemmas.List.{length_push, append_assoc, get_or-append-add, length-map}
 use Rattle.std.proofs.lemmas.List.Elements.{All-nil, All-cons, All-head, All-tail, All-append, All-map, Contains-append_left, Contains-append_right}
 use Rattle.std.proofs.lemmas.List.Kept.{AllPairs-cons}
-use Rattle.std.proofs.lemmas.Grind.{common_steps}
-use Rattle.std.proofs.lemmas.Bool.{true≢false, cases_Bool, cases_eq}
+use Rattle.std.proofs.lemmas.Bool.{cases_Bool, cases_eq}
 
 range-suc : (a n : ℕ) → range_with_len a (suc n) ≡ range_with_len a n ++ (a + n) ∷ []
 range-suc a zero = rw add-zero
@@ -52,32 +51,37 @@ pub Contains-map : {X Y : Type 0} (f : X → Y) (xs : List X) (x : X) → Contai
 Contains-map f [] x h = absurd (omega (arith, h.1))
 Contains-map f (y ∷ xs) x h =
     elim (Contains-cases y xs x h) [
-      inl e ↦ subst (λ z. Contains (map f (y ∷ xs)) (f z)) e (Contains-here (f y) (map f xs))
-    | inr k ↦ Contains-there (f y) (map f xs) (f x) (Contains-map f xs x k) ]
+      | inl e ↦ subst (λ z. Contains (map f (y ∷ xs)) (f z)) e (Contains-here (f y) (map f xs))
+      | inr k ↦ Contains-there (f y) (map f xs) (f x) (Contains-map f xs x k)
+    ]
 
 pub Contains-filter : {X : Type 0} (p : X → Bool) (xs : List X) (x : X) → p x ≡ true → Contains xs x → Contains (filter p xs) x
 Contains-filter p [] x t h = absurd (omega (arith, h.1))
 Contains-filter p (y ∷ xs) x t h =
     elim (Contains-cases y xs x h) [
-      inl e ↦ let u : p y ≡ true = subst (λ z. p z ≡ true) (sym e) t in
-        rw u (subst (Contains (y ∷ filter p xs)) e (Contains-here y (filter p xs)))
-    | inr k ↦ elim (cases_Bool (p y)) [
-        inl u ↦ rw u (Contains-there y (filter p xs) x (Contains-filter p xs x t k))
-      | inr u ↦ rw u (Contains-filter p xs x t k) ] ]
+      | inl e ↦ let u : p y ≡ true = subst (λ z. p z ≡ true) (sym e) t in
+          rw u (subst (Contains (y ∷ filter p xs)) e (Contains-here y (filter p xs)))
+      | inr k ↦ elim (cases_Bool (p y)) [
+        | inl u ↦ rw u (Contains-there y (filter p xs) x (Contains-filter p xs x t k))
+        | inr u ↦ rw u (Contains-filter p xs x t k)
+      ]
+    ]
 
 pub Contains-range : (a n k : ℕ) → a ≤ k → k < a + n → Contains (range_with_len a n) k
 Contains-range a zero k l h = absurd (omega arith)
 Contains-range a (suc n) k l h =
     elim (cases_eq a k) [
-      inl e ↦ subst (Contains (a ∷ range_with_len (a + 1) n)) e (Contains-here a (range_with_len (a + 1) n))
-    | inr e ↦ Contains-there a (range_with_len (a + 1) n) k (Contains-range (a + 1) n k (omega arith) (omega arith)) ]
+      | inl e ↦ subst (Contains (a ∷ range_with_len (a + 1) n)) e (Contains-here a (range_with_len (a + 1) n))
+      | inr e ↦ Contains-there a (range_with_len (a + 1) n) k (Contains-range (a + 1) n k (omega arith) (omega arith))
+    ]
 
 pub Contains-flat_map : {X Y : Type 0} (f : X → List Y) (xs : List X) (x : X) (y : Y) → Contains xs x → Contains (f x) y → Contains (flat_map f xs) y
 Contains-flat_map f [] x y h g = absurd (omega (arith, h.1))
 Contains-flat_map f (z ∷ xs) x y h g =
     elim (Contains-cases z xs x h) [
-      inl e ↦ Contains-append_left (f z) (flat_map f xs) y (subst (λ w. Contains (f w) y) (sym e) g)
-    | inr k ↦ Contains-append_right (f z) (flat_map f xs) y (Contains-flat_map f xs x y k g) ]
+      | inl e ↦ Contains-append_left (f z) (flat_map f xs) y (subst (λ w. Contains (f w) y) (sym e) g)
+      | inr k ↦ Contains-append_right (f z) (flat_map f xs) y (Contains-flat_map f xs x y k g)
+    ]
 
 pub All-flat_map : {X Y : Type 0} (P : Y → Type 0) (f : X → List Y) (xs : List X) → All (λ x. All P (f x)) xs → All P (flat_map f xs)
 All-flat_map P f [] h = All-nil P
@@ -129,7 +133,7 @@ AllPairs-flat_map S R f each between [] h = AllPairs-nil R
 AllPairs-flat_map S R f each between (x ∷ xs) h =
     AllPairs-append R (f x) (flat_map f xs) (each x) (AllPairs-flat_map S R f each between xs (AllPairs-tail S x xs h))
     (λ k d l. All-flat_map (R (get_or (f x) k d)) f xs
-      (λ j e m. between x (get_or xs j e) (AllPairs-head S x xs h j e m) k d l))
+    (λ j e m. between x (get_or xs j e) (AllPairs-head S x xs h j e m) k d l))
 
 pub length-filter_map : {X Y : Type 0} (p : X → Bool) (f : X → Y) (xs : List X) → length (map f (filter p xs)) ≡ length (filter p xs)
 length-filter_map p f xs = simp length-map

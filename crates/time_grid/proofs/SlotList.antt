@@ -1,19 +1,18 @@
 -- The slots of a plant: which they are, in which order, and how many.
-use Rattle.std.proofs.Common.{◌≡◌, ℕ, zero, suc, ◌+◌, ◌-◌, ◌*◌, ◌<◌, ◌≤◌, ◌⊎◌, Bool, true, false, cond, if◌then◌else◌, List, [], ◌∷◌, ◌++◌, length, get_or, map, filter, sum_by, count_by, sym, refl, ap, ◌∙◌, subst, inl, inr, ap₂, arith, rules, one-mul, mul_assoc, mul-one, add-one, append-nil}
+use Rattle.std.proofs.Common.{◌≡◌, ℕ, zero, suc, ◌+◌, ◌*◌, ◌<◌, Bool, cond, if◌then◌else◌, List, [], ◌∷◌, ◌++◌, length, get_or, map, filter, sum_by, count_by, sym, refl, ap, ◌∙◌, inl, inr, ap₂, arith, one-mul, mul_assoc, mul-one, add-one, append-nil}
 use Rattle.std.specs.List.{All, AllPairs, Contains, flat_map, range_with_len}
 use Rattle.std.proofs.lemmas.List.{length-map, map-append}
-use Rattle.std.proofs.lemmas.List.Elements.{All-nil, All-cons, All-head, All-tail, All-append, All-map, All-filter, All-weaker, filter-append, filter_passes}
+use Rattle.std.proofs.lemmas.List.Elements.{All-map, All-filter, filter-append, filter_passes}
 use Rattle.std.proofs.lemmas.List.Kept.{AllPairs-filter}
 use Rattle.std.proofs.lemmas.List.Concat.{length-flat_map, flat_map-append}
 use Rattle.std.proofs.lemmas.List.Sums.{sum_by-cons, sum_by_push, length-filter}
 use Rattle.std.proofs.lemmas.Bool.{cases_Bool}
-use Rattle.std.proofs.lemmas.Grind.{common_steps}
 use Rattle.stn_model.specs.declared.plant.Plant.{Plant}
 use Rattle.stn_model.specs.declared.plant.Run.{Run}
-use Rattle.stn_model.specs.Sums.{sum_below, count_below, product_by, product_below}
+use Rattle.stn_model.specs.Sums.{count_below, product_by, product_below}
 use Rattle.stn_model.specs.Points.{has_slot, choices, points, slots_of, slot_count}
 use Rattle.time_grid.specs.Slots.{no_run, run_at, run_slots, slots_before, slots, slot_choices, IsSlotOf, Earlier}
-use Rattle.time_grid.proofs.Lists.{range-push, map-range_get_or, All-below, range-more, All-flat_map, Contains-map, Contains-filter, Contains-range, Contains-flat_map, AllPairs-map, AllPairs-range, AllPairs-flat_map}
+use Rattle.time_grid.proofs.Lists.{map-range_get_or, All-below, range-more, All-flat_map, Contains-map, Contains-filter, Contains-range, Contains-flat_map, AllPairs-map, AllPairs-range, AllPairs-flat_map}
 
 run_slots-are : (plant : Plant) (run : ℕ) → run < length plant.runs → All (IsSlotOf plant) (run_slots plant run)
 unfolding slots_before
@@ -41,8 +40,8 @@ Contains-slots plant slot is =
     Contains-flat_map (run_slots plant) (range_with_len 0 (length plant.runs)) slot.0 slot
     (Contains-range 0 (length plant.runs) slot.0 (omega arith) (omega (arith, is.run)))
     (Contains-map (λ period. (slot.0, period)) (filter (has_slot plant (run_at plant slot.0)) (range_with_len 0 plant.periods)) slot.1
-      (Contains-filter (has_slot plant (run_at plant slot.0)) (range_with_len 0 plant.periods) slot.1 is.has
-        (Contains-range 0 plant.periods slot.1 (omega arith) (omega (arith, is.period)))))
+    (Contains-filter (has_slot plant (run_at plant slot.0)) (range_with_len 0 plant.periods) slot.1 is.has
+    (Contains-range 0 plant.periods slot.1 (omega arith) (omega (arith, is.period)))))
 
 -- the slots stand by run, then by period
 pub slots-rise : (plant : Plant) → AllPairs Earlier (slots plant)
@@ -50,10 +49,10 @@ unfolding slots slots_before
 slots-rise plant =
     AllPairs-flat_map (λ a b. a < b) Earlier (run_slots plant)
     (λ run. AllPairs-map Earlier (λ period. (run, period)) (filter (has_slot plant (run_at plant run)) (range_with_len 0 plant.periods))
-      (λ i j d l m. inr (refl, AllPairs-filter (λ a b. a < b) (has_slot plant (run_at plant run)) (range_with_len 0 plant.periods) (AllPairs-range 0 plant.periods) i j d l m)))
+    (λ i j d l m. inr (refl, AllPairs-filter (λ a b. a < b) (has_slot plant (run_at plant run)) (range_with_len 0 plant.periods) (AllPairs-range 0 plant.periods) i j d l m)))
     (λ a b l. All-map (λ slot. All (Earlier slot) (run_slots plant b)) (λ period. (a, period)) (filter (has_slot plant (run_at plant a)) (range_with_len 0 plant.periods))
-      (λ k d m. All-map (Earlier (a, get_or (filter (has_slot plant (run_at plant a)) (range_with_len 0 plant.periods)) k d)) (λ period. (b, period)) (filter (has_slot plant (run_at plant b)) (range_with_len 0 plant.periods))
-        (λ j e n. inl l)))
+    (λ k d m. All-map (Earlier (a, get_or (filter (has_slot plant (run_at plant a)) (range_with_len 0 plant.periods)) k d)) (λ period. (b, period)) (filter (has_slot plant (run_at plant b)) (range_with_len 0 plant.periods))
+    (λ j e n. inl l)))
     (range_with_len 0 (length plant.runs)) (AllPairs-range 0 (length plant.runs))
 
 sum_by-map : {X Y : Type 0} (f : Y → ℕ) (g : X → Y) (xs : List X) → sum_by f (map g xs) ≡ sum_by (λ x. f (g x)) xs
@@ -108,8 +107,9 @@ product_by-filter : {X : Type 0} (p : X → Bool) (f : X → ℕ) (xs : List X) 
 product_by-filter p f [] = refl
 product_by-filter p f (x ∷ xs) =
     elim (cases_Bool (p x)) [
-      inl t ↦ rw t (ap (λ n. f x * n) (product_by-filter p f xs))
-    | inr t ↦ rw t (product_by-filter p f xs ∙ sym (one-mul (product_by (λ x. if p x then f x else 1) xs))) ]
+      | inl t ↦ rw t (ap (λ n. f x * n) (product_by-filter p f xs))
+      | inr t ↦ rw t (product_by-filter p f xs ∙ sym (one-mul (product_by (λ x. if p x then f x else 1) xs)))
+    ]
 
 product-below : (f : ℕ → ℕ) (n : ℕ) → product_by f (range_with_len 0 n) ≡ product_below f n
 product-below f zero = refl
@@ -144,12 +144,12 @@ slots_before-more plant run n =
     let p = has_slot plant (run_at plant run) in
     let slot : ℕ → ℕ × ℕ = λ period. (run, period) in
     let step : filter p (range_with_len 0 (suc n)) ≡ filter p (range_with_len 0 n) ++ filter p (n ∷ []) =
-      ap (filter p) (range-more n) ∙ filter-append p (range_with_len 0 n) (n ∷ []) in
+    ap (filter p) (range-more n) ∙ filter-append p (range_with_len 0 n) (n ∷ []) in
     rw add-one (ap (map slot) step ∙ map-append slot (filter p (range_with_len 0 n)) (filter p (n ∷ []))
-      ∙ elim (cases_Bool (p n)) [ inl t ↦ rw t | inr t ↦ rw t ])
+    ∙ elim (cases_Bool (p n)) [ inl t ↦ rw t | inr t ↦ rw t ])
 
 -- the slots of the first runs, with one more run
 pub runs_before-more : (plant : Plant) (n : ℕ) → flat_map (run_slots plant) (range_with_len 0 (n + 1)) ≡ flat_map (run_slots plant) (range_with_len 0 n) ++ run_slots plant n
 runs_before-more plant n =
     rw add-one (ap (flat_map (run_slots plant)) (range-more n) ∙ flat_map-append (run_slots plant) (range_with_len 0 n) (n ∷ [])
-      ∙ ap (λ xs. flat_map (run_slots plant) (range_with_len 0 n) ++ xs) (append-nil (run_slots plant n)))
+    ∙ ap (λ xs. flat_map (run_slots plant) (range_with_len 0 n) ++ xs) (append-nil (run_slots plant n)))
