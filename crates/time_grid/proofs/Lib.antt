@@ -3,3 +3,4 @@ pub mod SlotList
 pub mod Fitting
 pub mod PlanPoints
 pub mod PointStarts
+pub mod Reordered
