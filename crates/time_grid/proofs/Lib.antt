@@ -4,3 +4,4 @@ pub mod Fitting
 pub mod PlanPoints
 pub mod PointStarts
 pub mod Reordered
+pub mod OnePlan
