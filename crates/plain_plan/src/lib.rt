@@ -2,6 +2,10 @@
 //! function is a sum or a test over the whole list of starts, and answers exactly its definition.
 #![tactic(auto)]
 
+pub mod load;
+pub mod profit;
 pub mod stock;
 
+pub use load::load_in;
+pub use profit::profit_of;
 pub use stock::stock_at;

@@ -1,5 +1,5 @@
 //! What is in stock of a state at a time, in mass units.
-ghost use Rattle.std.specs.Prelude.{◌≡◌, ◌≤◌, ◌<◌, ◌^◌, ◌*◌, length, All, sum_by};
+ghost use Rattle.std.specs.Prelude.{◌≡◌, ◌≤◌, ◌<◌, ◌^◌, ◌*◌, length, All, sum_by, unsigned_abs};
 ghost use Rattle.stn_model.specs.Plant.{state_at};
 ghost use Rattle.stn_model.specs.Stock.{taken, given, inflow, outflow, stock};
 ghost use Rattle.stn_model.specs.Sound.{Sound};
@@ -13,7 +13,8 @@ use stn_model::{Delivery, Input, Output, Plant, Receipt, Start};
 pub fn stock_at(plant: &Plant, plan: &[Start], state: u32, time: u32) -> i128
     requires sound { Sound plant.now }
     requires few { length plan.now < 2 ^ 32 }
-    ensures { result ≡ stock plant.now plan.now state time }
+    ensures value { result ≡ stock plant.now plan.now state time }
+    ensures small { unsigned_abs result ≤ 2 ^ 88 }
 {
     inflow(plant, plan, state, time) as i128 - outflow(plant, plan, state, time) as i128
 }

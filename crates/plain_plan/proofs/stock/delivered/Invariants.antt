@@ -5,5 +5,5 @@ use Rattle.plain_plan.proofs.stock.delivered.Given as goal
 abbrev pub invariant-loop-delivery : goal.invariant-loop-delivery
 invariant-loop-delivery l = record {
   value : l.sum ≡ sum_by (carried_off l.state l.time) (take l.delivery-index l.deliveries);
-  small : l.sum ≤ l.delivery-index * 2 ^ 30
+  small : l.sum ≤ l.delivery-index * 2 ^ 30;
 }

@@ -5,5 +5,5 @@ use Rattle.plain_plan.proofs.stock.given_by_all.Given as goal
 abbrev pub invariant-loop-start : goal.invariant-loop-start
 invariant-loop-start l = record {
   value : l.sum ≡ sum_by (given l.plant l.state l.time) (take l.start-index l.plan);
-  small : l.sum ≤ l.start-index * 2 ^ 55
+  small : l.sum ≤ l.start-index * 2 ^ 55;
 }

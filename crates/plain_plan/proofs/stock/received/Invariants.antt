@@ -5,5 +5,5 @@ use Rattle.plain_plan.proofs.stock.received.Given as goal
 abbrev pub invariant-loop-receipt : goal.invariant-loop-receipt
 invariant-loop-receipt l = record {
   value : l.sum ≡ sum_by (brought l.state l.time) (take l.receipt-index l.receipts);
-  small : l.sum ≤ l.receipt-index * 2 ^ 30
+  small : l.sum ≤ l.receipt-index * 2 ^ 30;
 }
