@@ -1,5 +1,5 @@
 -- How large the numbers of a sound plant are.
-use Rattle.std.proofs.Common.{◌≡◌, ℕ, ◌^◌, ◌<◌, ◌≤◌, arith, sym, subst, Option, Some}
+use Rattle.std.proofs.Common.{◌≡◌, ℕ, ◌^◌, ◌≤◌, arith, sym, subst, Option, Some}
 use Rattle.std.specs.Prelude.{All, IfSome, unsigned_abs}
 use Rattle.std.proofs.lemmas.List.Sums.{get_or-le-sum_by}
 use Rattle.stn_model.specs.declared.plant.Plant.{Plant}

@@ -1,6 +1,6 @@
 -- Signed sums over one more item, and how large they are.
-use Rattle.std.proofs.Common.{◌≡◌, ℕ, zero, suc, ◌+◌, ◌*◌, ◌<◌, ◌≤◌, List, [], ◌∷◌, length, get_or, take, arith, add-one, refl, Bool, true, false, cond, Some, ◌^◌, unsigned_abs}
-use Rattle.std.specs.Prelude.{ℤ, pos, ◌+ℤ◌, All, find, IfSome}
+use Rattle.std.proofs.Common.{◌≡◌, ℕ, zero, suc, ◌+◌, ◌<◌, ◌≤◌, List, [], ◌∷◌, length, get_or, take, arith, add-one, refl, Bool, true, false, cond, Some, ◌^◌, unsigned_abs}
+use Rattle.std.specs.Prelude.{ℤ, ◌+ℤ◌, All, find, IfSome}
 use Rattle.std.proofs.lemmas.Int.{ints, to_z-of_z, fits_signed_from_abs}
 use mir.Val.{to_z, of_z}
 use mir.Syntax.{w128}

@@ -1,7 +1,6 @@
 use Rattle.std.proofs.Common.{refl, arith}
 use Rattle.std.proofs.lemmas.List.Elements.{All-more}
-use Rattle.std.specs.Prelude.{All}
-use Rattle.plain_plan.proofs.Lists.{all_done, all_failed}
+use Rattle.plain_plan.proofs.Lists.{all_done}
 use Rattle.stn_model.specs.Batches.{Apart}
 use Rattle.plain_plan.proofs.feasible.all_apart_from.Goals as goal
 

@@ -1,5 +1,4 @@
-use Rattle.std.proofs.Common.{◌≡◌, ◌≤◌, ◌<◌, ℕ, take, length}
-use Rattle.std.specs.Prelude.{All, AllPairs}
+use Rattle.std.proofs.Common.{◌<◌, ℕ}
 use Rattle.stn_model.specs.Feasible.{LoadKept}
 use Rattle.plain_plan.proofs.feasible.all_loads_kept.Given as goal
 

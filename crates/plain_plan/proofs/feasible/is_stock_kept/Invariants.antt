@@ -1,5 +1,4 @@
-use Rattle.std.proofs.Common.{◌≡◌, ◌≤◌, ◌<◌, ℕ, take, length}
-use Rattle.std.specs.Prelude.{All, AllPairs}
+use Rattle.std.proofs.Common.{◌<◌, ℕ}
 use Rattle.stn_model.specs.Feasible.{StockKept}
 use Rattle.plain_plan.proofs.feasible.is_stock_kept.Given as goal
 

@@ -1,5 +1,4 @@
 use Rattle.std.proofs.Common.{◌≡◌, ◌≤◌, ◌*◌, ◌^◌, sum_by, take}
-use Rattle.std.specs.Prelude.{unsigned_abs, pos, ◌*ℤ◌}
 use Rattle.stn_model.specs.Profit.{changeover}
 use Rattle.plain_plan.proofs.profit.changeovers_from.Given as goal
 

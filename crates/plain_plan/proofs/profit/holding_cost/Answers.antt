@@ -1,6 +1,5 @@
-use Rattle.std.proofs.Common.{◌≡◌, ◌≤◌, ◌*◌, ◌^◌, ◌<◌, ◌+◌, arith, rules, pos}
-use Rattle.std.proofs.lemmas.Int.{ints, to_z-of_z}
-use Rattle.plain_plan.proofs.Totals.{sum_fits, total_below_step, total_step}
+use Rattle.std.proofs.Common.{◌*◌, ◌^◌, arith}
+use Rattle.plain_plan.proofs.Totals.{sum_fits, total_below_step}
 use mir.Val.{to_z}
 use mir.Syntax.{w128}
 use Rattle.plain_plan.proofs.profit.holding_cost.Goals as goal

@@ -1,6 +1,6 @@
-use Rattle.std.proofs.Common.{◌≡◌, ◌≤◌, ◌*◌, ◌^◌, sum_by, take}
-use Rattle.std.specs.Prelude.{unsigned_abs, pos, ◌*ℤ◌}
-use Rattle.stn_model.specs.Sums.{total, total_below}
+use Rattle.std.proofs.Common.{◌≡◌, ◌≤◌, ◌*◌, ◌^◌}
+use Rattle.std.specs.Prelude.{unsigned_abs, ◌*ℤ◌}
+use Rattle.stn_model.specs.Sums.{total_below}
 use Rattle.stn_model.specs.Plant.{state_at}
 use Rattle.stn_model.specs.Stock.{stock}
 use Rattle.plain_plan.proofs.profit.holding_cost.Given as goal

@@ -1,6 +1,6 @@
-use Rattle.std.proofs.Common.{◌≡◌, ◌≤◌, ◌*◌, ◌^◌, sum_by, take}
+use Rattle.std.proofs.Common.{◌≡◌, ◌≤◌, ◌*◌, ◌^◌}
 use Rattle.std.specs.Prelude.{unsigned_abs, pos, ◌*ℤ◌}
-use Rattle.stn_model.specs.Sums.{total, total_below}
+use Rattle.stn_model.specs.Sums.{total_below}
 use Rattle.stn_model.specs.Plant.{utility_at}
 use Rattle.stn_model.specs.Load.{load}
 use Rattle.plain_plan.proofs.profit.used.Given as goal
