@@ -86,7 +86,7 @@ length-slots plant =
     ∙ sym (sum_by-map (slots_of plant) (run_at plant) range)
     ∙ ap (sum_by (slots_of plant)) (map-range_get_or plant.runs no_run)
 
-product_by-append : {X : Type 0} (f : X → ℕ) (xs ys : List X) → product_by f (xs ++ ys) ≡ product_by f xs * product_by f ys
+pub product_by-append : {X : Type 0} (f : X → ℕ) (xs ys : List X) → product_by f (xs ++ ys) ≡ product_by f xs * product_by f ys
 product_by-append f [] ys = sym (one-mul (product_by f ys))
 product_by-append f (x ∷ xs) ys = ap (λ n. f x * n) (product_by-append f xs ys) ∙ sym (mul_assoc (f x) (product_by f xs) (product_by f ys))
 

@@ -7,4 +7,4 @@
 
 pub mod grid;
 
-pub use grid::Grid;
+pub use grid::{Grid, start_in};
