@@ -1,3 +1,4 @@
 pub mod Numbers
 pub mod Leads
 pub mod SmallProfit
+pub mod Gains
