@@ -66,11 +66,11 @@ sum_by-zero : {X : Type 0} (f : X → ℕ) (xs : List X) → All (λ x. f x ≡ 
 sum_by-zero f [] h = refl
 sum_by-zero f (x ∷ xs) h = let a = sum_by-cons f x xs in let b = All-head (λ y. f y ≡ 0) x xs h in let c = sum_by-zero f xs (All-tail (λ y. f y ≡ 0) x xs h) in omega (arith, a, b, c)
 
-quanta_in-cons : (plant : Plant) (a : Start) (plan : List Start) (slot : ℕ × ℕ) → quanta_in plant (a ∷ plan) slot ≡ quanta_of plant slot a + quanta_in plant plan slot
+pub quanta_in-cons : (plant : Plant) (a : Start) (plan : List Start) (slot : ℕ × ℕ) → quanta_in plant (a ∷ plan) slot ≡ quanta_of plant slot a + quanta_in plant plan slot
 unfolding quanta_in
 quanta_in-cons plant a plan slot = sum_by-cons (quanta_of plant slot) a plan
 
-quanta_in-none : (plant : Plant) (plan : List Start) (slot : ℕ × ℕ) → All (λ b. is_in plant slot b ≡ false) plan → quanta_in plant plan slot ≡ 0
+pub quanta_in-none : (plant : Plant) (plan : List Start) (slot : ℕ × ℕ) → All (λ b. is_in plant slot b ≡ false) plan → quanta_in plant plan slot ≡ 0
 unfolding quanta_in
 quanta_in-none plant plan slot h = sum_by-zero (quanta_of plant slot) plan (λ k d l. rw (h k d l))
 
