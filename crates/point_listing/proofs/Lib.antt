@@ -4,3 +4,5 @@ pub mod SmallProfit
 pub mod Gains
 pub mod Linear
 pub mod Chosen
+pub mod CapBound
+pub mod Outcomes

@@ -1,6 +1,7 @@
 ghost use Rattle.std.specs.Prelude.{◌≡◌, ◌<◌, ◌≤◌, IfOk};
 ghost use Rattle.stn_model.specs.Sound.{Sound};
-ghost use Rattle.stn_model.specs.Answers.{IsOutcome, IsAnswer};
+ghost use Rattle.stn_model.specs.Answers.{IsOutcome};
+ghost use Rattle.point_listing.specs.Settled.{listing_answer};
 
 use crate::cap::cap_of;
 use crate::listing::Listing;
@@ -30,7 +31,9 @@ pub fn solve(alloc: Global, plant: &Plant, budget: u32) -> Result<Outcome, Alloc
 }
 
 /// The answer of a listing: of all points, or of as many as the budget.
-fn answer_of(listing: Listing, cap: i128, all: bool) -> Answer {
+fn answer_of(listing: Listing, cap: i128, all: bool) -> Answer
+    ensures { result ≡ listing_answer cap all listing.found }
+{
     match listing.found {
         Some(lead) => {
             if all || cap <= lead.profit {
