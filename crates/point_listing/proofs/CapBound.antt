@@ -1,17 +1,16 @@
 -- No feasible list earns more than the cap.
-use Rattle.std.proofs.Common.{◌≡◌, ◌≢◌, ℕ, zero, suc, ◌+◌, ◌-◌, ◌*◌, ◌<◌, ◌≤◌, ◌⊎◌, Bool, true, false, cond, List, [], ◌∷◌, length, get_or, map, ℤ, pos, ◌+ℤ◌, ◌-ℤ◌, ◌≤ℤ◌, int_le, IsPermutation, sym, refl, ap, ap₂, ◌∙◌, subst, arith, rules, inl, inr, eqb, if◌then◌else◌}
+use Rattle.std.proofs.Common.{◌≡◌, ℕ, zero, suc, ◌+◌, ◌-◌, ◌<◌, ◌≤◌, true, false, List, [], ◌∷◌, get_or, map, ℤ, pos, ◌≤ℤ◌, int_le, arith, inl, inr}
 use Rattle.std.specs.List.{All}
 use Rattle.std.proofs.lemmas.Int.{ints}
 use Rattle.std.proofs.lemmas.List.Elements.{All-head, All-tail}
-use Rattle.std.proofs.lemmas.Bool.{cases_Bool, cases_eq, cases_lt, eq-eqb, ne_eqb}
+use Rattle.std.proofs.lemmas.Bool.{cases_Bool, cases_eq, eq-eqb, ne_eqb}
 use Rattle.stn_model.specs.declared.plant.Plant.{Plant}
-use Rattle.stn_model.specs.declared.plant.Run.{Run}
 use Rattle.stn_model.specs.declared.start.Start.{Start}
 use Rattle.stn_model.specs.Feasible.{Feasible}
 use Rattle.stn_model.specs.Profit.{profit}
 use Rattle.stn_model.specs.Sums.{total}
 use Rattle.stn_model.specs.Sound.{Sound}
-use Rattle.time_grid.specs.Slots.{run_at, slots, IsSlotOf}
+use Rattle.time_grid.specs.Slots.{run_at, slots}
 use Rattle.time_grid.specs.PlanPoint.{quanta_in, plan_point, point_starts, start_in, IsChoice}
 use Rattle.time_grid.proofs.SlotList.{slots-are}
 use Rattle.time_grid.proofs.Reordered.{total-permutation}
@@ -29,8 +28,9 @@ le-false x y h = grind (arith, ints)
 greatest-more : (f : ℕ → ℤ) (n : ℕ) → (greatest_below f n ≤ℤ greatest_below f (suc n)) × (f n ≤ℤ greatest_below f (suc n))
 greatest-more f n =
     elim (cases_Bool (int_le (f n) (greatest_below f n))) [
-      inl t ↦ let h = le-true (f n) (greatest_below f n) t in rw t (omega (arith, ints), h)
-    | inr t ↦ let h = le-false (f n) (greatest_below f n) t in rw t (h, omega (arith, ints)) ]
+      | inl t ↦ let h = le-true (f n) (greatest_below f n) t in rw t (omega (arith, ints), h)
+      | inr t ↦ let h = le-false (f n) (greatest_below f n) t in rw t (h, omega (arith, ints))
+    ]
 
 -- the greatest is at least 0 and each value
 greatest-least : (f : ℕ → ℤ) (n : ℕ) → pos 0 ≤ℤ greatest_below f n
@@ -41,8 +41,9 @@ greatest-each : (f : ℕ → ℤ) (n k : ℕ) → k < n → f k ≤ℤ greatest_
 greatest-each f zero k l = absurd (omega arith)
 greatest-each f (suc n) k l =
     elim (cases_eq k n) [
-      inl e ↦ let b = (greatest-more f n).1 in rw e b
-    | inr e ↦ let a = greatest-each f n k (omega arith) in let b = (greatest-more f n).0 in omega (arith, ints, a, b) ]
+      | inl e ↦ let b = (greatest-more f n).1 in rw e b
+      | inr e ↦ let a = greatest-each f n k (omega arith) in let b = (greatest-more f n).0 in omega (arith, ints, a, b)
+    ]
 
 slot_gain-least : (plant : Plant) (slot : ℕ × ℕ) → pos 0 ≤ℤ slot_gain plant slot
 unfolding slot_gain
@@ -63,10 +64,12 @@ point_starts-gain plant f [] choices = omega (arith, ints)
 point_starts-gain plant f (slot ∷ grid) choices =
     let ih = point_starts-gain plant f grid (All-tail (λ s. IsChoice plant s (f s)) slot grid choices) in
     elim (cases_eq (f slot) 0) [
-      inl e ↦ rw (eq-eqb (f slot) 0 e) (let a = slot_gain-least plant slot in omega (arith, ints, ih, a))
-    | inr e ↦ rw (ne_eqb (f slot) 0 e) (elim (All-head (λ s. IsChoice plant s (f s)) slot grid choices) [
-        inl none ↦ absurd (e none)
-      | inr size ↦ let a = slot_gain-each plant slot (f slot) size.0 size.1 in omega (arith, ints, ih, a) ]) ]
+      | inl e ↦ rw (eq-eqb (f slot) 0 e) (let a = slot_gain-least plant slot in omega (arith, ints, ih, a))
+      | inr e ↦ rw (ne_eqb (f slot) 0 e) (elim (All-head (λ s. IsChoice plant s (f s)) slot grid choices) [
+        | inl none ↦ absurd (e none)
+        | inr size ↦ let a = slot_gain-each plant slot (f slot) size.0 size.1 in omega (arith, ints, ih, a)
+      ])
+    ]
 
 -- no feasible list earns more than the cap
 pub capped : (plant : Plant) (plan : List Start) → Sound plant → Feasible plant plan → profit plant plan ≤ℤ listing_cap plant

@@ -1,24 +1,21 @@
 -- What a feasible list has in each slot, and the number of its point.
-use Rattle.std.proofs.Common.{◌≡◌, ◌≢◌, ℕ, zero, suc, ◌+◌, ◌-◌, ◌*◌, ◌/◌, ◌%◌, ◌<◌, ◌≤◌, ◌⊎◌, Bool, true, false, cond, List, [], ◌∷◌, length, get_or, map, sum_by, IsPermutation, sym, refl, ap, ap₂, ◌∙◌, subst, arith, rules, inl, inr, eqb, if◌then◌else◌, mul_comm, mul-le-mul}
-use Rattle.std.specs.List.{All, AllPairs}
+use Rattle.std.proofs.Common.{◌≡◌, ℕ, ◌+◌, ◌-◌, ◌*◌, ◌/◌, ◌%◌, ◌<◌, ◌≤◌, List, [], ◌∷◌, get_or, map, IsPermutation, sym, refl, ap, ap₂, ◌∙◌, arith, inl, inr}
+use Rattle.std.specs.List.{All}
 use Rattle.std.proofs.lemmas.Nat.{div-mul-add, mod-mul-add, mul-add-lt}
 use Rattle.std.proofs.lemmas.List.Elements.{All-head, All-tail}
-use Rattle.std.proofs.lemmas.List.Sums.{sum_by-cons}
-use Rattle.std.proofs.lemmas.List.Sorted.{IsPermutation-refl}
-use Rattle.std.proofs.lemmas.Bool.{cases_Bool, cases_eq, eq-eqb, ne_eqb}
+use Rattle.std.proofs.lemmas.Bool.{cases_Bool, ne_eqb}
 use Rattle.stn_model.specs.declared.plant.Plant.{Plant}
-use Rattle.stn_model.specs.declared.plant.Run.{Run}
 use Rattle.stn_model.specs.declared.start.Start.{Start}
 use Rattle.stn_model.specs.Fits.{Fits}
 use Rattle.stn_model.specs.Feasible.{Feasible}
 use Rattle.stn_model.specs.Sums.{product_by}
 use Rattle.stn_model.specs.Points.{points}
-use Rattle.stn_model.specs.Sound.{Sound, SoundRun}
+use Rattle.stn_model.specs.Sound.{Sound}
 use Rattle.time_grid.specs.Slots.{no_run, run_at, slots, slot_choices, IsSlotOf}
-use Rattle.time_grid.specs.PlanPoint.{ShareSlot, is_in, quanta_of, quanta_in, HasPoint, plan_point, point_starts, IsChoice}
+use Rattle.time_grid.specs.PlanPoint.{ShareSlot, is_in, quanta_of, quanta_in, HasPoint, plan_point, IsChoice}
 use Rattle.time_grid.proofs.Lists.{AllPairs-head, AllPairs-tail}
 use Rattle.time_grid.proofs.SlotList.{slots-are, product-slots}
-use Rattle.time_grid.proofs.Fitting.{FitsAt, fits-at}
+use Rattle.time_grid.proofs.Fitting.{fits-at}
 use Rattle.time_grid.proofs.PlanPoints.{share-from_in, same_slot}
 use Rattle.time_grid.proofs.OnePlan.{starts-permutation, has_point-feasible, quanta_in-cons, quanta_in-none}
 use Rattle.point_listing.specs.Numbered.{chosen, numbered, plan_numbered}
@@ -37,18 +34,20 @@ quanta_in-choice plant (a ∷ plan) slot sound has is =
     let at = fits-at plant a sound fits in
     let more : quanta_in plant (a ∷ plan) slot ≡ quanta_of plant slot a + quanta_in plant plan slot = quanta_in-cons plant a plan slot in
     elim (cases_Bool (is_in plant slot a)) [
-      inl t ↦
-        let none : quanta_in plant plan slot ≡ 0 = quanta_in-none plant plan slot (λ k d l.
+      | inl t ↦
+          let none : quanta_in plant plan slot ≡ 0 = quanta_in-none plant plan slot (λ k d l.
           elim (cases_Bool (is_in plant slot (get_or plan k d))) [
-            inl u ↦ absurd (AllPairs-head (λ b c. ¬ ShareSlot b c) a plan has.apart k d l (share-from_in plant slot a (get_or plan k d) t u))
-          | inr u ↦ u ]) in
-        let same : (at.run, a.period) ≡ slot = same_slot plant (at.run, a.period) slot a sound at.slot is at.holds t in
-        let run : run_at plant at.run ≡ run_at plant slot.0 = ap (λ s. run_at plant s.0) same in
-        let all : quanta_in plant (a ∷ plan) slot ≡ a.quanta = more ∙ (rw (t, none) (omega arith)) in
-        inr (rw (all, ← run) (at.least, at.most))
-    | inr t ↦
-        let all : quanta_in plant (a ∷ plan) slot ≡ quanta_in plant plan slot = more ∙ (rw t (omega arith)) in
-        rw all ih ]
+            | inl u ↦ absurd (AllPairs-head (λ b c. ¬ ShareSlot b c) a plan has.apart k d l (share-from_in plant slot a (get_or plan k d) t u))
+            | inr u ↦ u
+          ]) in
+          let same : (at.run, a.period) ≡ slot = same_slot plant (at.run, a.period) slot a sound at.slot is at.holds t in
+          let run : run_at plant at.run ≡ run_at plant slot.0 = ap (λ s. run_at plant s.0) same in
+          let all : quanta_in plant (a ∷ plan) slot ≡ a.quanta = more ∙ (rw (t, none) (omega arith)) in
+          inr (rw (all, ← run) (at.least, at.most))
+      | inr t ↦
+          let all : quanta_in plant (a ∷ plan) slot ≡ quanta_in plant plan slot = more ∙ (rw t (omega arith)) in
+          rw all ih
+    ]
 
 -- the choice of a value, and the value of that choice
 record Choice (plant : Plant) (slot : ℕ × ℕ) (value : ℕ) : Type 0 where
@@ -100,8 +99,8 @@ unfolding plan_point
 number-of-feasible plant plan sound feasible =
     let has = has_point-feasible plant plan sound feasible in
     let at = number-of plant (quanta_in plant plan) (slots plant)
-      (λ k d l. (sound.runs (get_or (slots plant) k d).0 no_run (slots-are plant k d l).run).least)
-      (λ k d l. quanta_in-choice plant plan (get_or (slots plant) k d) sound has (slots-are plant k d l)) in
+    (λ k d l. (sound.runs (get_or (slots plant) k d).0 no_run (slots-are plant k d l).run).least)
+    (λ k d l. quanta_in-choice plant plan (get_or (slots plant) k d) sound has (slots-are plant k d l)) in
     record {
       number = at.number;
       below = rw (product-slots plant) at at.below;

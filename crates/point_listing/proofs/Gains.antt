@@ -1,16 +1,12 @@
 -- Gains, and how large they are.
-use Rattle.std.proofs.Common.{◌≡◌, ℕ, zero, suc, ◌+◌, ◌-◌, ◌*◌, ◌<◌, ◌≤◌, ◌^◌, List, [], ◌∷◌, length, ℤ, pos, ◌+ℤ◌, ◌-ℤ◌, ◌≤ℤ◌, ◌<ℤ◌, unsigned_abs, FitsSigned, to_z, of_z, int_le, Bool, true, false, if◌then◌else◌, sym, refl, ap, ap₂, ◌∙◌, subst, arith, rules, inl, inr, add-one}
+use Rattle.std.proofs.Common.{◌≡◌, ℕ, ◌≤◌, ◌^◌, ℤ, ◌-ℤ◌, unsigned_abs, FitsSigned, to_z, of_z, arith}
 use mir.Syntax.{w128}
 use Rattle.std.proofs.lemmas.Int.{ints, to_z-of_z, fits_signed_from_abs}
-use Rattle.std.proofs.lemmas.Bool.{cases_Bool}
 use Rattle.stn_model.specs.declared.plant.Plant.{Plant}
-use Rattle.stn_model.specs.declared.plant.Run.{Run}
-use Rattle.stn_model.specs.declared.start.Start.{Start}
-use Rattle.stn_model.specs.Profit.{profit}
 use Rattle.stn_model.specs.Sound.{Sound, SoundRun}
-use Rattle.time_grid.specs.Slots.{no_run, run_at, slots, IsSlotOf}
+use Rattle.time_grid.specs.Slots.{no_run, run_at, IsSlotOf}
 use Rattle.time_grid.specs.PlanPoint.{start_in}
-use Rattle.point_listing.specs.Cap.{gain, greatest_below, slot_gain, listing_cap}
+use Rattle.point_listing.specs.Cap.{gain}
 use Rattle.point_listing.proofs.SmallProfit.{SmallStart, idle-small, single-small}
 
 -- the difference of two small numbers is what the machine gives, and small

@@ -1,20 +1,20 @@
 -- The best of the first points, and one more.
-use Rattle.std.proofs.Common.{◌≡◌, ◌≢◌, ℕ, zero, suc, ◌+◌, ◌<◌, ◌≤◌, ◌^◌, ◌⊎◌, Bool, true, false, cond, Option, Some, None, IfSome, List, [], ◌∷◌, length, ℤ, pos, ◌≤ℤ◌, ◌<ℤ◌, IsPermutation, sym, refl, ap, ap₂, ◌∙◌, subst, arith, rules, inl, inr, eqb, if◌then◌else◌}
+use Rattle.std.proofs.Common.{◌≡◌, ℕ, ◌+◌, ◌<◌, ◌≤◌, ◌^◌, ◌⊎◌, Option, Some, None, IfSome, List, [], ◌∷◌, length, ℤ, ◌≤ℤ◌, ◌<ℤ◌, IsPermutation, sym, refl, ap, ◌∙◌, subst, arith, inl, inr, eqb}
 use Rattle.std.proofs.lemmas.Int.{ints}
-use Rattle.std.proofs.lemmas.Bool.{cases_eq, cases_Bool, eqb-true}
-use Rattle.std.proofs.lemmas.List.Sorted.{IsPermutation-sym, length_permutation}
+use Rattle.std.proofs.lemmas.Bool.{cases_eq, cases_Bool}
+use Rattle.std.proofs.lemmas.List.Sorted.{length_permutation}
 use Rattle.stn_model.specs.declared.plant.Plant.{Plant}
 use Rattle.stn_model.specs.declared.start.Start.{Start}
 use Rattle.stn_model.specs.Feasible.{Feasible}
 use Rattle.stn_model.specs.Profit.{profit}
 use Rattle.stn_model.specs.Sound.{Sound}
 use Rattle.time_grid.specs.Slots.{slots}
-use Rattle.time_grid.specs.PlanPoint.{point_starts, start_in}
+use Rattle.time_grid.specs.PlanPoint.{point_starts}
 use Rattle.time_grid.proofs.SlotList.{length-slots}
 use Rattle.time_grid.proofs.Reordered.{Feasible-permutation, profit-permutation}
 use Rattle.point_listing.specs.declared.listing.Found.{Found}
 use Rattle.point_listing.specs.Numbered.{numbered, plan_numbered}
-use Rattle.point_listing.specs.Listed.{IsLead, Leads, IsBetter, stays_infeasible, stays_ahead, changes}
+use Rattle.point_listing.specs.Listed.{IsLead, IsBetter, stays_infeasible, stays_ahead, changes}
 
 module _ (plant : Plant) (count : ℕ) (plan : List Start) (same : IsPermutation (plan_numbered plant count) plan) where
   -- a number among the first and one more is among the first, or is the one more

@@ -1,15 +1,15 @@
 -- The profit of a list of starts: without the changeover costs it is the sum of what its starts gain.
-use Rattle.std.proofs.Common.{◌≡◌, ◌≢◌, ℕ, zero, suc, ◌+◌, ◌-◌, ◌*◌, ◌<◌, ◌≤◌, Bool, true, false, cond, List, [], ◌∷◌, length, get_or, map, sum_by, ℤ, pos, negsuc, ◌+ℤ◌, ◌-ℤ◌, ◌*ℤ◌, ◌≤ℤ◌, IsPermutation, sym, refl, ap, ap₂, ◌∙◌, subst, arith, rules, inl, inr}
+use Rattle.std.proofs.Common.{◌≡◌, ℕ, zero, suc, List, [], ◌∷◌, length, ℤ, pos, negsuc, ◌+ℤ◌, ◌-ℤ◌, ◌*ℤ◌, ◌≤ℤ◌, refl, arith}
 use lib.IntN.{suc_ℤ-*ℤ, pred_ℤ-*ℤ, zero-*ℤ}
 use Rattle.std.proofs.lemmas.Int.{ints}
 use Rattle.std.proofs.lemmas.List.Sums.{sum_by-cons}
 use Rattle.stn_model.specs.declared.plant.Plant.{Plant}
 use Rattle.stn_model.specs.declared.start.Start.{Start}
-use Rattle.stn_model.specs.Plant.{state_at, utility_at, run_on}
-use Rattle.stn_model.specs.Stock.{received, delivered, given, taken, inflow, outflow, stock}
+use Rattle.stn_model.specs.Plant.{state_at, utility_at}
+use Rattle.stn_model.specs.Stock.{given, taken, inflow, outflow, stock}
 use Rattle.stn_model.specs.Load.{drawn, load}
 use Rattle.stn_model.specs.Sums.{total, total_below}
-use Rattle.stn_model.specs.Profit.{end_value, payments, holding_cost, utility_cost, cost_of, start_cost, change_costs, profit}
+use Rattle.stn_model.specs.Profit.{end_value, holding_cost, utility_cost, start_cost, change_costs, profit}
 use Rattle.point_listing.specs.Cap.{gain}
 use Rattle.point_listing.proofs.SmallProfit.{change_costs-nil, change_costs-one}
 
@@ -72,22 +72,22 @@ module _ (plant : Plant) (a : Start) (P : List Start) where
   holding-parts =
       let held : List Start → ℕ → ℕ → ℤ = λ plan state time. (state_at plant state).holding *ℤ stock plant plan state time in
       below-parts (λ state. total_below (held (a ∷ P) state) plant.periods) (λ state. total_below (held [] state) plant.periods)
-        (λ state. total_below (held P state) plant.periods) (λ state. total_below (held (a ∷ []) state) plant.periods)
-        (λ state. below-parts (held (a ∷ P) state) (held [] state) (held P state) (held (a ∷ []) state)
-          (λ time. times-parts (state_at plant state).holding (stock plant (a ∷ P) state time) (stock plant [] state time) (stock plant P state time) (stock plant (a ∷ []) state time) (stock-parts state time))
-          plant.periods)
-        (length plant.states)
+      (λ state. total_below (held P state) plant.periods) (λ state. total_below (held (a ∷ []) state) plant.periods)
+      (λ state. below-parts (held (a ∷ P) state) (held [] state) (held P state) (held (a ∷ []) state)
+      (λ time. times-parts (state_at plant state).holding (stock plant (a ∷ P) state time) (stock plant [] state time) (stock plant P state time) (stock plant (a ∷ []) state time) (stock-parts state time))
+      plant.periods)
+      (length plant.states)
 
   utility-parts : utility_cost plant (a ∷ P) +ℤ utility_cost plant [] ≡ utility_cost plant P +ℤ utility_cost plant (a ∷ [])
   unfolding utility_cost
   utility-parts =
       let used : List Start → ℕ → ℕ → ℤ = λ plan utility period. (utility_at plant utility).rate *ℤ pos (load plant plan utility period) in
       below-parts (λ utility. total_below (used (a ∷ P) utility) plant.periods) (λ utility. total_below (used [] utility) plant.periods)
-        (λ utility. total_below (used P utility) plant.periods) (λ utility. total_below (used (a ∷ []) utility) plant.periods)
-        (λ utility. below-parts (used (a ∷ P) utility) (used [] utility) (used P utility) (used (a ∷ []) utility)
-          (λ period. times-parts (utility_at plant utility).rate (pos (load plant (a ∷ P) utility period)) (pos (load plant [] utility period)) (pos (load plant P utility period)) (pos (load plant (a ∷ []) utility period)) (load-parts utility period))
-          plant.periods)
-        (length plant.utilities)
+      (λ utility. total_below (used P utility) plant.periods) (λ utility. total_below (used (a ∷ []) utility) plant.periods)
+      (λ utility. below-parts (used (a ∷ P) utility) (used [] utility) (used P utility) (used (a ∷ []) utility)
+      (λ period. times-parts (utility_at plant utility).rate (pos (load plant (a ∷ P) utility period)) (pos (load plant [] utility period)) (pos (load plant P utility period)) (pos (load plant (a ∷ []) utility period)) (load-parts utility period))
+      plant.periods)
+      (length plant.utilities)
 
   start-parts : start_cost plant (a ∷ P) +ℤ start_cost plant [] ≡ start_cost plant P +ℤ start_cost plant (a ∷ [])
   unfolding start_cost

@@ -1,15 +1,13 @@
 -- Points by their numbers.
-use Rattle.std.proofs.Common.{◌≡◌, ◌≢◌, ℕ, zero, suc, ◌+◌, ◌-◌, ◌*◌, ◌/◌, ◌%◌, ◌<◌, ◌≤◌, ◌⊎◌, min, Bool, true, false, cond, List, [], ◌∷◌, ◌++◌, length, get_or, take, drop, map, IsPermutation, sym, refl, ap, ap₂, ◌∙◌, subst, arith, rules, inl, inr, eqb, if◌then◌else◌, mul-one, mul-le-mul}
-use Rattle.std.specs.List.{All}
+use Rattle.std.proofs.Common.{◌≡◌, ℕ, suc, ◌+◌, ◌*◌, ◌/◌, ◌%◌, ◌<◌, ◌≤◌, min, List, [], ◌∷◌, length, get_or, take, drop, refl, ap, ◌∙◌, arith, inl, inr, mul-one, mul-le-mul}
 use Rattle.std.proofs.lemmas.List.{drop_more, take_more, get_or_default}
-use Rattle.std.proofs.lemmas.Bool.{cases_lt, cases_eq, eq-eqb, ne_eqb}
+use Rattle.std.proofs.lemmas.Bool.{cases_lt}
 use Rattle.stn_model.specs.declared.plant.Plant.{Plant}
-use Rattle.stn_model.specs.declared.plant.Run.{Run}
-use Rattle.stn_model.specs.declared.start.Start.{Start}
 use Rattle.stn_model.specs.Sums.{product_by}
+use Rattle.stn_model.specs.Points.{points}
 use Rattle.stn_model.specs.Sound.{Sound, SoundRun}
 use Rattle.time_grid.specs.Slots.{no_run, run_at, slots, slot_choices}
-use Rattle.time_grid.proofs.SlotList.{slots-are, product_by-append}
+use Rattle.time_grid.proofs.SlotList.{slots-are, product_by-append, product-slots}
 use Rattle.point_listing.specs.Numbered.{slot_at, chosen, numbered}
 
 -- the run of a slot that is there is sound
@@ -31,12 +29,13 @@ length-numbered plant (slot ∷ grid) number = ap suc (length-numbered plant gri
 pub min-times : (p m c : ℕ) → 1 ≤ c → min (min p m * c) m ≡ min (p * c) m
 min-times p m c some =
     elim (cases_lt p m) [
-      inl l ↦ ap (λ n. min (n * c) m) (omega arith)
-    | inr l ↦
-      let low : m * 1 ≤ m * c = mul-le-mul (omega arith) some in
-      let high : p * 1 ≤ p * c = mul-le-mul (omega arith) some in
-      let cut : min p m ≡ m = omega arith in
-      rw cut (omega (arith, mul-one m, mul-one p, low, high)) ]
+      | inl l ↦ ap (λ n. min (n * c) m) (omega arith)
+      | inr l ↦
+          let low : m * 1 ≤ m * c = mul-le-mul (omega arith) some in
+          let high : p * 1 ≤ p * c = mul-le-mul (omega arith) some in
+          let cut : min p m ≡ m = omega arith in
+          rw cut (omega (arith, mul-one m, mul-one p, low, high))
+    ]
 
 -- the product of one more slot
 pub product_by-more : {X : Type 0} (f : X → ℕ) (xs : List X) (i : ℕ) (d : X) → i < length xs → product_by f (take (i + 1) xs) ≡ product_by f (take i xs) * f (get_or xs i d)
@@ -55,3 +54,11 @@ slot_there plant grid number slot e l h =
 pub numbered-nil : (plant : Plant) (number : ℕ) → numbered plant [] number ≡ []
 unfolding numbered
 numbered-nil plant number = refl
+
+product_by-pos : {X : Type 0} (f : X → ℕ) → ((x : X) → 1 ≤ f x) → (xs : List X) → 1 ≤ product_by f xs
+product_by-pos f some [] = omega arith
+product_by-pos f some (x ∷ xs) = mul-le-mul (some x) (product_by-pos f some xs)
+
+-- every plant has a point, that of the empty plan
+pub points_pos : (plant : Plant) → 1 ≤ points plant
+points_pos plant = rw (← product-slots plant) (product_by-pos (slot_choices plant) (λ slot. omega arith) (slots plant))

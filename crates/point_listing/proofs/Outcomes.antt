@@ -1,27 +1,25 @@
 -- The answer of a listing is right.
-use Rattle.std.proofs.Common.{◌≡◌, ◌≢◌, ℕ, zero, suc, ◌+◌, ◌-◌, ◌*◌, ◌/◌, ◌%◌, ◌<◌, ◌≤◌, ◌⊎◌, min, Bool, true, false, cond, ◌||◌, Option, Some, None, MatchOption, List, [], ◌∷◌, length, get_or, ℤ, pos, ◌≤ℤ◌, ◌<ℤ◌, int_le, IsPermutation, sym, refl, ap, ap₂, ◌∙◌, subst, arith, rules, inl, inr, eqb, leb, if◌then◌else◌}
+use Rattle.std.proofs.Common.{◌≡◌, ℕ, ◌+◌, ◌*◌, ◌/◌, ◌%◌, ◌<◌, ◌⊎◌, min, true, false, ◌||◌, Option, Some, None, List, [], ◌∷◌, ℤ, ◌≤ℤ◌, ◌<ℤ◌, int_le, sym, refl, ap, ◌∙◌, subst, arith, inl, inr, leb}
 use Rattle.std.proofs.lemmas.Int.{ints}
 use Rattle.std.proofs.lemmas.Nat.{div-mul-add, mod-mul-add}
-use Rattle.std.proofs.lemmas.List.Sorted.{IsPermutation-sym}
 use Rattle.std.proofs.lemmas.Bool.{cases_Bool, leb-true, leb-false, or_cases, or_parts}
 use Rattle.stn_model.specs.declared.plant.Plant.{Plant}
-use Rattle.stn_model.specs.declared.start.Start.{Start}
 use Rattle.stn_model.specs.Feasible.{Feasible}
 use Rattle.stn_model.specs.Profit.{profit}
 use Rattle.stn_model.specs.Best.{Best, NoPlan}
 use Rattle.stn_model.specs.Points.{points, boxes}
-use Rattle.stn_model.specs.Answers.{EarnsBelow, IsSpent, IsAnswer, IsOutcome}
+use Rattle.stn_model.specs.Answers.{IsAnswer, IsOutcome}
 use Rattle.stn_model.specs.Sound.{Sound}
-use Rattle.time_grid.specs.Slots.{run_at, slots, slot_choices}
+use Rattle.time_grid.specs.Slots.{slots, slot_choices}
 use Rattle.time_grid.specs.PlanPoint.{point_starts}
 use Rattle.time_grid.proofs.Reordered.{Feasible-permutation, profit-permutation}
 use Rattle.point_listing.specs.declared.listing.Found.{Found}
 use Rattle.point_listing.specs.declared.listing.Listing.{Listing}
-use Rattle.point_listing.specs.Numbered.{chosen, numbered, plan_numbered}
+use Rattle.point_listing.specs.Numbered.{numbered, plan_numbered}
 use Rattle.point_listing.specs.Listed.{IsLead, Leads, Reaches, Lists}
 use Rattle.point_listing.specs.Cap.{listing_cap}
 use Rattle.point_listing.specs.Settled.{listing_answer}
-use Rattle.point_listing.proofs.Chosen.{IsNumbered, number-of-feasible}
+use Rattle.point_listing.proofs.Chosen.{number-of-feasible}
 use Rattle.point_listing.proofs.CapBound.{capped}
 
 starts-zero : (plant : Plant) (grid : List (ℕ × ℕ)) → point_starts plant grid (numbered plant grid 0) ≡ []
@@ -60,11 +58,11 @@ module _ (plant : Plant) (sound : Sound plant) where
   best-of_all lead leads = record {
     feasible = leads.feasible;
     best = λ other is.
-      let at = number-of-feasible plant other sound is in
-      let same = profit-permutation plant other (plan_numbered plant at.number) at.same in
-      let most = leads.most at.number at.below (Feasible-permutation plant other (plan_numbered plant at.number) at.same is) in
-      let earned = leads.profit_is in
-      omega (arith, ints, same, most, earned);
+        let at = number-of-feasible plant other sound is in
+        let same = profit-permutation plant other (plan_numbered plant at.number) at.same in
+        let most = leads.most at.number at.below (Feasible-permutation plant other (plan_numbered plant at.number) at.same is) in
+        let earned = leads.profit_is in
+        omega (arith, ints, same, most, earned);
   }
 
   -- a plan that earns as much as the cap is a best one
@@ -88,48 +86,52 @@ module _ (plant : Plant) (sound : Sound plant) where
     unfolding boxes
     answer-none used some e none =
         elim (cases_Bool (leb count budget)) [
-          inl t ↦ let l = leb-true count budget t in let all : used ≡ points plant = omega arith in
-            rw t (no_plan (subst (λ n. IsLead plant n None) all none))
-        | inr t ↦ let l = leb-false count budget t in
-            rw t (record {
-              exactly = omega arith;
-              fewer = omega arith;
-              found = (refl, empty-infeasible used some none);
-              floor = λ is. absurd (empty-infeasible used some none is);
-              capped = λ other is. capped plant other sound is;
-            }) ]
+          | inl t ↦ let l = leb-true count budget t in let all : used ≡ points plant = omega arith in
+              rw t (no_plan (subst (λ n. IsLead plant n None) all none))
+          | inr t ↦ let l = leb-false count budget t in
+              rw t (record {
+                exactly = omega arith;
+                fewer = omega arith;
+                found = (refl, empty-infeasible used some none);
+                floor = λ is. absurd (empty-infeasible used some none is);
+                capped = λ other is. capped plant other sound is;
+              })
+        ]
 
     answer-some : (used : ℕ) (lead : Found) → 0 < used → Reaches (listing_cap plant) (Some lead) ⊎ (used ≡ min count budget) → Leads plant used lead →
         IsAnswer plant budget used (listing_answer (listing_cap plant) (leb count budget) (Some lead))
     unfolding boxes
     answer-some used lead some ends leads =
         elim (cases_Bool (leb count budget || int_le (listing_cap plant) lead.profit)) [
-          inl t ↦ rw t (optimal t, leads.profit_is)
-        | inr t ↦
-          let parts = or_parts (leb count budget) (int_le (listing_cap plant) lead.profit) t in
-          let l = leb-false count budget parts.0 in
-          let below = lt-false (listing_cap plant) lead.profit parts.1 in
-          let e : used ≡ min count budget = elim ends [ inl r ↦ absurd (not_both (listing_cap plant) lead.profit r below) | inr e ↦ e ] in
-          rw t (record {
-            exactly = omega arith;
-            fewer = omega arith;
-            found = record { feasible = leads.feasible; profit_is = leads.profit_is; below = below };
-            floor = λ is. empty-below used lead some leads is;
-            capped = λ other is. capped plant other sound is;
-          }) ]
+          | inl t ↦ rw t (optimal t, leads.profit_is)
+          | inr t ↦
+              let parts = or_parts (leb count budget) (int_le (listing_cap plant) lead.profit) t in
+              let l = leb-false count budget parts.0 in
+              let below = lt-false (listing_cap plant) lead.profit parts.1 in
+              let e : used ≡ min count budget = elim ends [ inl r ↦ absurd (not_both (listing_cap plant) lead.profit r below) | inr e ↦ e ] in
+              rw t (record {
+                exactly = omega arith;
+                fewer = omega arith;
+                found = record { feasible = leads.feasible; profit_is = leads.profit_is; below = below };
+                floor = λ is. empty-below used lead some leads is;
+                capped = λ other is. capped plant other sound is;
+              })
+        ]
       where
         optimal : (leb count budget || int_le (listing_cap plant) lead.profit) ≡ true → Best plant lead.plan
         optimal t =
             elim (cases_Bool (int_le (listing_cap plant) lead.profit)) [
-              inl r ↦ best-of_cap used lead leads (le-true (listing_cap plant) lead.profit r)
-            | inr r ↦ elim (or_cases (leb count budget) (int_le (listing_cap plant) lead.profit) t) [
-                inl u ↦
-                  let l = leb-true count budget u in
-                  let below = lt-false (listing_cap plant) lead.profit r in
-                  let e : used ≡ min count budget = elim ends [ inl q ↦ absurd (not_both (listing_cap plant) lead.profit q below) | inr e ↦ e ] in
-                  let all : used ≡ points plant = omega arith in
-                  best-of_all lead (subst (λ n. Leads plant n lead) all leads)
-              | inr u ↦ best-of_cap used lead leads (le-true (listing_cap plant) lead.profit u) ] ]
+              | inl r ↦ best-of_cap used lead leads (le-true (listing_cap plant) lead.profit r)
+              | inr r ↦ elim (or_cases (leb count budget) (int_le (listing_cap plant) lead.profit) t) [
+                | inl u ↦
+                    let l = leb-true count budget u in
+                    let below = lt-false (listing_cap plant) lead.profit r in
+                    let e : used ≡ min count budget = elim ends [ inl q ↦ absurd (not_both (listing_cap plant) lead.profit q below) | inr e ↦ e ] in
+                    let all : used ≡ points plant = omega arith in
+                    best-of_all lead (subst (λ n. Leads plant n lead) all leads)
+                | inr u ↦ best-of_cap used lead leads (le-true (listing_cap plant) lead.profit u)
+              ]
+            ]
 
     answers : (found : Option Found) (used : ℕ) → 0 < used → Reaches (listing_cap plant) found ⊎ (used ≡ min count budget) → IsLead plant used found →
         IsAnswer plant budget used (listing_answer (listing_cap plant) (leb count budget) found)

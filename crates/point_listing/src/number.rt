@@ -40,12 +40,7 @@ pub fn plan_at(
     grid.plan_of(alloc, plant, &point)
 }
 
-fn point_at(
-    alloc: Global,
-    plant: &Plant,
-    grid: &Grid,
-    number: u32,
-) -> Result<Vec<u8>, AllocError>
+fn point_at(alloc: Global, plant: &Plant, grid: &Grid, number: u32) -> Result<Vec<u8>, AllocError>
     requires sound { Sound plant.now }
     requires grid { IsGrid plant.now grid.now }
     ensures { IfOk result (λ point. point.items ≡ numbered plant.now grid.now number) }

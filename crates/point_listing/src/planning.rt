@@ -4,8 +4,8 @@ ghost use Rattle.stn_model.specs.Answers.{IsOutcome};
 ghost use Rattle.point_listing.specs.Settled.{listing_answer};
 
 use crate::cap::cap_of;
-use crate::listing::Listing;
 use crate::lister::list_points;
+use crate::listing::Listing;
 use crate::number::points_up_to;
 use std::alloc::{AllocError, Global};
 use stn_model::{Answer, Outcome, Plant};

@@ -1,24 +1,22 @@
 -- Every plan with a point is an order of the starts of its point.
-use Rattle.std.proofs.Common.{◌≡◌, ◌≢◌, ℕ, zero, suc, ◌+◌, ◌<◌, ◌≤◌, ◌⊎◌, Bool, true, false, cond, List, [], ◌∷◌, ◌++◌, length, get_or, map, sum_by, IsPermutation, sym, refl, ap, ap₂, ◌∙◌, subst, arith, rules, inl, inr, eqb, if◌then◌else◌}
-use Rattle.std.specs.List.{All, AllPairs, Contains}
-use Rattle.std.proofs.lemmas.List.{get_or_default, length-map, get_or-map}
+use Rattle.std.proofs.Common.{◌≡◌, ◌≢◌, ℕ, zero, suc, ◌+◌, ◌<◌, ◌≤◌, true, false, List, [], ◌∷◌, length, get_or, map, sum_by, IsPermutation, sym, refl, ap, ap₂, ◌∙◌, arith, inl, inr, eqb}
+use Rattle.std.specs.List.{All}
+use Rattle.std.proofs.lemmas.List.{get_or_default}
 use Rattle.std.proofs.lemmas.List.Elements.{All-head, All-tail}
-use Rattle.std.proofs.lemmas.List.Sorted.{IsPermutation-refl, IsPermutation-cons, IsPermutation-trans, IsPermutation-middle, IsPermutation-sym}
+use Rattle.std.proofs.lemmas.List.Sorted.{IsPermutation-refl, IsPermutation-cons, IsPermutation-trans, IsPermutation-middle}
 use Rattle.std.proofs.lemmas.List.Sums.{sum_by-cons}
-use Rattle.std.proofs.lemmas.Bool.{eqb-true, eq-eqb, ne_eqb, and_parts, cases_Bool, cases_eq, true≢false}
+use Rattle.std.proofs.lemmas.Bool.{eqb-true, eq-eqb, ne_eqb, and_parts, cases_Bool, cases_eq}
 use Rattle.stn_model.specs.declared.plant.Plant.{Plant}
-use Rattle.stn_model.specs.declared.plant.Run.{Run}
 use Rattle.stn_model.specs.declared.start.Start.{Start}
-use Rattle.stn_model.specs.Plant.{is_of, end_of, duration_of, task_at}
+use Rattle.stn_model.specs.Plant.{end_of}
 use Rattle.stn_model.specs.Fits.{Fits}
-use Rattle.stn_model.specs.Batches.{Apart}
 use Rattle.stn_model.specs.Feasible.{Feasible}
 use Rattle.stn_model.specs.Sound.{Sound, SoundRun}
-use Rattle.time_grid.specs.Slots.{no_run, run_at, slots, IsSlotOf, Earlier}
-use Rattle.time_grid.specs.PlanPoint.{ShareSlot, is_in, quanta_of, quanta_in, HasPoint, plan_point, point_starts, start_in, IsPlaceOf, IsPlanOf}
+use Rattle.time_grid.specs.Slots.{no_run, run_at, slots}
+use Rattle.time_grid.specs.PlanPoint.{ShareSlot, is_in, quanta_of, quanta_in, HasPoint, plan_point, point_starts, start_in}
 use Rattle.time_grid.proofs.Lists.{AllPairs-head, AllPairs-tail}
 use Rattle.time_grid.proofs.SlotList.{slots-are}
-use Rattle.time_grid.proofs.Fitting.{FitsAt, fits-at, place-of-fits, duration_pos}
+use Rattle.time_grid.proofs.Fitting.{fits-at, place-of-fits, duration_pos}
 use Rattle.time_grid.proofs.PlanPoints.{share-from_in, same_slot, same_place, quanta_pos}
 
 same_start : (p u t q : ℕ) (a : Start) → p ≡ a.period → u ≡ a.unit → t ≡ a.task → q ≡ a.quanta →
@@ -55,12 +53,13 @@ one_more plant f g a (slot ∷ grid) (suc k) d l pos is free put rest =
     let ih = one_more plant f g a grid k d (omega arith) pos is free put (λ j e m n. rest (suc j) e (omega arith) (λ o. n (omega arith))) in
     let head : g slot ≡ f slot = rest 0 slot (omega arith) (λ o. omega arith) in
     elim (cases_eq (f slot) 0) [
-      inl e ↦ rw (head, eq-eqb (f slot) 0 e) ih
-    | inr e ↦
-      let b = start_in plant slot (f slot) in
-      let ps = point_starts plant grid (map f grid) in
-      let qs = point_starts plant grid (map g grid) in
-      rw (head, ne_eqb (f slot) 0 e) (IsPermutation-trans (a ∷ b ∷ ps) (b ∷ a ∷ ps) (b ∷ qs) (IsPermutation-middle (a ∷ []) b ps) (IsPermutation-cons b (a ∷ ps) qs ih)) ]
+      | inl e ↦ rw (head, eq-eqb (f slot) 0 e) ih
+      | inr e ↦
+          let b = start_in plant slot (f slot) in
+          let ps = point_starts plant grid (map f grid) in
+          let qs = point_starts plant grid (map g grid) in
+          rw (head, ne_eqb (f slot) 0 e) (IsPermutation-trans (a ∷ b ∷ ps) (b ∷ a ∷ ps) (b ∷ qs) (IsPermutation-middle (a ∷ []) b ps) (IsPermutation-cons b (a ∷ ps) qs ih))
+    ]
 
 sum_by-zero : {X : Type 0} (f : X → ℕ) (xs : List X) → All (λ x. f x ≡ 0) xs → sum_by f xs ≡ 0
 sum_by-zero f [] h = refl
@@ -94,19 +93,21 @@ starts-permutation plant (a ∷ plan) sound has =
     let slot = get_or (slots plant) place.0 (0, 0) in
     let here : is_in plant slot a ≡ true = place.1.holds in
     let free : quanta_in plant plan slot ≡ 0 = quanta_in-none plant plan slot (λ k d l.
-      elim (cases_Bool (is_in plant slot (get_or plan k d))) [
-        inl t ↦ absurd (AllPairs-head (λ b c. ¬ ShareSlot b c) a plan has.apart k d l (share-from_in plant slot a (get_or plan k d) here t))
-      | inr t ↦ t ]) in
+    elim (cases_Bool (is_in plant slot (get_or plan k d))) [
+      | inl t ↦ absurd (AllPairs-head (λ b c. ¬ ShareSlot b c) a plan has.apart k d l (share-from_in plant slot a (get_or plan k d) here t))
+      | inr t ↦ t
+    ]) in
     let put : quanta_in plant (a ∷ plan) slot ≡ a.quanta = quanta_in-cons plant a plan slot ∙ (rw (here, free) (omega arith)) in
     let others : (j : ℕ) (e : ℕ × ℕ) → j < length (slots plant) → j ≢ place.0 → quanta_in plant (a ∷ plan) (get_or (slots plant) j e) ≡ quanta_in plant plan (get_or (slots plant) j e) =
-      λ j e l n. elim (cases_Bool (is_in plant (get_or (slots plant) j e) a)) [
-        inl t ↦ absurd (n (same_place plant j place.0 (0, 0) l place.1.within
+    λ j e l n. elim (cases_Bool (is_in plant (get_or (slots plant) j e) a)) [
+      | inl t ↦ absurd (n (same_place plant j place.0 (0, 0) l place.1.within
           (get_or_default (slots plant) j (0, 0) e l ∙ same_slot plant (get_or (slots plant) j e) slot a sound (slots-are plant j e l) (slots-are plant place.0 (0, 0) place.1.within) t here)))
-      | inr t ↦ quanta_in-cons plant a plan (get_or (slots plant) j e) ∙ (rw t (omega arith)) ] in
+      | inr t ↦ quanta_in-cons plant a plan (get_or (slots plant) j e) ∙ (rw t (omega arith))
+    ] in
     IsPermutation-trans (a ∷ plan) (a ∷ point_starts plant (slots plant) (map (quanta_in plant plan) (slots plant))) (point_starts plant (slots plant) (map (quanta_in plant (a ∷ plan)) (slots plant)))
-      (IsPermutation-cons a plan (point_starts plant (slots plant) (map (quanta_in plant plan) (slots plant))) ih)
-      (one_more plant (quanta_in plant plan) (quanta_in plant (a ∷ plan)) a (slots plant) place.0 (0, 0) place.1.within (quanta_pos plant a sound fits)
-        (start_in-is plant slot a here) free put others)
+    (IsPermutation-cons a plan (point_starts plant (slots plant) (map (quanta_in plant plan) (slots plant))) ih)
+    (one_more plant (quanta_in plant plan) (quanta_in plant (a ∷ plan)) a (slots plant) place.0 (0, 0) place.1.within (quanta_pos plant a sound fits)
+    (start_in-is plant slot a here) free put others)
 
 -- a batch that fits ends after it begins
 pub ends_later : (plant : Plant) (a : Start) → Sound plant → Fits plant a → a.period < end_of plant a
@@ -124,11 +125,12 @@ pub has_point-feasible : (plant : Plant) (plan : List Start) → Sound plant →
 has_point-feasible plant plan sound is = record {
   fits = is.fits;
   apart = λ i j d l m share.
-    let a = get_or plan i d in
-    let b = get_or plan j d in
-    let first : a.period < end_of plant a = ends_later plant a sound (is.fits i d (omega arith)) in
-    let second : b.period < end_of plant b = ends_later plant b sound (is.fits j d m) in
-    elim (is.apart i j d l m share.unit) [
-      inl h ↦ omega (arith, first, h, share.period)
-    | inr h ↦ omega (arith, second, h, share.period) ];
+      let a = get_or plan i d in
+      let b = get_or plan j d in
+      let first : a.period < end_of plant a = ends_later plant a sound (is.fits i d (omega arith)) in
+      let second : b.period < end_of plant b = ends_later plant b sound (is.fits j d m) in
+      elim (is.apart i j d l m share.unit) [
+        | inl h ↦ omega (arith, first, h, share.period)
+        | inr h ↦ omega (arith, second, h, share.period)
+      ];
 }

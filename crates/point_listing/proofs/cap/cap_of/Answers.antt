@@ -1,5 +1,5 @@
 -- One more slot adds its gain.
-use Rattle.std.proofs.Common.{◌≡◌, ◌+◌, ◌*◌, ◌<◌, ◌≤◌, ◌^◌, ℕ, ℤ, ◌+ℤ◌, List, [], length, take, unsigned_abs, sym, ap, ap₂, ◌∙◌, subst, arith, rules, to_z, of_z}
+use Rattle.std.proofs.Common.{◌≡◌, ◌+◌, ◌*◌, ◌<◌, ◌^◌, ◌+ℤ◌, [], length, take, sym, ap, ap₂, ◌∙◌, subst, arith, to_z, of_z}
 use mir.Syntax.{w128}
 use Rattle.std.proofs.lemmas.Int.{ints}
 use Rattle.std.proofs.lemmas.List.{take_all}
@@ -8,7 +8,6 @@ use Rattle.stn_model.specs.Profit.{profit}
 use Rattle.plain_plan.proofs.Totals.{sum_fits, total_more}
 use Rattle.time_grid.specs.Slots.{slots, IsSlotOf}
 use Rattle.time_grid.proofs.SlotList.{slots-are, length-slots}
-use Rattle.point_listing.specs.Numbered.{slot_at}
 use Rattle.point_listing.specs.Cap.{slot_gain, listing_cap}
 use Rattle.point_listing.proofs.Numbers.{slot_is}
 use Rattle.point_listing.proofs.SmallProfit.{idle-small}

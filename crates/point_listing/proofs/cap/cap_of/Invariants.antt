@@ -7,5 +7,5 @@ use Rattle.point_listing.proofs.cap.cap_of.Given as goal
 abbrev pub invariant-loop-slot : goal.invariant-loop-slot
 invariant-loop-slot l = record {
   value : l.cap ≡ l.idle +ℤ total (slot_gain l.plant) (take l.slot (slots l.plant));
-  small : unsigned_abs l.cap ≤ 2 ^ 80 + l.slot * 2 ^ 90
+  small : unsigned_abs l.cap ≤ 2 ^ 80 + l.slot * 2 ^ 90;
 }

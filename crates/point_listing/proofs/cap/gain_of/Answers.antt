@@ -1,7 +1,5 @@
 -- Both profits are small, so their difference fits.
-use Rattle.std.proofs.Common.{◌≡◌, ◌≤◌, ◌^◌, ℤ, ◌-ℤ◌, ◌∷◌, [], List, unsigned_abs, sym, ap, ap₂, ◌∙◌, subst, arith, rules, to_z, of_z, SFits}
-use mir.Syntax.{w128}
-use Rattle.stn_model.specs.declared.start.Start.{Start}
+use Rattle.std.proofs.Common.{◌≡◌, ◌≤◌, ◌^◌, ◌-ℤ◌, ◌∷◌, [], unsigned_abs, ap, ap₂, ◌∙◌, arith}
 use Rattle.stn_model.specs.Profit.{profit}
 use Rattle.time_grid.specs.PlanPoint.{start_in}
 use Rattle.point_listing.specs.Cap.{gain}
@@ -36,4 +34,4 @@ unfolding gain
 returns-clause-small c =
     let k = (goal.at.returns-clause-small c).After-profit_of in
     rw (less_is c.profit_of.result c.args.idle (single_small k) (idle_small k) ∙ ap₂ (λ x y. x -ℤ y) (single k) c.requires.idle)
-      (gain-small c.args.plant.now c.args.slot c.args.quanta c.requires.sound c.requires.slot (few k))
+    (gain-small c.args.plant.now c.args.slot c.args.quanta c.requires.sound c.requires.slot (few k))

@@ -1,5 +1,5 @@
 -- All sizes of the run have been tried.
-use Rattle.std.proofs.Common.{◌≡◌, ◌+◌, ◌-◌, ◌<◌, ◌≤◌, ℕ, ℤ, sym, ap, ◌∙◌, arith}
+use Rattle.std.proofs.Common.{◌≡◌, ◌+◌, ◌-◌, ap, ◌∙◌, arith}
 use Rattle.std.proofs.lemmas.List.{get_or_default}
 use Rattle.time_grid.specs.Slots.{no_run, run_at}
 use Rattle.time_grid.specs.PlanPoint.{start_in}

@@ -1,11 +1,11 @@
 -- By cases on what was found.
-use Rattle.std.proofs.Common.{◌≡◌, ◌<ℤ◌, ◌≤ℤ◌, ℤ, List, sym, ap, ◌∙◌, subst, arith, rules, to_z, of_z, SFits}
+use Rattle.std.proofs.Common.{◌≡◌, sym, ap, ◌∙◌, subst, arith, rules, to_z, of_z, SFits}
 use mir.Syntax.{w128}
 use Rattle.std.proofs.lemmas.Int.{ints, to_z-of_z}
 use Rattle.std.proofs.lemmas.Bool.{false≢true}
 use Rattle.stn_model.specs.Profit.{profit}
 use Rattle.stn_model.specs.Feasible.{Feasible}
-use Rattle.point_listing.specs.Listed.{IsBetter, stays_infeasible}
+use Rattle.point_listing.specs.Listed.{stays_infeasible}
 use Rattle.point_listing.proofs.Leads.{better-none, better-more, better-less}
 use Rattle.point_listing.proofs.lister.better.Goals as goal
 use Rattle.point_listing.proofs.lister.better.Goals.{After-profit_of-profit}
@@ -32,11 +32,11 @@ returns-then-lead-profit c =
     let k = (goal.at.returns-then-lead-profit c).After-profit_of-profit in
     let fits : SFits w128 c.in-Some.lead.profit = search rules in
     better-more c.args.plant.now c.args.plan c.args.found c.in-Some.lead (to_z w128 (of_z w128 c.profit_of-profit.result)) (feasible k) (earns k) c.in-Some.is
-      (grind (arith, ints, c.if-lead-profit.true))
+    (grind (arith, ints, c.if-lead-profit.true))
 
 pub returns-else-lead-profit : goal.returns-else-lead-profit
 returns-else-lead-profit c =
     let k = (goal.at.returns-else-lead-profit c).After-profit_of-profit in
     let fits : SFits w128 c.in-Some.lead.profit = search rules in
     better-less c.args.plant.now c.args.plan c.args.found c.in-Some.lead (to_z w128 (of_z w128 c.profit_of-profit.result)) (feasible k) (earns k) c.in-Some.is
-      (grind (arith, ints, c.if-lead-profit.false))
+    (grind (arith, ints, c.if-lead-profit.false))

@@ -1,5 +1,5 @@
 -- One more point: the better plan is the best of one more.
-use Rattle.std.proofs.Common.{◌≡◌, ◌<◌, ◌≤◌, ◌+◌, ◌≤ℤ◌, ℤ, ℕ, Option, sym, ap, ◌∙◌, subst, refl, inl, inr, arith, rules, to_z, of_z, SFits}
+use Rattle.std.proofs.Common.{◌≡◌, ◌+◌, subst, refl, inl, inr, arith, rules, SFits}
 use mir.Syntax.{w128}
 use Rattle.std.proofs.lemmas.Int.{to_z-of_z}
 use Rattle.point_listing.specs.Listed.{IsLead, Reaches}

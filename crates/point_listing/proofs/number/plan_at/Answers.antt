@@ -1,9 +1,5 @@
 -- The point has a value for each slot, and the plan has its starts.
-use Rattle.std.proofs.Common.{◌≡◌, ℕ, length, List, Result, Ok, Err, IfOk, IsPermutation, sym, ap, ◌∙◌, subst, arith, rules}
-use Rattle.stn_model.specs.declared.start.Start.{Start}
-use Rattle.time_grid.specs.PlanPoint.{IsPlanOf, point_starts}
-use Rattle.time_grid.specs.Slots.{slots}
-use Rattle.point_listing.specs.Numbered.{numbered, plan_numbered}
+use Rattle.std.proofs.Common.{length, ap, ◌∙◌}
 use Rattle.point_listing.proofs.Numbers.{length-numbered}
 use Rattle.point_listing.proofs.number.plan_at.Goals as goal
 

@@ -1,5 +1,5 @@
 -- One more slot multiplies the count.
-use Rattle.std.proofs.Common.{◌≡◌, ◌<◌, ◌≤◌, ◌*◌, ◌+◌, ℕ, length, take, min, sym, ap, ◌∙◌, arith, rules}
+use Rattle.std.proofs.Common.{◌≡◌, ◌<◌, ◌≤◌, ◌*◌, length, take, min, sym, ap, ◌∙◌, arith}
 use Rattle.std.proofs.lemmas.List.{take_all}
 use Rattle.stn_model.specs.Sums.{product_by}
 use Rattle.time_grid.specs.Slots.{slots, slot_choices}

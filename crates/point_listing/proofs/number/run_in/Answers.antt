@@ -1,9 +1,8 @@
 -- The slot's run is there.
-use Rattle.std.proofs.Common.{◌≡◌, ◌<◌, ℕ, length, get_or, sym, ap, ◌∙◌, subst, arith}
+use Rattle.std.proofs.Common.{◌≡◌, sym, ap, ◌∙◌, subst}
 use Rattle.std.proofs.lemmas.List.{get_or_default}
-use Rattle.stn_model.specs.declared.plant.Run.{Run}
 use Rattle.stn_model.specs.Sound.{SoundRun}
-use Rattle.time_grid.specs.Slots.{no_run, run_at, slots}
+use Rattle.time_grid.specs.Slots.{no_run, run_at}
 use Rattle.point_listing.specs.Numbered.{slot_at}
 use Rattle.point_listing.proofs.Numbers.{slot_run, slot_is, slot_there}
 use Rattle.point_listing.proofs.number.run_in.Goals as goal
@@ -24,4 +23,4 @@ returns-clause-run c = run_is (goal.at.returns-clause-run c).After-get
 pub returns-clause-sound : goal.returns-clause-sound
 returns-clause-sound c =
     subst (SoundRun c.args.plant.now) (sym (run_is (goal.at.returns-clause-sound c).After-get))
-      (slot_run c.args.plant.now c.args.slot c.requires.sound (rw c.requires.grid at c.requires.slot))
+    (slot_run c.args.plant.now c.args.slot c.requires.sound (rw c.requires.grid at c.requires.slot))
