@@ -1,3 +1,4 @@
 pub mod Again
+pub mod Few
 pub mod Lines
 pub mod Reading
