@@ -1,0 +1,9 @@
+//! The simulator of plans: whether a plant can carry out a plan, and what it earns, or what it breaks
+//! first. It steps the stocks of all states and the loads of all utilities through the periods.
+#![tactic(auto)]
+
+mod units;
+pub mod verdict;
+
+pub use stn_model::Violation;
+pub use verdict::Verdict;
