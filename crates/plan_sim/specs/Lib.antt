@@ -1,2 +1,4 @@
+pub mod Moves
+pub mod Tables
 pub mod Units
 pub mod Verdicts

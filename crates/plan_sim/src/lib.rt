@@ -2,6 +2,9 @@
 //! first. It steps the stocks of all states and the loads of all utilities through the periods.
 #![tactic(auto)]
 
+mod loads;
+mod moves;
+mod stocks;
 mod units;
 pub mod verdict;
 
