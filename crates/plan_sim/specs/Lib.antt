@@ -1,3 +1,5 @@
+pub mod Faults
+pub mod Money
 pub mod Moves
 pub mod Tables
 pub mod Units

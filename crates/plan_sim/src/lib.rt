@@ -2,8 +2,10 @@
 //! first. It steps the stocks of all states and the loads of all utilities through the periods.
 #![tactic(auto)]
 
+mod faults;
 mod loads;
 mod moves;
+mod profit;
 mod stocks;
 mod units;
 pub mod verdict;

@@ -18,6 +18,7 @@ ghost use Rattle.std.specs.Prelude.{
   IfOk,
   OnOk,
   slice_index_or,
+  unsigned_abs,
 };
 ghost use Rattle.stn_model.specs.Plant.{task_at};
 ghost use Rattle.stn_model.specs.Fits.{Fits};
@@ -35,7 +36,8 @@ pub fn stocks(alloc: Global, plant: &Plant, plan: &[Start]) -> Result<Vec<i128>,
     requires sound { Sound plant.now }
     requires fit { All (Fits plant.now) plan.now }
     requires few { length plan.now < 2 ^ 32 }
-    ensures { IfOk result (λ stocks. IsStockTable plant.now plan.now stocks.items) }
+    ensures table { IfOk result (λ stocks. IsStockTable plant.now plan.now stocks.items) }
+    ensures small { IfOk result (λ stocks. All (λ level. unsigned_abs level ≤ 2 ^ 66) stocks.items) }
 {
     let width = plant.periods as usize + 1;
     let arrived = arrivals(alloc, plant, plan)?;
@@ -62,7 +64,9 @@ fn push_levels(
     requires opening { opening ≤ 2 ^ 30 }
     requires in_small { sum arrived.now ≤ 2 ^ 64 }
     requires out_small { sum departed.now ≤ 2 ^ 64 }
-    ensures { OnOk result (AddsLevels stocks.old.items stocks.new.items opening width state width arrived.now departed.now) }
+    requires small { All (λ level. unsigned_abs level ≤ 2 ^ 66) stocks.old.items }
+    ensures levels { OnOk result (AddsLevels stocks.old.items stocks.new.items opening width state width arrived.now departed.now) }
+    ensures small { OnOk result (All (λ level. unsigned_abs level ≤ 2 ^ 66) stocks.new.items) }
 {
     let mut inflow = opening;
     let mut outflow: u128 = 0;

@@ -9,7 +9,7 @@ use Rattle.plan_sim.proofs.stocks.stocks.Goals as goal
 
 pub loop-state-preserved : goal.loop-state-preserved
 loop-state-preserved c =
-    let adds = c.in_ok-push_levels.ensures in
+    let adds = c.in_ok-push_levels.ensures.levels in
     let size = adds.size in
     let width = c.args.plant.now.periods + 1 in
     let plant = c.args.plant.now in
@@ -20,4 +20,5 @@ loop-state-preserved c =
       level = stocks_more plant plan _ _ _ width c.loop-state.state _ _ refl c.loop-state.invariant.size c.loop-state.invariant.level adds opening
           (λ time h. subst (λ (cells : List ℕ). summed cells width c.loop-state.state time ≡ received plant c.loop-state.state time + sum_by (given plant c.loop-state.state time) plan) (sym c.deref.ensures.value) (c.in_ok-arrived.ensures.moved c.loop-state.state time h))
           (λ time h. subst (λ (cells : List ℕ). summed cells width c.loop-state.state time ≡ delivered plant c.loop-state.state time + sum_by (taken plant c.loop-state.state time) plan) (sym c.deref-in-loop-state.ensures.value) (c.in_ok-departed.ensures.moved c.loop-state.state time h));
+      small = c.in_ok-push_levels.ensures.small;
     }

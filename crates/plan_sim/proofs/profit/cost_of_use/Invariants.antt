@@ -1,0 +1,13 @@
+use Rattle.std.proofs.Common.{◌≡◌, ◌≤◌, ◌*◌, ◌^◌, take}
+use Rattle.std.specs.Prelude.{unsigned_abs, pos, ◌*ℤ◌}
+use Rattle.stn_model.specs.Sums.{total, total_below}
+use Rattle.stn_model.specs.Plant.{state_at, utility_at, run_on}
+use Rattle.plan_sim.specs.Faults.{level, used}
+use Rattle.plan_sim.specs.Money.{level_cost, use_cost}
+use Rattle.plan_sim.proofs.profit.cost_of_use.Given as goal
+
+abbrev pub invariant-loop-period : goal.invariant-loop-period
+invariant-loop-period l = record {
+  value : l.sum ≡ total_below (λ period. (utility_at l.plant l.utility).rate *ℤ pos (used l.plant l.loads l.utility period)) l.period;
+  small : unsigned_abs l.sum ≤ l.period * 2 ^ 96;
+}

@@ -1,0 +1,13 @@
+use Rattle.std.proofs.Common.{◌≡◌, ◌≤◌, ◌*◌, ◌^◌, take}
+use Rattle.std.specs.Prelude.{unsigned_abs, pos, ◌*ℤ◌}
+use Rattle.stn_model.specs.Sums.{total, total_below}
+use Rattle.stn_model.specs.Plant.{state_at, utility_at, run_on}
+use Rattle.plan_sim.specs.Faults.{level, used}
+use Rattle.plan_sim.specs.Money.{level_cost, use_cost}
+use Rattle.plan_sim.proofs.profit.cost_of_uses.Given as goal
+
+abbrev pub invariant-loop-utility : goal.invariant-loop-utility
+invariant-loop-utility l = record {
+  value : l.sum ≡ total_below (use_cost l.plant l.loads) l.utility;
+  small : unsigned_abs l.sum ≤ l.utility * 2 ^ 105;
+}
