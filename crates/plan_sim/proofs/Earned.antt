@@ -1,15 +1,11 @@
 -- The money of the tables is the money of the plan.
-use Rattle.std.proofs.Common.{◌≡◌, ℕ, ◌<◌, ◌≤◌, List, length, ap, arith, refl, sym, ◌∙◌}
+use Rattle.std.proofs.Common.{◌≡◌, ℕ, List, length, ap, arith, ◌∙◌}
 use Rattle.std.specs.Prelude.{ℤ, pos, ◌*ℤ◌, ◌+ℤ◌, ◌-ℤ◌}
 use Rattle.stn_model.specs.declared.plant.Plant.{Plant}
 use Rattle.stn_model.specs.declared.start.Start.{Start}
 use Rattle.stn_model.specs.Plant.{state_at, utility_at}
-use Rattle.stn_model.specs.Stock.{stock}
-use Rattle.stn_model.specs.Load.{load}
-use Rattle.stn_model.specs.Sums.{total_below}
 use Rattle.stn_model.specs.Profit.{end_value, payments, holding_cost, utility_cost, start_cost, change_costs, profit}
-use Rattle.plan_sim.specs.Faults.{level, used}
-use Rattle.plan_sim.specs.Money.{levels_worth, levels_held, level_cost, uses_cost, use_cost}
+use Rattle.plan_sim.specs.Money.{levels_worth, levels_held, uses_cost}
 use Rattle.plan_sim.specs.Tables.{IsStockTable, IsLoadTable}
 use Rattle.plan_sim.proofs.Totals.{total_below_ext}
 

@@ -1,8 +1,8 @@
 -- The next start on a unit is the nearest later one.
-use Rattle.std.proofs.Common.{◌≡◌, ℕ, ◌+◌, ◌<◌, ◌≤◌, List, length, get_or, arith, refl, Bool, true, false, sym, ap, ◌∙◌, subst, sum_by, take, cond, zero, suc, add-one, inl, inr, ◌&&◌, [], ◌∷◌, ltb, eqb}
-use Rattle.std.specs.Prelude.{All, AllPairs, IsTrue, not, MatchOption, Option, Some, None, ◌⊎◌, ◌≢◌}
+use Rattle.std.proofs.Common.{◌≡◌, ℕ, ◌+◌, ◌<◌, ◌≤◌, List, length, get_or, arith, Bool, true, false, sym, ap, ◌∙◌, subst, sum_by, take, cond, zero, suc, add-one, inl, inr, ◌&&◌, ltb, eqb}
+use Rattle.std.specs.Prelude.{IsTrue, not, ◌≢◌}
 use Rattle.std.specs.List.{list_all}
-use Rattle.std.proofs.lemmas.Bool.{and_parts, and_from, not-true, ltb-true, ltb-false, eqb-true, eq-eqb, lt-ltb, le-ltb, cases_Bool, and_right, and_left, cases_lt, cases_eq, cases_order, ne_eqb}
+use Rattle.std.proofs.lemmas.Bool.{and_parts, and_from, not-true, ltb-true, eqb-true, eq-eqb, lt-ltb, le-ltb, cases_Bool, and_right, and_left, cases_lt, cases_eq, cases_order, ne_eqb}
 use Rattle.std.proofs.lemmas.Bool.Decides.{nat_tests}
 use Rattle.std.proofs.lemmas.List.Sums.{sum_by_more, sum_by-le, AllPass-from_list_all, list_all-from_AllPass}
 use Rattle.std.proofs.lemmas.List.{get_or_default}
@@ -14,7 +14,7 @@ use Rattle.stn_model.specs.Plant.{end_of, gap_between, cost_between}
 use Rattle.stn_model.specs.Profit.{changeover}
 use Rattle.stn_model.specs.Batches.{is_amid, is_next}
 use Rattle.stn_model.specs.Violations.{start_at, no_start}
-use Rattle.plan_sim.specs.Units.{IsLater, IsNearest, NoneLater, NoTwins, NoneTooSoon, FollowsTooSoon}
+use Rattle.plan_sim.specs.Units.{IsNearest, NoneLater, NoTwins, NoneTooSoon, FollowsTooSoon}
 
 -- one that is not strictly between is no earlier than the end
 not_amid : (a b c : Start) → not (is_amid a b c) ≡ true → c.unit ≡ a.unit → a.period < c.period → b.period ≤ c.period

@@ -1,6 +1,6 @@
 -- What is known of the numbers of a start that fits a sound plant.
-use Rattle.std.proofs.Common.{◌≡◌, ℕ, zero, suc, ◌+◌, ◌*◌, ◌^◌, ◌<◌, ◌≤◌, max, List, [], ◌∷◌, length, get_or, arith, rules, Bool, true, false, cond, eqb, sym, ap, subst, inl, inr, Option, Some, None, refl, add-one, ◌&&◌}
-use Rattle.std.specs.Prelude.{All, IfSome, IsSomeAnd, find, sum_by}
+use Rattle.std.proofs.Common.{◌≡◌, ℕ, zero, suc, ◌+◌, ◌*◌, ◌^◌, ◌<◌, ◌≤◌, List, [], ◌∷◌, length, arith, Bool, true, cond, eqb, sym, subst, inl, inr, Option, Some, None}
+use Rattle.std.specs.Prelude.{All, IfSome, IsSomeAnd, find}
 use Rattle.std.proofs.lemmas.Bool.{and_parts, eqb-true, cases_Bool}
 use Rattle.std.proofs.lemmas.List.Elements.{All-head, All-tail}
 use Rattle.std.proofs.lemmas.List.Sums.{get_or-le-sum_by}
@@ -113,3 +113,12 @@ module _ (plant : Plant) (start : Start) (sound : Sound plant) (fits : Fits plan
   pub begins_first : start.period ≤ end_of plant start
   unfolding end_of
   begins_first = omega arith
+
+  pub takes_time : start.period < end_of plant start
+  unfolding end_of duration_of
+  takes_time =
+      let task = task_sound plant start sound fits in
+      let some : 0 < length (task_at plant start.task).outputs = task.outputs.0 in
+      let first = task.output 0 (record { state = 0; amount = 0; delay = 0 }) some in
+      let longest = le_greatest_by (λ output. output.delay) (task_at plant start.task).outputs 0 (record { state = 0; amount = 0; delay = 0 }) some in
+      omega (arith, longest, first.delay.0)

@@ -1,5 +1,5 @@
 -- What an amount that is added at one place of a table does to its rows.
-use Rattle.std.proofs.Common.{◌≡◌, ℕ, ◌+◌, ◌-◌, ◌*◌, ◌<◌, ◌≤◌, List, length, get_or, set, take, drop, sum, sum_by, arith, refl, Bool, true, false, cond, eqb, leb, ltb, ap, sym, ◌∙◌, ◌^◌, inl, inr, subst, ◌&&◌, suc}
+use Rattle.std.proofs.Common.{◌≡◌, ℕ, ◌+◌, ◌-◌, ◌*◌, ◌<◌, ◌≤◌, List, length, get_or, set, take, drop, sum, sum_by, arith, refl, Bool, true, false, cond, eqb, leb, ltb, ap, sym, ◌∙◌, ◌^◌, inl, inr, ◌&&◌}
 use Rattle.std.proofs.lemmas.Bool.{cases_eq, cases_order, cases_lt, eq-eqb, ne_eqb, le-leb, lt-leb, lt-ltb, le-ltb, and_from, and_left, and_right}
 use Rattle.std.proofs.lemmas.List.{drop-set-add, drop-set-lt, take-set-le, get_or-drop, get_or-take, length-take, length-drop, length-append, get_or_push, get_or_append_left}
 use Rattle.std.proofs.lemmas.List.Sums.{sum_by-le, sum_by_more, sum_by-set, sum_by-take-le, sum_by-take-drop}

@@ -1,5 +1,5 @@
 -- Tables of what moves, row by row, and the summands that fill them.
-use Rattle.std.specs.Prelude.{◌≡◌, ℕ, ◌+◌, ◌*◌, ◌^◌, ◌<◌, ◌≤◌, ◌==◌, ◌&&◌, nat_le, nat_lt, ◌-◌, sum_by, if◌then◌else◌, List, length, sum, take, drop, slice_index, All}
+use Rattle.std.specs.Prelude.{ℕ, ◌+◌, ◌*◌, ◌≤◌, ◌==◌, ◌&&◌, nat_le, nat_lt, ◌-◌, sum_by, if◌then◌else◌, List, length, sum, take, drop, slice_index}
 use Rattle.stn_model.specs.declared.plant.Input.{Input}
 use Rattle.stn_model.specs.declared.plant.Output.{Output}
 use Rattle.stn_model.specs.declared.plant.Draw.{Draw}

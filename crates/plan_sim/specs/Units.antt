@@ -73,3 +73,9 @@ pub record IsFirstGap (plant : Plant) (plan : List Start) (first second : ℕ) :
   pub there : first < length plan
   pub follows : FollowsTooSoon plant plan (start_at plan first) second
   pub earlier : CleanedUntil plant plan first
+
+-- the units are kept: starts fit, batches keep apart, and units are cleaned
+pub record UnitsKept (plant : Plant) (plan : List Start) : Type 0 where
+  pub fit : FitUntil plant plan (length plan)
+  pub apart : ApartThroughout plant plan
+  pub cleaned : CleanedUntil plant plan (length plan)

@@ -6,9 +6,11 @@ mod faults;
 mod loads;
 mod moves;
 mod profit;
+mod simulation;
 mod stocks;
 mod units;
 pub mod verdict;
 
+pub use simulation::simulate;
 pub use stn_model::Violation;
 pub use verdict::Verdict;

@@ -1,5 +1,4 @@
-use Rattle.std.proofs.Common.{◌≡◌, ◌≤◌, List, length, arith, rules, sum_by, ap, ◌∙◌, take}
-use Rattle.stn_model.specs.declared.start.Start.{Start}
+use Rattle.std.proofs.Common.{arith, sum_by, ap, ◌∙◌}
 use Rattle.stn_model.specs.Load.{drawn, load}
 use Rattle.plan_sim.proofs.Tables.{take_whole}
 use Rattle.plan_sim.proofs.loads.add_loads.Goals as goal

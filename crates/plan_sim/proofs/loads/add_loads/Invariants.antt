@@ -1,4 +1,4 @@
-use Rattle.std.proofs.Common.{◌≡◌, ℕ, ◌+◌, ◌*◌, ◌^◌, ◌<◌, ◌≤◌, length, sum, sum_by, take}
+use Rattle.std.proofs.Common.{◌≡◌, ℕ, ◌*◌, ◌^◌, ◌<◌, ◌≤◌, length, sum, sum_by, take}
 use Rattle.stn_model.specs.Load.{drawn}
 use Rattle.plan_sim.specs.Moves.{cell}
 use Rattle.plan_sim.proofs.loads.add_loads.Given as goal

@@ -1,9 +1,9 @@
-use Rattle.std.proofs.Common.{◌≡◌, ◌+◌, ◌≤◌, ◌^◌, ℕ, List, ◌∙◌, ap, sym, subst, arith}
+use Rattle.std.proofs.Common.{◌≡◌, ◌≤◌, ◌^◌, ℕ, List, ◌∙◌, ap, arith}
 use Rattle.std.specs.Prelude.{All}
 use Rattle.std.proofs.lemmas.List.Elements.{All-same}
 use Rattle.stn_model.specs.declared.plant.Task.{Task}
 use Rattle.stn_model.specs.declared.plant.Draw.{Draw}
-use Rattle.stn_model.specs.Plant.{end_of, task_at}
+use Rattle.stn_model.specs.Plant.{task_at}
 use Rattle.stn_model.specs.Load.{drawn}
 use Rattle.plan_sim.specs.Moves.{HasRow, drawn_until}
 use Rattle.plan_sim.proofs.Placed.{placed, draws_rows, draws_fixed, draws_each, begins_first}

@@ -1,5 +1,5 @@
-use Rattle.std.proofs.Common.{◌+◌, arith, subst}
-use Rattle.plan_sim.proofs.Tables.{until_more, until_begun}
+use Rattle.std.proofs.Common.{arith}
+use Rattle.plan_sim.proofs.Tables.{until_more}
 use Rattle.plan_sim.proofs.loads.draw_task.Goals as goal
 
 pub loop-period-preserved : goal.loop-period-preserved

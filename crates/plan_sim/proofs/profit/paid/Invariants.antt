@@ -1,6 +1,6 @@
 use Rattle.std.proofs.Common.{◌≡◌, ◌≤◌, ◌*◌, ◌^◌, take}
-use Rattle.std.specs.Prelude.{unsigned_abs, pos, ◌*ℤ◌}
-use Rattle.stn_model.specs.Sums.{total, total_below}
+use Rattle.std.specs.Prelude.{unsigned_abs}
+use Rattle.stn_model.specs.Sums.{total}
 use Rattle.plan_sim.proofs.profit.paid.Given as goal
 
 abbrev pub invariant-loop-delivery : goal.invariant-loop-delivery

@@ -1,9 +1,7 @@
 use Rattle.std.proofs.Common.{◌≡◌, ◌≤◌, ◌*◌, ◌^◌, take}
-use Rattle.std.specs.Prelude.{unsigned_abs, pos, ◌*ℤ◌}
-use Rattle.stn_model.specs.Sums.{total, total_below}
-use Rattle.stn_model.specs.Plant.{state_at, utility_at, run_on}
-use Rattle.plan_sim.specs.Faults.{level, used}
-use Rattle.plan_sim.specs.Money.{level_cost, use_cost}
+use Rattle.std.specs.Prelude.{unsigned_abs}
+use Rattle.stn_model.specs.Sums.{total}
+use Rattle.stn_model.specs.Plant.{run_on}
 use Rattle.stn_model.specs.Profit.{cost_of}
 use Rattle.plan_sim.proofs.profit.start_cost.Given as goal
 

@@ -1,9 +1,8 @@
-use Rattle.std.proofs.Common.{◌≡◌, ◌≤◌, ◌*◌, ◌^◌, take}
-use Rattle.std.specs.Prelude.{unsigned_abs, pos, ◌*ℤ◌}
-use Rattle.stn_model.specs.Sums.{total, total_below}
-use Rattle.stn_model.specs.Plant.{state_at, utility_at, run_on}
-use Rattle.plan_sim.specs.Faults.{level, used}
-use Rattle.plan_sim.specs.Money.{level_cost, use_cost}
+use Rattle.std.proofs.Common.{◌≡◌, ◌≤◌, ◌*◌, ◌^◌}
+use Rattle.std.specs.Prelude.{unsigned_abs, ◌*ℤ◌}
+use Rattle.stn_model.specs.Sums.{total_below}
+use Rattle.stn_model.specs.Plant.{state_at}
+use Rattle.plan_sim.specs.Faults.{level}
 use Rattle.plan_sim.proofs.profit.worth_of_levels.Given as goal
 
 abbrev pub invariant-loop-state : goal.invariant-loop-state

@@ -1,8 +1,6 @@
-use Rattle.std.proofs.Common.{◌≡◌, ◌+◌, ◌<◌, ◌≤◌, ◌^◌, List, length, ◌∙◌, ap, arith}
-use Rattle.std.specs.Prelude.{All}
+use Rattle.std.proofs.Common.{◌+◌, ◌<◌, ◌≤◌, ◌^◌, length, ◌∙◌, ap, arith}
 use Rattle.std.proofs.lemmas.List.Elements.{All-same}
 use Rattle.stn_model.specs.declared.plant.Task.{Task}
-use Rattle.stn_model.specs.Plant.{task_at}
 use Rattle.plan_sim.specs.Moves.{HasRow}
 use Rattle.plan_sim.proofs.Placed.{placed, outputs_few, outputs_rows, outputs_small, outputs_within}
 use Rattle.plan_sim.proofs.stocks.give.Goals as goal

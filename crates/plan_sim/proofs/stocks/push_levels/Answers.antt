@@ -1,9 +1,8 @@
-use Rattle.std.proofs.Common.{◌≡◌, ◌+◌, ◌*◌, ◌<◌, ◌≤◌, ◌^◌, arith, ◌∙◌, length, subst, sym, List, get_or}
-use Rattle.std.specs.Prelude.{ℤ, pos, ◌-ℤ◌, All, unsigned_abs}
+use Rattle.std.proofs.Common.{◌+◌, ◌*◌, ◌<◌, ◌≤◌, ◌^◌, arith, length, subst, sym, List}
+use Rattle.std.specs.Prelude.{ℤ, All, unsigned_abs}
 use Rattle.std.proofs.lemmas.Int.{ints}
 use Rattle.std.proofs.lemmas.List.Elements.{All-push}
 use Rattle.plan_sim.specs.Tables.{AddsLevels}
-use Rattle.plan_sim.specs.Moves.{summed}
 use Rattle.plan_sim.proofs.Tables.{row_step, levels_push, running_small}
 use Rattle.plan_sim.proofs.stocks.push_levels.Goals as goal
 

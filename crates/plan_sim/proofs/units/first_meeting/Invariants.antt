@@ -1,4 +1,3 @@
-use Rattle.std.proofs.Common.{◌≤◌}
 use Rattle.plan_sim.specs.Units.{ApartUntil}
 use Rattle.plan_sim.proofs.units.first_meeting.Given as goal
 

@@ -1,4 +1,4 @@
-use Rattle.std.proofs.Common.{refl, arith}
+use Rattle.std.proofs.Common.{refl}
 use Rattle.std.proofs.lemmas.Bool.{iff_false}
 use Rattle.plan_sim.proofs.Following.{none_soon_without_later, none_soon_when_cleaned, follows_when_soon, not_below}
 use Rattle.plan_sim.proofs.units.too_soon_after.Goals as goal
