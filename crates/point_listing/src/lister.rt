@@ -1,11 +1,13 @@
 ghost use Rattle.std.specs.Prelude.{◌≡◌, ◌<◌, ◌≤◌, ◌≤ℤ◌, ◌^◌, ◌↔◌, length, IsTrue, IsSomeAnd, IfOk};
 ghost use Rattle.stn_model.specs.Sound.{Sound};
+ghost use Rattle.stn_model.specs.Feasible.{Feasible};
+ghost use Rattle.stn_model.specs.Profit.{profit};
 ghost use Rattle.time_grid.specs.Slots.{IsGrid};
 ghost use Rattle.point_listing.specs.Listed.{IsLead, IsBetter, Lists, Reaches};
 
 use crate::listing::{Found, Listing};
 use crate::number::plan_at;
-use plain_plan::{is_feasible, profit_of};
+use plan_sim::{Verdict, simulate};
 use std::alloc::{AllocError, Global};
 use stn_model::{List, Plant, Start};
 use time_grid::Grid;
@@ -26,7 +28,7 @@ pub fn list_points(
     let mut found = None;
     for number in 0..most {
         let plan = plan_at(alloc, plant, grid, number)?;
-        found = better(plant, found, plan);
+        found = better(alloc, plant, found, plan)?;
         if reaches(&found, cap) {
             return Ok(Listing {
                 found,
@@ -38,15 +40,34 @@ pub fn list_points(
 }
 
 /// The better of what was found and one more plan, where that is feasible.
-fn better(plant: &Plant, found: Option<Found>, plan: List<Start>) -> Option<Found>
+fn better(
+    alloc: Global,
+    plant: &Plant,
+    found: Option<Found>,
+    plan: List<Start>,
+) -> Result<Option<Found>, AllocError>
     requires sound { Sound plant.now }
     requires few { length plan < 2 ^ 32 }
+    ensures { IfOk result (IsBetter plant.now plan found) }
+{
+    match simulate(alloc, plant, plan.as_slice())? {
+        Verdict::Feasible { profit } => Ok(ahead(plant, found, plan, &profit)),
+        Verdict::Broken(_) => Ok(found),
+    }
+}
+
+/// The better of what was found and a feasible plan that earns this.
+fn ahead(
+    plant: &Plant,
+    found: Option<Found>,
+    plan: List<Start>,
+    earned: &i128,
+) -> Option<Found>
+    requires feasible { Feasible plant.now plan }
+    requires earned { profit plant.now plan ≡ earned.now }
     ensures { IsBetter plant.now plan found result }
 {
-    if !is_feasible(plant, plan.as_slice()) {
-        return found;
-    }
-    let profit = profit_of(plant, plan.as_slice());
+    let profit = *earned;
     match found {
         None => Some(Found { plan, profit }),
         Some(lead) => {
