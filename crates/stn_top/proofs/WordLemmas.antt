@@ -1,0 +1,35 @@
+-- Lists of words of a known length.
+use Rattle.std.specs.Cmp.Lexicographic.{same_text}
+use Rattle.std.specs.Prelude.{◌==◌, nat_eq}
+use lib.Pointwise.{pointwise}
+use Rattle.std.proofs.Common.{◌≡◌, true, false, ◌∙◌, ap, ℕ, ◌<◌, ◌≤◌, List, [], ◌∷◌, length, get_or, refl, arith, Bor}
+use Rattle.std.specs.Prelude.{Option, Some, None, MatchOption}
+use Rattle.stn_top.specs.declared.command.Command.{Command}
+use Rattle.stn_top.specs.Words.{texts, Says, HasNoForm, Solving, Simulating, meaning}
+
+-- three words are the list of their texts
+pub three_texts : (words : List (Bor (List ℕ))) (d : Bor (List ℕ)) → 3 ≤ length words → length words < 4 → texts words ≡ (get_or words 0 d).now ∷ (get_or words 1 d).now ∷ (get_or words 2 d).now ∷ []
+three_texts [] d least most = absurd (omega arith)
+three_texts (a ∷ []) d least most = absurd (omega arith)
+three_texts (a ∷ b ∷ []) d least most = absurd (omega arith)
+three_texts (a ∷ b ∷ e ∷ []) d least most = refl
+three_texts (a ∷ b ∷ e ∷ f ∷ rest) d least most = absurd (omega arith)
+
+-- a text that is not empty is not the empty text
+pub not_empty : (text : List ℕ) → false ≡ (length text == 0) → text ≡ [] → ⊥
+not_empty text some none = (let short = ap length none in grind arith)
+
+-- three words, of which the first is known
+pub three_words : (words : List (Bor (List ℕ))) (d : Bor (List ℕ)) (first : List ℕ) → 3 ≤ length words → length words < 4 → true ≡ pointwise nat_eq (get_or words 0 d).now first → texts words ≡ first ∷ (get_or words 1 d).now ∷ (get_or words 2 d).now ∷ []
+three_words words d first least most same =
+    three_texts words d least most ∙ ap (λ (x : List ℕ). x ∷ (get_or words 1 d).now ∷ (get_or words 2 d).now ∷ []) (same_text _ _ same)
+
+-- words that have none of the forms
+pub has_no_form : (words : List (List ℕ)) → ((plant : List ℕ) (budget : ℕ) → ¬ Says words (Solving plant budget)) → ((plant plan : List ℕ) → ¬ Says words (Simulating plant plan)) → HasNoForm words
+has_no_form words solve simulate (Solving plant budget) = solve plant budget
+has_no_form words solve simulate (Simulating plant plan) = simulate plant plan
+
+-- the last form decides
+pub last_form : (words : List (List ℕ)) (command : Option Command) → ((plant : List ℕ) (budget : ℕ) → ¬ Says words (Solving plant budget)) → MatchOption command ((plant plan : List ℕ) → ¬ Says words (Simulating plant plan)) (λ c. Says words (meaning c)) → MatchOption command (HasNoForm words) (λ c. Says words (meaning c))
+last_form words None solve simulate = has_no_form words solve simulate
+last_form words (Some command) solve simulate = simulate

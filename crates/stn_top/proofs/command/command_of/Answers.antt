@@ -1,0 +1,6 @@
+use Rattle.stn_top.specs.Words.{texts}
+use Rattle.stn_top.proofs.WordLemmas.{last_form}
+use Rattle.stn_top.proofs.command.command_of.Goals as goal
+
+pub returns : goal.returns
+returns c = last_form (texts c.args.words.now) c.simulate_of.result c.in_default.ensures c.simulate_of.ensures

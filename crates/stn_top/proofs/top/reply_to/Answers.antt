@@ -1,0 +1,17 @@
+use Rattle.std.proofs.Common.{◌≡◌}
+use Rattle.std.specs.Prelude.{◌↔◌}
+use Rattle.stn_top.specs.Words.{HasNoForm, texts, meaning}
+use Rattle.stn_top.proofs.ReplyLemmas.{not_refused, IfOk-follows}
+use Rattle.stn_top.proofs.top.reply_to.Goals as goal
+
+pub returns-in-Some-Solve-clause-words : goal.returns-in-Some-Solve-clause-words
+returns-in-Some-Solve-clause-words g c =
+    IfOk-follows (λ reply. reply.status ≡ 2 → ⊥) (λ reply. (reply.status ≡ 2) ↔ HasNoForm (texts c.args.words.now)) c.solve_file.result
+    (λ reply not. not_refused (texts c.args.words.now) (meaning c.in-Some-Solve.field-0) reply.status c.in-Some-Solve.ensures not)
+    c.solve_file.ensures.not_words
+
+pub returns-in-Some-Simulate-clause-words : goal.returns-in-Some-Simulate-clause-words
+returns-in-Some-Simulate-clause-words g c =
+    IfOk-follows (λ reply. reply.status ≡ 2 → ⊥) (λ reply. (reply.status ≡ 2) ↔ HasNoForm (texts c.args.words.now)) c.simulate_file.result
+    (λ reply not. not_refused (texts c.args.words.now) (meaning c.in-Some-Simulate.field-0) reply.status c.in-Some-Simulate.ensures not)
+    c.simulate_file.ensures.not_words

@@ -1,0 +1,81 @@
+-- What a run answers: its status and its text, by the words and the files.
+use Rattle.std.specs.Prelude.{◌≡◌, ◌⊎◌, ℕ, Bool, IsTrue, MatchResult, Result, List, take, Option}
+use Rattle.std.specs.Option.{option_map}
+use Rattle.stn_edge.specs.Text.{extended}
+use Rattle.stn_edge.specs.Files.{FileMap, file_of}
+use Rattle.stn_model.specs.declared.plant.Plant.{Plant}
+use Rattle.stn_model.specs.declared.answer.Outcome.{Outcome}
+use Rattle.stn_model.specs.Answers.{IsOutcome}
+use Rattle.plant_text.specs.declared.fault.PlantFault.{PlantFault}
+use Rattle.plant_text.specs.Reading.{reading}
+use Rattle.stn_model.specs.declared.start.Start.{Start}
+use Rattle.plan_text.specs.declared.fault.PlanFault.{PlanFault}
+use Rattle.plan_text.specs.PlanText.{plan_of_text}
+use Rattle.plan_sim.specs.declared.verdict.Verdict.{Verdict}
+use Rattle.plan_sim.specs.Verdicts.{IsVerdict}
+use Rattle.stn_top.specs.Words.{Request, Solving, Simulating, Says, HasNoForm}
+use Rattle.stn_top.specs.Texts.{words_text, fault_text, answer_text, status_of, plan_fault_text, verdict_text, verdict_status}
+
+-- the answer of `solve`: a right outcome of planning within the budget, with its status and its text
+pub record Solved (budget : ℕ) (plant : Plant) (status : ℕ) (text : List ℕ) : Type 0 where
+  pub outcome : Outcome
+  pub right : IsOutcome plant budget outcome
+  pub status_is : status ≡ status_of outcome.answer
+  pub text_is : text ≡ answer_text plant outcome.boxes outcome.answer
+
+-- the answer of a command on a plant file: what the command answers of the plant, and where the file
+-- has a fault, status 3 and the line of its first fault
+abbrev pub OnPlant : Result Plant PlantFault → (Plant → ℕ → List ℕ → Type 0) → ℕ → List ℕ → Type 0
+OnPlant read Answers status text =
+    MatchResult read (λ plant. Answers plant status text) (λ fault. (status ≡ 3) × (text ≡ fault_text fault))
+
+-- the answer of `simulate`: the right verdict on the plan, with its status and its text
+pub record Simulated (plant : Plant) (plan : List Start) (status : ℕ) (text : List ℕ) : Type 0 where
+  pub verdict : Verdict
+  pub right : IsVerdict plant plan verdict
+  pub status_is : status ≡ verdict_status verdict
+  pub text_is : text ≡ verdict_text plant verdict
+
+-- the answer of a command on a plan file: what the command answers of the plan, and where the file has
+-- a fault, status 4 and the line of its first fault
+abbrev pub OnPlan : Result (List Start) PlanFault → (List Start → ℕ → List ℕ → Type 0) → ℕ → List ℕ → Type 0
+OnPlan read Answers status text =
+    MatchResult read (λ plan. Answers plan status text) (λ fault. (status ≡ 4) × (text ≡ plan_fault_text fault))
+
+-- what is answered to a request over these files
+abbrev pub AnswersTo : FileMap → Request → ℕ → List ℕ → Type 0
+AnswersTo files (Solving plant budget) status text = OnPlant (reading (file_of files plant)) (Solved budget) status text
+AnswersTo files (Simulating plant plan) status text =
+    OnPlant (reading (file_of files plant)) (λ p. OnPlan (plan_of_text p (file_of files plan)) (Simulated p)) status text
+
+-- words of no form are refused with status 2; else the request that they say is answered
+abbrev pub IsReply : List (List ℕ) → FileMap → ℕ → List ℕ → Type 0
+IsReply words files status text =
+    (HasNoForm words × (status ≡ 2) × (text ≡ words_text)) ⊎ ((request : Request) × (Says words request × AnswersTo files request status text))
+
+-- the files that a request reads may be read
+abbrev pub MayRead : (List ℕ → Bool) → Request → Type 0
+MayRead may_read (Solving plant budget) = IsTrue (may_read plant)
+MayRead may_read (Simulating plant plan) = IsTrue (may_read plant) × IsTrue (may_read plan)
+
+-- whatever the words say, its files may be read
+abbrev pub MayReadAll : (List ℕ → Bool) → List (List ℕ) → Type 0
+MayReadAll may_read words = (request : Request) → Says words request → MayRead may_read request
+
+-- the answer's text was put, with this status
+pub record Answered (words : List (List ℕ)) (files : FileMap) (status : ℕ) (old new : Option (List ℕ)) : Type 0 where
+  pub text : List ℕ
+  pub reply : IsReply words files status text
+  pub put : new ≡ option_map (extended text) old
+
+-- a first part of an answer's text was put
+pub record PartlyAnswered (words : List (List ℕ)) (files : FileMap) (old new : Option (List ℕ)) : Type 0 where
+  pub status : ℕ
+  pub text : List ℕ
+  pub reply : IsReply words files status text
+  pub count : ℕ
+  pub put : new ≡ option_map (extended (take count text)) old
+
+-- nothing was put, or a first part of an answer's text
+abbrev pub IsCutOff : List (List ℕ) → FileMap → Option (List ℕ) → Option (List ℕ) → Type 0
+IsCutOff words files old new = (new ≡ old) ⊎ PartlyAnswered words files old new

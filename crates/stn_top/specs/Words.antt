@@ -1,0 +1,35 @@
+-- The words of a command.
+use Rattle.std.specs.Prelude.{◌≡◌, ◌≢◌, ℕ, ◌≤◌, List, [], ◌∷◌, map, codes, decimal}
+use Rattle.std.specs.Borrow.{Bor}
+use Rattle.stn_top.specs.declared.command.TheConstants.{MAX_BUDGET}
+use Rattle.stn_top.specs.declared.command.Command as declared
+use Rattle.stn_top.specs.declared.command.Command.TheVariants as variants
+
+-- what a planner asks for
+pub data Request : Type 0 where
+  Solving : (plant : List ℕ) (budget : ℕ) → Request
+  Simulating : (plant plan : List ℕ) → Request
+
+-- the bytes of the words
+abbrev pub texts : List (Bor (List ℕ)) → List (List ℕ)
+texts words = map (λ word. word.now) words
+
+-- the word is a budget in decimal digits, without sign and leading zeros
+pub record IsBudget (word : List ℕ) (budget : ℕ) : Type 0 where
+  pub digits : word ≡ decimal budget
+  pub some : 1 ≤ budget
+  pub most : budget ≤ MAX_BUDGET
+
+-- the words say the request; no file has an empty name
+abbrev pub Says : List (List ℕ) → Request → Type 0
+Says words (Solving plant budget) = (word : List ℕ) × ((words ≡ codes "solve" ∷ plant ∷ word ∷ []) × (plant ≢ []) × IsBudget word budget)
+Says words (Simulating plant plan) = (words ≡ codes "simulate" ∷ plant ∷ plan ∷ []) × (plant ≢ []) × (plan ≢ [])
+
+-- the words have the form of no command
+abbrev pub HasNoForm : List (List ℕ) → Type 0
+HasNoForm words = (request : Request) → ¬ Says words request
+
+-- what a command asks for
+abbrev pub meaning : declared.Command → Request
+meaning (variants.Solve plant budget) = Solving plant.now budget
+meaning (variants.Simulate plant plan) = Simulating plant.now plan.now

@@ -1,0 +1,14 @@
+//! The commands of `stn`: words, files and a sink in, a status out.
+//!
+//! `run` is the one call that a program needs. It reads the files that the words name, does the work,
+//! and puts its whole answer at once.
+#![tactic(auto)]
+
+pub mod command;
+pub mod reply;
+pub mod sources;
+pub mod texts;
+pub mod top;
+
+pub use command::{Command, MAX_BUDGET, command_of};
+pub use top::run;

@@ -1,0 +1,249 @@
+//! The texts of the answers.
+ghost use Rattle.std.specs.Prelude.{◌≡◌, ◌+◌, ◌<◌, ◌++◌, length, All, IfOk, IfSome, codes, decimal, string_bytes};
+ghost use Rattle.stn_model.specs.Plant.{state_at, utility_at};
+ghost use Rattle.std.specs.Fmt.{signed_decimal};
+ghost use Rattle.plan_text.specs.PlanLines.{plan_lines, IsNamed};
+ghost use Rattle.stn_top.specs.Texts.{
+    words_text, fault_text, boxes_line, answer_text, status_of, IsNamedIn, plan_fault_text, pair_line,
+    named_line, violation_text, verdict_text, verdict_status, IsOfPlant
+};
+
+use crate::reply::Reply;
+use plan_sim::Verdict;
+use plan_text::{PlanFault, put_plan};
+use plant_text::PlantFault;
+use plant_text::word::{key_text, table_text};
+use std::alloc::{AllocError, Global};
+use stn_model::{Answer, List, Outcome, Plant, Start, Violation};
+
+/// The answer to words that have the form of no command.
+pub fn refused_words(alloc: Global) -> Result<Reply, AllocError>
+    ensures { IfOk result (λ reply. (reply.status ≡ 2) × (reply.text.items ≡ words_text)) }
+{
+    let text = Vec::from_slice(alloc, "refused words\n".as_bytes())?;
+    Ok(Reply { status: 2, text })
+}
+
+/// The answer to a plant file with this fault.
+pub fn refused_plant(alloc: Global, fault: &PlantFault) -> Result<Reply, AllocError>
+    ensures { IfOk result (λ reply. (reply.status ≡ 3) × (reply.text.items ≡ fault_text fault.now)) }
+{
+    let kind = fault.kind;
+    let table = table_text(fault.table);
+    let item = fault.item;
+    let inner = fault.inner;
+    let key = key_text(fault.key);
+    let line = format!(in alloc; "refused plant {kind} {table} {item} {inner} {key}\n")?;
+    let text = Vec::from_slice(alloc, line.as_bytes())?;
+    Ok(Reply { status: 3, text })
+}
+
+/// The answer that planning found.
+pub fn planned(alloc: Global, plant: &Plant, outcome: &Outcome) -> Result<Reply, AllocError>
+    requires { IsNamedIn plant.now outcome.now.answer }
+    ensures { IfOk result (λ reply. (reply.status ≡ status_of outcome.now.answer)
+        × (reply.text.items ≡ answer_text plant.now outcome.now.boxes outcome.now.answer)) }
+{
+    let boxes = outcome.boxes;
+    match &outcome.answer {
+        Answer::Optimal { plan, profit } => {
+            let text = optimal_text(alloc, plant, boxes, plan, profit)?;
+            Ok(Reply { status: 0, text })
+        }
+        Answer::Infeasible => {
+            let text = infeasible_text(alloc, boxes)?;
+            Ok(Reply { status: 1, text })
+        }
+        Answer::BudgetSpent { plan, profit, cap } => {
+            let text = match plan {
+                Some(plan) => spent_text(alloc, plant, boxes, plan, profit, cap)?,
+                None => unsettled_text(alloc, boxes, cap)?,
+            };
+            Ok(Reply { status: 6, text })
+        }
+    }
+}
+
+fn optimal_text(
+    alloc: Global,
+    plant: &Plant,
+    boxes: u32,
+    plan: &List<Start>,
+    profit: &i128,
+) -> Result<Vec<u8>, AllocError>
+    requires { All (IsNamed plant.now) plan.now }
+    ensures { IfOk result (λ text. text.items ≡ answer_text plant.now boxes (Answer.Optimal plan.now profit.now)) }
+{
+    let head = optimal_head(alloc, profit, boxes)?;
+    with_plan(alloc, plant, head.as_str(), plan.as_slice())
+}
+
+fn infeasible_text(alloc: Global, boxes: u32) -> Result<Vec<u8>, AllocError>
+    ensures { IfOk result (λ text. text.items ≡ codes "# infeasible\n" ++ boxes_line boxes) }
+{
+    let head = format!(in alloc; "# infeasible\n# boxes {boxes}\n")?;
+    Vec::from_slice(alloc, head.as_bytes())
+}
+
+fn spent_text(
+    alloc: Global,
+    plant: &Plant,
+    boxes: u32,
+    plan: &List<Start>,
+    profit: &i128,
+    cap: &i128,
+) -> Result<Vec<u8>, AllocError>
+    requires { All (IsNamed plant.now) plan.now }
+    ensures { IfOk result (λ text. text.items ≡ answer_text plant.now boxes (Answer.BudgetSpent (Some plan.now) profit.now cap.now)) }
+{
+    let head = spent_head(alloc, profit, cap, boxes)?;
+    with_plan(alloc, plant, head.as_str(), plan.as_slice())
+}
+
+fn unsettled_text(alloc: Global, boxes: u32, cap: &i128) -> Result<Vec<u8>, AllocError>
+    ensures { IfOk result (λ text. text.items ≡ codes "# budget-spent - " ++ (signed_decimal cap.now ++ (codes "\n" ++ boxes_line boxes))) }
+{
+    let head = format!(in alloc; "# budget-spent - {cap}\n# boxes {boxes}\n")?;
+    Vec::from_slice(alloc, head.as_bytes())
+}
+
+fn optimal_head(alloc: Global, profit: &i128, boxes: u32) -> Result<String, AllocError>
+    ensures { IfOk result (λ head. string_bytes head ≡ codes "# optimal " ++ (signed_decimal profit.now ++ (codes "\n" ++ boxes_line boxes))) }
+{
+    format!(in alloc; "# optimal {profit}\n# boxes {boxes}\n")
+}
+
+fn spent_head(alloc: Global, profit: &i128, cap: &i128, boxes: u32) -> Result<String, AllocError>
+    ensures { IfOk result (λ head. string_bytes head ≡ codes "# budget-spent " ++ (signed_decimal profit.now ++ (codes " " ++ (signed_decimal cap.now ++ (codes "\n" ++ boxes_line boxes))))) }
+{
+    format!(in alloc; "# budget-spent {profit} {cap}\n# boxes {boxes}\n")
+}
+
+// The head, followed by the lines of the plan.
+fn with_plan(
+    alloc: Global,
+    plant: &Plant,
+    head: &str,
+    plan: &[Start],
+) -> Result<Vec<u8>, AllocError>
+    requires { All (IsNamed plant.now) plan.now }
+    ensures { IfOk result (λ text. text.items ≡ head.now ++ plan_lines plant.now plan.now) }
+{
+    let mut text = Vec::from_slice(alloc, head.as_bytes())?;
+    put_plan(alloc, plant, plan, &mut text)?;
+    Ok(text)
+}
+
+/// The answer to a plan file with this fault.
+#[tactic(auto, unfolding(crate::specs::Texts::plan_fault_text))]
+pub fn refused_plan(alloc: Global, fault: &PlanFault) -> Result<Reply, AllocError>
+    ensures { IfOk result (λ reply. (reply.status ≡ 4) × (reply.text.items ≡ plan_fault_text fault.now)) }
+{
+    let kind = fault.kind;
+    let number = fault.line;
+    let line = format!(in alloc; "refused plan {kind} {number}\n")?;
+    let text = Vec::from_slice(alloc, line.as_bytes())?;
+    Ok(Reply { status: 4, text })
+}
+
+/// The answer that a simulation found.
+#[tactic(auto, unfolding(crate::specs::Texts::verdict_text))]
+pub fn simulated(alloc: Global, plant: &Plant, verdict: &Verdict) -> Result<Reply, AllocError>
+    requires { (v : Violation) → verdict.now ≡ Verdict.Broken v → IsOfPlant plant.now v }
+    ensures { IfOk result (λ reply. (reply.status ≡ verdict_status verdict.now)
+        × (reply.text.items ≡ verdict_text plant.now verdict.now)) }
+{
+    match verdict {
+        Verdict::Feasible { profit } => {
+            let text = profit_text(alloc, profit)?;
+            Ok(Reply { status: 0, text })
+        }
+        Verdict::Broken(violation) => {
+            let text = violation_text(alloc, plant, violation)?;
+            Ok(Reply { status: 1, text })
+        }
+    }
+}
+
+fn profit_text(alloc: Global, profit: &i128) -> Result<Vec<u8>, AllocError>
+    ensures { IfOk result (λ text. text.items ≡ codes "feasible " ++ (signed_decimal profit.now ++ codes "\n")) }
+{
+    let line = format!(in alloc; "feasible {profit}\n")?;
+    Vec::from_slice(alloc, line.as_bytes())
+}
+
+#[tactic(auto, unfolding(crate::specs::Texts::violation_text))]
+fn violation_text(
+    alloc: Global,
+    plant: &Plant,
+    violation: &Violation,
+) -> Result<Vec<u8>, AllocError>
+    requires { IsOfPlant plant.now violation.now }
+    ensures { IfOk result (λ text. text.items ≡ violation_text plant.now violation.now) }
+{
+    match violation {
+        Violation::Unfit { place } => unfit_text(alloc, *place),
+        Violation::Busy { first, second } => pair_text(alloc, "broken busy ", *first, *second),
+        Violation::Gap { first, second } => pair_text(alloc, "broken gap ", *first, *second),
+        Violation::StockLow { state, time } => {
+            named_text(alloc, "broken stock-low ", state_name(plant, *state), *time)
+        }
+        Violation::StockHigh { state, time } => {
+            named_text(alloc, "broken stock-high ", state_name(plant, *state), *time)
+        }
+        Violation::Load { utility, period } => {
+            named_text(alloc, "broken load ", utility_name(plant, *utility), *period)
+        }
+    }
+}
+
+fn state_name(plant: &Plant, state: u32) -> &[u8]
+    requires { state < length plant.now.states }
+    ensures { result.now ≡ (state_at plant.now state).name }
+{
+    plant.states.get(state as usize).name.as_slice()
+}
+
+fn utility_name(plant: &Plant, utility: u32) -> &[u8]
+    requires { utility < length plant.now.utilities }
+    ensures { result.now ≡ (utility_at plant.now utility).name }
+{
+    plant.utilities.get(utility as usize).name.as_slice()
+}
+
+fn unfit_text(alloc: Global, place: u32) -> Result<Vec<u8>, AllocError>
+    ensures { IfOk result (λ text. text.items ≡ codes "broken unfit " ++ (decimal (place + 1) ++ codes "\n")) }
+{
+    let number = place as u64 + 1;
+    let line = format!(in alloc; "broken unfit {number}\n")?;
+    Vec::from_slice(alloc, line.as_bytes())
+}
+
+fn pair_text(
+    alloc: Global,
+    what: &str,
+    first: u32,
+    second: u32,
+) -> Result<Vec<u8>, AllocError>
+    ensures { IfOk result (λ text. text.items ≡ pair_line what.now first second) }
+{
+    let a = first as u64 + 1;
+    let b = second as u64 + 1;
+    let line = format!(in alloc; "{what}{a} {b}\n")?;
+    Vec::from_slice(alloc, line.as_bytes())
+}
+
+fn named_text(
+    alloc: Global,
+    what: &str,
+    name: &[u8],
+    number: u32,
+) -> Result<Vec<u8>, AllocError>
+    ensures { IfOk result (λ text. text.items ≡ named_line what.now name.now number) }
+{
+    let mut text = Vec::from_slice(alloc, what.as_bytes())?;
+    text.extend_from_slice(name)?;
+    let end = format!(in alloc; " {number}\n")?;
+    text.extend_from_slice(end.as_bytes())?;
+    Ok(text)
+}
