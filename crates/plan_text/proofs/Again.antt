@@ -61,11 +61,12 @@ comments_read : (plant : Plant) (number : ℕ) (plan : List Start) (remarks : Li
     → (later : ℕ) × (read_on plant number plan (text_lines (comment_lines remarks ++ text)) ≡ read_on plant later plan (text_lines text))
 comments_read plant number plan [] text are = (number, refl)
 comments_read plant number plan (remark ∷ remarks) text are =
-    let others = comments_read plant (number + 1) plan remarks text (λ k d within. are (suc k) d (omega arith)) in
-    (others.0,
-     ap (λ (x : List ℕ). read_on plant number plan (text_lines x)) (first_line (35 ∷ remark) (comment_lines remarks) text)
-     ∙ ap (read_on plant number plan) (text_lines-line (35 ∷ remark) (comment_lines remarks ++ text) (Lacks-remark remark (are 0 remark (omega arith))))
-     ∙ rw (after_line-comment plant (number + 1) plan remark) others.1)
+    let others = comments_read plant (number + 1) plan remarks text (λ k d within. are (suc k) d (omega arith)) in (
+      others.0,
+      ap (λ (x : List ℕ). read_on plant number plan (text_lines x)) (first_line (35 ∷ remark) (comment_lines remarks) text)
+          ∙ ap (read_on plant number plan) (text_lines-line (35 ∷ remark) (comment_lines remarks ++ text) (Lacks-remark remark (are 0 remark (omega arith))))
+          ∙ rw (after_line-comment plant (number + 1) plan remark) others.1,
+    )
 
 -- ---- words
 
@@ -117,8 +118,8 @@ named_is : {X : Type 0} (name_of : X → List ℕ) (xs : List X) (i : ℕ) (d : 
 named_is {X} name_of xs i d word within is differ =
     let test : X → Bool = λ x. bytes_eq (name_of x) word in
     let place : position_or_len test xs ≡ i = position_or_len_is test xs i d (omega arith)
-      (λ k below. fails (test (get_or xs k d)) (bytes_eq-Decides (name_of (get_or xs k d)) word) (λ same. differ k i d below within (same ∙ is)))
-      (λ there. (bytes_eq-Decides (name_of (get_or xs i d)) word).1 (sym is)) in
+    (λ k below. fails (test (get_or xs k d)) (bytes_eq-Decides (name_of (get_or xs k d)) word) (λ same. differ k i d below within (same ∙ is)))
+    (λ there. (bytes_eq-Decides (name_of (get_or xs i d)) word).1 (sym is)) in
     rw place (rw ((Decides-ltb i (length xs)).1 within) refl)
 
 -- the name at a place is a word, and is found at this place
@@ -149,8 +150,8 @@ made period unit task quanta = Ok (record { period = period; unit = unit; task =
 -- a choice of which each part holds
 says : (empty_unit empty_task : Bool) (p q u t : Option ℕ) (period quanta unit task : ℕ) → empty_unit ≡ false → empty_task ≡ false → p ≡ Some period → q ≡ Some quanta → u ≡ Some unit → t ≡ Some task
     → (if empty_unit || empty_task then Err BAD_LINE
-      else option_map_or (λ p2. option_map_or (λ q2. option_map_or (λ u2. option_map_or (λ t2. made p2 u2 t2 q2) t (Err UNKNOWN_NAME)) u (Err UNKNOWN_NAME)) q (Err BAD_LINE)) p (Err BAD_LINE))
-      ≡ made period unit task quanta
+    else option_map_or (λ p2. option_map_or (λ q2. option_map_or (λ u2. option_map_or (λ t2. made p2 u2 t2 q2) t (Err UNKNOWN_NAME)) u (Err UNKNOWN_NAME)) q (Err BAD_LINE)) p (Err BAD_LINE))
+    ≡ made period unit task quanta
 says empty_unit empty_task p q u t period quanta unit task is_1 is_2 is_3 is_4 is_5 is_6 = rw (is_1, is_2, is_3, is_4, is_5, is_6) refl
 
 -- what is not empty is told
@@ -187,11 +188,11 @@ line_of plant start sound writable =
     record {
       no_feed = Lacks-four 10 (decimal start.period) u t (decimal start.quanta) refl (decimal-lacks start.period 10 period (λ r. omega arith)) unit.no_feed task.no_feed (decimal-lacks start.quanta 10 quanta (λ r. omega arith));
       no_comment =
-        ap (λ (x : ℕ). eqb x 35) (get_or_append_left (decimal start.period) (32 ∷ (u ++ (32 ∷ (t ++ (32 ∷ decimal start.quanta))))) 0 0 (decimal_nonempty start.period period))
-        ∙ decimal-lacks start.period 35 period (λ r. omega arith) 0 0 (decimal_nonempty start.period period);
+          ap (λ (x : ℕ). eqb x 35) (get_or_append_left (decimal start.period) (32 ∷ (u ++ (32 ∷ (t ++ (32 ∷ decimal start.quanta))))) 0 0 (decimal_nonempty start.period period))
+          ∙ decimal-lacks start.period 35 period (λ r. omega arith) 0 0 (decimal_nonempty start.period period);
       says =
-        ap (start_of_words plant) (line_words-four (decimal start.period) u t (decimal start.quanta) (decimal-lacks start.period 32 period (λ r. omega arith)) unit.no_blank task.no_blank (decimal-lacks start.quanta 32 quanta (λ r. omega arith)))
-        ∙ start_of-says plant start.period start.unit start.task start.quanta u t unit.some task.some writable.period writable.quanta unit.place task.place;
+          ap (start_of_words plant) (line_words-four (decimal start.period) u t (decimal start.quanta) (decimal-lacks start.period 32 period (λ r. omega arith)) unit.no_blank task.no_blank (decimal-lacks start.quanta 32 quanta (λ r. omega arith)))
+          ∙ start_of-says plant start.period start.unit start.task start.quanta u t unit.some task.some writable.period writable.quanta unit.place task.place;
     }
 
 -- a choice that puts a start at the end
