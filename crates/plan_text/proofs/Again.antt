@@ -1,17 +1,17 @@
 -- That the lines of a plan say the plan again.
-use Rattle.std.proofs.Common.{◌≡◌, ◌≢◌, ℕ, zero, suc, ◌+◌, ◌<◌, ◌≤◌, ◌==◌, ◌^◌, Bool, true, false, ◌&&◌, ◌||◌, ◌⊎◌, inl, inr, nat_le, nat_lt, cond, eqb, if◌then◌else◌, Option, Some, None, List, [], ◌∷◌, ◌++◌, All, AllPairs, length, get_or, map, decimal, position, bytes_eq, flat_map, slice_index_or, sym, ap, ◌∙◌, refl, arith, append_assoc, length-append}
+use Rattle.std.proofs.Common.{◌≡◌, ◌≢◌, ℕ, suc, ◌+◌, ◌<◌, ◌≤◌, ◌==◌, ◌^◌, Bool, true, false, ◌&&◌, ◌||◌, inl, inr, nat_le, eqb, if◌then◌else◌, Option, Some, List, [], ◌∷◌, ◌++◌, All, AllPairs, length, get_or, map, decimal, position, bytes_eq, slice_index_or, sym, ap, ◌∙◌, refl, arith, append_assoc, length-append}
 use Rattle.std.specs.Prelude.{Result, Ok, Err, IsTrue}
 use Rattle.std.specs.List.{slice_split, join_with_byte, list_all, position_or_len}
 use Rattle.std.specs.Option.{option_map_or}
 use Rattle.std.specs.Char.{is_ascii_alphabetic}
 use Rattle.std.proofs.lemmas.List.{append-nil, get_or-map, get_or_append_left}
-use Rattle.std.proofs.lemmas.List.Elements.{All-append, All-cons, All-nil}
+use Rattle.std.proofs.lemmas.List.Elements.{All-append, All-cons}
 use Rattle.std.proofs.lemmas.List.Recursion.{and_at}
 use Rattle.std.proofs.lemmas.List.Splits.{slice_split_at, slice_split_none, length-slice_split}
 use Rattle.std.proofs.lemmas.List.Sums.{position_or_len_is}
 use Rattle.std.proofs.lemmas.Bool.{false≢true}
 use Rattle.std.specs.Bool.{Decides}
-use Rattle.std.proofs.lemmas.Bool.Decides.{Decides-and, Decides-ltb, Decides-eqb, nat_tests, leb_tells, eqb_tells}
+use Rattle.std.proofs.lemmas.Bool.Decides.{Decides-ltb, Decides-eqb, nat_tests, eqb_tells}
 use Rattle.std.proofs.lemmas.Slice.Eq.{bytes_eq-Decides}
 use Rattle.std.proofs.lemmas.Fmt.{decimal_nonempty}
 use Rattle.text_words.specs.Numbers.{number_below}
@@ -24,9 +24,9 @@ use Rattle.stn_model.specs.Plant.{no_task}
 use Rattle.stn_model.specs.Sound.{Sound, is_name, is_name_byte}
 use Rattle.stn_model.specs.declared.limits.TheConstants.{MAX_NAME}
 use Rattle.plan_text.specs.declared.fault.PlanFault.{PlanFault}
-use Rattle.plan_text.specs.declared.fault.TheConstants.{BAD_LINE, UNKNOWN_NAME, MAX_BYTES, MAX_STARTS, NUMBER_LIMIT}
-use Rattle.plan_text.specs.PlanLines.{IsNamed, unit_names, task_names, start_words, plan_line, plan_lines}
-use Rattle.plan_text.specs.PlanText.{lines_of_parts, text_lines, line_words, is_comment, is_empty, unit_named, task_named, named_start, start_of, start_of_words, line_start, plan_of_text, plan_of_lines, after_line, with_start}
+use Rattle.plan_text.specs.declared.fault.TheConstants.{BAD_LINE, UNKNOWN_NAME, MAX_STARTS, NUMBER_LIMIT}
+use Rattle.plan_text.specs.PlanLines.{unit_names, task_names, start_words, plan_line, plan_lines}
+use Rattle.plan_text.specs.PlanText.{lines_of_parts, text_lines, line_words, is_comment, is_empty, unit_named, task_named, start_of, start_of_words, line_start, after_line, with_start}
 use Rattle.plan_text.specs.ReadsBack.{IsRemark, comment_lines, IsWritable, ReadsBack}
 use Rattle.plan_text.proofs.Reading.{lines_of_parts-cons, read_on, plan_of_lines-is, plan_of_text-short, text_lines-nil}
 

@@ -1,5 +1,5 @@
 -- What a plan that was read keeps: its starts can be written again, and there are not too many.
-use Rattle.std.proofs.Common.{◌≡◌, ℕ, suc, ◌+◌, ◌<◌, ◌≤◌, ◌==◌, ◌||◌, ◌^◌, Bool, true, false, cond, ltb, nat_lt, if◌then◌else◌, Option, Some, None, List, [], ◌∷◌, ◌++◌, All, length, position, subst, sym, ap, ◌∙◌, refl, arith, length-append}
+use Rattle.std.proofs.Common.{◌≡◌, ℕ, ◌+◌, ◌<◌, ◌≤◌, ◌==◌, ◌||◌, Bool, true, false, cond, ltb, nat_lt, if◌then◌else◌, Option, Some, None, List, [], ◌∷◌, ◌++◌, All, length, position, subst, sym, ◌∙◌, refl, arith, length-append}
 use Rattle.std.specs.Prelude.{Result, Ok, Err, IfOk}
 use Rattle.std.specs.List.{position_or_len}
 use Rattle.std.specs.Option.{option_map_or}
@@ -12,7 +12,6 @@ use Rattle.stn_model.specs.declared.start.Start.{Start}
 use Rattle.plan_text.specs.declared.fault.PlanFault.{PlanFault}
 use Rattle.plan_text.specs.declared.fault.PlanStop.{PlanStop}
 use Rattle.plan_text.specs.declared.fault.TheConstants.{BAD_LINE, UNKNOWN_NAME, TOO_MANY_LINES, TOO_LONG, MAX_BYTES, MAX_STARTS, NUMBER_LIMIT}
-use Rattle.plan_text.specs.PlanLines.{IsNamed}
 use Rattle.plan_text.specs.PlanText.{is_comment, is_empty, unit_named, task_named, named_start, start_of, line_start, text_lines, plan_of_lines, plan_of_text, with_start, after_line, Gives}
 use Rattle.plan_text.specs.ReadsBack.{IsWritable}
 use Rattle.plan_text.proofs.Reading.{read_on, and_then, word_of, rest_of, line_start-cuts, plan_of_lines-is, plan_of_text-short}
@@ -42,6 +41,14 @@ not_failed false e answer x is = is
 abbrev made : ℕ → ℕ → ℕ → ℕ → Result Start ℕ
 made period unit task quanta = Ok (record { period = period; unit = unit; task = task; quanta = quanta })
 
+-- a start as an answer
+abbrev ok : Start → Result Start ℕ
+ok start = Ok start
+
+-- what is given is what was found
+same_start : (plant : Plant) (found start : Start) → ok found ≡ Ok start → IsWritable plant found → IsWritable plant start
+same_start plant found start is writable = let same : found ≡ start = cc in subst (IsWritable plant) same writable
+
 -- the start that four words say can be written
 start_of-writable : (plant : Plant) (period unit task quanta : List ℕ) (start : Start) → start_of plant period unit task quanta ≡ Ok start → IsWritable plant start
 unfolding start_of
@@ -51,9 +58,7 @@ start_of-writable plant period unit task quanta start is =
     let q = opened (λ b. named_start plant p.0 unit task b) (number_below NUMBER_LIMIT quanta) BAD_LINE start p.2 in
     let u = opened (λ a. option_map_or (λ b. made p.0 a b q.0) (task_named plant task) (Err UNKNOWN_NAME)) (unit_named plant unit) UNKNOWN_NAME start q.2 in
     let t = opened (λ b. made p.0 u.0 b q.0) (task_named plant task) UNKNOWN_NAME start u.2 in
-    let found : Start = record { period = p.0; unit = u.0; task = t.0; quanta = q.0 } in
-    let same : found ≡ start = cc (t.2) in
-    subst (IsWritable plant) same (record {
+    same_start plant _ start t.2 (record {
       named = record { unit = position-within _ plant.units u.0 u.1; task = position-within _ plant.tasks t.0 t.1 };
       period = (number_below-printed NUMBER_LIMIT period (omega arith) (Some p.0) (sym p.1)).0;
       quanta = (number_below-printed NUMBER_LIMIT quanta (omega arith) (Some q.0) (sym q.1)).0;

@@ -1,5 +1,5 @@
 -- A plan text read line by line.
-use Rattle.std.proofs.Common.{◌≡◌, ℕ, zero, suc, ◌+◌, ◌<◌, ◌≤◌, ◌==◌, Bool, true, false, not, cond, eqb, ◌||◌, ◌^◌, decimal, if◌then◌else◌, ◌⊎◌, inl, inr, Option, Some, None, option_map, option_to_list, List, [], ◌∷◌, ◌++◌, length, get_or, take, drop, filter_map, count_by, slice_get, slice_index_or, sym, ap, ◌∙◌, refl, arith, append_assoc, length-append, length-drop}
+use Rattle.std.proofs.Common.{◌≡◌, ℕ, ◌+◌, ◌<◌, ◌≤◌, ◌==◌, Bool, true, false, not, cond, eqb, ◌||◌, ◌^◌, decimal, if◌then◌else◌, ◌⊎◌, inl, inr, Option, Some, None, option_map, option_to_list, List, [], ◌∷◌, ◌++◌, length, get_or, filter_map, slice_get, sym, ap, ◌∙◌, refl, arith, append_assoc, length-append, length-drop}
 use Rattle.std.specs.Prelude.{Result, Ok, Err}
 use Rattle.std.specs.List.{slice_split, position_or_len, before_first, after_first, range_with_len, cons_option}
 use Rattle.std.specs.Result.{result_ok, result_err}

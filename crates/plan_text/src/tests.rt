@@ -1,6 +1,9 @@
-use crate::{PlanFault, PlanStop, put_plan, read_plan};
+ghost use Rattle.std.specs.Prelude.{◌≤◌, length};
+
+use crate::{PlanStop, put_plan, read_plan};
 use std::alloc::{AllocError, Global};
 use std::test::Fail;
+use stn_model::limits::{MAX_TASKS, MAX_UNITS};
 use stn_model::{List, Name, Plant, Start, StnUnit, Task};
 
 fn name(alloc: Global, text: &[u8]) -> Result<Name, AllocError> {
@@ -39,9 +42,13 @@ fn tiny(alloc: Global) -> Result<Plant, AllocError> {
     })
 }
 
-fn fault_of(answer: Result<List<Start>, PlanStop>) -> Option<PlanFault> {
-    match answer {
-        Err(PlanStop::Fault(fault)) => Some(fault),
+// The kind and the line of the fault of a text.
+fn fault(alloc: Global, plant: &Plant, text: &[u8]) -> Option<(u8, u32)>
+    requires units { length plant.now.units ≤ MAX_UNITS }
+    requires tasks { length plant.now.tasks ≤ MAX_TASKS }
+{
+    match read_plan(alloc, plant, text) {
+        Err(PlanStop::Fault(fault)) => Some((fault.kind, fault.line)),
         _ => None,
     }
 }
@@ -81,26 +88,29 @@ fn tells_the_first_fault(rt: HostRuntime) -> Result<(), Fail> {
     let plant = tiny(rt.alloc())?;
     assert_eq!(rt; plant.units.len(), 1);
     assert_eq!(rt; plant.tasks.len(), 1);
-    let mut many = Vec::new(rt.alloc());
+    assert_eq!(rt; fault(rt.alloc(), &plant, b"0 U make"), Some((1, 1)));
+    assert_eq!(rt; fault(rt.alloc(), &plant, b"0 V make 1"), Some((2, 1)));
+    assert_eq!(rt;
+        fault(rt.alloc(), &plant, b"# 1\n0 U make 1\n\n"),
+        Some((1, 3))
+    );
+    Ok(())
+}
+
+#[test]
+fn tells_what_is_too_much(rt: HostRuntime) -> Result<(), Fail> {
+    let plant = tiny(rt.alloc())?;
+    assert_eq!(rt; plant.units.len(), 1);
+    assert_eq!(rt; plant.tasks.len(), 1);
+    let mut text = Vec::new(rt.alloc());
     for _line in 0..2_049 {
-        many.extend_from_slice(b"0 U make 1\n")?;
+        text.extend_from_slice(b"0 U make 1\n")?;
     }
+    assert_eq!(rt;
+        fault(rt.alloc(), &plant, text.as_slice()),
+        Some((3, 2_049))
+    );
     let long = vec![in rt.alloc(); b'#'; 262_145]?;
-    let rows = [
-        (b"0 U make".as_slice(), 1, 1),
-        (b"0 V make 1".as_slice(), 2, 1),
-        (many.as_slice(), 3, 2_049),
-        (long.as_slice(), 4, 0),
-        (b"# 1\n0 U make 1\n\n".as_slice(), 1, 3),
-        (b"0 U make 01".as_slice(), 1, 1),
-        (b"0  make 1".as_slice(), 1, 1),
-    ];
-    for (text, kind, line) in rows {
-        assert_eq!(rt;
-            fault_of(read_plan(rt.alloc(), &plant, text)),
-            Some(PlanFault { kind, line })
-        );
-    }
-    assert_eq!(rt; fault_of(read_plan(rt.alloc(), &plant, b"")), None);
+    assert_eq!(rt; fault(rt.alloc(), &plant, long.as_slice()), Some((4, 0)));
     Ok(())
 }

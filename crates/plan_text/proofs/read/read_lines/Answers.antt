@@ -1,4 +1,4 @@
-use Rattle.std.proofs.Common.{ℕ, ◌+◌, ◌<◌, ◌==◌, List, length, sym, ap, ◌∙◌, arith, rules}
+use Rattle.std.proofs.Common.{ℕ, ◌+◌, ◌==◌, List, length, sym, ap, ◌∙◌, arith, rules}
 use Rattle.plan_text.specs.PlanText.{text_lines}
 use Rattle.plan_text.proofs.Reading.{read_on, plan_of_lines-is, line_stops, line_goes_on, read_on-end, length-after_first, gives_stop, tells_some, tells_none}
 use Rattle.plan_text.proofs.read.read_lines.Goals as goal
