@@ -1,0 +1,13 @@
+use Rattle.std.proofs.Common.{◌*◌, ◌^◌, arith}
+use Rattle.plain_plan.proofs.Totals.{sum_fits, total_below_step}
+use mir.Val.{to_z}
+use mir.Syntax.{w128}
+use Rattle.plain_plan.proofs.profit.end_value.Goals as goal
+
+pub loop-state-preserved : goal.loop-state-preserved
+loop-state-preserved c =
+    let s = sum_fits (to_z w128 c.loop-state.sum-bits) c.worth_at_end-sum.result (c.loop-state.state * 2 ^ 108) (2 ^ 108) c.loop-state.invariant.small c.worth_at_end-sum.ensures.small (omega arith) in
+    record {
+      value = total_below_step _ c.loop-state.state _ _ _ s.0 c.loop-state.invariant.value c.worth_at_end-sum.ensures.value;
+      small = rw s.0 (omega (arith, s.1));
+    }

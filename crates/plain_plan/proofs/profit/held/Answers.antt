@@ -1,0 +1,13 @@
+use Rattle.std.proofs.Common.{◌*◌, ◌^◌, arith}
+use Rattle.plain_plan.proofs.Totals.{sum_fits, total_below_step}
+use mir.Val.{to_z}
+use mir.Syntax.{w128}
+use Rattle.plain_plan.proofs.profit.held.Goals as goal
+
+pub loop-time-preserved : goal.loop-time-preserved
+loop-time-preserved c =
+    let s = sum_fits (to_z w128 c.loop-time.sum-bits) c.held_at-sum.result (c.loop-time.time * 2 ^ 108) (2 ^ 108) c.loop-time.invariant.small c.held_at-sum.ensures.small (omega arith) in
+    record {
+      value = total_below_step _ c.loop-time.time _ _ _ s.0 c.loop-time.invariant.value c.held_at-sum.ensures.value;
+      small = rw s.0 (omega (arith, s.1));
+    }

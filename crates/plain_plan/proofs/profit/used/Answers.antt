@@ -1,0 +1,13 @@
+use Rattle.std.proofs.Common.{◌*◌, ◌^◌, arith}
+use Rattle.plain_plan.proofs.Totals.{sum_fits, total_below_step}
+use mir.Val.{to_z}
+use mir.Syntax.{w128}
+use Rattle.plain_plan.proofs.profit.used.Goals as goal
+
+pub loop-period-preserved : goal.loop-period-preserved
+loop-period-preserved c =
+    let s = sum_fits (to_z w128 c.loop-period.sum-bits) c.used_in-sum.result (c.loop-period.period * 2 ^ 108) (2 ^ 108) c.loop-period.invariant.small c.used_in-sum.ensures.small (omega arith) in
+    record {
+      value = total_below_step _ c.loop-period.period _ _ _ s.0 c.loop-period.invariant.value c.used_in-sum.ensures.value;
+      small = rw s.0 (omega (arith, s.1));
+    }

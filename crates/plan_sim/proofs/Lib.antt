@@ -1,0 +1,7 @@
+pub mod Earned
+pub mod Firsts
+pub mod Following
+pub mod Tables
+pub mod Placed
+pub mod Small
+pub mod Totals

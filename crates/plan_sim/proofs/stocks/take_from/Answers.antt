@@ -1,0 +1,25 @@
+use Rattle.std.proofs.Common.{◌+◌, ◌≤◌, ◌^◌, length, ◌∙◌, ap, arith}
+use Rattle.std.proofs.lemmas.List.Elements.{All-same}
+use Rattle.stn_model.specs.declared.plant.Task.{Task}
+use Rattle.plan_sim.specs.Moves.{HasRow}
+use Rattle.plan_sim.proofs.Placed.{placed, inputs_few, inputs_rows, inputs_small, starts_within}
+use Rattle.plan_sim.proofs.stocks.take_from.Goals as goal
+
+pub add_inputs-requires-clause-rows : goal.add_inputs-requires-clause-rows
+add_inputs-requires-clause-rows c =
+    All-same (λ move. HasRow c.args.cells.now (c.args.plant.now.periods + 1) move.state) _ _ (c.as_slice.ensures ∙ ap (λ (t : Task). t.inputs) c.task_of-task.ensures)
+    (inputs_rows c.args.plant.now c.args.start.now c.requires.sound c.requires.fits c.args.cells.now c.requires.size)
+
+pub add_inputs-requires-clause-small : goal.add_inputs-requires-clause-small
+add_inputs-requires-clause-small c =
+    All-same (λ move. move.amount ≤ 2 ^ 20) _ _ (c.as_slice.ensures ∙ ap (λ (t : Task). t.inputs) c.task_of-task.ensures)
+    (inputs_small c.args.plant.now c.args.start.now c.requires.sound c.requires.fits)
+
+pub add_inputs-requires-clause-quanta : goal.add_inputs-requires-clause-quanta
+add_inputs-requires-clause-quanta c = (placed c.args.plant.now c.args.start.now c.requires.sound c.requires.fits).quanta
+
+pub add_inputs-requires-clause-few : goal.add_inputs-requires-clause-few
+add_inputs-requires-clause-few c = omega (arith, ap length (c.as_slice.ensures ∙ ap (λ (t : Task). t.inputs) c.task_of-task.ensures), inputs_few c.args.plant.now c.args.start.now c.requires.sound c.requires.fits)
+
+pub add_inputs-requires-clause-within : goal.add_inputs-requires-clause-within
+add_inputs-requires-clause-within c = starts_within c.args.plant.now c.args.start.now c.requires.sound c.requires.fits

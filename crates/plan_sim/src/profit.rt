@@ -1,0 +1,306 @@
+//! What a feasible plan earns, in money, from the tables of its stocks and loads.
+ghost use Rattle.std.specs.Prelude.{
+  ◌≡◌,
+  ◌≤◌,
+  ◌<◌,
+  ◌^◌,
+  ◌+◌,
+  ◌*◌,
+  pos,
+  ◌*ℤ◌,
+  ◌+ℤ◌,
+  ◌-ℤ◌,
+  length,
+  sum,
+  All,
+  unsigned_abs,
+};
+ghost use Rattle.stn_model.specs.Plant.{state_at, utility_at, run_on};
+ghost use Rattle.stn_model.specs.Sums.{total, total_below};
+ghost use Rattle.stn_model.specs.Profit.{payments, cost_of, start_cost, change_costs, profit};
+ghost use Rattle.stn_model.specs.Sound.{Sound};
+ghost use Rattle.plan_sim.specs.Faults.{level, used};
+ghost use Rattle.plan_sim.specs.Money.{levels_worth, levels_held, level_cost, uses_cost, use_cost};
+ghost use Rattle.plan_sim.specs.Tables.{IsStockTable, IsLoadTable};
+ghost use Rattle.plan_sim.specs.Units.{NoTwins};
+
+use crate::units::change_costs;
+use stn_model::questions::run_for;
+use stn_model::{Delivery, Plant, Start};
+
+/// What a plan earns: end stocks and payments, less the costs of holding, utilities, starts and
+/// changeovers.
+pub fn profit_of(plant: &Plant, plan: &[Start], stocks: &[i128], loads: &[u128]) -> i128
+    requires sound { Sound plant.now }
+    requires few { length plan.now < 2 ^ 32 }
+    requires twins { NoTwins plan.now }
+    requires stocks { IsStockTable plant.now plan.now stocks.now }
+    requires small { All (λ level. unsigned_abs level ≤ 2 ^ 66) stocks.now }
+    requires loads { IsLoadTable plant.now plan.now loads.now }
+    requires light { sum loads.now ≤ 2 ^ 76 }
+    ensures { result ≡ profit plant.now plan.now }
+{
+    less_starts(plant, plan, stocks, loads) - change_costs(plant, plan) as i128
+}
+
+/// End stocks and payments.
+fn income(plant: &Plant, stocks: &[i128]) -> i128
+    requires sound { Sound plant.now }
+    requires stocks { length stocks.now ≡ length plant.now.states * (plant.now.periods + 1) }
+    requires small { All (λ level. unsigned_abs level ≤ 2 ^ 66) stocks.now }
+    ensures value { result ≡ levels_worth plant.now stocks.now +ℤ payments plant.now }
+    ensures small { unsigned_abs result ≤ 2 ^ 94 }
+{
+    worth_of_levels(plant, stocks) + payments(plant)
+}
+
+/// The income less the cost of holding.
+fn less_holding(plant: &Plant, stocks: &[i128]) -> i128
+    requires sound { Sound plant.now }
+    requires stocks { length stocks.now ≡ length plant.now.states * (plant.now.periods + 1) }
+    requires small { All (λ level. unsigned_abs level ≤ 2 ^ 66) stocks.now }
+    ensures value { result ≡ (levels_worth plant.now stocks.now +ℤ payments plant.now) -ℤ levels_held plant.now stocks.now }
+    ensures small { unsigned_abs result ≤ 2 ^ 102 }
+{
+    income(plant, stocks) - cost_of_levels(plant, stocks)
+}
+
+/// The income less the costs of holding and utilities.
+fn less_utilities(plant: &Plant, stocks: &[i128], loads: &[u128]) -> i128
+    requires sound { Sound plant.now }
+    requires stocks { length stocks.now ≡ length plant.now.states * (plant.now.periods + 1) }
+    requires small { All (λ level. unsigned_abs level ≤ 2 ^ 66) stocks.now }
+    requires loads { length loads.now ≡ length plant.now.utilities * plant.now.periods }
+    requires light { sum loads.now ≤ 2 ^ 76 }
+    ensures value { result ≡ ((levels_worth plant.now stocks.now +ℤ payments plant.now) -ℤ levels_held plant.now stocks.now) -ℤ uses_cost plant.now loads.now }
+    ensures small { unsigned_abs result ≤ 2 ^ 110 }
+{
+    less_holding(plant, stocks) - cost_of_uses(plant, loads)
+}
+
+/// The income less the costs of holding, utilities and starts.
+fn less_starts(plant: &Plant, plan: &[Start], stocks: &[i128], loads: &[u128]) -> i128
+    requires sound { Sound plant.now }
+    requires stocks { length stocks.now ≡ length plant.now.states * (plant.now.periods + 1) }
+    requires small { All (λ level. unsigned_abs level ≤ 2 ^ 66) stocks.now }
+    requires loads { length loads.now ≡ length plant.now.utilities * plant.now.periods }
+    requires light { sum loads.now ≤ 2 ^ 76 }
+    requires few { length plan.now < 2 ^ 32 }
+    ensures value { result ≡ (((levels_worth plant.now stocks.now +ℤ payments plant.now) -ℤ levels_held plant.now stocks.now) -ℤ uses_cost plant.now loads.now) -ℤ start_cost plant.now plan.now }
+    ensures small { unsigned_abs result ≤ 2 ^ 111 }
+{
+    less_utilities(plant, stocks, loads) - start_cost(plant, plan)
+}
+
+fn scaled(rate: i64, amount: i128) -> i128
+    requires rate { unsigned_abs rate ≤ 2 ^ 20 }
+    requires amount { unsigned_abs amount ≤ 2 ^ 76 }
+    ensures value { result ≡ rate *ℤ amount }
+    ensures small { unsigned_abs result ≤ 2 ^ 96 }
+{
+    rate as i128 * amount
+}
+
+#[tactic(auto, using(crate::proofs::Totals::total_below_more))]
+fn worth_of_levels(plant: &Plant, stocks: &[i128]) -> i128
+    requires sound { Sound plant.now }
+    requires stocks { length stocks.now ≡ length plant.now.states * (plant.now.periods + 1) }
+    requires small { All (λ level. unsigned_abs level ≤ 2 ^ 66) stocks.now }
+    ensures value { result ≡ levels_worth plant.now stocks.now }
+    ensures small { unsigned_abs result ≤ 2 ^ 93 }
+{
+    let mut sum: i128 = 0;
+    for state in 0..plant.states.len() {
+        sum += worth_of(plant, stocks, state);
+    }
+    sum
+}
+
+fn worth_of(plant: &Plant, stocks: &[i128], state: usize) -> i128
+    requires sound { Sound plant.now }
+    requires stocks { length stocks.now ≡ length plant.now.states * (plant.now.periods + 1) }
+    requires small { All (λ level. unsigned_abs level ≤ 2 ^ 66) stocks.now }
+    requires there { state < length plant.now.states }
+    ensures value { result ≡ (state_at plant.now state).price *ℤ level plant.now stocks.now state plant.now.periods }
+    ensures small { unsigned_abs result ≤ 2 ^ 86 }
+{
+    let price = plant.states.get(state).price;
+    scaled_level(
+        price,
+        level_at(plant, stocks, state, plant.periods as usize),
+    )
+}
+
+fn scaled_level(rate: i64, level: i128) -> i128
+    requires rate { unsigned_abs rate ≤ 2 ^ 20 }
+    requires level { unsigned_abs level ≤ 2 ^ 66 }
+    ensures value { result ≡ rate *ℤ level }
+    ensures small { unsigned_abs result ≤ 2 ^ 86 }
+{
+    rate as i128 * level
+}
+
+fn level_at(plant: &Plant, stocks: &[i128], state: usize, time: usize) -> i128
+    requires stocks { length stocks.now ≡ length plant.now.states * (plant.now.periods + 1) }
+    requires small { All (λ level. unsigned_abs level ≤ 2 ^ 66) stocks.now }
+    requires there { state < length plant.now.states }
+    requires within { time ≤ plant.now.periods }
+    ensures value { result ≡ level plant.now stocks.now state time }
+    ensures small { unsigned_abs result ≤ 2 ^ 66 }
+{
+    stocks[state * (plant.periods as usize + 1) + time]
+}
+
+#[tactic(auto, unfolding(stn_model::specs::Profit::payments))]
+fn payments(plant: &Plant) -> i128
+    requires { Sound plant.now }
+    ensures value { result ≡ payments plant.now }
+    ensures small { unsigned_abs result ≤ 2 ^ 38 }
+{
+    paid(plant.deliveries.as_slice())
+}
+
+fn paid(deliveries: &[Delivery]) -> i128
+    requires few { length deliveries.now ≤ 256 }
+    requires each { All (λ delivery. unsigned_abs delivery.payment ≤ 2 ^ 30) deliveries.now }
+    ensures value { result ≡ total (λ delivery. delivery.payment) deliveries.now }
+    ensures small { unsigned_abs result ≤ 2 ^ 38 }
+{
+    let mut sum: i128 = 0;
+    for delivery in deliveries {
+        sum += payment(delivery);
+    }
+    sum
+}
+
+fn payment(delivery: &Delivery) -> i128
+    requires { unsigned_abs delivery.now.payment ≤ 2 ^ 30 }
+    ensures value { result ≡ delivery.now.payment }
+    ensures small { unsigned_abs result ≤ 2 ^ 30 }
+{
+    delivery.payment as i128
+}
+
+#[tactic(auto, using(crate::proofs::Totals::total_below_more))]
+fn cost_of_levels(plant: &Plant, stocks: &[i128]) -> i128
+    requires sound { Sound plant.now }
+    requires stocks { length stocks.now ≡ length plant.now.states * (plant.now.periods + 1) }
+    requires small { All (λ level. unsigned_abs level ≤ 2 ^ 66) stocks.now }
+    ensures value { result ≡ levels_held plant.now stocks.now }
+    ensures small { unsigned_abs result ≤ 2 ^ 101 }
+{
+    let mut sum: i128 = 0;
+    for state in 0..plant.states.len() {
+        sum += cost_of_level(plant, stocks, state);
+    }
+    sum
+}
+
+#[tactic(auto, using(crate::proofs::Totals::total_below_more))]
+fn cost_of_level(plant: &Plant, stocks: &[i128], state: usize) -> i128
+    requires sound { Sound plant.now }
+    requires stocks { length stocks.now ≡ length plant.now.states * (plant.now.periods + 1) }
+    requires small { All (λ level. unsigned_abs level ≤ 2 ^ 66) stocks.now }
+    requires there { state < length plant.now.states }
+    ensures value { result ≡ level_cost plant.now stocks.now state }
+    ensures small { unsigned_abs result ≤ 2 ^ 95 }
+{
+    let mut sum: i128 = 0;
+    for time in 0..plant.periods as usize {
+        sum += cost_at(plant, stocks, state, time);
+    }
+    sum
+}
+
+fn cost_at(plant: &Plant, stocks: &[i128], state: usize, time: usize) -> i128
+    requires sound { Sound plant.now }
+    requires stocks { length stocks.now ≡ length plant.now.states * (plant.now.periods + 1) }
+    requires small { All (λ level. unsigned_abs level ≤ 2 ^ 66) stocks.now }
+    requires there { state < length plant.now.states }
+    requires within { time ≤ plant.now.periods }
+    ensures value { result ≡ (state_at plant.now state).holding *ℤ level plant.now stocks.now state time }
+    ensures small { unsigned_abs result ≤ 2 ^ 86 }
+{
+    let holding = plant.states.get(state).holding;
+    scaled_level(holding, level_at(plant, stocks, state, time))
+}
+
+#[tactic(auto, using(crate::proofs::Totals::total_below_more))]
+fn cost_of_uses(plant: &Plant, loads: &[u128]) -> i128
+    requires sound { Sound plant.now }
+    requires loads { length loads.now ≡ length plant.now.utilities * plant.now.periods }
+    requires light { sum loads.now ≤ 2 ^ 76 }
+    ensures value { result ≡ uses_cost plant.now loads.now }
+    ensures small { unsigned_abs result ≤ 2 ^ 109 }
+{
+    let mut sum: i128 = 0;
+    for utility in 0..plant.utilities.len() {
+        sum += cost_of_use(plant, loads, utility);
+    }
+    sum
+}
+
+#[tactic(auto, using(crate::proofs::Totals::total_below_more))]
+fn cost_of_use(plant: &Plant, loads: &[u128], utility: usize) -> i128
+    requires sound { Sound plant.now }
+    requires loads { length loads.now ≡ length plant.now.utilities * plant.now.periods }
+    requires light { sum loads.now ≤ 2 ^ 76 }
+    requires there { utility < length plant.now.utilities }
+    ensures value { result ≡ use_cost plant.now loads.now utility }
+    ensures small { unsigned_abs result ≤ 2 ^ 105 }
+{
+    let mut sum: i128 = 0;
+    for period in 0..plant.periods as usize {
+        sum += cost_in(plant, loads, utility, period);
+    }
+    sum
+}
+
+fn cost_in(plant: &Plant, loads: &[u128], utility: usize, period: usize) -> i128
+    requires sound { Sound plant.now }
+    requires loads { length loads.now ≡ length plant.now.utilities * plant.now.periods }
+    requires light { sum loads.now ≤ 2 ^ 76 }
+    requires there { utility < length plant.now.utilities }
+    requires within { period < plant.now.periods }
+    ensures value { result ≡ (utility_at plant.now utility).rate *ℤ pos (used plant.now loads.now utility period) }
+    ensures small { unsigned_abs result ≤ 2 ^ 96 }
+{
+    let rate = plant.utilities.get(utility).rate;
+    scaled(rate, used_in(plant, loads, utility, period) as i128)
+}
+
+fn used_in(plant: &Plant, loads: &[u128], utility: usize, period: usize) -> u128
+    requires loads { length loads.now ≡ length plant.now.utilities * plant.now.periods }
+    requires light { sum loads.now ≤ 2 ^ 76 }
+    requires there { utility < length plant.now.utilities }
+    requires within { period < plant.now.periods }
+    ensures value { result ≡ used plant.now loads.now utility period }
+    ensures small { result ≤ 2 ^ 76 }
+{
+    loads[utility * plant.periods as usize + period]
+}
+
+#[tactic(auto, unfolding(stn_model::specs::Profit::start_cost))]
+fn start_cost(plant: &Plant, plan: &[Start]) -> i128
+    requires sound { Sound plant.now }
+    requires few { length plan.now < 2 ^ 32 }
+    ensures value { result ≡ start_cost plant.now plan.now }
+    ensures small { unsigned_abs result ≤ 2 ^ 52 }
+{
+    let mut sum: i128 = 0;
+    for start in plan {
+        sum += cost_of_start(plant, start);
+    }
+    sum
+}
+
+fn cost_of_start(plant: &Plant, start: &Start) -> i128
+    requires { Sound plant.now }
+    ensures value { result ≡ cost_of (run_on plant.now start.now.task start.now.unit) }
+    ensures small { unsigned_abs result ≤ 2 ^ 20 }
+{
+    match run_for(plant, start.task, start.unit) {
+        Some(run) => run.cost as i128,
+        None => 0,
+    }
+}

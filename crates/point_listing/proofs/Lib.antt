@@ -1,0 +1,8 @@
+pub mod Numbers
+pub mod Leads
+pub mod SmallProfit
+pub mod Gains
+pub mod Linear
+pub mod Chosen
+pub mod CapBound
+pub mod Outcomes

@@ -1,0 +1,4 @@
+pub mod Numbered
+pub mod Listed
+pub mod Cap
+pub mod Settled

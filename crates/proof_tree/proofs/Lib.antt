@@ -1,0 +1,6 @@
+pub mod Ranges
+pub mod Sound
+pub mod Trees
+pub mod Views
+pub mod WalkLaw
+pub mod Walking

@@ -1,0 +1,30 @@
+-- What caps say of points.
+use Rattle.std.specs.Prelude.{◌≡◌, ℤ, ◌≤ℤ◌, ⊤}
+use Rattle.std.specs.Int.{int_max}
+use Rattle.proof_tree.specs.declared.capped.Capped.{Capped}
+use Rattle.proof_tree.specs.declared.capped.Capped.TheVariants.{AtMost, NoPoint, Bad}
+use Rattle.proof_tree.specs.Views.{Point}
+
+-- the greater of two caps: no point where both have none, undefined where one is
+abbrev pub greater : Capped → Capped → Capped
+greater Bad other = Bad
+greater NoPoint other = other
+greater (AtMost a) Bad = Bad
+greater (AtMost a) NoPoint = AtMost a
+greater (AtMost a) (AtMost b) = AtMost (int_max a b)
+
+-- what a cap claims of the points of an area: no lawful one is worth more, or there is no lawful one
+abbrev pub Bounds : (Point → Type 0) → (Point → Type 0) → (Point → ℤ) → Capped → Type 0
+Bounds is_point is_lawful worth (AtMost n) = (p : Point) → is_point p → is_lawful p → worth p ≤ℤ n
+Bounds is_point is_lawful worth NoPoint = (p : Point) → is_point p → ¬ is_lawful p
+Bounds is_point is_lawful worth Bad = ⊤
+
+-- one point, and no other
+abbrev pub IsOnly : (Point → Type 0) → Point → Type 0
+IsOnly is_point p = is_point p × ((q : Point) → is_point q → q ≡ p)
+
+-- what settling an area claims: the worth of its only point, that its only point is not lawful, or that it has no only point
+abbrev pub Settles : (Point → Type 0) → (Point → Type 0) → (Point → ℤ) → Capped → Type 0
+Settles is_point is_lawful worth (AtMost n) = (p : Point) × IsOnly is_point p × is_lawful p × (worth p ≡ n)
+Settles is_point is_lawful worth NoPoint = (p : Point) × IsOnly is_point p × (¬ is_lawful p)
+Settles is_point is_lawful worth Bad = (p : Point) → ¬ IsOnly is_point p

@@ -1,0 +1,37 @@
+use crate::relaxation::Relaxation;
+
+/// A piece of a proof. The items of a proof are, in prefix order: `Node`, its cuts, its found point if
+/// there is one, its end, and for a split the items of the left and then of the right part.
+pub enum Item<R: Relaxation> {
+    /// A node begins.
+    Node,
+    /// A cut of the node.
+    Cut(R::Trim),
+    /// The point that was found at the node.
+    Found(R::Found),
+    /// The node's area has no point.
+    Empty,
+    /// The certificate caps the node's area.
+    Dual(R::Cert),
+    /// The node's area has one point.
+    Point,
+    /// The node is left open, with a certificate that caps its area.
+    Pending(R::Cert),
+    /// The area has two parts; the certificate shows why it was split.
+    Split(R::Pick, R::Cert),
+}
+
+impl<R: Relaxation> Drop for Item<R> {
+    fn drop(self) {
+        match self {
+            Item::Node => {}
+            Item::Cut(_) => {}
+            Item::Found(_) => {}
+            Item::Empty => {}
+            Item::Dual(_) => {}
+            Item::Point => {}
+            Item::Pending(_) => {}
+            Item::Split(_, _) => {}
+        }
+    }
+}

@@ -1,0 +1,28 @@
+//! Proofs that bound the worth of every point of an area, as trees of cuts and splits.
+//!
+//! This crate knows no rows and no plant: it works over any `Relaxation` that keeps the laws of that
+//! trait. `cap_of` answers the cap of a proof by one walk over its tree, and `Walk` the same cap from
+//! the tree's items, one at a time. Where a cap is answered, no lawful point of the area is worth more.
+#![tactic(auto)]
+
+mod capped;
+mod capping;
+mod item;
+mod list;
+mod proof;
+mod relaxation;
+mod stack;
+mod taker;
+#[cfg(test)]
+mod tests;
+mod walk;
+
+pub use capped::Capped;
+pub use capping::{cap_law, cap_of};
+pub use item::Item;
+pub use list::List;
+pub use proof::{End, Proof};
+pub use relaxation::Relaxation;
+pub use stack::Stack;
+pub use taker::{NodeTaker, TakeStop};
+pub use walk::{Expected, OpenSplit, Took, Walk};

@@ -1,0 +1,5 @@
+pub mod Ascending
+pub mod Domains
+pub mod Histories
+pub mod Marks
+pub mod Starts

@@ -1,0 +1,5 @@
+mod FrontLemmas
+pub mod FileLemmas
+mod StoredFiles
+mod WrittenLemmas
+mod FailingCalls

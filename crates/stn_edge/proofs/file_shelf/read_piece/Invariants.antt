@@ -1,0 +1,6 @@
+use Rattle.std.proofs.Common.{◌≤◌}
+use Rattle.stn_edge.proofs.file_shelf.read_piece.Given as goal
+
+-- the count has not fallen
+abbrev pub invariant-loop : goal.invariant-loop
+invariant-loop g l = l.initial.faults ≤ l.faults

@@ -1,0 +1,10 @@
+pub mod Count
+pub mod Files
+pub mod FixedFiles
+pub mod Text
+pub mod Written
+pub mod Entries
+pub mod FaultCounts
+pub mod Calls
+pub mod MemFiles
+pub mod MemText

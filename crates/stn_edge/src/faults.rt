@@ -1,0 +1,53 @@
+//! Counting the errors of the operating system.
+ghost use Rattle.std.specs.Prelude.{◌≡◌, ◌↔◌, ◌≤◌, ℕ, List, IsTrue, OnOk, OnErr};
+ghost use Rattle.std.specs.Io.KnownBytes.{Appends};
+ghost use Rattle.std.specs.IoError.{error_kind};
+ghost use Rattle.stn_edge.specs.Count.{Rose, next_count};
+ghost use Rattle.stn_edge.specs.Written.{IsLeft};
+
+use crate::stop::Failed;
+use std::io::{self, ErrorKind, Write};
+
+/// One more fault, where the count does not stand at its last value.
+pub fn raise(count: &mut u64)
+    ensures value { count.new ≡ next_count count.old }
+    ensures later { count.old ≤ count.new }
+{
+    *count = count.saturating_add(1);
+}
+
+/// A call was interrupted before it did anything, and is tried again.
+pub fn is_interrupted(error: &io::Error) -> bool
+    ensures { IsTrue result ↔ (error_kind error.now ≡ ErrorKind.Interrupted) }
+{
+    error.kind() == ErrorKind::Interrupted
+}
+
+/// Writes all of the bytes, piece after piece. Each error raises the count, and after one that is no
+/// interruption the rest is not written. So it is after a write that takes nothing.
+pub fn write_whole<W: Write>(to: &mut W, bytes: &[u8], faults: &mut u64) -> Result<(), Failed>
+    ensures ok { OnOk result (Appends (W.contents to.old) (W.contents to.new) bytes.now) }
+    ensures err { OnErr result ((rest : List ℕ)
+        × IsLeft bytes.now (W.contents to.old) (W.contents to.new) rest) }
+    ensures later { faults.old ≤ faults.new }
+    ensures cause { OnErr result (Rose faults.old faults.new) }
+{
+    let mut rest = bytes;
+    for _ in 0..u64::MAX {
+        if rest.is_empty() {
+            return Ok(());
+        }
+        match to.write(rest) {
+            Ok(0) => break,
+            Ok(count) => rest = &rest[count..],
+            Err(error) => {
+                if !is_interrupted(&error) {
+                    break;
+                }
+                raise(faults);
+            }
+        }
+    }
+    raise(faults);
+    Err(Failed)
+}
