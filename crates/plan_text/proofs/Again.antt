@@ -1,17 +1,17 @@
 -- That the lines of a plan say the plan again.
-use Rattle.std.proofs.Common.{◌≡◌, ◌≢◌, ℕ, zero, suc, ◌+◌, ◌<◌, ◌≤◌, ◌==◌, ◌^◌, Bool, true, false, ◌&&◌, ◌||◌, ◌⊎◌, inl, inr, nat_le, nat_lt, cond, eqb, if◌then◌else◌, Option, Some, None, List, [], ◌∷◌, ◌++◌, All, AllPairs, length, get_or, map, decimal, position, bytes_eq, flat_map, slice_index_or, sym, ap, ◌∙◌, refl, arith, append_assoc, length-append}
+use Rattle.std.proofs.Common.{◌≡◌, ◌≢◌, ℕ, suc, ◌+◌, ◌<◌, ◌≤◌, ◌==◌, ◌^◌, Bool, true, false, ◌&&◌, ◌||◌, inl, inr, nat_le, eqb, if◌then◌else◌, Option, Some, List, [], ◌∷◌, ◌++◌, All, AllPairs, length, get_or, map, decimal, position, bytes_eq, slice_index_or, sym, ap, ◌∙◌, refl, arith, append_assoc, length-append}
 use Rattle.std.specs.Prelude.{Result, Ok, Err, IsTrue}
 use Rattle.std.specs.List.{slice_split, join_with_byte, list_all, position_or_len}
 use Rattle.std.specs.Option.{option_map_or}
 use Rattle.std.specs.Char.{is_ascii_alphabetic}
 use Rattle.std.proofs.lemmas.List.{append-nil, get_or-map, get_or_append_left}
-use Rattle.std.proofs.lemmas.List.Elements.{All-append, All-cons, All-nil}
+use Rattle.std.proofs.lemmas.List.Elements.{All-append, All-cons}
 use Rattle.std.proofs.lemmas.List.Recursion.{and_at}
 use Rattle.std.proofs.lemmas.List.Splits.{slice_split_at, slice_split_none, length-slice_split}
 use Rattle.std.proofs.lemmas.List.Sums.{position_or_len_is}
 use Rattle.std.proofs.lemmas.Bool.{false≢true}
 use Rattle.std.specs.Bool.{Decides}
-use Rattle.std.proofs.lemmas.Bool.Decides.{Decides-and, Decides-ltb, Decides-eqb, nat_tests, leb_tells, eqb_tells}
+use Rattle.std.proofs.lemmas.Bool.Decides.{Decides-ltb, Decides-eqb, nat_tests, eqb_tells}
 use Rattle.std.proofs.lemmas.Slice.Eq.{bytes_eq-Decides}
 use Rattle.std.proofs.lemmas.Fmt.{decimal_nonempty}
 use Rattle.text_words.specs.Numbers.{number_below}
@@ -24,9 +24,9 @@ use Rattle.stn_model.specs.Plant.{no_task}
 use Rattle.stn_model.specs.Sound.{Sound, is_name, is_name_byte}
 use Rattle.stn_model.specs.declared.limits.TheConstants.{MAX_NAME}
 use Rattle.plan_text.specs.declared.fault.PlanFault.{PlanFault}
-use Rattle.plan_text.specs.declared.fault.TheConstants.{BAD_LINE, UNKNOWN_NAME, MAX_BYTES, MAX_STARTS, NUMBER_LIMIT}
-use Rattle.plan_text.specs.PlanLines.{IsNamed, unit_names, task_names, start_words, plan_line, plan_lines}
-use Rattle.plan_text.specs.PlanText.{lines_of_parts, text_lines, line_words, is_comment, is_empty, unit_named, task_named, named_start, start_of, start_of_words, line_start, plan_of_text, plan_of_lines, after_line, with_start}
+use Rattle.plan_text.specs.declared.fault.TheConstants.{BAD_LINE, UNKNOWN_NAME, MAX_STARTS, NUMBER_LIMIT}
+use Rattle.plan_text.specs.PlanLines.{unit_names, task_names, start_words, plan_line, plan_lines}
+use Rattle.plan_text.specs.PlanText.{lines_of_parts, text_lines, line_words, is_comment, is_empty, unit_named, task_named, start_of, start_of_words, line_start, after_line, with_start}
 use Rattle.plan_text.specs.ReadsBack.{IsRemark, comment_lines, IsWritable, ReadsBack}
 use Rattle.plan_text.proofs.Reading.{lines_of_parts-cons, read_on, plan_of_lines-is, plan_of_text-short, text_lines-nil}
 
@@ -61,11 +61,12 @@ comments_read : (plant : Plant) (number : ℕ) (plan : List Start) (remarks : Li
     → (later : ℕ) × (read_on plant number plan (text_lines (comment_lines remarks ++ text)) ≡ read_on plant later plan (text_lines text))
 comments_read plant number plan [] text are = (number, refl)
 comments_read plant number plan (remark ∷ remarks) text are =
-    let others = comments_read plant (number + 1) plan remarks text (λ k d within. are (suc k) d (omega arith)) in
-    (others.0,
-     ap (λ (x : List ℕ). read_on plant number plan (text_lines x)) (first_line (35 ∷ remark) (comment_lines remarks) text)
-     ∙ ap (read_on plant number plan) (text_lines-line (35 ∷ remark) (comment_lines remarks ++ text) (Lacks-remark remark (are 0 remark (omega arith))))
-     ∙ rw (after_line-comment plant (number + 1) plan remark) others.1)
+    let others = comments_read plant (number + 1) plan remarks text (λ k d within. are (suc k) d (omega arith)) in (
+      others.0,
+      ap (λ (x : List ℕ). read_on plant number plan (text_lines x)) (first_line (35 ∷ remark) (comment_lines remarks) text)
+          ∙ ap (read_on plant number plan) (text_lines-line (35 ∷ remark) (comment_lines remarks ++ text) (Lacks-remark remark (are 0 remark (omega arith))))
+          ∙ rw (after_line-comment plant (number + 1) plan remark) others.1,
+    )
 
 -- ---- words
 
@@ -117,8 +118,8 @@ named_is : {X : Type 0} (name_of : X → List ℕ) (xs : List X) (i : ℕ) (d : 
 named_is {X} name_of xs i d word within is differ =
     let test : X → Bool = λ x. bytes_eq (name_of x) word in
     let place : position_or_len test xs ≡ i = position_or_len_is test xs i d (omega arith)
-      (λ k below. fails (test (get_or xs k d)) (bytes_eq-Decides (name_of (get_or xs k d)) word) (λ same. differ k i d below within (same ∙ is)))
-      (λ there. (bytes_eq-Decides (name_of (get_or xs i d)) word).1 (sym is)) in
+    (λ k below. fails (test (get_or xs k d)) (bytes_eq-Decides (name_of (get_or xs k d)) word) (λ same. differ k i d below within (same ∙ is)))
+    (λ there. (bytes_eq-Decides (name_of (get_or xs i d)) word).1 (sym is)) in
     rw place (rw ((Decides-ltb i (length xs)).1 within) refl)
 
 -- the name at a place is a word, and is found at this place
@@ -149,8 +150,8 @@ made period unit task quanta = Ok (record { period = period; unit = unit; task =
 -- a choice of which each part holds
 says : (empty_unit empty_task : Bool) (p q u t : Option ℕ) (period quanta unit task : ℕ) → empty_unit ≡ false → empty_task ≡ false → p ≡ Some period → q ≡ Some quanta → u ≡ Some unit → t ≡ Some task
     → (if empty_unit || empty_task then Err BAD_LINE
-      else option_map_or (λ p2. option_map_or (λ q2. option_map_or (λ u2. option_map_or (λ t2. made p2 u2 t2 q2) t (Err UNKNOWN_NAME)) u (Err UNKNOWN_NAME)) q (Err BAD_LINE)) p (Err BAD_LINE))
-      ≡ made period unit task quanta
+    else option_map_or (λ p2. option_map_or (λ q2. option_map_or (λ u2. option_map_or (λ t2. made p2 u2 t2 q2) t (Err UNKNOWN_NAME)) u (Err UNKNOWN_NAME)) q (Err BAD_LINE)) p (Err BAD_LINE))
+    ≡ made period unit task quanta
 says empty_unit empty_task p q u t period quanta unit task is_1 is_2 is_3 is_4 is_5 is_6 = rw (is_1, is_2, is_3, is_4, is_5, is_6) refl
 
 -- what is not empty is told
@@ -187,11 +188,11 @@ line_of plant start sound writable =
     record {
       no_feed = Lacks-four 10 (decimal start.period) u t (decimal start.quanta) refl (decimal-lacks start.period 10 period (λ r. omega arith)) unit.no_feed task.no_feed (decimal-lacks start.quanta 10 quanta (λ r. omega arith));
       no_comment =
-        ap (λ (x : ℕ). eqb x 35) (get_or_append_left (decimal start.period) (32 ∷ (u ++ (32 ∷ (t ++ (32 ∷ decimal start.quanta))))) 0 0 (decimal_nonempty start.period period))
-        ∙ decimal-lacks start.period 35 period (λ r. omega arith) 0 0 (decimal_nonempty start.period period);
+          ap (λ (x : ℕ). eqb x 35) (get_or_append_left (decimal start.period) (32 ∷ (u ++ (32 ∷ (t ++ (32 ∷ decimal start.quanta))))) 0 0 (decimal_nonempty start.period period))
+          ∙ decimal-lacks start.period 35 period (λ r. omega arith) 0 0 (decimal_nonempty start.period period);
       says =
-        ap (start_of_words plant) (line_words-four (decimal start.period) u t (decimal start.quanta) (decimal-lacks start.period 32 period (λ r. omega arith)) unit.no_blank task.no_blank (decimal-lacks start.quanta 32 quanta (λ r. omega arith)))
-        ∙ start_of-says plant start.period start.unit start.task start.quanta u t unit.some task.some writable.period writable.quanta unit.place task.place;
+          ap (start_of_words plant) (line_words-four (decimal start.period) u t (decimal start.quanta) (decimal-lacks start.period 32 period (λ r. omega arith)) unit.no_blank task.no_blank (decimal-lacks start.quanta 32 quanta (λ r. omega arith)))
+          ∙ start_of-says plant start.period start.unit start.task start.quanta u t unit.some task.some writable.period writable.quanta unit.place task.place;
     }
 
 -- a choice that puts a start at the end

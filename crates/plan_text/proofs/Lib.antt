@@ -1,4 +1,5 @@
 pub mod Again
 pub mod Few
+pub mod Kept
 pub mod Lines
 pub mod Reading

@@ -1,5 +1,5 @@
 -- A plan text read line by line.
-use Rattle.std.proofs.Common.{◌≡◌, ℕ, zero, suc, ◌+◌, ◌<◌, ◌≤◌, ◌==◌, Bool, true, false, not, cond, eqb, ◌||◌, ◌^◌, decimal, if◌then◌else◌, ◌⊎◌, inl, inr, Option, Some, None, option_map, option_to_list, List, [], ◌∷◌, ◌++◌, length, get_or, take, drop, filter_map, count_by, slice_get, slice_index_or, sym, ap, ◌∙◌, refl, arith, append_assoc, length-append, length-drop}
+use Rattle.std.proofs.Common.{◌≡◌, ℕ, ◌+◌, ◌<◌, ◌≤◌, ◌==◌, Bool, true, false, not, cond, eqb, ◌||◌, ◌^◌, decimal, if◌then◌else◌, ◌⊎◌, inl, inr, Option, Some, None, option_map, option_to_list, List, [], ◌∷◌, ◌++◌, length, get_or, filter_map, slice_get, sym, ap, ◌∙◌, refl, arith, append_assoc, length-append, length-drop}
 use Rattle.std.specs.Prelude.{Result, Ok, Err}
 use Rattle.std.specs.List.{slice_split, position_or_len, before_first, after_first, range_with_len, cons_option}
 use Rattle.std.specs.Result.{result_ok, result_err}
@@ -90,32 +90,32 @@ five_words plant a b c d (part ∷ parts) some = refl
 fourth_word : (plant : Plant) (a b c text : List ℕ) → start_of_words plant (a ∷ b ∷ c ∷ line_words text) ≡ start_of plant a b c text
 fourth_word plant a b c text =
     elim (cut_cases (λ w. w == 32) text) [
-      inl cut ↦ ap (λ (parts : List (List ℕ)). start_of_words plant (a ∷ b ∷ c ∷ parts)) cut.1 ∙ five_words plant a b c (word_of text) (line_words (rest_of text)) (omega (arith, length-slice_split (λ w. w == 32) (rest_of text))) ∙ sym (no_number plant a b c text (blank_word text cut.0))
-    | inr whole ↦ ap (λ (parts : List (List ℕ)). start_of_words plant (a ∷ b ∷ c ∷ parts)) whole.2
+      | inl cut ↦ ap (λ (parts : List (List ℕ)). start_of_words plant (a ∷ b ∷ c ∷ parts)) cut.1 ∙ five_words plant a b c (word_of text) (line_words (rest_of text)) (omega (arith, length-slice_split (λ w. w == 32) (rest_of text))) ∙ sym (no_number plant a b c text (blank_word text cut.0))
+      | inr whole ↦ ap (λ (parts : List (List ℕ)). start_of_words plant (a ∷ b ∷ c ∷ parts)) whole.2
     ]
 
 -- after two words, what is left has the third
 third_word : (plant : Plant) (a b text : List ℕ) → start_of_words plant (a ∷ b ∷ line_words text) ≡ start_of plant a b (word_of text) (rest_of text)
 third_word plant a b text =
     elim (cut_cases (λ w. w == 32) text) [
-      inl cut ↦ ap (λ (parts : List (List ℕ)). start_of_words plant (a ∷ b ∷ parts)) cut.1 ∙ fourth_word plant a b (word_of text) (rest_of text)
-    | inr whole ↦ ap (λ (parts : List (List ℕ)). start_of_words plant (a ∷ b ∷ parts)) whole.2 ∙ sym (no_number plant a b (word_of text) (rest_of text) (rw whole.1 empty_word))
+      | inl cut ↦ ap (λ (parts : List (List ℕ)). start_of_words plant (a ∷ b ∷ parts)) cut.1 ∙ fourth_word plant a b (word_of text) (rest_of text)
+      | inr whole ↦ ap (λ (parts : List (List ℕ)). start_of_words plant (a ∷ b ∷ parts)) whole.2 ∙ sym (no_number plant a b (word_of text) (rest_of text) (rw whole.1 empty_word))
     ]
 
 -- after one word, what is left has the second
 second_word : (plant : Plant) (a text : List ℕ) → start_of_words plant (a ∷ line_words text) ≡ start_of plant a (word_of text) (word_of (rest_of text)) (rest_of (rest_of text))
 second_word plant a text =
     elim (cut_cases (λ w. w == 32) text) [
-      inl cut ↦ ap (λ (parts : List (List ℕ)). start_of_words plant (a ∷ parts)) cut.1 ∙ third_word plant a (word_of text) (rest_of text)
-    | inr whole ↦ ap (λ (parts : List (List ℕ)). start_of_words plant (a ∷ parts)) whole.2 ∙ sym (no_number plant a (word_of text) (word_of (rest_of text)) (rest_of (rest_of text)) (rw whole.1 empty_word))
+      | inl cut ↦ ap (λ (parts : List (List ℕ)). start_of_words plant (a ∷ parts)) cut.1 ∙ third_word plant a (word_of text) (rest_of text)
+      | inr whole ↦ ap (λ (parts : List (List ℕ)). start_of_words plant (a ∷ parts)) whole.2 ∙ sym (no_number plant a (word_of text) (word_of (rest_of text)) (rest_of (rest_of text)) (rw whole.1 empty_word))
     ]
 
 -- three cuts at a blank give the four words of a line
 pub line_start-cuts : (plant : Plant) (line : List ℕ) → line_start plant line ≡ start_of plant (word_of line) (word_of (rest_of line)) (word_of (rest_of (rest_of line))) (rest_of (rest_of (rest_of line)))
 line_start-cuts plant line =
     elim (cut_cases (λ w. w == 32) line) [
-      inl cut ↦ ap (start_of_words plant) cut.1 ∙ second_word plant (word_of line) (rest_of line)
-    | inr whole ↦ ap (start_of_words plant) whole.2 ∙ sym (no_number plant (word_of line) (word_of (rest_of line)) (word_of (rest_of (rest_of line))) (rest_of (rest_of (rest_of line))) (rw whole.1 empty_word))
+      | inl cut ↦ ap (start_of_words plant) cut.1 ∙ second_word plant (word_of line) (rest_of line)
+      | inr whole ↦ ap (start_of_words plant) whole.2 ∙ sym (no_number plant (word_of line) (word_of (rest_of line)) (word_of (rest_of (rest_of line))) (rest_of (rest_of (rest_of line))) (rw whole.1 empty_word))
     ]
 
 -- what comes after, where the plan before it has no fault
@@ -176,10 +176,10 @@ read_on-is : (plant : Plant) (done rest : List (List ℕ)) (plan : List Start) �
 read_on-is plant done [] plan is count = ap Ok (ap (filter_map (said plant)) (append-nil done) ∙ sym is)
 read_on-is plant done (line ∷ rest) plan is count =
     elim (agrees plant done line rest plan count) [
-      inl fails ↦ rw fails.1 (rw fails.2 refl)
-    | inr holds ↦
-        let more = read_on-is plant (done ++ line ∷ []) rest (plan ++ option_to_list (said plant line)) (said_more plant done line plan is) (count_more done line plan (said plant line) count holds.2) in
-        rw holds.0 (rw holds.1 (rw (append_assoc done (line ∷ []) rest, length-append done (line ∷ [])) at more))
+      | inl fails ↦ rw fails.1 (rw fails.2 refl)
+      | inr holds ↦
+          let more = read_on-is plant (done ++ line ∷ []) rest (plan ++ option_to_list (said plant line)) (said_more plant done line plan is) (count_more done line plan (said plant line) count holds.2) in
+          rw holds.0 (rw holds.1 (rw (append_assoc done (line ∷ []) rest, length-append done (line ∷ [])) at more))
     ]
 
 pub plan_of_lines-is : (plant : Plant) (lines : List (List ℕ)) → plan_of_lines plant lines ≡ read_on plant 0 [] lines
@@ -226,3 +226,8 @@ tells_some bytes empty is filled = grind (arith, nat_tests)
 
 pub tells_none : (bytes : List ℕ) (empty : Bool) → empty ≡ (length bytes == 0) → empty ≡ true → length bytes ≡ 0
 tells_none bytes empty is none = grind (arith, nat_tests)
+
+-- the same, of the cuts one by one
+pub line_start-parts : (plant : Plant) (line a r b q c d : List ℕ) → a ≡ word_of line → r ≡ rest_of line → b ≡ word_of r → q ≡ rest_of r → c ≡ word_of q → d ≡ rest_of q → start_of plant a b c d ≡ line_start plant line
+line_start-parts plant line a r b q c d is_a is_r is_b is_q is_c is_d =
+    rw (is_c, is_d, is_q, is_a, is_b, is_r) (sym (line_start-cuts plant line))

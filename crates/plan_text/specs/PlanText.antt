@@ -1,5 +1,5 @@
 -- What a plan text says: its lines, the words of a line, and the first fault.
-use Rattle.std.specs.Prelude.{◌≡◌, ℕ, ◌+◌, ◌<◌, ◌≤◌, ◌==◌, ◌&&◌, ◌||◌, not, nat_lt, Bool, true, false, if◌then◌else◌, Option, Some, None, option_map, Result, Ok, Err, MatchResult, ⊤, List, [], ◌∷◌, ◌++◌, length, take, All, position, filter_map, count_by, flat_map, slice_get, slice_index, slice_index_or, bytes_eq}
+use Rattle.std.specs.Prelude.{◌≡◌, ℕ, ◌+◌, ◌==◌, ◌||◌, not, nat_lt, Bool, if◌then◌else◌, Option, Some, None, option_map, Result, Ok, Err, MatchResult, ⊤, List, [], ◌∷◌, ◌++◌, length, take, position, filter_map, count_by, slice_get, slice_index, slice_index_or, bytes_eq}
 use Rattle.std.specs.List.{slice_split, range_with_len}
 use Rattle.std.specs.Option.{option_map_or}
 use Rattle.std.specs.Result.{result_ok, result_err}

@@ -1,23 +1,27 @@
 //! A plan from its text.
 
-ghost use Rattle.std.specs.Prelude.{◌≡◌, ◌<◌, ◌≤◌, ◌^◌, length, position, bytes_eq, MatchResult};
-ghost use Rattle.stn_model.specs.Sound.{Sound};
+ghost use Rattle.std.specs.Prelude.{◌≡◌, ◌<◌, ◌≤◌, ◌^◌, length, position, bytes_eq, All, IfOk, MatchResult};
 ghost use Rattle.plan_text.specs.PlanText.{Gives, IsStop, after_line, is_comment, line_start, named_start, plan_of_lines, plan_of_text, start_of, task_named, text_lines, unit_named};
+ghost use Rattle.plan_text.specs.ReadsBack.{IsWritable};
 
 use crate::fault::{
     BAD_LINE, MAX_BYTES, MAX_STARTS, NUMBER_LIMIT, PlanFault, PlanStop, TOO_LONG, TOO_MANY_LINES,
     UNKNOWN_NAME,
 };
 use std::alloc::Global;
+use stn_model::limits::{MAX_TASKS, MAX_UNITS};
 use stn_model::{List, Name, Plant, Start, StnUnit, Task};
 use text_words::{cut_at, read_number};
 
 /// The plan that the text says: the starts of its lines that are no comments, in their order. Else the
-/// first fault of the text, or want of memory. It takes time linear in the text, times the units and
-/// tasks for the names.
+/// first fault of the text, or want of memory. The units and tasks of the plan are in the plant. It takes
+/// time linear in the text, times the units and tasks for the names.
 pub fn read_plan(alloc: Global, plant: &Plant, bytes: &[u8]) -> Result<List<Start>, PlanStop>
-    requires { Sound plant.now }
-    ensures { Gives (plan_of_text plant.now bytes.now) result }
+    requires units { length plant.now.units ≤ MAX_UNITS }
+    requires tasks { length plant.now.tasks ≤ MAX_TASKS }
+    ensures gives { Gives (plan_of_text plant.now bytes.now) result }
+    ensures few { IfOk result (λ plan. length plan ≤ MAX_STARTS) }
+    ensures writable { IfOk result (All (IsWritable plant.now)) }
 {
     if bytes.len() > MAX_BYTES {
         return Err(PlanStop::Fault(PlanFault {
@@ -30,7 +34,8 @@ pub fn read_plan(alloc: Global, plant: &Plant, bytes: &[u8]) -> Result<List<Star
 
 // The plan that the lines of the text say, or their first fault.
 fn read_lines(alloc: Global, plant: &Plant, text: &[u8]) -> Result<List<Start>, PlanStop>
-    requires sound { Sound plant.now }
+    requires units { length plant.now.units ≤ MAX_UNITS }
+    requires tasks { length plant.now.tasks ≤ MAX_TASKS }
     requires short { length text.now ≤ MAX_BYTES }
     ensures { Gives (plan_of_lines plant.now (text_lines text.now)) result }
 {
@@ -53,7 +58,8 @@ fn take_line(
     number: u32,
     plan: &mut List<Start>,
 ) -> Result<(), PlanStop>
-    requires { Sound plant.now }
+    requires units { length plant.now.units ≤ MAX_UNITS }
+    requires tasks { length plant.now.tasks ≤ MAX_TASKS }
     ensures { MatchResult result (λ _. after_line plant.now number plan.old line.now ≡ Ok plan.new) (IsStop (after_line plant.now number plan.old line.now)) }
 {
     if is_comment(line) {
@@ -86,7 +92,8 @@ fn is_comment(line: &[u8]) -> bool
 
 // The start that a line says, or the kind of its fault.
 fn read_start(plant: &Plant, line: &[u8]) -> Result<Start, u8>
-    requires { Sound plant.now }
+    requires units { length plant.now.units ≤ MAX_UNITS }
+    requires tasks { length plant.now.tasks ≤ MAX_TASKS }
     ensures { result ≡ line_start plant.now line.now }
 {
     let (period, rest) = cut_at(line, b' ');
@@ -103,7 +110,8 @@ fn read_words(
     task: &[u8],
     quanta: &[u8],
 ) -> Result<Start, u8>
-    requires { Sound plant.now }
+    requires units { length plant.now.units ≤ MAX_UNITS }
+    requires tasks { length plant.now.tasks ≤ MAX_TASKS }
     ensures { result ≡ start_of plant.now period.now unit.now task.now quanta.now }
 {
     if unit.is_empty() {
@@ -129,7 +137,8 @@ fn find_start(
     task: &[u8],
     quanta: u32,
 ) -> Result<Start, u8>
-    requires { Sound plant.now }
+    requires units { length plant.now.units ≤ MAX_UNITS }
+    requires tasks { length plant.now.tasks ≤ MAX_TASKS }
     ensures { result ≡ named_start plant.now period unit.now task.now quanta }
 {
     match (find_unit(plant, unit), find_task(plant, task)) {
@@ -145,7 +154,7 @@ fn find_start(
 
 // The number of the unit of this name.
 fn find_unit(plant: &Plant, word: &[u8]) -> Option<u32>
-    requires { Sound plant.now }
+    requires { length plant.now.units ≤ MAX_UNITS }
     ensures { result ≡ unit_named plant.now word.now }
 {
     match unit_place(plant.units.as_slice(), word) {
@@ -163,7 +172,7 @@ fn unit_place(units: &[StnUnit], word: &[u8]) -> Option<usize>
 
 // The number of the task of this name.
 fn find_task(plant: &Plant, word: &[u8]) -> Option<u32>
-    requires { Sound plant.now }
+    requires { length plant.now.tasks ≤ MAX_TASKS }
     ensures { result ≡ task_named plant.now word.now }
 {
     match task_place(plant.tasks.as_slice(), word) {

@@ -58,6 +58,6 @@ pub cut_cases : (p : ℕ → Bool) (text : List ℕ)
     → ((position_or_len p text < length text) × (slice_split p text ≡ before_first p text ∷ slice_split p (after_first p text))) ⊎ ((before_first p text ≡ text) × (after_first p text ≡ []) × (slice_split p text ≡ text ∷ []))
 cut_cases p text =
     elim (leb_tells (length text) (position_or_len p text)) [
-      inl tells ↦ inr (take_all (position_or_len p text) text tells.1, drop_all (position_or_len p text + 1) text (omega (arith, tells.1)), uncut p text tells.1)
-    | inr tells ↦ inl (tells.1, slice_split_first p text 0 tells.1)
+      | inl tells ↦ inr (take_all (position_or_len p text) text tells.1, drop_all (position_or_len p text + 1) text (omega (arith, tells.1)), uncut p text tells.1)
+      | inr tells ↦ inl (tells.1, slice_split_first p text 0 tells.1)
     ]
