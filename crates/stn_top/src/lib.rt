@@ -7,6 +7,8 @@
 pub mod command;
 pub mod reply;
 pub mod sources;
+#[cfg(test)]
+mod tests;
 pub mod texts;
 pub mod top;
 

@@ -4,8 +4,19 @@ ghost use Rattle.stn_model.specs.Plant.{state_at, utility_at};
 ghost use Rattle.std.specs.Fmt.{signed_decimal};
 ghost use Rattle.plan_text.specs.PlanLines.{plan_lines, IsNamed};
 ghost use Rattle.stn_top.specs.Texts.{
-    words_text, fault_text, boxes_line, answer_text, status_of, IsNamedIn, plan_fault_text, pair_line,
-    named_line, violation_text, verdict_text, verdict_status, IsOfPlant
+  words_text,
+  fault_text,
+  boxes_line,
+  answer_text,
+  status_of,
+  IsNamedIn,
+  plan_fault_text,
+  pair_line,
+  named_line,
+  violation_text,
+  verdict_text,
+  verdict_status,
+  IsOfPlant,
 };
 
 use crate::reply::Reply;
@@ -189,10 +200,20 @@ fn violation_text(
             named_text(alloc, "broken stock-low ", state_name(plant, *state), *time)
         }
         Violation::StockHigh { state, time } => {
-            named_text(alloc, "broken stock-high ", state_name(plant, *state), *time)
+            named_text(
+                alloc,
+                "broken stock-high ",
+                state_name(plant, *state),
+                *time,
+            )
         }
         Violation::Load { utility, period } => {
-            named_text(alloc, "broken load ", utility_name(plant, *utility), *period)
+            named_text(
+                alloc,
+                "broken load ",
+                utility_name(plant, *utility),
+                *period,
+            )
         }
     }
 }
@@ -219,12 +240,7 @@ fn unfit_text(alloc: Global, place: u32) -> Result<Vec<u8>, AllocError>
     Vec::from_slice(alloc, line.as_bytes())
 }
 
-fn pair_text(
-    alloc: Global,
-    what: &str,
-    first: u32,
-    second: u32,
-) -> Result<Vec<u8>, AllocError>
+fn pair_text(alloc: Global, what: &str, first: u32, second: u32) -> Result<Vec<u8>, AllocError>
     ensures { IfOk result (λ text. text.items ≡ pair_line what.now first second) }
 {
     let a = first as u64 + 1;
@@ -233,12 +249,7 @@ fn pair_text(
     Vec::from_slice(alloc, line.as_bytes())
 }
 
-fn named_text(
-    alloc: Global,
-    what: &str,
-    name: &[u8],
-    number: u32,
-) -> Result<Vec<u8>, AllocError>
+fn named_text(alloc: Global, what: &str, name: &[u8], number: u32) -> Result<Vec<u8>, AllocError>
     ensures { IfOk result (λ text. text.items ≡ named_line what.now name.now number) }
 {
     let mut text = Vec::from_slice(alloc, what.as_bytes())?;
