@@ -1,0 +1,85 @@
+//! Looking into a TOML table.
+ghost use Rattle.std.specs.Prelude.{◌≡◌, true, false, None, option_map, IfOk, IfErr, IfNone};
+ghost use Rattle.toml.specs.Data.{get_member};
+ghost use Rattle.toml.specs.View.{view, table_view};
+ghost use Rattle.plant_text.specs.Words.{key_word};
+ghost use Rattle.plant_text.specs.Fields.{fault, held, is_of, is_known, has_unknown};
+
+use crate::fault::{KeyName, Place, PlantStop};
+use toml::{Table, Value};
+
+/// A key of a table: its name, whether the version of the file knows it, and whether it is required.
+#[derive(Clone, Copy)]
+pub struct Key {
+    pub name: KeyName,
+    pub known: bool,
+    pub required: bool,
+}
+
+fn lookup(table: &Table, name: KeyName) -> Option<&Value>
+    ensures { option_map (λ v. view v.now) result ≡ get_member (key_word name) (table_view table.now) }
+{
+    table.get(name.word())
+}
+
+/// What a table holds at a key; nothing at a key that the file's version does not know.
+pub fn find(table: &Table, key: Key) -> Option<&Value>
+    ensures { option_map (λ v. view v.now) result ≡ held (table_view table.now) key }
+{
+    if key.known {
+        lookup(table, key.name)
+    } else {
+        None
+    }
+}
+
+/// What a table holds at a key, which is a fault where the key is required and absent.
+pub fn present(table: &Table, place: Place, key: Key) -> Result<Option<&Value>, PlantStop>
+    ensures ok { IfOk result (λ found. option_map (λ v. view v.now) found ≡ held (table_view table.now) key) }
+    ensures some { IfOk result (λ found. IfNone found (key.required ≡ false)) }
+    ensures err { IfErr result (λ e. (e ≡ PlantStop.Fault (fault 5 place key.name)) × (key.required ≡ true) × (held (table_view table.now) key ≡ None)) }
+{
+    match find(table, key) {
+        Some(value) => Ok(Some(value)),
+        None => {
+            if key.required {
+                Err(place.stop(5, key.name))
+            } else {
+                Ok(None)
+            }
+        }
+    }
+}
+
+fn is_of(word: &str, key: &Key) -> bool
+    ensures { result ≡ is_of word.now key.now }
+{
+    if !key.known {
+        return false;
+    }
+    key.name.word() == word
+}
+
+fn knows(keys: &[Key], word: &str) -> bool
+    ensures { result ≡ is_known keys.now word.now }
+{
+    for key in keys {
+        if is_of(word, key) {
+            return true;
+        }
+    }
+    false
+}
+
+/// Whether the table has a key that is not among the known ones.
+#[tactic(auto, using(crate::proofs::Members::strange_members))]
+pub fn unknown(table: &Table, keys: &[Key]) -> bool
+    ensures { result ≡ has_unknown keys.now (table_view table.now) }
+{
+    for word in table.keys() {
+        if !knows(keys, word.as_str()) {
+            return true;
+        }
+    }
+    false
+}

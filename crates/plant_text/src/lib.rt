@@ -1,0 +1,10 @@
+//! Reads a plant file: bytes become a plant, or the first fault in the order of reading.
+#![tactic(auto)]
+
+mod fault;
+mod find;
+mod key;
+mod values;
+
+
+pub use fault::{KeyName, Place, PlantFault, PlantStop, TableName};
