@@ -1,2 +1,4 @@
 pub mod Members
 pub mod Outcomes
+pub mod Places
+pub mod Reading

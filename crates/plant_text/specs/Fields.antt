@@ -113,6 +113,23 @@ pub record Field : Type 0 where
 abbrev pub held : Members → Key → Option Data
 held members key = if key.known then get_member (key_word key.name) members else None
 
+-- the text at a key, the number, and the items; nothing, the default and none where it is absent
+abbrev pub text_at : Members → Key → List ℕ
+text_at members key = unwrap_or (option_map text_of (held members key)) []
+
+abbrev pub count_at : Members → Key → ℕ → ℕ
+count_at members key default = unwrap_or (option_map count_of (held members key)) default
+
+abbrev pub money_at : Members → Key → ℤ → ℤ
+money_at members key default = unwrap_or (option_map integer_of (held members key)) default
+
+abbrev pub items_at : Members → Key → List Data
+items_at members key = unwrap_or (option_map items_of (held members key)) []
+
+-- the place of the name at a key
+abbrev pub place_at : Places → Members → Key → ℕ
+place_at places members key = unwrap_or (places (text_at members key)) 0
+
 -- the tests of a row
 abbrev pub field_tests : Place → Members → Field → List Test
 field_tests place members field = value_tests place field.key field.kind (held members field.key)

@@ -16,7 +16,7 @@ pub struct Key {
     pub required: bool,
 }
 
-fn lookup(table: &Table, name: KeyName) -> Option<&Value>
+pub fn lookup(table: &Table, name: KeyName) -> Option<&Value>
     ensures { option_map (λ v. view v.now) result ≡ get_member (key_word name) (table_view table.now) }
 {
     table.get(name.word())

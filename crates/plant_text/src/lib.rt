@@ -4,6 +4,10 @@
 mod fault;
 mod find;
 mod key;
+mod names;
+mod numbers;
+mod rows;
+mod scope;
 mod values;
 
 
