@@ -113,22 +113,25 @@ pub record Field : Type 0 where
 abbrev pub held : Members → Key → Option Data
 held members key = if key.known then get_member (key_word key.name) members else None
 
--- the text at a key, the number, and the items; nothing, the default and none where it is absent
+-- what stands at a key, read in a way; the default where the key is absent
+abbrev pub at_key : {X : Type 0} → (Data → X) → X → Members → Key → X
+at_key read default members key = unwrap_or (option_map read (held members key)) default
+
+-- the text at a key
 abbrev pub text_at : Members → Key → List ℕ
-text_at members key = unwrap_or (option_map text_of (held members key)) []
+text_at members key = at_key text_of [] members key
 
-abbrev pub count_at : Members → Key → ℕ → ℕ
-count_at members key default = unwrap_or (option_map count_of (held members key)) default
-
-abbrev pub money_at : Members → Key → ℤ → ℤ
-money_at members key default = unwrap_or (option_map integer_of (held members key)) default
-
+-- the items of the array at a key
 abbrev pub items_at : Members → Key → List Data
-items_at members key = unwrap_or (option_map items_of (held members key)) []
+items_at members key = at_key items_of [] members key
 
--- the place of the name at a key
-abbrev pub place_at : Places → Members → Key → ℕ
-place_at places members key = unwrap_or (places (text_at members key)) 0
+-- the numbers of an array
+abbrev pub numbers_of : Data → List ℕ
+numbers_of d = map count_of (items_of d)
+
+-- the place of the name that a value refers to
+abbrev pub place_of : Places → Data → ℕ
+place_of places d = unwrap_or (places (text_of d)) 0
 
 -- the tests of a row
 abbrev pub field_tests : Place → Members → Field → List Test
