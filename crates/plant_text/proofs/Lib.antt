@@ -1,4 +1,4 @@
 pub mod Members
-pub mod Outcomes
+pub mod Faults
 pub mod Places
 pub mod Reading

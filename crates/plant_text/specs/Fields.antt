@@ -159,9 +159,26 @@ has_unknown keys (member word d more) = not (is_known keys word) || has_unknown 
 abbrev pub keys_of : List Field → List Key
 keys_of fields = map (λ field. field.key) fields
 
--- the tests of an item of a table: a table, no unknown key, then its keys in order
-abbrev pub table_tests : Place → List Field → Data → List Test
-table_tests place fields d =
+-- the tests of an item as a whole: a table, and no unknown key
+unfoldable pub head_tests : Place → List Key → Data → List Test
+head_tests place keys d =
     (is_none (as_table d), fault 6 place key.Whole)
-    ∷ (has_unknown (keys_of fields) (members_of d), fault 4 place key.Whole)
-    ∷ fields_tests place (members_of d) fields
+    ∷ (has_unknown keys (members_of d), fault 4 place key.Whole) ∷ []
+
+-- the tests of an item of a table: as a whole, then its keys in order
+abbrev pub table_tests : Place → List Field → Data → List Test
+table_tests place fields d = head_tests place (keys_of fields) d ++ fields_tests place (members_of d) fields
+
+-- a key that each item has, one that it may have, and one that it may have from version 2 on
+abbrev pub needed : KeyName → Key
+needed name = record { name = name; known = true; required = true }
+
+abbrev pub optional : KeyName → Key
+optional name = record { name = name; known = true; required = false }
+
+abbrev pub since : Bool → KeyName → Key
+since second name = record { name = name; known = second; required = false }
+
+-- a row of the field table
+abbrev pub row : Key → Kind → Field
+row key kind = record { key = key; kind = kind }

@@ -3,3 +3,4 @@ pub mod Tests
 pub mod Fields
 pub mod Names
 pub mod Scope
+pub mod Tables

@@ -13,24 +13,16 @@ unfoldable pub first_fault : List Test → Option PlantFault
 first_fault [] = None
 first_fault (test ∷ tests) = if test.0 then Some test.1 else first_fault tests
 
--- the fault, or the value where there is none
-abbrev pub fault_or : {Y : Type 0} → Option PlantFault → Y → Result Y PlantFault
-fault_or None value = Ok value
-fault_or (Some fault) value = Err fault
+-- the stop is want of memory, or this fault
+abbrev pub Stops : PlantStop → Option PlantFault → Type 0
+Stops stop.Memory found = Unit {0}
+Stops (stop.Fault fault) found = found ≡ Some fault
 
--- the value where no condition holds, else the first fault
-unfoldable pub outcome : {Y : Type 0} → List Test → Y → Result Y PlantFault
-outcome tests value = fault_or (first_fault tests) value
-
--- the stop is want of memory, or the fault of the outcome
-abbrev pub Fails : {Y : Type 0} → PlantStop → Result Y PlantFault → Type 0
-Fails stop.Memory read = Unit {0}
-Fails (stop.Fault fault) read = read ≡ Err fault
-
--- what a function returned is the outcome, unless memory ran out
-abbrev pub Gives : {Y : Type 0} → Result Y PlantStop → Result Y PlantFault → Type 0
-Gives (Ok x) read = read ≡ Ok x
-Gives (Err e) read = Fails e read
+-- A function answers by the tests and the value: the value where no condition holds, and the first
+-- fault where one does, unless memory ran out.
+abbrev pub Gives : {Y : Type 0} → Result Y PlantStop → List Test → Y → Type 0
+Gives (Ok x) tests value = (first_fault tests ≡ None) × (x ≡ value)
+Gives (Err e) tests value = Stops e (first_fault tests)
 
 -- the tests of some items, each with the values that were made of the items before it
 abbrev pub rows_tests : {X Y : Type 0} → (List Y → X → List Test) → (X → Y) → List Y → List X → List Test

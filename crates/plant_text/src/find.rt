@@ -1,9 +1,10 @@
 //! Looking into a TOML table.
-ghost use Rattle.std.specs.Prelude.{◌≡◌, true, false, None, option_map, IfOk, IfErr, IfNone};
+ghost use Rattle.std.specs.Prelude.{◌≡◌, is_some, true, false, None, option_map, IfOk, IfErr, IfNone};
 ghost use Rattle.toml.specs.Data.{get_member};
 ghost use Rattle.toml.specs.View.{view, table_view};
 ghost use Rattle.plant_text.specs.Words.{key_word};
-ghost use Rattle.plant_text.specs.Fields.{fault, held, is_of, is_known, has_unknown};
+ghost use Rattle.plant_text.specs.Tests.{Stops, first_fault};
+ghost use Rattle.plant_text.specs.Fields.{fault, members_of, head_tests, held, is_of, is_known, has_unknown};
 
 use crate::fault::{KeyName, Place, PlantStop};
 use toml::{Table, Value};
@@ -21,6 +22,50 @@ pub fn lookup(table: &Table, name: KeyName) -> Option<&Value>
 {
     table.get(name.word())
 }
+
+/// A key as a row of the field table names it: `needed`, `optional`, or known `since` version 2.
+macro_rules! key {
+    (needed $name:ident) => {
+        $crate::find::Key {
+            name: $crate::fault::KeyName::$name,
+            known: true,
+            required: true,
+        }
+    };
+    (needed $name:ident unless $there:expr) => {
+        $crate::find::Key {
+            name: $crate::fault::KeyName::$name,
+            known: true,
+            required: !$there,
+        }
+    };
+    (optional $name:ident) => {
+        $crate::find::Key {
+            name: $crate::fault::KeyName::$name,
+            known: true,
+            required: false,
+        }
+    };
+    (since $second:expr, $name:ident) => {
+        $crate::find::Key {
+            name: $crate::fault::KeyName::$name,
+            known: $second,
+            required: false,
+        }
+    };
+}
+
+/// Reads the keys of an item by the rows of the field table, in their order: first the item as a
+/// whole, then each key by the reader of its kind. Each key becomes a variable.
+macro_rules! read_fields {
+    ($value:expr, $place:expr; $($field:ident: ($($key:tt)+) = $reader:ident($($first:expr),*; $($rest:expr),*);)+) => {
+        let table = $crate::find::table_of($value, $place, &[$($crate::find::key!($($key)+)),+])?;
+        $(let $field = $reader($($first,)* table, $place, $crate::find::key!($($key)+), $($rest),*)?;)+
+    };
+}
+
+pub(crate) use key;
+pub(crate) use read_fields;
 
 /// What a table holds at a key; nothing at a key that the file's version does not know.
 pub fn find(table: &Table, key: Key) -> Option<&Value>
@@ -71,6 +116,16 @@ fn knows(keys: &[Key], word: &str) -> bool
     false
 }
 
+/// Whether an item has a key, where it is a table.
+pub fn has(value: &Value, key: Key) -> bool
+    ensures { result ≡ is_some (held (members_of (view value.now)) key) }
+{
+    match value.as_table() {
+        Some(table) => find(table, key).is_some(),
+        None => false,
+    }
+}
+
 /// Whether the table has a key that is not among the known ones.
 #[tactic(auto, using(crate::proofs::Members::strange_members))]
 pub fn unknown(table: &Table, keys: &[Key]) -> bool
@@ -82,4 +137,20 @@ pub fn unknown(table: &Table, keys: &[Key]) -> bool
         }
     }
     false
+}
+
+/// An item as a table without unknown keys.
+#[tactic(auto, unfolding(crate::specs::Fields::head_tests, crate::specs::Tests::first_fault))]
+pub fn table_of<'a>(value: &'a Value, place: Place, keys: &[Key]) -> Result<&'a Table, PlantStop>
+    ensures ok { IfOk result (λ t. (first_fault (head_tests place keys.now (view value.now)) ≡ None) × (table_view t.now ≡ members_of (view value.now))) }
+    ensures err { IfErr result (λ e. Stops e (first_fault (head_tests place keys.now (view value.now)))) }
+{
+    let table = match value.as_table() {
+        Some(table) => table,
+        None => return Err(place.stop(6, KeyName::Whole)),
+    };
+    if unknown(table, keys) {
+        return Err(place.stop(4, KeyName::Whole));
+    }
+    Ok(table)
 }

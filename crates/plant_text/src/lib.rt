@@ -8,6 +8,7 @@ mod names;
 mod numbers;
 mod rows;
 mod scope;
+mod tables;
 mod values;
 
 

@@ -4,7 +4,7 @@ ghost use Rattle.toml.specs.Data.{Data};
 ghost use Rattle.toml.specs.View.{view};
 ghost use Rattle.plant_text.specs.declared.scope.Owner.{Owner};
 ghost use Rattle.plant_text.specs.Scope.{Scope, scope_of};
-ghost use Rattle.plant_text.specs.Tests.{Test, outcome, Gives, rows_tests};
+ghost use Rattle.plant_text.specs.Tests.{Test, Gives, rows_tests};
 
 use crate::fault::PlantStop;
 use crate::scope::{Context, Owner};
@@ -26,8 +26,9 @@ pub trait Row: Drop + Sized {
         earlier: &[Self],
         value: &Value,
     ) -> Result<Self, PlantStop>
-        requires { length earlier.now < 4096 }
-        ensures { Gives result (outcome (tests (scope_of context.now) owner earlier.now (view value.now)) (made (scope_of context.now) owner (view value.now))) };
+        requires few { length earlier.now < 4096 }
+        requires horizon { context.now.periods ≤ 336 }
+        ensures { Gives result (tests (scope_of context.now) owner earlier.now (view value.now)) (made (scope_of context.now) owner (view value.now)) };
 }
 
 /// Reads the items of an array in their order.
@@ -37,8 +38,9 @@ pub fn read_rows<R: Row>(
     owner: Owner,
     items: &[Value],
 ) -> Result<List<R>, PlantStop>
-    requires { length items.now ≤ 4096 }
-    ensures { Gives result (outcome (rows_tests (R.tests (scope_of context.now) owner) (R.made (scope_of context.now) owner) [] (map view items.now)) (map (R.made (scope_of context.now) owner) (map view items.now))) }
+    requires few { length items.now ≤ 4096 }
+    requires horizon { context.now.periods ≤ 336 }
+    ensures { Gives result (rows_tests (R.tests (scope_of context.now) owner) (R.made (scope_of context.now) owner) [] (map view items.now)) (map (R.made (scope_of context.now) owner) (map view items.now)) }
 {
     let mut rows = List::new(alloc);
     for item in items {

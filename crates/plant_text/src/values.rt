@@ -2,7 +2,7 @@
 ghost use Rattle.std.specs.Prelude.{◌≡◌, pos, ◌≤◌, Bool, is_some, map, option_map, option_copied, Option, Some, None, [], if◌then◌else◌, nat_le, unsigned_abs, IfSome, IfOk};
 ghost use Rattle.toml.specs.Data.{as_str, as_array};
 ghost use Rattle.toml.specs.View.{view, table_view};
-ghost use Rattle.plant_text.specs.Tests.{outcome, Gives, rows_tests};
+ghost use Rattle.plant_text.specs.Tests.{Gives, rows_tests};
 ghost use Rattle.plant_text.specs.Fields.{fault, held, field_tests, at_key, count_tests, count_of, integer_of, text_of, items_of, numbers_of, place_of, kind_tests, is_within, is_before, natural};
 ghost use Rattle.plant_text.specs.Fields as kind;
 ghost use Rattle.plant_text.specs.Names.{places_in};
@@ -33,9 +33,9 @@ fn within(number: i64, low: u32, high: u32) -> Option<u32>
     }
 }
 
-#[tactic(auto, unfolding(crate::specs::Tests::outcome, crate::specs::Tests::first_fault))]
+#[tactic(auto, unfolding(crate::specs::Tests::first_fault))]
 fn count_in(value: &Value, place: Place, name: KeyName, low: u32, high: u32) -> Result<u32, PlantStop>
-    ensures { Gives result (outcome (count_tests place name low high (view value.now)) (count_of (view value.now))) }
+    ensures { Gives result (count_tests place name low high (view value.now)) (count_of (view value.now)) }
 {
     let number = match value.as_integer() {
         Some(number) => number,
@@ -48,9 +48,9 @@ fn count_in(value: &Value, place: Place, name: KeyName, low: u32, high: u32) -> 
 }
 
 /// The whole number at a key, from `low` to `high`, if the key is there.
-#[tactic(auto, unfolding(crate::specs::Fields::value_tests, crate::specs::Fields::kind_tests, crate::specs::Tests::outcome, crate::specs::Tests::first_fault))]
+#[tactic(auto, unfolding(crate::specs::Fields::value_tests, crate::specs::Fields::kind_tests, crate::specs::Tests::first_fault))]
 pub fn count_if_there(table: &Table, place: Place, key: Key, low: u32, high: u32) -> Result<Option<u32>, PlantStop>
-    ensures { Gives result (outcome (field_tests place (table_view table.now) (record { key = key; kind = kind.count low high })) (option_map count_of (held (table_view table.now) key))) }
+    ensures { Gives result (field_tests place (table_view table.now) (record { key = key; kind = kind.count low high })) (option_map count_of (held (table_view table.now) key)) }
 {
     match present(table, place, key)? {
         None => Ok(None),
@@ -59,9 +59,9 @@ pub fn count_if_there(table: &Table, place: Place, key: Key, low: u32, high: u32
 }
 
 /// The whole number at a key, from `low` to `high`, or the default.
-#[tactic(auto, unfolding(crate::specs::Fields::value_tests, crate::specs::Fields::kind_tests, crate::specs::Tests::outcome, crate::specs::Tests::first_fault))]
+#[tactic(auto, unfolding(crate::specs::Fields::value_tests, crate::specs::Fields::kind_tests, crate::specs::Tests::first_fault))]
 pub fn count(table: &Table, place: Place, key: Key, low: u32, high: u32, default: u32) -> Result<u32, PlantStop>
-    ensures { Gives result (outcome (field_tests place (table_view table.now) (record { key = key; kind = kind.count low high })) (at_key count_of default (table_view table.now) key)) }
+    ensures { Gives result (field_tests place (table_view table.now) (record { key = key; kind = kind.count low high })) (at_key count_of default (table_view table.now) key) }
 {
     match present(table, place, key)? {
         None => Ok(default),
@@ -69,9 +69,9 @@ pub fn count(table: &Table, place: Place, key: Key, low: u32, high: u32, default
     }
 }
 
-#[tactic(auto, unfolding(crate::specs::Fields::kind_tests, crate::specs::Tests::outcome, crate::specs::Tests::first_fault))]
+#[tactic(auto, unfolding(crate::specs::Fields::kind_tests, crate::specs::Tests::first_fault))]
 fn money_in(value: &Value, place: Place, name: KeyName, most: u32) -> Result<i64, PlantStop>
-    ensures { Gives result (outcome (kind_tests place name (kind.money most) (view value.now)) (integer_of (view value.now))) }
+    ensures { Gives result (kind_tests place name (kind.money most) (view value.now)) (integer_of (view value.now)) }
 {
     let number = match value.as_integer() {
         Some(number) => number,
@@ -85,9 +85,9 @@ fn money_in(value: &Value, place: Place, name: KeyName, most: u32) -> Result<i64
 }
 
 /// The amount of money at a key, of at most `most` in absolute value, or 0.
-#[tactic(auto, unfolding(crate::specs::Fields::value_tests, crate::specs::Tests::outcome, crate::specs::Tests::first_fault))]
+#[tactic(auto, unfolding(crate::specs::Fields::value_tests, crate::specs::Tests::first_fault))]
 pub fn money(table: &Table, place: Place, key: Key, most: u32) -> Result<i64, PlantStop>
-    ensures { Gives result (outcome (field_tests place (table_view table.now) (record { key = key; kind = kind.money most })) (at_key integer_of (pos 0) (table_view table.now) key)) }
+    ensures { Gives result (field_tests place (table_view table.now) (record { key = key; kind = kind.money most })) (at_key integer_of (pos 0) (table_view table.now) key) }
 {
     match present(table, place, key)? {
         None => Ok(0),
@@ -104,9 +104,9 @@ fn is_before(place: Option<u32>, number: usize) -> bool
     }
 }
 
-#[tactic(auto, unfolding(crate::specs::Fields::kind_tests, crate::specs::Tests::outcome, crate::specs::Tests::first_fault))]
+#[tactic(auto, unfolding(crate::specs::Fields::kind_tests, crate::specs::Tests::first_fault))]
 fn name_in(alloc: Global, value: &Value, place: Place, name: KeyName, names: &Numbers, number: usize) -> Result<Name, PlantStop>
-    ensures { Gives result (outcome (kind_tests place name (kind.declares (places_in names.now) number) (view value.now)) (text_of (view value.now))) }
+    ensures { Gives result (kind_tests place name (kind.declares (places_in names.now) number) (view value.now)) (text_of (view value.now)) }
 {
     let text = match value.as_str() {
         Some(text) => text,
@@ -122,9 +122,9 @@ fn name_in(alloc: Global, value: &Value, place: Place, name: KeyName, names: &Nu
 }
 
 /// The name that an item declares at a key; `number` is the item's number, from 0.
-#[tactic(auto, unfolding(crate::specs::Fields::value_tests, crate::specs::Tests::outcome, crate::specs::Tests::first_fault))]
+#[tactic(auto, unfolding(crate::specs::Fields::value_tests, crate::specs::Tests::first_fault))]
 pub fn name(alloc: Global, table: &Table, place: Place, key: Key, names: &Numbers, number: usize) -> Result<Name, PlantStop>
-    ensures { Gives result (outcome (field_tests place (table_view table.now) (record { key = key; kind = kind.declares (places_in names.now) number })) (at_key text_of [] (table_view table.now) key)) }
+    ensures { Gives result (field_tests place (table_view table.now) (record { key = key; kind = kind.declares (places_in names.now) number })) (at_key text_of [] (table_view table.now) key) }
 {
     match present(table, place, key)? {
         None => Ok(List::new(alloc)),
@@ -132,9 +132,9 @@ pub fn name(alloc: Global, table: &Table, place: Place, key: Key, names: &Number
     }
 }
 
-#[tactic(auto, unfolding(crate::specs::Fields::kind_tests, crate::specs::Tests::outcome, crate::specs::Tests::first_fault))]
+#[tactic(auto, unfolding(crate::specs::Fields::kind_tests, crate::specs::Tests::first_fault))]
 fn reference_in(value: &Value, place: Place, name: KeyName, names: &Numbers) -> Result<u32, PlantStop>
-    ensures { Gives result (outcome (kind_tests place name (kind.refers (places_in names.now)) (view value.now)) (place_of (places_in names.now) (view value.now))) }
+    ensures { Gives result (kind_tests place name (kind.refers (places_in names.now)) (view value.now)) (place_of (places_in names.now) (view value.now)) }
 {
     let text = match value.as_str() {
         Some(text) => text,
@@ -147,9 +147,9 @@ fn reference_in(value: &Value, place: Place, name: KeyName, names: &Numbers) -> 
 }
 
 /// The number of the name that a key refers to.
-#[tactic(auto, unfolding(crate::specs::Fields::value_tests, crate::specs::Tests::outcome, crate::specs::Tests::first_fault))]
+#[tactic(auto, unfolding(crate::specs::Fields::value_tests, crate::specs::Tests::first_fault))]
 pub fn reference(table: &Table, place: Place, key: Key, names: &Numbers) -> Result<u32, PlantStop>
-    ensures { Gives result (outcome (field_tests place (table_view table.now) (record { key = key; kind = kind.refers (places_in names.now) })) (at_key (place_of (places_in names.now)) 0 (table_view table.now) key)) }
+    ensures { Gives result (field_tests place (table_view table.now) (record { key = key; kind = kind.refers (places_in names.now) })) (at_key (place_of (places_in names.now)) 0 (table_view table.now) key) }
 {
     match present(table, place, key)? {
         None => Ok(0),
@@ -169,7 +169,7 @@ pub fn items_of(value: &Value) -> Option<&[Value]>
 }
 
 fn read_numbers(alloc: Global, place: Place, name: KeyName, most: u32, items: &[Value]) -> Result<List<u32>, PlantStop>
-    ensures { Gives result (outcome (rows_tests (λ earlier x. count_tests place name 0 most x) count_of [] (map view items.now)) (map count_of (map view items.now))) }
+    ensures { Gives result (rows_tests (λ earlier x. count_tests place name 0 most x) count_of [] (map view items.now)) (map count_of (map view items.now)) }
 {
     let mut numbers = List::new(alloc);
     for item in items {
@@ -187,9 +187,9 @@ pub struct Several {
     pub most: u32,
 }
 
-#[tactic(auto, using(crate::proofs::Outcomes::headed), unfolding(crate::specs::Fields::kind_tests, crate::specs::Tests::outcome, crate::specs::Tests::first_fault))]
+#[tactic(auto, unfolding(crate::specs::Fields::kind_tests, crate::specs::Tests::first_fault))]
 fn numbers_in(alloc: Global, value: &Value, place: Place, name: KeyName, several: Several) -> Result<List<u32>, PlantStop>
-    ensures { Gives result (outcome (kind_tests place name (kind.numbers several.forbidden several.many several.most) (view value.now)) (numbers_of (view value.now))) }
+    ensures { Gives result (kind_tests place name (kind.numbers several.forbidden several.many several.most) (view value.now)) (numbers_of (view value.now)) }
 {
     let items = match items_of(value) {
         Some(items) => items,
@@ -205,9 +205,9 @@ fn numbers_in(alloc: Global, value: &Value, place: Place, name: KeyName, several
 }
 
 /// The numbers at a key, if it is there.
-#[tactic(auto, unfolding(crate::specs::Fields::value_tests, crate::specs::Tests::outcome, crate::specs::Tests::first_fault))]
+#[tactic(auto, unfolding(crate::specs::Fields::value_tests, crate::specs::Tests::first_fault))]
 pub fn numbers(alloc: Global, table: &Table, place: Place, key: Key, several: Several) -> Result<Option<List<u32>>, PlantStop>
-    ensures { Gives result (outcome (field_tests place (table_view table.now) (record { key = key; kind = kind.numbers several.forbidden several.many several.most })) (option_map numbers_of (held (table_view table.now) key))) }
+    ensures { Gives result (field_tests place (table_view table.now) (record { key = key; kind = kind.numbers several.forbidden several.many several.most })) (option_map numbers_of (held (table_view table.now) key)) }
 {
     match present(table, place, key)? {
         None => Ok(None),
@@ -215,10 +215,11 @@ pub fn numbers(alloc: Global, table: &Table, place: Place, key: Key, several: Se
     }
 }
 
-#[tactic(auto, using(crate::proofs::Outcomes::headed), unfolding(crate::specs::Fields::kind_tests, crate::specs::Tests::outcome, crate::specs::Tests::first_fault))]
+#[tactic(auto, unfolding(crate::specs::Fields::kind_tests, crate::specs::Tests::first_fault))]
 fn rows_in<R: Row>(alloc: Global, value: &Value, place: Place, name: KeyName, most: usize, context: &Context, owner: Owner) -> Result<List<R>, PlantStop>
-    requires { most ≤ 4096 }
-    ensures { Gives result (outcome (kind_tests place name (kind.tables most (rows_tests (R.tests (scope_of context.now) owner) (R.made (scope_of context.now) owner) [])) (view value.now)) (map (R.made (scope_of context.now) owner) (items_of (view value.now)))) }
+    requires few { most ≤ 4096 }
+    requires horizon { context.now.periods ≤ 336 }
+    ensures { Gives result (kind_tests place name (kind.tables most (rows_tests (R.tests (scope_of context.now) owner) (R.made (scope_of context.now) owner) [])) (view value.now)) (map (R.made (scope_of context.now) owner) (items_of (view value.now))) }
 {
     let items = match items_of(value) {
         Some(items) => items,
@@ -231,10 +232,11 @@ fn rows_in<R: Row>(alloc: Global, value: &Value, place: Place, name: KeyName, mo
 }
 
 /// The items of the array at a key, at most `most` of them.
-#[tactic(auto, unfolding(crate::specs::Fields::value_tests, crate::specs::Tests::outcome, crate::specs::Tests::first_fault))]
+#[tactic(auto, unfolding(crate::specs::Fields::value_tests, crate::specs::Tests::first_fault))]
 pub fn rows<R: Row>(alloc: Global, table: &Table, place: Place, key: Key, most: usize, context: &Context, owner: Owner) -> Result<List<R>, PlantStop>
-    requires { most ≤ 4096 }
-    ensures { Gives result (outcome (field_tests place (table_view table.now) (record { key = key; kind = kind.tables most (rows_tests (R.tests (scope_of context.now) owner) (R.made (scope_of context.now) owner) []) })) (map (R.made (scope_of context.now) owner) (at_key items_of [] (table_view table.now) key))) }
+    requires few { most ≤ 4096 }
+    requires horizon { context.now.periods ≤ 336 }
+    ensures { Gives result (field_tests place (table_view table.now) (record { key = key; kind = kind.tables most (rows_tests (R.tests (scope_of context.now) owner) (R.made (scope_of context.now) owner) []) })) (map (R.made (scope_of context.now) owner) (at_key items_of [] (table_view table.now) key)) }
 {
     match present(table, place, key)? {
         None => Ok(List::new(alloc)),

@@ -1,0 +1,11 @@
+-- The first fault of tests that follow each other.
+use Rattle.std.proofs.Common.{◌≡◌, true, false, List, [], ◌∷◌, ◌++◌, Option, None, Some, refl}
+use Rattle.std.specs.Option.{option_or}
+use Rattle.plant_text.specs.Tests.{Test, first_fault}
+
+-- the first fault of the front, else that of the rest
+pub faults_append : (tests more : List Test) → first_fault (tests ++ more) ≡ option_or (first_fault tests) (first_fault more)
+unfolding first_fault
+faults_append [] more = refl
+faults_append ((true, f) ∷ tests) more = refl
+faults_append ((false, f) ∷ tests) more = faults_append tests more
