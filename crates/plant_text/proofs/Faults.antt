@@ -1,5 +1,5 @@
 -- The first fault of tests that follow each other.
-use Rattle.std.proofs.Common.{◌≡◌, true, false, List, [], ◌∷◌, ◌++◌, Option, None, Some, refl}
+use Rattle.std.proofs.Common.{◌≡◌, true, false, List, [], ◌∷◌, ◌++◌, Option, None, Some, refl, ◌∙◌}
 use Rattle.std.specs.Option.{option_or}
 use Rattle.plant_text.specs.Tests.{Test, first_fault}
 
@@ -9,3 +9,12 @@ unfolding first_fault
 faults_append [] more = refl
 faults_append ((true, f) ∷ tests) more = refl
 faults_append ((false, f) ∷ tests) more = faults_append tests more
+
+-- tests that pass, before others that pass
+pub passes : (tests more : List Test) → first_fault tests ≡ None → first_fault more ≡ None → first_fault (tests ++ more) ≡ None
+passes tests more front rest = faults_append tests more ∙ rw front rest
+
+-- no test at all
+pub nothing : first_fault [] ≡ None
+unfolding first_fault
+nothing = refl
