@@ -1,0 +1,4 @@
+pub mod Amounts
+pub mod LowestTerms
+pub mod Sums
+pub mod Written
