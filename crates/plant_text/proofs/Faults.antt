@@ -1,7 +1,9 @@
 -- The first fault of tests that follow each other.
 use Rattle.std.proofs.Common.{◌≡◌, true, false, List, [], ◌∷◌, ◌++◌, Option, None, Some, refl, ◌∙◌}
 use Rattle.std.specs.Option.{option_or}
-use Rattle.plant_text.specs.Tests.{Test, first_fault}
+use Rattle.plant_text.specs.declared.fault.PlantStop.{PlantStop}
+use Rattle.plant_text.specs.declared.fault.PlantStop.TheVariants as stop
+use Rattle.plant_text.specs.Tests.{Test, first_fault, Stops}
 
 -- the first fault of the front, else that of the rest
 pub faults_append : (tests more : List Test) → first_fault (tests ++ more) ≡ option_or (first_fault tests) (first_fault more)
@@ -18,3 +20,12 @@ passes tests more front rest = faults_append tests more ∙ rw front rest
 pub nothing : first_fault [] ≡ None
 unfolding first_fault
 nothing = refl
+
+-- tests that pass, before one that does not
+pub stops_after : (e : PlantStop) (tests more : List Test) → first_fault tests ≡ None → Stops e (first_fault more) → Stops e (first_fault (tests ++ more))
+stops_after e tests more front rest = rw (faults_append tests more, front) rest
+
+-- a test that does not pass, before others
+pub stops_at : (e : PlantStop) (tests more : List Test) → Stops e (first_fault tests) → Stops e (first_fault (tests ++ more))
+stops_at stop.Memory tests more front = tt
+stops_at (stop.Fault f) tests more front = rw (faults_append tests more, front) refl

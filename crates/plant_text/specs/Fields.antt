@@ -4,6 +4,8 @@ use Rattle.std.specs.List.{list_any}
 use Rattle.std.specs.Str.{bytes_eq}
 use Rattle.toml.specs.Data.{Data, string, integer, float, boolean, datetime, array, table, Items, no_items, item, Members, no_members, member, get_member, as_str, as_integer, as_array, as_table}
 use Rattle.stn_model.specs.Sound.{is_name}
+use Rattle.fraction.specs.declared.fraction_of.Fraction.{Fraction}
+use Rattle.fraction.specs.Fractions.{fraction_in}
 use Rattle.plant_text.specs.declared.fault.PlantFault.{PlantFault}
 use Rattle.plant_text.specs.declared.fault.Place.{Place}
 use Rattle.plant_text.specs.declared.fault.KeyName.{KeyName}
@@ -62,6 +64,8 @@ pub data Kind : Type 0 where
   declares : Places → ℕ → Kind
   -- a text that refers to a name that is declared
   refers : Places → Kind
+  -- a text that is a fraction of one
+  part : Kind
   -- a whole number in a range
   count : ℕ → ℕ → Kind
   -- a whole number of at most this absolute value
@@ -86,6 +90,9 @@ kind_tests place name (declares places number) d =
 kind_tests place name (refers places) d =
     (is_none (as_str d), fault 6 place name)
     ∷ (is_none (places (text_of d)), fault 10 place name) ∷ []
+kind_tests place name part d =
+    (is_none (as_str d), fault 6 place name)
+    ∷ (is_none (fraction_in (text_of d)), fault 11 place name) ∷ []
 kind_tests place name (count low high) d = count_tests place name low high d
 kind_tests place name (money most) d =
     (is_none (as_integer d), fault 6 place name)
@@ -132,6 +139,14 @@ numbers_of d = map count_of (items_of d)
 -- the place of the name that a value refers to
 abbrev pub place_of : Places → Data → ℕ
 place_of places d = unwrap_or (places (text_of d)) 0
+
+-- the whole as a part of itself, in the place of a part that is not there
+abbrev pub whole_part : Fraction
+whole_part = record { over = 1; under = 1 }
+
+-- the part that a value is
+abbrev pub part_of : Data → Fraction
+part_of d = unwrap_or (fraction_in (text_of d)) whole_part
 
 -- the tests of a row
 abbrev pub field_tests : Place → Members → Field → List Test

@@ -4,3 +4,4 @@ pub mod Fields
 pub mod Names
 pub mod Scope
 pub mod Tables
+pub mod Document

@@ -23,7 +23,8 @@ pub fn lookup(table: &Table, name: KeyName) -> Option<&Value>
     table.get(name.word())
 }
 
-/// A key as a row of the field table names it: `needed`, `optional`, or known `since` version 2.
+/// A key as a row of the field table names it: `needed`, `optional`, needed
+/// `of` outputs alone, or known `since` version 2.
 macro_rules! key {
     (needed $name:ident) => {
         $crate::find::Key {
@@ -44,6 +45,13 @@ macro_rules! key {
             name: $crate::fault::KeyName::$name,
             known: true,
             required: false,
+        }
+    };
+    (of $outputs:expr, $name:ident) => {
+        $crate::find::Key {
+            name: $crate::fault::KeyName::$name,
+            known: $outputs,
+            required: $outputs,
         }
     };
     (since $second:expr, $name:ident) => {

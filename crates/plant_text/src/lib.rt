@@ -11,5 +11,4 @@ mod scope;
 mod tables;
 mod values;
 
-
 pub use fault::{KeyName, Place, PlantFault, PlantStop, TableName};

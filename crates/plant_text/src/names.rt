@@ -4,9 +4,8 @@ ghost use Rattle.std.specs.List.{list_all};
 ghost use Rattle.stn_model.specs.Sound.{is_name, is_name_byte};
 
 use std::alloc::{AllocError, Global};
-use stn_model::Name;
-use stn_model::List;
 use stn_model::limits::MAX_NAME;
+use stn_model::{List, Name};
 
 fn is_name_byte(byte: u8) -> bool
     ensures { result ≡ is_name_byte byte }
@@ -35,7 +34,9 @@ pub fn is_name(bytes: &[u8]) -> bool
 {
     match bytes {
         [] => false,
-        [first, ..] => first.is_ascii_alphabetic() && has_name_bytes(bytes) && bytes.len() <= MAX_NAME,
+        [first, ..] => first.is_ascii_alphabetic()
+            && has_name_bytes(bytes)
+            && bytes.len() <= MAX_NAME,
     }
 }
 

@@ -1,5 +1,5 @@
 //! Reading the items of an array, one after the other.
-ghost use Rattle.std.specs.Prelude.{◌≡◌, ℕ, ◌<◌, ◌≤◌, List as Items, [], length, map};
+ghost use Rattle.std.specs.Prelude.{◌≡◌, ℕ, ◌<◌, ◌≤◌, List as Items, [], length, map, IfOk};
 ghost use Rattle.toml.specs.Data.{Data};
 ghost use Rattle.toml.specs.View.{view};
 ghost use Rattle.plant_text.specs.declared.scope.Owner.{Owner};
@@ -16,6 +16,7 @@ use toml::Value;
 pub trait Row: Drop + Sized {
     // The tests of an item, after the items before it, and the value where none of them holds.
     ghost tests: { Scope → Owner → Items Self → Data → Items Test };
+
     ghost made: { Scope → Owner → Data → Self };
 
     /// Reads an item, after the items before it.
@@ -40,7 +41,8 @@ pub fn read_rows<R: Row>(
 ) -> Result<List<R>, PlantStop>
     requires few { length items.now ≤ 4096 }
     requires horizon { context.now.periods ≤ 336 }
-    ensures { Gives result (rows_tests (R.tests (scope_of context.now) owner) (R.made (scope_of context.now) owner) [] (map view items.now)) (map (R.made (scope_of context.now) owner) (map view items.now)) }
+    ensures gives { Gives result (rows_tests (R.tests (scope_of context.now) owner) (R.made (scope_of context.now) owner) [] (map view items.now)) (map (R.made (scope_of context.now) owner) (map view items.now)) }
+    ensures many { IfOk result (λ rows. length rows ≡ length items.now) }
 {
     let mut rows = List::new(alloc);
     for item in items {

@@ -1,5 +1,6 @@
 //! What the tables of a file are read against.
 
+use crate::fault::TableName;
 use crate::numbers::Numbers;
 
 /// The version of a file, its horizon, and the names that it declares.
@@ -14,10 +15,11 @@ pub struct Context {
     pub tasks: Numbers,
 }
 
-/// The task whose inner arrays are read: its number, counted from 1, and its duration as far as it is
-/// known. Tables of the top have the owner 0.
+/// The inner table of a task that is read: its name, the task's number, counted from 1, and the task's
+/// duration as far as it is known. For tables of the top it says nothing.
 #[derive(Clone, Copy)]
 pub struct Owner {
+    pub table: TableName,
     pub item: u32,
     pub duration: u32,
 }

@@ -9,10 +9,9 @@ ghost use Rattle.plant_text.specs.Tables.{limits_in};
 use crate::fault::{Place, PlantStop};
 use crate::find::Key;
 use crate::values::{Several, numbers};
-use toml::Table;
-
 use std::alloc::{AllocError, Global};
 use stn_model::List;
+use toml::Table;
 
 fn widened(alloc: Global, numbers: &[u32]) -> Result<List<u64>, AllocError>
     ensures { IfOk result (λ wide. wide ≡ numbers.now) }

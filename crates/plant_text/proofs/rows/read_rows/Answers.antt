@@ -12,8 +12,8 @@ loop-item-init g c = rw c.new-rows.ensures record {
   few = omega arith;
 }
 
-pub returns-in_err-row : goal.returns-in_err-row
-returns-in_err-row g c =
+pub returns-in_err-row-clause-gives : goal.returns-in_err-row-clause-gives
+returns-in_err-row-clause-gives g c =
     let tests = g.R.Row.tests (scope_of c.args.context.now) c.args.owner in
     let made = g.R.Row.made (scope_of c.args.context.now) c.args.owner in
     let p = err_from_is_err_and c.from_residual.result c.from_residual.ensures.1 in
@@ -26,12 +26,12 @@ loop-item-preserved g c =
     let made = g.R.Row.made (scope_of c.args.context.now) c.args.owner in
     let h = rw c.as_slice.ensures at c.in_ok-row.ensures in
     rw c.in_ok-push.ensures.ok record {
-        is_at = loop_on view tests made c.args.items.now c.loop-item.item-index c.item-item.result c.loop-item.rows c.in_ok-row.row c.loop-item-test.true c.item-item.is h.0 h.1 c.loop-item.invariant.is_at;
-        few = omega (arith, length_push c.loop-item.rows c.in_ok-row.row);
+      is_at = loop_on view tests made c.args.items.now c.loop-item.item-index c.item-item.result c.loop-item.rows c.in_ok-row.row c.loop-item-test.true c.item-item.is h.0 h.1 c.loop-item.invariant.is_at;
+      few = omega (arith, length_push c.loop-item.rows c.in_ok-row.row);
     }
 
-pub returns : goal.returns
-returns g c =
+pub returns-clause-gives : goal.returns-clause-gives
+returns-clause-gives g c =
     let tests = g.R.Row.tests (scope_of c.args.context.now) c.args.owner in
     let made = g.R.Row.made (scope_of c.args.context.now) c.args.owner in
     loop_end view tests made c.args.items.now c.loop-item.item-index c.loop-item.rows c.loop-item-test.false c.loop-item.invariant.is_at
