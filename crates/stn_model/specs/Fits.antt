@@ -1,5 +1,5 @@
 -- When a start fits the plant.
-use Rattle.std.specs.Prelude.{◌≡◌, ℕ, ◌+◌, ◌≤◌, IsTrue, IsSomeAnd}
+use Rattle.std.specs.Prelude.{◌≤◌, IsTrue, IsSomeAnd}
 use Rattle.stn_model.specs.declared.plant.Plant.{Plant}
 use Rattle.stn_model.specs.declared.start.Start.{Start}
 use Rattle.stn_model.specs.Plant.{run_on, end_of, is_in_use}

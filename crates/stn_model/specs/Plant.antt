@@ -1,5 +1,5 @@
 -- What the records of a plant say of its runs, durations, gaps and outages.
-use Rattle.std.specs.Prelude.{ℕ, ℤ, pos, ◌+◌, ◌==◌, ◌&&◌, ◌||◌, not, nat_le, Bool, List, [], ◌∷◌, Option, Some, None, find, position, filter, slice_index_or}
+use Rattle.std.specs.Prelude.{ℕ, pos, ◌+◌, ◌==◌, ◌&&◌, ◌||◌, not, nat_le, Bool, [], Option, find, position, if◌then◌else◌, slice_index_or}
 use Rattle.std.specs.List.{list_all}
 use Rattle.stn_model.specs.declared.plant.Plant.{Plant}
 use Rattle.stn_model.specs.declared.plant.State.{State}
@@ -57,11 +57,11 @@ is_between unit from to gap = gap.unit == unit && gap.from == from && gap.to == 
 
 -- how many periods the unit is cleaned between the tasks: the most that are listed for them
 unfoldable pub gap_between : Plant → ℕ → ℕ → ℕ → ℕ
-gap_between plant unit from to = greatest_by (λ gap. gap.periods) (filter (is_between unit from to) plant.gaps)
+gap_between plant unit from to = greatest_by (λ gap. if is_between unit from to gap then gap.periods else 0) plant.gaps
 
 -- what the changeover of the unit between the tasks costs: the most that is listed for them
 unfoldable pub cost_between : Plant → ℕ → ℕ → ℕ → ℕ
-cost_between plant unit from to = greatest_by (λ gap. gap.cost) (filter (is_between unit from to) plant.gaps)
+cost_between plant unit from to = greatest_by (λ gap. if is_between unit from to gap then gap.cost else 0) plant.gaps
 
 -- the outage leaves the unit free from one time to another
 abbrev pub is_clear_of : ℕ → ℕ → ℕ → Outage → Bool

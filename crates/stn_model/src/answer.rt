@@ -5,7 +5,10 @@ use crate::start::Start;
 #[derive(Drop)]
 pub enum Answer {
     /// No feasible plan earns more than this one.
-    Optimal { plan: List<Start>, profit: i128 },
+    Optimal {
+        plan: List<Start>,
+        profit: i128,
+    },
     /// No plan is feasible.
     Infeasible,
     /// The budget was spent first: the best plan that was found, and what no feasible plan exceeds.

@@ -8,6 +8,7 @@ pub mod answer;
 pub mod limits;
 pub mod list;
 pub mod plant;
+pub mod questions;
 pub mod start;
 pub mod violation;
 
@@ -17,5 +18,6 @@ pub use plant::{
     Delivery, Draw, Gap, Input, Name, Outage, Output, Plant, Receipt, Run, State, StnUnit, Task,
     Utility,
 };
+pub use questions::{change_cost, duration, end, fits, gap_of, is_open, run_of};
 pub use start::Start;
 pub use violation::Violation;

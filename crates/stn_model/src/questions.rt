@@ -1,0 +1,148 @@
+//! The questions about a plant that code asks again and again. None of them takes memory.
+ghost use Rattle.std.specs.Prelude.{◌≡◌, ◌<◌, ◌↔◌, IsTrue, IfSome, length, position};
+ghost use Rattle.stn_model.specs.Plant.{
+  duration_of,
+  run_number,
+  run_on,
+  gap_between,
+  cost_between,
+  is_in_use,
+  end_of,
+  is_between,
+  is_of,
+};
+ghost use Rattle.stn_model.specs.Fits.{Fits};
+ghost use Rattle.stn_model.specs.Sound.{Sound};
+
+use crate::plant::{Gap, Plant, Run, Task};
+use crate::start::Start;
+
+/// How many periods a batch of the task takes: the greatest delay of its outputs.
+pub fn duration(task: &Task) -> u32
+    ensures { result ≡ duration_of task.now }
+{
+    let mut longest = 0;
+    for output in task.outputs.as_slice() {
+        if longest < output.delay {
+            longest = output.delay;
+        }
+    }
+    longest
+}
+
+/// The number of the run of a task on a unit; none exactly where the unit can't run the task.
+#[tactic(auto, unfolding(crate::specs::Plant::run_number))]
+pub fn run_of(plant: &Plant, task: u32, unit: u32) -> Option<u32>
+    requires { Sound plant.now }
+    ensures { result ≡ run_number plant.now task unit }
+{
+    match run_place(plant.runs.as_slice(), task, unit) {
+        Some(number) => Some(number as u32),
+        None => None,
+    }
+}
+
+fn run_place(runs: &[Run], task: u32, unit: u32) -> Option<usize>
+    ensures place { result ≡ position (is_of task unit) runs.now }
+    ensures within { IfSome result (λ place. place < length runs.now) }
+{
+    runs.iter()
+        .position(|run| run.task == task && run.unit == unit)
+}
+
+/// The run of a task on a unit; none exactly where the unit can't run the task.
+#[tactic(auto, unfolding(crate::specs::Plant::run_on))]
+pub fn run_for(plant: &Plant, task: u32, unit: u32) -> Option<Run>
+    ensures { result ≡ run_on plant.now task unit }
+{
+    plant
+        .runs
+        .as_slice()
+        .iter()
+        .copied()
+        .find(|run| run.task == task && run.unit == unit)
+}
+
+/// How many periods the unit is cleaned between a batch of one task and a next batch of another:
+/// the most that are listed for them, 0 where none are.
+pub fn gap_of(plant: &Plant, unit: u32, from: u32, to: u32) -> u32
+    ensures { result ≡ gap_between plant.now unit from to }
+{
+    let mut longest = 0;
+    for gap in plant.gaps.as_slice() {
+        let listed = if is_listed(gap, unit, from, to) {
+            gap.periods
+        } else {
+            0
+        };
+        if longest < listed {
+            longest = listed;
+        }
+    }
+    longest
+}
+
+/// What the changeover of the unit between the tasks costs, in money: the most that is listed for
+/// them, 0 where nothing is.
+pub fn change_cost(plant: &Plant, unit: u32, from: u32, to: u32) -> u32
+    ensures { result ≡ cost_between plant.now unit from to }
+{
+    let mut most = 0;
+    for gap in plant.gaps.as_slice() {
+        let listed = if is_listed(gap, unit, from, to) {
+            gap.cost
+        } else {
+            0
+        };
+        if most < listed {
+            most = listed;
+        }
+    }
+    most
+}
+
+fn is_listed(gap: &Gap, unit: u32, from: u32, to: u32) -> bool
+    ensures { result ≡ is_between unit from to gap.now }
+{
+    gap.unit == unit && gap.from == from && gap.to == to
+}
+
+/// Whether the unit is in use from one time to another: no outage of it lies between them.
+#[tactic(auto, unfolding(crate::specs::Plant::is_in_use))]
+pub fn is_open(plant: &Plant, unit: u32, from: u64, to: u64) -> bool
+    ensures { result ≡ is_in_use plant.now unit from to }
+{
+    plant.outages.as_slice().iter().all(|outage| {
+        outage.unit != unit || to <= outage.from as u64 || outage.to as u64 <= from
+    })
+}
+
+/// The time at which the batch ends; the period alone where the task is not there.
+pub fn end(plant: &Plant, start: &Start) -> u64
+    ensures { result ≡ end_of plant.now start.now }
+{
+    if (start.task as usize) < plant.tasks.len() {
+        let task = plant.tasks.get(start.task as usize);
+        start.period as u64 + duration(task) as u64
+    } else {
+        start.period as u64
+    }
+}
+
+/// Whether the start fits the plant: its unit can run its task with a batch of this size, within the
+/// horizon and while the unit is in use.
+#[tactic(auto, unfolding(crate::specs::Plant::run_on))]
+pub fn fits(plant: &Plant, start: &Start) -> bool
+    ensures { IsTrue result ↔ Fits plant.now start.now }
+{
+    let ending = end(plant, start);
+    match run_for(plant, start.task, start.unit) {
+        Some(run) => {
+            run.min <= start.quanta
+                && start.quanta <= run.max
+                && ending <= plant.periods as u64
+                && is_open(plant, start.unit, start.period as u64, ending)
+        }
+        None => false,
+    }
+}
