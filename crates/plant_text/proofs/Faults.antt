@@ -1,9 +1,9 @@
 -- The first fault of tests that follow each other.
-use Rattle.std.proofs.Common.{◌≡◌, true, false, List, [], ◌∷◌, ◌++◌, Option, None, Some, refl, ◌∙◌}
+use Rattle.std.proofs.Common.{◌≡◌, true, false, List, [], ◌∷◌, ◌++◌, Option, None, Some, Result, Ok, Err, refl, ◌∙◌}
 use Rattle.std.specs.Option.{option_or}
 use Rattle.plant_text.specs.declared.fault.PlantStop.{PlantStop}
 use Rattle.plant_text.specs.declared.fault.PlantStop.TheVariants as stop
-use Rattle.plant_text.specs.Tests.{Test, first_fault, Stops}
+use Rattle.plant_text.specs.Tests.{Test, first_fault, Stops, Gives}
 
 -- the first fault of the front, else that of the rest
 pub faults_append : (tests more : List Test) → first_fault (tests ++ more) ≡ option_or (first_fault tests) (first_fault more)
@@ -29,3 +29,8 @@ stops_after e tests more front rest = rw (faults_append tests more, front) rest
 pub stops_at : (e : PlantStop) (tests more : List Test) → Stops e (first_fault tests) → Stops e (first_fault (tests ++ more))
 stops_at stop.Memory tests more front = tt
 stops_at (stop.Fault f) tests more front = rw (faults_append tests more, front) refl
+
+-- an answer after tests that pass
+pub gives_after : {Y : Type 0} (answer : Result Y PlantStop) (tests more : List Test) (value : Y) → first_fault tests ≡ None → Gives answer more value → Gives answer (tests ++ more) value
+gives_after (Ok x) tests more value front rest = (passes tests more front rest.0, rest.1)
+gives_after (Err e) tests more value front rest = stops_after e tests more front rest

@@ -6,10 +6,11 @@ use Rattle.std.specs.List.{position_from}
 use Rattle.std.specs.Str.{bytes_eq}
 use Rattle.std.proofs.lemmas.Bool.{cases_Bool}
 use Rattle.std.proofs.lemmas.Slice.Eq.{bytes_eq-Decides}
-use Rattle.plant_text.specs.Fields.{Places}
+use Rattle.toml.specs.Data.{Data}
+use Rattle.plant_text.specs.Fields.{Places, items_of}
 use Rattle.toml.specs.declared.value.Value.{Value}
 use Rattle.toml.specs.View.{view}
-use Rattle.std.proofs.lemmas.List.{map_more, map_push, length-map, length-take, take_all}
+use Rattle.std.proofs.lemmas.List.{map_more, map_push, take-map, length-map, length-take, take_all}
 use Rattle.plant_text.specs.Names.{name_in, first_places, with_name, Notes}
 
 -- the first place in a list with one more at its end
@@ -80,3 +81,7 @@ goes_on items i d old new lt so_far step name =
 pub same_places : (items : List Value) (i : ℕ) (places : Places) → length items ≤ i → ((name : List ℕ) → places name ≡ first_places (map name_in (map view (take i items))) name)
     → places ≡ first_places (map name_in (map view items))
 same_places items i places le so_far = fun_ext (λ name. so_far name ∙ ap (λ (xs : List Value). first_places (map name_in (map view xs)) name) (take_all i items le))
+
+-- the names of the first items of an array
+pub names_there : (items : List Value) (d : Data) (most : ℕ) → items_of d ≡ map view items → map name_in (map view (take most items)) ≡ map name_in (take most (items_of d))
+names_there items d most e = rw e (ap (map name_in) (sym (take-map view most items)))

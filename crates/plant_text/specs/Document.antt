@@ -15,6 +15,8 @@ use Rattle.stn_model.specs.declared.plant.Receipt.{Receipt}
 use Rattle.stn_model.specs.declared.plant.Delivery.{Delivery}
 use Rattle.stn_model.specs.declared.plant.Outage.{Outage}
 use Rattle.stn_model.specs.Points.{slot_count, gap_pairs}
+use Rattle.plant_text.specs.declared.fault.PlantStop.{PlantStop}
+use Rattle.plant_text.specs.declared.fault.PlantStop.TheVariants as stop
 use Rattle.plant_text.specs.declared.fault.Place.{Place}
 use Rattle.plant_text.specs.declared.fault.TableName.TheVariants as table
 use Rattle.plant_text.specs.declared.fault.KeyName.{KeyName}
@@ -66,9 +68,9 @@ array_fields scope =
     ∷ row (optional key.Delivery) (tables MAX_EVENTS (rows_tests (λ (earlier : List Delivery) (d : Data). delivery_tests scope (length earlier) d) (delivery_of scope) []))
     ∷ row (since scope.second key.Outage) (tables MAX_EVENTS (rows_tests (λ (earlier : List Outage) (d : Data). outage_tests scope (length earlier) d) (outage_of scope) [])) ∷ []
 
--- the plant of the document, where no test holds
-unfoldable pub plant_in : Members → Plant
-plant_in document = let scope = scope_in document in record {
+-- the plant of a document, read against a scope
+unfoldable pub plant_with : Scope → Members → Plant
+plant_with scope document = record {
   periods = scope.periods;
   states = map (state_of scope) (items_at document (optional key.State));
   utilities = map (utility_of scope) (items_at document (optional key.Utility));
@@ -80,6 +82,10 @@ plant_in document = let scope = scope_in document in record {
   deliveries = map (delivery_of scope) (items_at document (optional key.Delivery));
   outages = map (outage_of scope) (items_at document (since scope.second key.Outage));
 }
+
+-- the plant of the document, where no test holds
+unfoldable pub plant_in : Members → Plant
+plant_in document = plant_with (scope_in document) document
 
 -- at the end: how many slots there are, and how many pairs of slots the gaps concern
 unfoldable pub size_tests : Plant → List Test
@@ -107,6 +113,11 @@ max_bytes = 1048576
 -- the document of the bytes, by the grammar of TOML
 abbrev pub document_of : List ℕ → Option Members
 document_of bytes = if is_utf8 bytes then parse_document bytes else None
+
+-- the stop is want of memory, or the fault of bytes that are no document
+abbrev pub IsNoDocument : List ℕ → PlantStop → Type 0
+IsNoDocument bytes stop.Memory = Unit {0}
+IsNoDocument bytes (stop.Fault found) = (found ≡ fault 2 top_place key.Whole) × (document_of bytes ≡ None)
 
 -- the tests of a plant file, in their order
 unfoldable pub plant_tests : List ℕ → List Test

@@ -5,3 +5,5 @@ pub mod Names
 pub mod Scope
 pub mod Tables
 pub mod Document
+pub mod Sizes
+pub mod Reading

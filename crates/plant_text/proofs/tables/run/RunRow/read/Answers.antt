@@ -22,8 +22,9 @@ unfolding run_tests run_of run_fields
 returns c =
     let cost_fits : SFits w64 c.in_ok-cost.cost = search rules in
     let judged = rw (to_z-of_z w64 c.in_ok-cost.cost cost_fits) at c.in_ok-judge.ensures.ok in
-    rw (← c.in_ok-table.ensures.ok.1)
-    (passes _ _
-    (passes _ _ c.in_ok-table.ensures.ok.0 (passes _ _ c.in_ok-task.ensures.0 (passes _ _ c.in_ok-unit.ensures.0 (passes _ _ c.in_ok-min.ensures.0 (passes _ _ c.in_ok-max.ensures.0 (passes _ _ c.in_ok-cost.ensures.0 nothing))))))
-    (rw (← c.in_ok-task.ensures.1, ← c.in_ok-unit.ensures.1, ← c.in_ok-min.ensures.1, ← c.in_ok-max.ensures.1, ← c.in_ok-cost.ensures.1) judged),
-    rw (to_z-of_z w64 c.in_ok-cost.cost cost_fits, c.in_ok-task.ensures.1, c.in_ok-unit.ensures.1, c.in_ok-min.ensures.1, c.in_ok-max.ensures.1, c.in_ok-cost.ensures.1) refl)
+    rw (← c.in_ok-table.ensures.ok.1) (
+      passes _ _
+          (passes _ _ c.in_ok-table.ensures.ok.0 (passes _ _ c.in_ok-task.ensures.0 (passes _ _ c.in_ok-unit.ensures.0 (passes _ _ c.in_ok-min.ensures.0 (passes _ _ c.in_ok-max.ensures.0 (passes _ _ c.in_ok-cost.ensures.0 nothing))))))
+          (rw (← c.in_ok-task.ensures.1, ← c.in_ok-unit.ensures.1, ← c.in_ok-min.ensures.1, ← c.in_ok-max.ensures.1, ← c.in_ok-cost.ensures.1) judged),
+      rw (to_z-of_z w64 c.in_ok-cost.cost cost_fits, c.in_ok-task.ensures.1, c.in_ok-unit.ensures.1, c.in_ok-min.ensures.1, c.in_ok-max.ensures.1, c.in_ok-cost.ensures.1) refl,
+    )
