@@ -1,0 +1,12 @@
+pub mod Members
+pub mod Faults
+pub mod Places
+pub mod Reading
+pub mod Shares
+pub mod Counting
+pub mod Slots
+pub mod SlotRows
+pub mod Passed
+pub mod SoundItems
+pub mod SoundTasks
+pub mod SoundPlant

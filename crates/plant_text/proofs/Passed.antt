@@ -1,0 +1,154 @@
+-- What tests that pass say of the values that they test.
+use Rattle.std.proofs.Common.{◌≡◌, ℤ, pos, negsuc, ℕ, suc, ◌+◌, ◌<◌, ◌≤◌, ◌⊎◌, Bool, true, false, not, eqb, leb, ltb, List, [], ◌∷◌, ◌++◌, map, length, get_or, All, AllPairs, Option, Some, None, is_some, is_none, option_map, unwrap_or, unsigned_abs, IsTrue, append_assoc, refl, sym, ap, ◌∙◌, inl, inr, arith}
+use Rattle.std.specs.Option.{option_or}
+use Rattle.std.specs.List.{AllByRecursion}
+use Rattle.std.proofs.lemmas.Bool.{and_parts, eqb-true, leb-true, ltb-false}
+use Rattle.std.proofs.lemmas.List.{append-nil, length-map}
+use Rattle.std.proofs.lemmas.List.Quantifiers.{all_pairs_push}
+use Rattle.toml.specs.Data.{Data, as_str, as_integer, as_array}
+use Rattle.stn_model.specs.Sound.{Within, is_name}
+use Rattle.fraction.specs.Fractions.{fraction_in}
+use Rattle.plant_text.specs.declared.fault.PlantFault.{PlantFault}
+use Rattle.plant_text.specs.declared.fault.Place.{Place}
+use Rattle.plant_text.specs.declared.fault.KeyName.{KeyName}
+use Rattle.plant_text.specs.declared.find.Key.{Key}
+use Rattle.plant_text.specs.Tests.{Test, first_fault, rows_tests}
+use Rattle.plant_text.specs.Fields.{fault, Kind, declares, refers, count, money, numbers, tables, Places, is_within, is_before, natural, count_of, integer_of, text_of, items_of, numbers_of, place_of, count_tests, kind_tests, value_tests}
+use Rattle.plant_text.proofs.Faults.{faults_append}
+
+-- no test of the list holds
+abbrev pub Pass : List Test → Type 0
+Pass tests = first_fault tests ≡ None
+
+-- the first test does not hold, nor do the others
+pub first_pass : (b : Bool) (f : PlantFault) (tests : List Test) → Pass ((b, f) ∷ tests) → (b ≡ false) × Pass tests
+unfolding first_fault
+first_pass true f tests e = absurd cc
+first_pass false f tests e = (refl, e)
+
+neither : (x y : Option PlantFault) → option_or x y ≡ None → (x ≡ None) × (y ≡ None)
+neither None y e = (refl, e)
+neither (Some f) y e = absurd cc
+
+-- both parts of a list pass
+pub both_pass : (front back : List Test) → Pass (front ++ back) → Pass front × Pass back
+both_pass front back e = neither (first_fault front) (first_fault back) (sym (faults_append front back) ∙ e)
+
+pub not_false : (b : Bool) → not b ≡ false → b ≡ true
+not_false true e = refl
+not_false false e = absurd cc
+
+is_there : {X : Type 0} (o : Option X) → is_none o ≡ false → (x : X) × (o ≡ Some x)
+is_there None e = absurd cc
+is_there (Some x) e = (x, refl)
+
+within_from : (low high : ℕ) (z : ℤ) → is_within low high z ≡ true → Within low high (natural z)
+within_from low high (pos n) e = let p = and_parts _ _ e in (leb-true _ _ p.0, leb-true _ _ p.1)
+within_from low high (negsuc n) e = absurd cc
+
+count_passes : (place : Place) (word : KeyName) (low high : ℕ) (d : Data) → Pass (count_tests place word low high d) → Within low high (count_of d)
+count_passes place word low high d e =
+    let a = first_pass _ _ _ e in
+    let b = first_pass _ _ _ a.1 in
+    within_from low high (integer_of d) (not_false _ b.0)
+
+-- an absent key that passes is not required
+pub absent : (place : Place) (key : Key) (kind : Kind) → key.required ≡ true → Pass (value_tests place key kind None) → ⊥
+unfolding value_tests
+absent place key kind required e = let a = first_pass _ _ _ e in cc
+
+-- a number that has to be there is within its range
+pub count_needed : (place : Place) (key : Key) (low high : ℕ) (o : Option Data) → key.required ≡ true → Pass (value_tests place key (count low high) o) → Within low high (unwrap_or (option_map count_of o) 0)
+unfolding value_tests kind_tests
+count_needed place key low high None required e = absurd (absent place key (count low high) required e)
+count_needed place key low high (Some d) required e = count_passes place key.name low high d e
+
+-- a number that may be absent is at most its bound
+pub count_most : (place : Place) (key : Key) (high : ℕ) (o : Option Data) → Pass (value_tests place key (count 0 high) o) → unwrap_or (option_map count_of o) 0 ≤ high
+unfolding value_tests kind_tests
+count_most place key high None e = omega arith
+count_most place key high (Some d) e = (count_passes place key.name 0 high d e).1
+
+-- an amount of money is at most its bound
+pub money_most : (place : Place) (key : Key) (most : ℕ) (o : Option Data) → Pass (value_tests place key (money most) o) → unsigned_abs (unwrap_or (option_map integer_of o) (pos 0)) ≤ most
+unfolding value_tests kind_tests
+money_most place key most None e = omega arith
+money_most place key most (Some d) e =
+    let a = first_pass _ _ _ e in
+    let b = first_pass _ _ _ a.1 in
+    leb-true _ _ (not_false _ b.0)
+
+-- a declared name is a name, and no earlier item has it
+pub name_declared : (place : Place) (key : Key) (places : Places) (number : ℕ) (o : Option Data) → key.required ≡ true → Pass (value_tests place key (declares places number) o)
+    → IsTrue (is_name (unwrap_or (option_map text_of o) [])) × (is_before (places (unwrap_or (option_map text_of o) [])) number ≡ false)
+unfolding value_tests kind_tests
+name_declared place key places number None required e = absurd (absent place key (declares places number) required e)
+name_declared place key places number (Some d) required e =
+    let a = first_pass _ _ _ e in
+    let b = first_pass _ _ _ a.1 in
+    let c = first_pass _ _ _ b.1 in
+    (not_false _ b.0, c.0)
+
+-- a row whose value says nothing more
+pub tested : (place : Place) (key : Key) (kind : Kind) (o : Option Data) → Pass (value_tests place key kind o) → Unit {0}
+tested place key kind o e = tt
+
+-- the places are below a bound
+abbrev pub Below : ℕ → Places → Type 0
+Below bound places = (name : List ℕ) (k : ℕ) → places name ≡ Some k → k < bound
+
+-- a reference is to a thing that is there
+pub refers_below : (place : Place) (key : Key) (places : Places) (bound : ℕ) (o : Option Data) → key.required ≡ true → Below bound places → Pass (value_tests place key (refers places) o)
+    → unwrap_or (option_map (place_of places) o) 0 < bound
+unfolding value_tests kind_tests
+refers_below place key places bound None required below e = absurd (absent place key (refers places) required e)
+refers_below place key places bound (Some d) required below e =
+    let a = first_pass _ _ _ e in
+    let b = first_pass _ _ _ a.1 in
+    let k = is_there (places (text_of d)) b.0 in
+    rw k.1 (below (text_of d) k.0 k.1)
+
+-- each item of a list that passes has what its tests say
+pub rows_all : {X Y : Type 0} (tests : List Y → X → List Test) (value : X → Y) (P : Y → Type 0) → ((earlier : List Y) (x : X) → Pass (tests earlier x) → P (value x))
+    → (earlier : List Y) (xs : List X) → Pass (rows_tests tests value earlier xs) → AllByRecursion P (map value xs)
+rows_all tests value P each earlier [] e = tt
+rows_all tests value P each earlier (x ∷ xs) e =
+    let both = both_pass (tests earlier x) (rows_tests tests value (earlier ++ value x ∷ []) xs) e in
+    (each earlier x both.0, rows_all tests value P each (earlier ++ value x ∷ []) xs both.1)
+
+-- items that pass one by one, after those before them, pass in pairs
+pub rows_pairs : {X Y : Type 0} (tests : List Y → X → List Test) (value : X → Y) (R : Y → Y → Type 0)
+    → ((earlier : List Y) (x : X) → Pass (tests earlier x) → (k : ℕ) (d : Y) → k < length earlier → R (get_or earlier k d) (value x))
+    → (earlier : List Y) (xs : List X) → AllPairs R earlier → Pass (rows_tests tests value earlier xs) → AllPairs R (earlier ++ map value xs)
+rows_pairs tests value R each earlier [] apart e = rw append-nil apart
+rows_pairs tests value R each earlier (x ∷ xs) apart e =
+    let both = both_pass (tests earlier x) (rows_tests tests value (earlier ++ value x ∷ []) xs) e in
+    let more = all_pairs_push R earlier (value x) apart (each earlier x both.0) in
+    rw append_assoc at (rows_pairs tests value R each (earlier ++ value x ∷ []) xs more both.1)
+
+-- numbers of a list are as many as they have to be, and at most their bound
+pub record AreNumbers (size bound : ℕ) (ns : List ℕ) : Type 0 where
+  pub many : length ns ≡ size
+  pub most : AllByRecursion (λ n. n ≤ bound) ns
+
+numbers_passes : (place : Place) (word : KeyName) (forbidden : Bool) (many most : ℕ) (d : Data) → Pass (kind_tests place word (numbers forbidden many most) d) → AreNumbers many most (numbers_of d)
+unfolding kind_tests
+numbers_passes place word forbidden many most d e =
+    let a = first_pass _ _ _ e in
+    let b = first_pass _ _ _ a.1 in
+    let c = first_pass _ _ _ b.1 in
+    record {
+      many = length-map (items_of d) count_of ∙ eqb-true _ _ (not_false _ c.0);
+      most = rows_all (λ (earlier : List ℕ) (x : Data). count_tests place word 0 most x) count_of (λ n. n ≤ most) (λ earlier x h. (count_passes place word 0 most x h).1) [] (items_of d) c.1;
+    }
+
+-- numbers that have to be there
+pub numbers_needed : (place : Place) (key : Key) (forbidden : Bool) (many most : ℕ) (o : Option Data) → key.required ≡ true → Pass (value_tests place key (numbers forbidden many most) o) → AreNumbers many most (unwrap_or (option_map numbers_of o) [])
+unfolding value_tests
+numbers_needed place key forbidden many most None required e = absurd (absent place key (numbers forbidden many most) required e)
+numbers_needed place key forbidden many most (Some d) required e = numbers_passes place key.name forbidden many most d e
+
+-- numbers that are there
+pub numbers_there : (place : Place) (key : Key) (forbidden : Bool) (many most : ℕ) (d : Data) → Pass (value_tests place key (numbers forbidden many most) (Some d)) → AreNumbers many most (numbers_of d)
+unfolding value_tests
+numbers_there place key forbidden many most d e = numbers_passes place key.name forbidden many most d e

@@ -1,0 +1,131 @@
+-- A plant file as a whole: its document, its tests in order, and its plant.
+use Rattle.std.specs.Prelude.{◌≡◌, ℕ, ◌==◌, Bool, not, nat_lt, if◌then◌else◌, List, [], ◌∷◌, ◌++◌, length, map, take, Option, Some, None, is_none, unwrap_or}
+use Rattle.std.specs.Str.{is_utf8}
+use Rattle.toml.specs.Data.{Data, Members, no_members}
+use Rattle.toml.specs.Parse.{parse_document}
+use Rattle.stn_model.specs.declared.limits.TheConstants.{MAX_PERIODS, MAX_STATES, MAX_UTILITIES, MAX_UNITS, MAX_TASKS, MAX_RUNS, MAX_GAPS, MAX_EVENTS, MAX_SLOTS, MAX_GAP_PAIRS}
+use Rattle.stn_model.specs.declared.plant.Plant.{Plant}
+use Rattle.stn_model.specs.declared.plant.State.{State}
+use Rattle.stn_model.specs.declared.plant.Utility.{Utility}
+use Rattle.stn_model.specs.declared.plant.StnUnit.{StnUnit}
+use Rattle.stn_model.specs.declared.plant.Task.{Task}
+use Rattle.stn_model.specs.declared.plant.Run.{Run}
+use Rattle.stn_model.specs.declared.plant.Gap.{Gap}
+use Rattle.stn_model.specs.declared.plant.Receipt.{Receipt}
+use Rattle.stn_model.specs.declared.plant.Delivery.{Delivery}
+use Rattle.stn_model.specs.declared.plant.Outage.{Outage}
+use Rattle.stn_model.specs.Points.{slot_count, gap_pairs}
+use Rattle.plant_text.specs.declared.fault.PlantStop.{PlantStop}
+use Rattle.plant_text.specs.declared.fault.PlantStop.TheVariants as stop
+use Rattle.plant_text.specs.declared.fault.Place.{Place}
+use Rattle.plant_text.specs.declared.fault.TableName.TheVariants as table
+use Rattle.plant_text.specs.declared.fault.KeyName.{KeyName}
+use Rattle.plant_text.specs.declared.fault.KeyName.TheVariants as key
+use Rattle.plant_text.specs.Tests.{Test, rows_tests}
+use Rattle.plant_text.specs.Fields.{fault, Field, row, needed, optional, since, count, tables, at_key, count_of, items_at, items_of, has_unknown, keys_of, fields_tests, Places}
+use Rattle.plant_text.specs.Names.{name_in, first_places}
+use Rattle.plant_text.specs.Scope.{Scope}
+use Rattle.plant_text.specs.Tables.{state_tests, state_of, utility_tests, utility_of, unit_tests, unit_of, task_tests, task_of, run_tests, run_of, gap_tests, gap_of, receipt_tests, receipt_of, delivery_tests, delivery_of, outage_tests, outage_of}
+
+-- the whole file
+abbrev pub top_place : Place
+top_place = record { table = table.Top; item = 0; inner = 0 }
+
+-- the file is of version 2: its key `version` is the whole number 2
+abbrev pub is_second : Members → Bool
+is_second document = at_key count_of 0 document (needed key.Version) == 2
+
+-- where the names of an array are declared; no more items are looked at than it may have
+abbrev pub names_at : Members → KeyName → ℕ → Places
+names_at document name most = first_places (map name_in (take most (items_at document (optional name))))
+
+-- what the tables of the document are read against
+unfoldable pub scope_in : Members → Scope
+scope_in document = record {
+  second = is_second document;
+  periods = at_key count_of 0 document (needed key.Periods);
+  states = names_at document key.State MAX_STATES;
+  utilities = names_at document key.Utility MAX_UTILITIES;
+  units = names_at document key.StnUnit MAX_UNITS;
+  tasks = names_at document key.Task MAX_TASKS;
+}
+
+-- the keys at the top: the version and the horizon, then the arrays
+abbrev pub size_fields : Bool → List Field
+size_fields second =
+    row (needed key.Version) (count (if second then 2 else 1) (if second then 2 else 1))
+    ∷ row (needed key.Periods) (count 1 (if second then MAX_PERIODS else 96)) ∷ []
+
+abbrev pub array_fields : Scope → List Field
+array_fields scope =
+    row (optional key.State) (tables MAX_STATES (rows_tests (λ (earlier : List State) (d : Data). state_tests scope (length earlier) d) (state_of scope) []))
+    ∷ row (optional key.Utility) (tables MAX_UTILITIES (rows_tests (λ (earlier : List Utility) (d : Data). utility_tests scope (length earlier) d) (utility_of scope) []))
+    ∷ row (optional key.StnUnit) (tables MAX_UNITS (rows_tests (λ (earlier : List StnUnit) (d : Data). unit_tests scope (length earlier) d) unit_of []))
+    ∷ row (optional key.Task) (tables MAX_TASKS (rows_tests (λ (earlier : List Task) (d : Data). task_tests scope (length earlier) d) (task_of scope) []))
+    ∷ row (optional key.Run) (tables MAX_RUNS (rows_tests (λ (earlier : List Run) (d : Data). run_tests scope earlier d) (run_of scope) []))
+    ∷ row (optional key.Gap) (tables MAX_GAPS (rows_tests (λ (earlier : List Gap) (d : Data). gap_tests scope (length earlier) d) (gap_of scope) []))
+    ∷ row (optional key.Receipt) (tables MAX_EVENTS (rows_tests (λ (earlier : List Receipt) (d : Data). receipt_tests scope (length earlier) d) (receipt_of scope) []))
+    ∷ row (optional key.Delivery) (tables MAX_EVENTS (rows_tests (λ (earlier : List Delivery) (d : Data). delivery_tests scope (length earlier) d) (delivery_of scope) []))
+    ∷ row (since scope.second key.Outage) (tables MAX_EVENTS (rows_tests (λ (earlier : List Outage) (d : Data). outage_tests scope (length earlier) d) (outage_of scope) [])) ∷ []
+
+-- the plant of a document, read against a scope
+unfoldable pub plant_with : Scope → Members → Plant
+plant_with scope document = record {
+  periods = scope.periods;
+  states = map (state_of scope) (items_at document (optional key.State));
+  utilities = map (utility_of scope) (items_at document (optional key.Utility));
+  units = map unit_of (items_at document (optional key.StnUnit));
+  tasks = map (task_of scope) (items_at document (optional key.Task));
+  runs = map (run_of scope) (items_at document (optional key.Run));
+  gaps = map (gap_of scope) (items_at document (optional key.Gap));
+  receipts = map (receipt_of scope) (items_at document (optional key.Receipt));
+  deliveries = map (delivery_of scope) (items_at document (optional key.Delivery));
+  outages = map (outage_of scope) (items_at document (since scope.second key.Outage));
+}
+
+-- the plant of the document, where no test holds
+unfoldable pub plant_in : Members → Plant
+plant_in document = plant_with (scope_in document) document
+
+-- at the end: how many slots there are, and how many pairs of slots the gaps concern
+unfoldable pub size_tests : Plant → List Test
+size_tests plant =
+    (nat_lt MAX_SLOTS (slot_count plant), fault 18 (record { table = table.Run; item = 0; inner = 0 }) key.Whole)
+    ∷ (nat_lt MAX_GAP_PAIRS (gap_pairs plant), fault 19 (record { table = table.Gap; item = 0; inner = 0 }) key.Whole) ∷ []
+
+-- the tests of the keys at the top
+unfoldable pub unknown_tests : Members → List Test
+unknown_tests document =
+    (has_unknown (keys_of (size_fields (is_second document) ++ array_fields (scope_in document))) document, fault 3 top_place key.Whole) ∷ []
+
+-- the tests of a document, in their order
+unfoldable pub document_tests : Members → List Test
+document_tests document =
+    unknown_tests document
+    ++ (fields_tests top_place document (size_fields (is_second document))
+    ++ (fields_tests top_place document (array_fields (scope_in document))
+    ++ size_tests (plant_in document)))
+
+-- the longest plant file, in bytes
+abbrev pub max_bytes : ℕ
+max_bytes = 1048576
+
+-- the document of the bytes, by the grammar of TOML
+abbrev pub document_of : List ℕ → Option Members
+document_of bytes = if is_utf8 bytes then parse_document bytes else None
+
+-- the stop is want of memory, or the fault of bytes that are no document
+abbrev pub IsNoDocument : List ℕ → PlantStop → Type 0
+IsNoDocument bytes stop.Memory = Unit {0}
+IsNoDocument bytes (stop.Fault found) = (found ≡ fault 2 top_place key.Whole) × (document_of bytes ≡ None)
+
+-- the tests of a plant file, in their order
+unfoldable pub plant_tests : List ℕ → List Test
+plant_tests bytes =
+    (nat_lt max_bytes (length bytes), fault 1 top_place key.Whole)
+    ∷ (is_none (document_of bytes), fault 2 top_place key.Whole)
+    ∷ document_tests (unwrap_or (document_of bytes) no_members)
+
+-- the plant of the bytes, where no test holds
+unfoldable pub plant_of : List ℕ → Plant
+plant_of bytes = plant_in (unwrap_or (document_of bytes) no_members)

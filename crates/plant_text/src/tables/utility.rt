@@ -1,0 +1,48 @@
+//! Utilities.
+ghost use Rattle.std.specs.Prelude.{length};
+ghost use Rattle.plant_text.specs.Tables.{utility_of, utility_tests};
+
+use crate::fault::{Place, PlantStop, TableName};
+use crate::find::{has, key, read_fields};
+use crate::rows::Row;
+use crate::scope::{Context, Owner};
+use crate::tables::limits::limits;
+use crate::values::{Several, count_if_there, money, name};
+use std::alloc::Global;
+use stn_model::Utility;
+use stn_model::limits::{MAX_AMOUNT, MAX_PRICE};
+use toml::Value;
+
+impl Row for Utility {
+    ghost tests = { λ scope owner earlier d. utility_tests scope (length earlier) d };
+
+    ghost made = { λ scope owner d. utility_of scope d };
+
+    #[tactic(auto, using(crate::proofs::Faults::faults_append), unfolding(crate::specs::Tables::utility_fields, crate::specs::Tables::utility_tests, crate::specs::Tables::utility_of))]
+    fn read(
+        alloc: Global,
+        context: &Context,
+        _owner: Owner,
+        earlier: &[Utility],
+        value: &Value,
+    ) -> Result<Utility, PlantStop> {
+        let place = Place {
+            table: TableName::Utility,
+            item: earlier.len() as u32 + 1,
+            inner: 0,
+        };
+        let listed = has(value, key!(since context.second, Limits));
+        let several = Several {
+            forbidden: has(value, key!(optional Limit)),
+            many: context.periods,
+            most: MAX_AMOUNT as u32,
+        };
+        read_fields! { value, place;
+            name: (needed Name) = name(alloc; &context.utilities, earlier.len());
+            limit: (needed Limit unless listed) = count_if_there(; 0, MAX_AMOUNT as u32);
+            limits: (since context.second, Limits) = limits(alloc; several, limit);
+            rate: (optional Rate) = money(; MAX_PRICE);
+        }
+        Ok(Utility { name, limits, rate })
+    }
+}
