@@ -1,18 +1,18 @@
 -- What is known of a value once the tests of its kind have passed.
-use Rattle.std.proofs.Common.{◌≡◌, ℕ, ℤ, pos, negsuc, zero, suc, ◌+◌, ◌<◌, ◌≤◌, Bool, true, false, not, ◌&&◌, leb, eqb, ltb, List, [], ◌∷◌, ◌++◌, length, map, take, get_or, Option, None, Some, refl, sym, ap, ◌∙◌, arith, inl, inr, IsTrue, All, ◌⊎◌}
+use Rattle.std.proofs.Common.{◌≡◌, ℕ, ℤ, pos, negsuc, zero, suc, ◌<◌, ◌≤◌, Bool, true, false, leb, List, [], ◌∷◌, ◌++◌, length, map, take, get_or, Option, None, Some, refl, sym, ◌∙◌, arith, inl, inr, IsTrue, All, ◌⊎◌}
 use Rattle.std.specs.Option.{option_or, option_map, unwrap_or, is_none, IfSome}
 use Rattle.std.specs.Prelude.{unsigned_abs}
-use Rattle.std.proofs.lemmas.Bool.{cases_Bool, and_parts, not-false, leb-true, eqb-true, ltb-false, true≢false}
+use Rattle.std.proofs.lemmas.Bool.{and_parts, not-false, leb-true, eqb-true, ltb-false, true≢false}
 use Rattle.std.proofs.lemmas.List.{append-nil, append_assoc, length-map, length-replicate}
 use Rattle.std.proofs.lemmas.List.Elements.{All-nil, All-cons, All-replicate}
-use Rattle.toml.specs.Data.{Data, Items, Members}
+use Rattle.toml.specs.Data.{Data}
 use Rattle.stn_model.specs.Sound.{Within, is_name}
 use Rattle.plant_text.specs.declared.fault.PlantFault.{PlantFault}
 use Rattle.plant_text.specs.declared.fault.Place.{Place}
 use Rattle.plant_text.specs.declared.fault.KeyName.{KeyName}
 use Rattle.plant_text.specs.declared.find.Key.{Key}
 use Rattle.plant_text.specs.Tests.{Test, first_fault, rows_tests}
-use Rattle.plant_text.specs.Fields.{fault, Places, is_before, natural, count_of, integer_of, text_of, items_of, numbers_of, is_within, Kind, declares, refers, part, count, money, numbers, tables, count_tests, kind_tests, value_tests, held, at_key, place_of}
+use Rattle.plant_text.specs.Fields.{fault, Places, is_before, natural, count_of, integer_of, text_of, items_of, numbers_of, is_within, Kind, declares, refers, count, money, numbers, tables, count_tests, kind_tests, value_tests, place_of}
 use Rattle.plant_text.specs.Tables.{limits_in}
 use Rattle.plant_text.proofs.Faults.{faults_append}
 
@@ -90,10 +90,10 @@ unfolding kind_tests
 name_at place key places number found must h =
     value_at (Declared places number) text_of [] place key (declares places number) found
     (λ d p.
-      let one = first_passes _ _ _ p in
-      let two = first_passes _ _ _ one.1 in
-      let three = first_passes _ _ _ two.1 in
-      record { name_is = not-false _ two.0; first = three.0 })
+    let one = first_passes _ _ _ p in
+    let two = first_passes _ _ _ one.1 in
+    let three = first_passes _ _ _ two.1 in
+    record { name_is = not-false _ two.0; first = three.0 })
     (λ e. absurd (true≢false (sym must ∙ e))) h
 
 -- the places are those of so many items
@@ -123,8 +123,7 @@ unfolding kind_tests
 numbers_sound place at forbidden many most d h =
     let one = first_passes _ _ _ h in
     let two = first_passes _ _ _ one.1 in
-    let three = first_passes _ _ _ two.1 in
-    (
+    let three = first_passes _ _ _ two.1 in (
       two.0,
       record {
         all = length-map (items_of d) count_of ∙ eqb-true _ _ (not-false _ three.0);
@@ -164,6 +163,6 @@ unfolding kind_tests
 tables_sound place key most below found none h =
     value_at (λ (ds : List Data). (length ds ≤ most) × Pass (below ds)) items_of [] place key (tables most below) found
     (λ d p.
-      let two = first_passes _ _ _ (first_passes _ _ _ p).1 in
-      (ltb-false _ _ two.0, two.1))
+    let two = first_passes _ _ _ (first_passes _ _ _ p).1 in
+    (ltb-false _ _ two.0, two.1))
     (λ e. elim none [ inl nothing ↦ (omega arith, nothing) | inr must ↦ absurd (true≢false (sym must ∙ e)) ]) h

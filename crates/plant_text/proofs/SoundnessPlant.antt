@@ -1,14 +1,14 @@
 -- The plant of a file whose tests all pass is sound.
-use Rattle.std.proofs.Common.{◌≡◌, ◌≢◌, ℕ, zero, suc, ◌+◌, ◌<◌, ◌≤◌, Bool, true, false, cond, not, ◌&&◌, eqb, if◌then◌else◌, List, [], ◌∷◌, length, map, take, get_or, Option, None, Some, refl, sym, ap, ◌∙◌, arith, inl, inr, All, AllPairs, IsTrue}
+use Rattle.std.proofs.Common.{◌≡◌, ◌≢◌, ℕ, zero, suc, ◌+◌, ◌<◌, ◌≤◌, Bool, true, false, ◌&&◌, eqb, if◌then◌else◌, List, [], ◌∷◌, length, map, take, get_or, Option, None, Some, refl, sym, ap, ◌∙◌, arith, inl, inr, AllPairs, IsTrue}
 use Rattle.std.specs.Option.{option_map, unwrap_or, IfSome}
-use Rattle.std.specs.List.{position_from, list_any}
+use Rattle.std.specs.List.{position_from}
 use Rattle.std.specs.Str.{bytes_eq}
 use Rattle.std.proofs.lemmas.Bool.{cases_Bool, true≢false, lt-ltb, ltb-false, and_from, eq-eqb}
 use Rattle.std.proofs.lemmas.Slice.Eq.{bytes_eq-Decides}
 use Rattle.std.proofs.lemmas.List.{length-map, length-take, length-take-le, take_all, get_or-map, get_or-take}
 use Rattle.std.proofs.lemmas.List.Folds.{list_any_at}
 use Rattle.toml.specs.Data.{Data, boolean, Members, no_members}
-use Rattle.stn_model.specs.declared.limits.TheConstants.{MAX_PERIODS, MAX_STATES, MAX_UTILITIES, MAX_UNITS, MAX_TASKS, MAX_RUNS, MAX_GAPS, MAX_EVENTS, MAX_SLOTS, MAX_GAP_PAIRS}
+use Rattle.stn_model.specs.declared.limits.TheConstants.{MAX_PERIODS, MAX_STATES, MAX_UTILITIES, MAX_UNITS, MAX_TASKS, MAX_RUNS, MAX_GAPS, MAX_EVENTS}
 use Rattle.stn_model.specs.declared.plant.Plant.{Plant}
 use Rattle.stn_model.specs.declared.plant.State.{State}
 use Rattle.stn_model.specs.declared.plant.Utility.{Utility}
@@ -19,8 +19,7 @@ use Rattle.stn_model.specs.declared.plant.Gap.{Gap}
 use Rattle.stn_model.specs.declared.plant.Receipt.{Receipt}
 use Rattle.stn_model.specs.declared.plant.Delivery.{Delivery}
 use Rattle.stn_model.specs.declared.plant.Outage.{Outage}
-use Rattle.stn_model.specs.Points.{slot_count, gap_pairs}
-use Rattle.stn_model.specs.Sound.{Within, is_name, Sound, SoundCounts, SoundNames, SoundState, SoundUtility, SoundTask, SoundRun, SoundGap, SoundReceipt, SoundDelivery, SoundOutage}
+use Rattle.stn_model.specs.Sound.{Within, is_name, Sound, SoundState, SoundUtility, SoundTask, SoundRun, SoundGap, SoundReceipt, SoundDelivery, SoundOutage}
 use Rattle.plant_text.specs.declared.fault.Place.{Place}
 use Rattle.plant_text.specs.declared.fault.TableName.TheVariants as table
 use Rattle.plant_text.specs.declared.fault.KeyName.{KeyName}
@@ -30,7 +29,7 @@ use Rattle.plant_text.specs.Tests.{Test, first_fault, rows_tests}
 use Rattle.plant_text.specs.Fields.{Places, is_before, count, tables, value_tests, members_of, held, needed, optional, since, items_at, items_of, fields_tests}
 use Rattle.plant_text.specs.Names.{name_in, first_places}
 use Rattle.plant_text.specs.Scope.{Scope}
-use Rattle.plant_text.specs.Tables.{state_fields, state_tests, state_of, state_place, utility_fields, utility_tests, utility_of, unit_fields, unit_tests, unit_of, task_fields, task_tests, task_of, run_tests, run_more_tests, run_of, has_run, run_place, gap_tests, gap_of, receipt_tests, receipt_of, delivery_tests, delivery_of, outage_tests, outage_of}
+use Rattle.plant_text.specs.Tables.{state_fields, state_tests, state_of, state_place, utility_fields, utility_tests, utility_of, unit_fields, unit_tests, unit_of, task_fields, task_tests, task_of, run_tests, run_more_tests, run_of, has_run, gap_tests, gap_of, receipt_tests, receipt_of, delivery_tests, delivery_of, outage_tests, outage_of}
 use Rattle.plant_text.specs.Document.{top_place, is_second, names_at, scope_in, size_fields, array_fields, plant_in, size_tests, unknown_tests, document_tests, document_of, plant_tests, plant_of}
 use Rattle.plant_text.proofs.Soundness.{Pass, parts_pass, first_passes, rows_pass, rows_all, Bounded, name_at, count_at, tables_sound}
 use Rattle.plant_text.proofs.SoundnessTables.{Stands, keys_pass, must, state_sound, utility_sound, unit_sound, run_sound, gap_sound, receipt_sound, delivery_sound, outage_sound}
@@ -43,8 +42,8 @@ place_within test i (x ∷ xs) =
     elim (cases_Bool (test x)) [
       | inl e ↦ rw e (omega arith)
       | inr e ↦
-        let shift : (i + 1) + length xs ≡ i + suc (length xs) = omega arith in
-        rw e (rw shift at (place_within test (i + 1) xs))
+          let shift : (i + 1) + length xs ≡ i + suc (length xs) = omega arith in
+          rw e (rw shift at (place_within test (i + 1) xs))
     ]
 
 weaker : (found : Option ℕ) (m n : ℕ) → IfSome found (λ k. k < m) → m ≤ n → IfSome found (λ k. k < n)
@@ -114,7 +113,7 @@ names_apart {Y} name_of value tests places items are named declared h i j d lt w
     let value_j : name_of (get_or (map value items) j d) ≡ name_in (get_or items j e) = ap name_of (get_or-map value items j e d here) ∙ named (get_or items j e) in
     let equal : get_or names i [] ≡ get_or names j [] = name_i ∙ (sym value_i ∙ (same ∙ (value_j ∙ sym name_j))) in
     let free : is_before (first_places names (get_or names j [])) j ≡ false =
-        ap (λ (n : List ℕ). is_before (first_places names n) j) name_j ∙ (ap (λ (p : Places). is_before (p (name_in (get_or items j e))) j) (sym are) ∙ first)
+    ap (λ (n : List ℕ). is_before (first_places names n) j) name_j ∙ (ap (λ (p : Places). is_before (p (name_in (get_or items j e))) j) (sym are) ∙ first)
     in
     names_differ names i j [] lt (omega (arith, length-map items name_in)) free equal
 

@@ -1,12 +1,11 @@
 -- The sides of a task are sound, where their tests pass: each amount is a part of the quantum, and a side's amounts sum to it.
-use Rattle.std.proofs.Common.{◌≡◌, ℕ, zero, suc, ◌+◌, ◌*◌, ◌/◌, ◌%◌, ◌<◌, ◌≤◌, Bool, true, false, not, List, [], ◌∷◌, length, map, get_or, Option, refl, sym, ap, ◌∙◌, arith, inl, inr, All, IsTrue, div-add-mod'}
+use Rattle.std.proofs.Common.{◌≡◌, ℕ, ◌+◌, ◌*◌, ◌%◌, ◌<◌, ◌≤◌, Bool, true, false, List, [], ◌∷◌, length, map, get_or, refl, sym, ap, ◌∙◌, arith, inl, inr, All, div-add-mod'}
 use Rattle.std.specs.List.{AllZip, sum_by}
-use Rattle.std.specs.Option.{option_map}
 use Rattle.std.proofs.lemmas.Bool.{not-false, eqb-true, true≢false}
 use Rattle.std.proofs.lemmas.List.{length-map}
 use Rattle.std.proofs.lemmas.List.Elements.{All-head, All-tail, All-map}
 use Rattle.toml.specs.Data.{Data, Members}
-use Rattle.stn_model.specs.declared.limits.TheConstants.{MAX_SIDE, MAX_DELAY, MAX_QUANTUM, MAX_PART}
+use Rattle.stn_model.specs.declared.limits.TheConstants.{MAX_SIDE, MAX_DELAY, MAX_QUANTUM}
 use Rattle.stn_model.specs.declared.plant.Plant.{Plant}
 use Rattle.stn_model.specs.declared.plant.Input.{Input}
 use Rattle.stn_model.specs.declared.plant.Output.{Output}
@@ -23,9 +22,9 @@ use Rattle.plant_text.specs.declared.find.Key.{Key}
 use Rattle.plant_text.specs.declared.scope.Owner.{Owner}
 use Rattle.plant_text.specs.declared.tables.side.SidePart.{SidePart}
 use Rattle.plant_text.specs.Tests.{Test, first_fault, rows_tests}
-use Rattle.plant_text.specs.Fields.{members_of, held, needed, optional, items_at, table_tests, items_of}
+use Rattle.plant_text.specs.Fields.{members_of, held, needed, optional, items_at}
 use Rattle.plant_text.specs.Scope.{Scope}
-use Rattle.plant_text.specs.Tables.{side_fields, side_tests, side_of, is_output, is_whole, amount_in, sums_to_one, output_of, input_of, whole_tests, share_tests, sides_tests, outputs_in, outputs_of, owner_in, drawer_in, quantum_in, task_fields, task_tests, task_of, draw_tests, draw_of}
+use Rattle.plant_text.specs.Tables.{side_fields, side_tests, side_of, is_output, is_whole, amount_in, sums_to_one, output_of, input_of, whole_tests, share_tests, sides_tests, outputs_of, owner_in, drawer_in, quantum_in, task_fields, task_tests, task_of, draw_tests, draw_of}
 use Rattle.plant_text.proofs.Shares.{sides_proper}
 use Rattle.plant_text.proofs.Soundness.{Pass, parts_pass, first_passes, rows_pass, rows_all, Bounded, name_at, reference_at, count_at, tables_sound}
 use Rattle.plant_text.proofs.SoundnessTables.{Stands, keys_pass, must, draw_sound}
@@ -105,11 +104,11 @@ same_list (x ∷ xs) = ap (λ ys. x ∷ ys) (same_list xs)
 pub outputs_sound : (plant : Plant) (quantum : ℕ) (sides : List SidePart) → SoundSides (length plant.states) true quantum sides → All (SoundOutput plant quantum) (map (output_of quantum) sides)
 outputs_sound plant quantum sides h =
     All-map (SoundOutput plant quantum) (output_of quantum) sides (λ k d lt.
-      record {
-        state = (h.each k d lt).state;
-        part = part_sound quantum (get_or sides k d).part (h.proper k d lt) (h.whole k d lt);
-        delay = (h.each k d lt).delay refl;
-      })
+    record {
+      state = (h.each k d lt).state;
+      part = part_sound quantum (get_or sides k d).part (h.proper k d lt) (h.whole k d lt);
+      delay = (h.each k d lt).delay refl;
+    })
 
 pub given_sum : (states quantum : ℕ) (output : Bool) (sides : List SidePart) → SoundSides states output quantum sides → sum_by (λ (o : Output). o.amount) (map (output_of quantum) sides) ≡ quantum
 given_sum states quantum output sides h =
@@ -119,10 +118,10 @@ given_sum states quantum output sides h =
 pub inputs_sound : (plant : Plant) (quantum : ℕ) (output : Bool) (sides : List SidePart) → SoundSides (length plant.states) output quantum sides → All (SoundInput plant quantum) (map input_of (map (output_of quantum) sides))
 inputs_sound plant quantum output sides h =
     All-map (SoundInput plant quantum) input_of (map (output_of quantum) sides) (All-map (λ (o : Output). SoundInput plant quantum (input_of o)) (output_of quantum) sides (λ k d lt.
-      record {
-        state = (h.each k d lt).state;
-        part = part_sound quantum (get_or sides k d).part (h.proper k d lt) (h.whole k d lt);
-      }))
+    record {
+      state = (h.each k d lt).state;
+      part = part_sound quantum (get_or sides k d).part (h.proper k d lt) (h.whole k d lt);
+    }))
 
 pub taken_sum : (states quantum : ℕ) (output : Bool) (sides : List SidePart) → SoundSides states output quantum sides → sum_by (λ (i : Input). i.amount) (map input_of (map (output_of quantum) sides)) ≡ quantum
 taken_sum states quantum output sides h =

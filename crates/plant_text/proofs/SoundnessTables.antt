@@ -1,23 +1,22 @@
 -- The records of a plant file are sound, table by table, where the tests of their items pass.
-use Rattle.std.proofs.Common.{◌≡◌, ℕ, suc, ◌+◌, ◌<◌, ◌≤◌, Bool, true, false, not, List, [], length, Option, None, Some, refl, sym, ap, ◌∙◌, arith, inl, inr, add-one, All, IsTrue, ltb}
+use Rattle.std.proofs.Common.{◌≡◌, ℕ, ◌+◌, ◌≤◌, true, false, not, List, [], length, refl, ◌∙◌, arith, inl, inr, add-one, IsTrue}
 use Rattle.std.specs.Option.{option_map, is_some}
 use Rattle.std.proofs.lemmas.Bool.{not-false, ltb-true, ltb-false, true≢false}
 use Rattle.std.proofs.lemmas.List.Elements.{All-nil, All-same}
 use Rattle.toml.specs.Data.{Data}
 use Rattle.stn_model.specs.declared.limits.TheConstants.{MAX_AMOUNT, MAX_PRICE, MAX_QUANTA, MAX_DELAY}
 use Rattle.stn_model.specs.declared.plant.Plant.{Plant}
-use Rattle.stn_model.specs.Sound.{Within, is_name, SoundState, SoundUtility, SoundRun, SoundGap, SoundReceipt, SoundDelivery, SoundOutage, SoundDraw}
+use Rattle.stn_model.specs.Sound.{is_name, SoundState, SoundUtility, SoundRun, SoundGap, SoundReceipt, SoundDelivery, SoundOutage, SoundDraw}
 use Rattle.plant_text.specs.declared.fault.Place.{Place}
 use Rattle.plant_text.specs.declared.fault.TableName.TheVariants as table
 use Rattle.plant_text.specs.declared.fault.KeyName.TheVariants as key
 use Rattle.plant_text.specs.declared.find.Key.{Key}
 use Rattle.plant_text.specs.declared.scope.Owner.{Owner}
 use Rattle.stn_model.specs.declared.plant.Run.{Run}
-use Rattle.plant_text.specs.Tests.{Test, first_fault}
 use Rattle.plant_text.specs.Fields.{members_of, held, needed, optional, since, head_tests, keys_of, fields_tests, table_tests, Field, count_of, numbers_of}
 use Rattle.plant_text.specs.Scope.{Scope}
 use Rattle.plant_text.specs.Tables.{is_there, limits_in, state_fields, state_tests, state_of, state_place, utility_fields, utility_tests, utility_of, unit_fields, unit_tests, unit_of, run_fields, run_more_tests, run_tests, run_of, run_place, gap_fields, gap_tests, gap_of, receipt_fields, receipt_tests, receipt_of, delivery_fields, delivery_tests, delivery_of, outage_fields, outage_more_tests, outage_tests, outage_of, outage_place, draw_fields, draw_tests, draw_of}
-use Rattle.plant_text.proofs.Soundness.{Pass, parts_pass, first_passes, Bounded, Declared, AreNumbers, name_at, reference_at, count_at, money_at, numbers_at, limits_sound, absent}
+use Rattle.plant_text.proofs.Soundness.{Pass, parts_pass, first_passes, Bounded, AreNumbers, name_at, reference_at, count_at, money_at, numbers_at, limits_sound, absent}
 
 -- the names that are declared are those of the plant's records, and the horizon is the plant's
 pub record Stands (scope : Scope) (plant : Plant) : Type 0 where
@@ -74,12 +73,12 @@ utility_sound scope number d h =
     let limit = held (members_of d) (optional key.Limit) in
     let several = held (members_of d) (since scope.second key.Limits) in
     let are : AreNumbers scope.periods MAX_AMOUNT (limits_in (option_map count_of limit) (option_map numbers_of several) scope.periods) =
-        elim (limits_sound place one (since scope.second key.Limits) (is_there (members_of d) key.Limit) scope.periods MAX_AMOUNT limit several k2.0 k3.0) [
-          | inl w ↦
-            let free : not (is_some several) ≡ false = absent place one _ limit w.0 k2.0 in
-            absurd (true≢false (rw w.1 at free))
-          | inr w ↦ w
-        ]
+    elim (limits_sound place one (since scope.second key.Limits) (is_there (members_of d) key.Limit) scope.periods MAX_AMOUNT limit several k2.0 k3.0) [
+      | inl w ↦
+          let free : not (is_some several) ≡ false = absent place one _ limit w.0 k2.0 in
+          absurd (true≢false (rw w.1 at free))
+      | inr w ↦ w
+    ]
     in
     record {
       name = (name_at place (needed key.Name) scope.utilities number (held (members_of d) (needed key.Name)) refl k1.0).name_is;
