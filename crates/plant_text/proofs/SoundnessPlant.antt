@@ -30,7 +30,7 @@ use Rattle.plant_text.specs.Fields.{Places, is_before, count, tables, value_test
 use Rattle.plant_text.specs.Names.{name_in, first_places}
 use Rattle.plant_text.specs.Scope.{Scope}
 use Rattle.plant_text.specs.Tables.{state_fields, state_tests, state_of, state_place, utility_fields, utility_tests, utility_of, unit_fields, unit_tests, unit_of, task_fields, task_tests, task_of, run_tests, run_more_tests, run_of, has_run, gap_tests, gap_of, receipt_tests, receipt_of, delivery_tests, delivery_of, outage_tests, outage_of}
-use Rattle.plant_text.specs.Document.{top_place, is_second, names_at, scope_in, size_fields, array_fields, plant_in, size_tests, unknown_tests, document_tests, document_of, plant_tests, plant_of}
+use Rattle.plant_text.specs.Document.{top_place, is_second, names_at, scope_in, size_fields, array_fields, plant_with, plant_in, size_tests, unknown_tests, document_tests, document_of, plant_tests, plant_of}
 use Rattle.plant_text.proofs.Soundness.{Pass, parts_pass, first_passes, rows_pass, rows_all, Bounded, name_at, count_at, tables_sound}
 use Rattle.plant_text.proofs.SoundnessTables.{Stands, keys_pass, must, state_sound, utility_sound, unit_sound, run_sound, gap_sound, receipt_sound, delivery_sound, outage_sound}
 use Rattle.plant_text.proofs.SoundnessSides.{task_sound}
@@ -77,7 +77,7 @@ names_bound document name most n e =
     first_places-Bounded (map name_in (take most (items_at document (optional name)))) n (simp (length-map, length-take) (omega arith))
 
 pub stands : (document : Members) → Stands (scope_in document) (plant_in document)
-unfolding scope_in plant_in
+unfolding scope_in plant_in plant_with
 stands document =
     record {
       periods = refl;
@@ -215,7 +215,7 @@ unfolding scope_in
 tasks_at document = refl
 
 pub plant_sound : (document : Members) → Pass (document_tests document) → Sound (plant_in document)
-unfolding document_tests plant_in size_tests
+unfolding document_tests plant_in plant_with size_tests
 plant_sound document h =
     let scope : Scope = scope_in document in
     let second : Bool = is_second document in
