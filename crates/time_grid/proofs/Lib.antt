@@ -5,3 +5,4 @@ pub mod PlanPoints
 pub mod PointStarts
 pub mod Reordered
 pub mod OnePlan
+pub mod PointPlan

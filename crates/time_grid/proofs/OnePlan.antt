@@ -34,7 +34,7 @@ point_starts-zero : (plant : Plant) (f : ℕ × ℕ → ℕ) → ((slot : ℕ ×
 point_starts-zero plant f e [] = refl
 point_starts-zero plant f e (slot ∷ grid) = rw (eq-eqb (f slot) 0 (e slot)) (point_starts-zero plant f e grid)
 
-map-agree : {X Y : Type 0} (f g : X → Y) (xs : List X) → ((j : ℕ) (d : X) → j < length xs → g (get_or xs j d) ≡ f (get_or xs j d)) → map f xs ≡ map g xs
+pub map-agree : {X Y : Type 0} (f g : X → Y) (xs : List X) → ((j : ℕ) (d : X) → j < length xs → g (get_or xs j d) ≡ f (get_or xs j d)) → map f xs ≡ map g xs
 map-agree f g [] h = refl
 map-agree f g (x ∷ xs) h = ap₂ (λ y ys. y ∷ ys) (sym (h 0 x (omega arith))) (map-agree f g xs (λ j d l. h (suc j) d (omega arith)))
 

@@ -37,7 +37,7 @@ in-from_share plant slot a b share p =
     (and_from _ _ (eq-eqb _ _ (eqb-true _ _ of.0 ∙ share.task)) (eq-eqb _ _ (eqb-true _ _ of.1 ∙ share.unit)))
 
 -- the runs of a sound plant are told apart by task and unit
-same_run : (plant : Plant) (m n : ℕ) → Sound plant → m < length plant.runs → n < length plant.runs →
+pub same_run : (plant : Plant) (m n : ℕ) → Sound plant → m < length plant.runs → n < length plant.runs →
     (run_at plant m).task ≡ (run_at plant n).task → (run_at plant m).unit ≡ (run_at plant n).unit → m ≡ n
 same_run plant m n sound l k task unit =
     elim (cases_order m n) [

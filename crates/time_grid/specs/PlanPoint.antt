@@ -1,6 +1,6 @@
 -- Plans as points: for each slot the quanta that start in it.
 use Rattle.std.specs.Prelude.{◌≡◌, ℕ, ◌<◌, ◌≤◌, ◌==◌, ◌&&◌, ◌⊎◌, Bool, true, false, if◌then◌else◌, List, [], ◌∷◌, map, length, sum_by, All, AllPairs, IsPermutation, slice_index, slice_index_or, slice_set}
-use Rattle.std.specs.List.{AllAdjacentBelow}
+use Rattle.std.specs.List.{AllAdjacentBelow, AllZip}
 use Rattle.stn_model.specs.declared.plant.Plant.{Plant}
 use Rattle.stn_model.specs.declared.start.Start.{Start}
 use Rattle.stn_model.specs.Plant.{is_of}
@@ -69,3 +69,7 @@ PutsStart plant start old new true =
     Fits plant start × ((place : ℕ) × (IsPlaceOf plant start place × (slice_index old place ≡ 0) × (new ≡ slice_set old place start.quanta)))
 PutsStart plant start old new false =
     (new ≡ old) × (Fits plant start → (place : ℕ) × (IsPlaceOf plant start place × (0 < slice_index old place)))
+
+-- a point of the plant: one choice for each slot
+abbrev pub IsPoint : Plant → List ℕ → Type 0
+IsPoint plant point = AllZip (IsChoice plant) (slots plant) point

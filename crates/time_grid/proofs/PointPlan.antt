@@ -1,0 +1,157 @@
+-- The plan of a point has that point.
+use Rattle.std.proofs.Common.{◌≡◌, ◌≢◌, ℕ, ◌<◌, ◌≤◌, true, false, Option, Some, IsSomeAnd, List, [], ◌∷◌, length, get_or, map, slice_get, IsPermutation, sym, refl, ap, ap₂, ◌∙◌, subst, arith, inl, inr}
+use Rattle.std.specs.List.{All, AllPairs, AllZip, position_or_len}
+use Rattle.std.proofs.lemmas.List.Elements.{All-nil, All-cons, All-head, All-tail}
+use Rattle.std.proofs.lemmas.List.Kept.{AllPairs-cons}
+use Rattle.std.proofs.lemmas.List.Sums.{position_or_len_is}
+use Rattle.std.proofs.lemmas.List.Folds.{find_at}
+use Rattle.std.proofs.lemmas.List.Sorted.{All-permutation, sum_by-IsPermutation}
+use Rattle.std.proofs.lemmas.Option.{slice_get-get_or}
+use Rattle.std.proofs.lemmas.Bool.{eqb-true, eq-eqb, ne_eqb, leb-true, and_parts, and_from, cases_Bool, cases_eq, true≢false}
+use Rattle.stn_model.specs.declared.plant.Plant.{Plant}
+use Rattle.stn_model.specs.declared.plant.Run.{Run}
+use Rattle.stn_model.specs.declared.start.Start.{Start}
+use Rattle.stn_model.specs.Plant.{is_of, run_on, end_of}
+use Rattle.stn_model.specs.Fits.{Fits}
+use Rattle.stn_model.specs.Points.{has_slot}
+use Rattle.stn_model.specs.Sound.{Sound}
+use Rattle.time_grid.specs.Slots.{no_run, run_at, slots, IsSlotOf, Earlier}
+use Rattle.time_grid.specs.PlanPoint.{ShareSlot, is_in, quanta_of, quanta_in, HasPoint, plan_point, point_starts, start_in, IsPlanOf, IsChoice, IsPoint}
+use Rattle.time_grid.proofs.Lists.{AllPairs-head, AllPairs-tail, AllPairs-nil}
+use Rattle.time_grid.proofs.SlotList.{slots-are, slots-rise}
+use Rattle.time_grid.proofs.PlanPoints.{in-from_share, same_slot, same_run}
+use Rattle.time_grid.proofs.Reordered.{AllPairs-permutation}
+use Rattle.time_grid.proofs.OnePlan.{quanta_in-cons, quanta_in-none, map-agree}
+
+in_own : (plant : Plant) (slot : ℕ × ℕ) (value : ℕ) → is_in plant slot (start_in plant slot value) ≡ true
+in_own plant slot value = and_from _ _ (eq-eqb slot.1 slot.1 refl) (and_from _ _ (eq-eqb (run_at plant slot.0).task _ refl) (eq-eqb (run_at plant slot.0).unit _ refl))
+
+-- the run of a task on a unit is found at its number
+found_run : (plant : Plant) (run : ℕ) → Sound plant → run < length plant.runs → run_on plant (run_at plant run).task (run_at plant run).unit ≡ Some (run_at plant run)
+unfolding run_on
+found_run plant run sound l =
+    let p = is_of (run_at plant run).task (run_at plant run).unit in
+    let at : position_or_len p plant.runs ≡ run = position_or_len_is p plant.runs run no_run (omega arith)
+    (λ k m. elim (cases_Bool (p (run_at plant k))) [
+      | inl t ↦
+          let parts = and_parts _ _ t in
+          let e : k ≡ run = same_run plant k run sound (omega arith) l (eqb-true _ _ parts.0) (eqb-true _ _ parts.1) in
+          absurd (omega (arith, e))
+      | inr t ↦ t
+    ])
+    (λ m. and_from _ _ (eq-eqb (run_at plant run).task _ refl) (eq-eqb (run_at plant run).unit _ refl)) in
+    find_at p plant.runs ∙ ap (slice_get plant.runs) at ∙ slice_get-get_or plant.runs run no_run l
+
+-- a start of a size of its run fits in a slot
+pub start_in-fits : (plant : Plant) (slot : ℕ × ℕ) (value : ℕ) → Sound plant → IsSlotOf plant slot → (run_at plant slot.0).min ≤ value → value ≤ (run_at plant slot.0).max → Fits plant (start_in plant slot value)
+unfolding end_of has_slot
+start_in-fits plant slot value sound is least most =
+    let parts = and_parts _ _ is.has in
+    record {
+      size = subst (λ (o : Option Run). IsSomeAnd o (λ run. (run.min ≤ value) × (value ≤ run.max))) (sym (found_run plant slot.0 sound is.run)) (least, most);
+      ends = leb-true _ _ parts.0;
+      in_use = parts.1;
+    }
+
+-- no start of the point's is in a slot that is not among its slots
+not_in : (plant : Plant) (grid : List (ℕ × ℕ)) (values : List ℕ) (slot : ℕ × ℕ) → Sound plant → IsSlotOf plant slot → All (IsSlotOf plant) grid → All (λ t. t ≢ slot) grid →
+    All (λ a. is_in plant slot a ≡ false) (point_starts plant grid values)
+not_in plant [] values slot sound is are others = All-nil (λ a. is_in plant slot a ≡ false)
+not_in plant (t ∷ grid) [] slot sound is are others = All-nil (λ a. is_in plant slot a ≡ false)
+not_in plant (t ∷ grid) (value ∷ values) slot sound is are others =
+    let rest = not_in plant grid values slot sound is (All-tail (IsSlotOf plant) t grid are) (All-tail (λ u. u ≢ slot) t grid others) in
+    elim (cases_eq value 0) [
+      | inl e ↦ rw (eq-eqb value 0 e) rest
+      | inr e ↦
+          let a = start_in plant t value in
+          let out : is_in plant slot a ≡ false = elim (cases_Bool (is_in plant slot a)) [
+            | inl u ↦ absurd (All-head (λ w. w ≢ slot) t grid others (same_slot plant t slot a sound (All-head (IsSlotOf plant) t grid are) is (in_own plant t value) u))
+            | inr u ↦ u
+          ] in
+          rw (ne_eqb value 0 e) (All-cons (λ b. is_in plant slot b ≡ false) a (point_starts plant grid values) out rest)
+    ]
+
+earlier-differs : (s t : ℕ × ℕ) → Earlier s t → t ≢ s
+earlier-differs s t (inl b) h = let k : t.0 ≡ s.0 = ap (λ p. p.0) h in omega arith
+earlier-differs s t (inr b) h = let k : t.1 ≡ s.1 = ap (λ p. p.1) h in omega (arith, b.1)
+
+later-differ : (slot : ℕ × ℕ) (grid : List (ℕ × ℕ)) → AllPairs Earlier (slot ∷ grid) → All (λ t. t ≢ slot) grid
+later-differ slot grid rise k d l = earlier-differs slot (get_or grid k d) (AllPairs-head Earlier slot grid rise k d l)
+
+-- the starts of a point fit, share no slot, and have the point's quanta
+record HasValues (plant : Plant) (grid : List (ℕ × ℕ)) (values : List ℕ) : Type 0 where
+  has : HasPoint plant (point_starts plant grid values)
+  values_are : map (quanta_in plant (point_starts plant grid values)) grid ≡ values
+
+quanta_of-own : (plant : Plant) (slot : ℕ × ℕ) (value : ℕ) → quanta_of plant slot (start_in plant slot value) ≡ value
+quanta_of-own plant slot value = rw (in_own plant slot value)
+
+point-of_starts : (plant : Plant) (grid : List (ℕ × ℕ)) (values : List ℕ) → Sound plant → All (IsSlotOf plant) grid → AllPairs Earlier grid → AllZip (IsChoice plant) grid values →
+    HasValues plant grid values
+point-of_starts plant [] [] sound are rise choices = record {
+  has = record { fits = All-nil (Fits plant); apart = AllPairs-nil (λ a b. ¬ ShareSlot a b) };
+  values_are = refl;
+}
+point-of_starts plant [] (value ∷ values) sound are rise choices = absurd choices
+point-of_starts plant (slot ∷ grid) [] sound are rise choices = absurd choices
+point-of_starts plant (slot ∷ grid) (value ∷ values) sound are rise choices =
+    let is = All-head (IsSlotOf plant) slot grid are in
+    let rest = point-of_starts plant grid values sound (All-tail (IsSlotOf plant) slot grid are) (AllPairs-tail Earlier slot grid rise) choices.1 in
+    let plan = point_starts plant grid values in
+    let out : All (λ a. is_in plant slot a ≡ false) plan = not_in plant grid values slot sound is (All-tail (IsSlotOf plant) slot grid are) (later-differ slot grid rise) in
+    let none : quanta_in plant plan slot ≡ 0 = quanta_in-none plant plan slot out in
+    elim (cases_eq value 0) [
+      | inl e ↦
+          let same : point_starts plant (slot ∷ grid) (value ∷ values) ≡ plan = rw (eq-eqb value 0 e) refl in
+          record {
+            has = subst (HasPoint plant) (sym same) rest.has;
+            values_are = ap (λ p. map (quanta_in plant p) (slot ∷ grid)) same ∙ ap₂ (λ v vs. v ∷ vs) (none ∙ sym e) rest.values_are;
+          }
+      | inr e ↦ elim choices.0 [
+        | inl z ↦ absurd (e z)
+        | inr size ↦
+            let a = start_in plant slot value in
+            let first : quanta_in plant (a ∷ plan) slot ≡ value = quanta_in-cons plant a plan slot ∙ (rw (quanta_of-own plant slot value, none) (omega arith)) in
+            let others : map (quanta_in plant (a ∷ plan)) grid ≡ map (quanta_in plant plan) grid =
+            map-agree (quanta_in plant (a ∷ plan)) (quanta_in plant plan) grid (λ j d l.
+            let t = get_or grid j d in
+            elim (cases_Bool (is_in plant t a)) [
+              | inl u ↦ absurd (later-differ slot grid rise j d l (same_slot plant t slot a sound (All-tail (IsSlotOf plant) slot grid are j d l) is u (in_own plant slot value)))
+              | inr u ↦ sym (quanta_in-cons plant a plan t ∙ (rw u (omega arith)))
+            ]) in
+            let has : HasPoint plant (a ∷ plan) = record {
+              fits = All-cons (Fits plant) a plan (start_in-fits plant slot value sound is size.0 size.1) rest.has.fits;
+              apart = AllPairs-cons (λ b c. ¬ ShareSlot b c) a plan
+                  (λ k d l share. true≢false (sym (in-from_share plant slot a (get_or plan k d) share (in_own plant slot value)) ∙ out k d l)) rest.has.apart;
+            } in
+            let same : point_starts plant (slot ∷ grid) (value ∷ values) ≡ a ∷ plan = rw (ne_eqb value 0 e) refl in
+            record {
+              has = subst (HasPoint plant) (sym same) has;
+              values_are = ap (λ p. map (quanta_in plant p) (slot ∷ grid)) same ∙ ap₂ (λ v vs. v ∷ vs) first (others ∙ rest.values_are);
+            }
+      ]
+    ]
+
+-- a plan with a point has it in any order
+pub has_point-permutation : (plant : Plant) (P Q : List Start) → IsPermutation P Q → HasPoint plant P → HasPoint plant Q
+has_point-permutation plant P Q same has = record {
+  fits = All-permutation (Fits plant) P Q same has.fits;
+  apart = AllPairs-permutation (λ a b. ¬ ShareSlot a b) (λ a b h share. h (record { period = sym share.period; unit = sym share.unit; task = sym share.task })) P Q same has.apart;
+}
+
+map-same : {X Y : Type 0} (f g : X → Y) → ((x : X) → f x ≡ g x) → (xs : List X) → map f xs ≡ map g xs
+map-same f g e [] = refl
+map-same f g e (x ∷ xs) = ap₂ (λ y ys. y ∷ ys) (e x) (map-same f g e xs)
+
+pub plan_point-permutation : (plant : Plant) (P Q : List Start) → IsPermutation P Q → plan_point plant P ≡ plan_point plant Q
+unfolding plan_point quanta_in
+plan_point-permutation plant P Q same = map-same (quanta_in plant P) (quanta_in plant Q) (λ slot. sym (sum_by-IsPermutation (quanta_of plant slot) P Q same)) (slots plant)
+
+-- the plan of a point has that point
+pub point-of_plan : (plant : Plant) (point : List ℕ) (plan : List Start) → Sound plant → IsPoint plant point → IsPlanOf plant point plan → HasPoint plant plan × (plan_point plant plan ≡ point)
+unfolding plan_point
+point-of_plan plant point plan sound choices is =
+    let own = point-of_starts plant (slots plant) point sound (slots-are plant) (slots-rise plant) choices in (
+      has_point-permutation plant (point_starts plant (slots plant) point) plan is.starts own.has,
+      sym (plan_point-permutation plant (point_starts plant (slots plant) point) plan is.starts) ∙ own.values_are,
+    )
