@@ -10,7 +10,6 @@ use std::env;
 use std::io::{self, ErrorKind};
 use std::process::ExitCode;
 use std::rt::{Env, Files};
-
 use stn_edge::{FileShelf, StdSink};
 use stn_top::run;
 

@@ -7,14 +7,11 @@ ghost use Rattle.plan_text.specs.PlanText.{plan_of_text};
 ghost use Rattle.plant_text.specs.Reading.{reading};
 
 use crate::reply::Stopped;
-use plan_text::{MAX_BYTES, PlanFault, PlanStop, TOO_LONG, read_plan};
+use plan_text::{PlanFault, PlanStop, TOO_LONG, read_plan};
 use plant_text::{KeyName, PlantFault, PlantStop, TableName, read_plant};
 use std::alloc::Global;
 use stn_edge::{ReadStop, Shelf, read_all};
 use stn_model::{List, Plant, Start};
-
-/// The most bytes that a plant file has.
-const MAX_PLANT_BYTES: u64 = 1_048_576;
 
 /// The plant in a file, or the first fault of the file. The files are as before.
 pub fn plant_in<F: Shelf>(
@@ -30,7 +27,7 @@ pub fn plant_in<F: Shelf>(
     ensures readable { F.may_read files.new ≡ F.may_read files.old }
     ensures later { F.read_faults files.old ≤ F.read_faults files.new }
 {
-    match read_all(alloc, files, name, MAX_PLANT_BYTES) {
+    match read_all(alloc, files, name, plant_text::MAX_BYTES as u64) {
         Ok(bytes) => plant_of(alloc, bytes.as_slice()),
         Err(ReadStop::TooLong) => Ok(Err(PlantFault {
             kind: 1,
@@ -72,7 +69,7 @@ pub fn plan_in<F: Shelf>(
     ensures same { F.files files.new ≡ F.files files.old }
     ensures later { F.read_faults files.old ≤ F.read_faults files.new }
 {
-    match read_all(alloc, files, name, MAX_BYTES as u64) {
+    match read_all(alloc, files, name, plan_text::MAX_BYTES as u64) {
         Ok(bytes) => plan_of(alloc, plant, bytes.as_slice()),
         Err(ReadStop::TooLong) => Ok(Err(PlanFault {
             kind: TOO_LONG,
@@ -89,8 +86,7 @@ fn plan_of(
     plant: &Plant,
     bytes: &[u8],
 ) -> Result<Result<List<Start>, PlanFault>, Stopped>
-    requires sound { Sound plant.now }
-    requires short { length bytes.now ≤ MAX_BYTES }
+    requires { Sound plant.now }
     ensures read { IfOk result (λ read. plan_of_text plant.now bytes.now ≡ read) }
     ensures few { IfOk result (λ read. IfOk read (λ plan. length plan < 2 ^ 32)) }
     ensures memory { result ≡ Err Stopped.ReadFault → ⊥ }

@@ -1,7 +1,6 @@
 //! Runs over files and a sink in memory, with answers that were worked out by hand.
 use crate::run;
 use std::alloc::{AllocError, Global};
-use std::process::Abort;
 use std::test::Fail;
 use stn_edge::{FixedShelf, FixedSink, MemShelf, MemSink};
 
@@ -194,6 +193,15 @@ fn with(alloc: Global, text: &str, old: &str, new: &str) -> Result<String, Alloc
     }
 }
 
+// The text with several places replaced, one after the other.
+fn edited(alloc: Global, text: &str, edits: &[(&str, &str)]) -> Result<String, AllocError> {
+    let mut edited = String::from_str(alloc, text)?;
+    for (old, new) in edits {
+        edited = with(alloc, edited.as_str(), old, new)?;
+    }
+    Ok(edited)
+}
+
 // The status and the text of a run over a plant file and a plan file.
 fn answer(
     alloc: Global,
@@ -209,341 +217,253 @@ fn answer(
     Ok((status, out))
 }
 
-// `solve` answers with this status, first line and plan lines.
-fn solves(
-    rt: &impl Abort,
-    alloc: Global,
-    plant: &str,
-    budget: &str,
-    status: u8,
-    first: &str,
-    plan: &str,
-) -> Result<(), Fail> {
-    let (answered, out) = answer(alloc, plant, "", &["solve", "plant", budget])?;
-    assert_eq!(rt; answered, status);
-    assert!(rt; out.written().starts_with(first.as_bytes()));
-    assert!(rt; out.written().ends_with(plan.as_bytes()));
-    Ok(())
-}
+// A plant with edits, a budget, and the status, the beginning and the end of the answer of `solve`.
+type Solved = (
+    &'static str,
+    &'static [(&'static str, &'static str)],
+    &'static str,
+    u8,
+    &'static str,
+    &'static str,
+);
 
-#[test]
-fn plans_are_the_best(rt: HostRuntime) -> Result<(), Fail> {
-    let alloc = rt.alloc();
-    solves(
-        &rt,
-        alloc,
+const SOLVED: [Solved; 11] = [
+    (
         TINY,
+        &[],
         "31",
         0,
         "# optimal 60\n# boxes ",
         "\n0 U make 3\n1 U make 3\n",
-    )?;
-    let little = with(alloc, TINY, "initial = 12", "initial = 1")?;
-    solves(
-        &rt,
-        alloc,
-        little.as_str(),
+    ),
+    (
+        TINY,
+        &[("initial = 12", "initial = 1")],
         "31",
         0,
         "# optimal 1\n# boxes ",
         "\n",
-    )?;
-    let ten = with(alloc, TINY, "initial = 12", "initial = 10")?;
-    let odd = with(alloc, ten.as_str(), "min = 1", "min = 3")?;
-    solves(
-        &rt,
-        alloc,
-        odd.as_str(),
-        "7",
-        0,
-        "# optimal 34\n# boxes ",
-        " U make 3\n",
-    )?;
-    solves(
-        &rt,
-        alloc,
-        odd.as_str(),
+    ),
+    (TINY, ODD, "7", 0, "# optimal 34\n# boxes ", " U make 3\n"),
+    (
+        TINY,
+        ODD,
         "1",
         6,
         "# budget-spent 10 58\n# boxes 1\n",
         "# boxes 1\n",
-    )?;
-    let due = with(
-        alloc,
+    ),
+    (
         TINY,
-        "[[unit]]",
-        "[[delivery]]\nstate = \"prod\"\ntime = 0\namount = 1\n[[unit]]",
-    )?;
-    solves(
-        &rt,
-        alloc,
-        due.as_str(),
+        &[("[[unit]]", DUE)],
         "31",
         1,
         "# infeasible\n# boxes ",
         "\n",
-    )?;
-    solves(&rt, alloc, WASH, "1023", 0, "# optimal 3\n# boxes ", "\n")?;
-    solves(
-        &rt,
-        alloc,
-        TINT,
-        "31",
-        0,
-        "# optimal 6\n# boxes ",
-        " U B 1\n",
-    )?;
-    let one_way = with(alloc, TINT, "from = \"B\"", "from = \"A\"")?;
-    let one_way = with(alloc, one_way.as_str(), "to = \"A\"", "to = \"B\"")?;
-    solves(
-        &rt,
-        alloc,
-        one_way.as_str(),
-        "31",
-        0,
-        "# optimal 10\n# boxes ",
-        "\n0 U B 1\n1 U A 1\n",
-    )?;
-    solves(
-        &rt,
-        alloc,
-        GOLD,
-        "1",
-        0,
-        "# optimal 6\n# boxes 1\n",
-        "# boxes 1\n",
-    )?;
-    solves(
-        &rt,
-        alloc,
+    ),
+    (
         FULL,
+        &[],
         "1",
         1,
         "# infeasible\n# boxes 1\n",
         "# boxes 1\n",
-    )
+    ),
+    (GOLD, &[], "1", 0, "# optimal 6\n# boxes 1\n", "# boxes 1\n"),
+    (WASH, &[], "1023", 0, "# optimal 3\n# boxes ", "\n"),
+    (TINT, &[], "31", 0, "# optimal 6\n# boxes ", " U B 1\n"),
+    (
+        TINT,
+        ONE_WAY,
+        "31",
+        0,
+        "# optimal 10\n# boxes ",
+        "\n0 U B 1\n1 U A 1\n",
+    ),
+    (
+        TINY,
+        OUT_OF_USE,
+        "7",
+        0,
+        "# optimal 36\n# boxes ",
+        "\n1 U make 3\n",
+    ),
+];
+
+// Tiny whose batches are three quanta, with feed for one of them.
+const ODD: &[(&str, &str)] = &[("initial = 12", "initial = 10"), ("min = 1", "min = 3")];
+
+const DUE: &str = "[[delivery]]\nstate = \"prod\"\ntime = 0\namount = 1\n[[unit]]";
+
+// Tint with a changeover cost from A to B alone.
+const ONE_WAY: &[(&str, &str)] = &[
+    ("from = \"B\"", "from = \"A\""),
+    ("to = \"A\"", "to = \"B\""),
+];
+
+const OUT_OF_USE: &[(&str, &str)] = &[
+    ("version = 1", "version = 2"),
+    (
+        "[[task]]",
+        "[[outage]]\nunit = \"U\"\nfrom = 0\nto = 1\n[[task]]",
+    ),
+];
+
+#[test]
+fn plans_are_the_best(rt: HostRuntime) -> Result<(), Fail> {
+    for (plant, edits, budget, status, first, last) in SOLVED {
+        let plant = edited(rt.alloc(), plant, edits)?;
+        let (answered, out) = answer(rt.alloc(), plant.as_str(), "", &["solve", "plant", budget])?;
+        assert_eq!(rt; answered, status);
+        assert!(rt; out.written().starts_with(first.as_bytes()));
+        assert!(rt; out.written().ends_with(last.as_bytes()));
+    }
+    Ok(())
+}
+
+// A plant with edits, a plan, and the status and the text of the answer of `simulate`.
+type Simulated = (
+    &'static str,
+    &'static [(&'static str, &'static str)],
+    &'static str,
+    u8,
+    &'static str,
+);
+
+const SIMULATED: [Simulated; 17] = [
+    (WASH, &[], "0 U A 1\n2 U B 1\n", 1, "broken gap 1 2\n"),
+    (WASH, &[], "0 U A 1\n1 U C 1\n2 U B 1\n", 0, "feasible 3\n"),
+    (SEP, &[], "0 S sep 1\n1 V pack 1\n", 0, "feasible 9\n"),
+    (SEP, &[], "0 S sep 1\n1 S sep 1\n", 1, "broken busy 1 2\n"),
+    (TINT, &[], "0 U A 1\n1 U B 1\n", 0, "feasible 5\n"),
+    (
+        TINY,
+        &[],
+        "0 U make 1\n0 U make 1\n",
+        1,
+        "broken busy 1 2\n",
+    ),
+    (TINY, &[], "2 U make 1\n", 1, "broken unfit 1\n"),
+    (TINY, &[], "# nothing\n", 0, "feasible 12\n"),
+    (
+        TINY,
+        &[("initial = 12", "initial = 1")],
+        "0 U make 1\n",
+        1,
+        "broken stock-low feed 0\n",
+    ),
+    (
+        TINY,
+        &[("price = 5", "limit = 4")],
+        "0 U make 3\n",
+        1,
+        "broken stock-high prod 1\n",
+    ),
+    (TINY, OUT_OF_USE, "0 U make 3\n", 1, "broken unfit 1\n"),
+    (TINY, RISING, "0 U make 3\n1 U make 3\n", 0, "feasible 60\n"),
+    (TINY, FLAT, "0 U make 3\n", 1, "broken stock-high prod 1\n"),
+    (TINY, STEAM, "0 U make 3\n", 0, "feasible 36\n"),
+    (TINY, STEAM, "0 U make 4\n", 1, "broken load steam 0\n"),
+    (TINY, &[], "0 U make\n", 4, "refused plan 1 1\n"),
+    (TINY, &[], "0 V make 1\n", 4, "refused plan 2 1\n"),
+];
+
+const RISING: &[(&str, &str)] = &[
+    ("version = 1", "version = 2"),
+    ("price = 5", "price = 5\nlimits = [0, 6, 12]"),
+];
+
+const FLAT: &[(&str, &str)] = &[
+    ("version = 1", "version = 2"),
+    ("price = 5", "price = 5\nlimits = [0, 4, 4]"),
+];
+
+// Tiny with a utility of which three quanta draw all.
+const STEAM: &[(&str, &str)] = &[
+    ("max = 3", "max = 4"),
+    (
+        "[[task.input]]",
+        "draw = [{ utility = \"steam\", fixed = [2], each = [1] }]\n[[task.input]]",
+    ),
+    (
+        "[[unit]]",
+        "[[utility]]\nname = \"steam\"\nlimit = 5\n[[unit]]",
+    ),
+];
+
+#[test]
+fn plans_are_simulated(rt: HostRuntime) -> Result<(), Fail> {
+    for (plant, edits, plan, status, text) in SIMULATED {
+        let plant = edited(rt.alloc(), plant, edits)?;
+        let (answered, out) = answer(
+            rt.alloc(),
+            plant.as_str(),
+            plan,
+            &["simulate", "plant", "plan"],
+        )?;
+        assert_eq!(rt; answered, status);
+        assert_eq!(rt; out.written(), text.as_bytes());
+    }
+    Ok(())
 }
 
 #[test]
-fn words_and_files_are_refused(rt: HostRuntime) -> Result<(), Fail> {
-    let alloc = rt.alloc();
-    let wrong: [&[&str]; 5] = [
+fn words_are_refused(rt: HostRuntime) -> Result<(), Fail> {
+    let wrong: [&[&str]; 6] = [
         &[],
         &["solve", "plant", "0"],
         &["solve", "plant", "031"],
         &["solve", "plant", "100001"],
         &["solve", "", "31"],
+        &["simulate", "plant", ""],
     ];
     for words in wrong {
-        let (status, out) = answer(alloc, TINY, "", words)?;
-        assert_eq!(&rt; status, 2);
-        assert_eq!(&rt; out.written(), "refused words\n".as_bytes());
+        let (status, out) = answer(rt.alloc(), TINY, "", words)?;
+        assert_eq!(rt; status, 2);
+        assert_eq!(rt; out.written(), "refused words\n".as_bytes());
     }
     Ok(())
 }
 
-// `simulate` answers with this status and text.
-fn simulates(
-    rt: &impl Abort,
-    alloc: Global,
-    plant: &str,
-    plan: &str,
-    status: u8,
-    text: &str,
-) -> Result<(), Fail> {
-    let (answered, out) = answer(alloc, plant, plan, &["simulate", "plant", "plan"])?;
-    assert_eq!(rt; answered, status);
-    assert_eq!(rt; out.written(), text.as_bytes());
-    Ok(())
-}
-
 #[test]
-fn plans_are_simulated(rt: HostRuntime) -> Result<(), Fail> {
-    let alloc = rt.alloc();
-    simulates(
-        &rt,
-        alloc,
-        WASH,
-        "0 U A 1\n2 U B 1\n",
-        1,
-        "broken gap 1 2\n",
-    )?;
-    simulates(
-        &rt,
-        alloc,
-        WASH,
-        "0 U A 1\n1 U C 1\n2 U B 1\n",
-        0,
-        "feasible 3\n",
-    )?;
-    simulates(
-        &rt,
-        alloc,
-        SEP,
-        "0 S sep 1\n1 V pack 1\n",
-        0,
-        "feasible 9\n",
-    )?;
-    simulates(
-        &rt,
-        alloc,
-        SEP,
-        "0 S sep 1\n1 S sep 1\n",
-        1,
-        "broken busy 1 2\n",
-    )?;
-    simulates(&rt, alloc, TINT, "0 U A 1\n1 U B 1\n", 0, "feasible 5\n")?;
-    simulates(
-        &rt,
-        alloc,
+fn long_files_are_refused(rt: HostRuntime) -> Result<(), Fail> {
+    let long = String::from_utf8(vec![in rt.alloc(); b'#'; 1_048_577]?)
+        .ok()
+        .ok_or("text")?;
+    let (status, out) = answer(rt.alloc(), long.as_str(), "", &["solve", "plant", "31"])?;
+    assert_eq!(rt; status, 3);
+    assert_eq!(rt; out.written(), "refused plant 1 top 0 0 -\n".as_bytes());
+    let (status, out) = answer(
+        rt.alloc(),
         TINY,
-        "0 U make 1\n0 U make 1\n",
-        1,
-        "broken busy 1 2\n",
+        long.as_str(),
+        &["simulate", "plant", "plan"],
     )?;
-    simulates(&rt, alloc, TINY, "2 U make 1\n", 1, "broken unfit 1\n")?;
-    simulates(&rt, alloc, TINY, "# nothing\n", 0, "feasible 12\n")?;
-    let little = with(alloc, TINY, "initial = 12", "initial = 1")?;
-    simulates(
-        &rt,
-        alloc,
-        little.as_str(),
-        "0 U make 1\n",
-        1,
-        "broken stock-low feed 0\n",
-    )?;
-    let full = with(alloc, TINY, "price = 5", "limit = 4")?;
-    simulates(
-        &rt,
-        alloc,
-        full.as_str(),
-        "0 U make 3\n",
-        1,
-        "broken stock-high prod 1\n",
-    )
-}
-
-#[test]
-fn later_versions_are_simulated(rt: HostRuntime) -> Result<(), Fail> {
-    let alloc = rt.alloc();
-    let second = with(alloc, TINY, "version = 1", "version = 2")?;
-    let out_of_use = with(
-        alloc,
-        second.as_str(),
-        "[[task]]",
-        "[[outage]]\nunit = \"U\"\nfrom = 0\nto = 1\n[[task]]",
-    )?;
-    simulates(
-        &rt,
-        alloc,
-        out_of_use.as_str(),
-        "0 U make 3\n",
-        1,
-        "broken unfit 1\n",
-    )?;
-    solves(
-        &rt,
-        alloc,
-        out_of_use.as_str(),
-        "7",
-        0,
-        "# optimal 36\n# boxes ",
-        "\n1 U make 3\n",
-    )?;
-    let rising = with(
-        alloc,
-        second.as_str(),
-        "price = 5",
-        "price = 5\nlimits = [0, 6, 12]",
-    )?;
-    simulates(
-        &rt,
-        alloc,
-        rising.as_str(),
-        "0 U make 3\n1 U make 3\n",
-        0,
-        "feasible 60\n",
-    )?;
-    let flat = with(
-        alloc,
-        second.as_str(),
-        "price = 5",
-        "price = 5\nlimits = [0, 4, 4]",
-    )?;
-    simulates(
-        &rt,
-        alloc,
-        flat.as_str(),
-        "0 U make 3\n",
-        1,
-        "broken stock-high prod 1\n",
-    )?;
-    let four = with(alloc, TINY, "max = 3", "max = 4")?;
-    let drawing = with(
-        alloc,
-        four.as_str(),
-        "[[task.input]]",
-        "draw = [{ utility = \"steam\", fixed = [2], each = [1] }]\n[[task.input]]",
-    )?;
-    let steam = with(
-        alloc,
-        drawing.as_str(),
-        "[[unit]]",
-        "[[utility]]\nname = \"steam\"\nlimit = 5\n[[unit]]",
-    )?;
-    simulates(
-        &rt,
-        alloc,
-        steam.as_str(),
-        "0 U make 3\n",
-        0,
-        "feasible 36\n",
-    )?;
-    simulates(
-        &rt,
-        alloc,
-        steam.as_str(),
-        "0 U make 4\n",
-        1,
-        "broken load steam 0\n",
-    )
-}
-
-#[test]
-fn plan_files_are_refused(rt: HostRuntime) -> Result<(), Fail> {
-    let alloc = rt.alloc();
-    simulates(&rt, alloc, TINY, "0 U make\n", 4, "refused plan 1 1\n")?;
-    simulates(&rt, alloc, TINY, "0 V make 1\n", 4, "refused plan 2 1\n")?;
-    let long = vec![in alloc; b'#'; 262_145]?;
-    let mut files = FixedShelf::new(alloc);
-    files.put_file("plant", TINY.as_bytes())?;
-    files.put_file("plan", long.as_slice())?;
-    let mut out = FixedSink::new(alloc);
-    let status = run(alloc, &["simulate", "plant", "plan"], &mut files, &mut out);
     assert_eq!(rt; status, 4);
     assert_eq!(rt; out.written(), "refused plan 4 0\n".as_bytes());
     Ok(())
 }
 
 #[test]
-fn faults_have_their_statuses(rt: HostRuntime) -> Result<(), Fail> {
-    let alloc = rt.alloc();
-    let words: &[&str] = &["solve", "plant", "31"];
-    let mut files = MemShelf::new(alloc);
+fn a_failing_sink_gets_a_first_part(rt: HostRuntime) -> Result<(), Fail> {
+    let mut files = MemShelf::new(rt.alloc());
     files.put_file("plant", TINY.as_bytes())?;
-    let mut out = MemSink::new(alloc);
+    let mut out = MemSink::new(rt.alloc());
     out.fail_call(1, 5)?;
-    assert_eq!(rt; run(alloc, words, &mut files, &mut out), 8);
+    let status = run(rt.alloc(), &["solve", "plant", "31"], &mut files, &mut out);
+    assert_eq!(rt; status, 8);
     assert_eq!(rt; out.written(), "# opt".as_bytes());
-    files.fail_call(3, 0)?;
-    let mut out = MemSink::new(alloc);
-    assert_eq!(rt; run(alloc, words, &mut files, &mut out), 7);
+    Ok(())
+}
+
+#[test]
+fn a_failing_read_puts_nothing(rt: HostRuntime) -> Result<(), Fail> {
+    let mut files = MemShelf::new(rt.alloc());
+    files.put_file("plant", TINY.as_bytes())?;
+    files.fail_call(1, 0)?;
+    let mut out = MemSink::new(rt.alloc());
+    let status = run(rt.alloc(), &["solve", "plant", "31"], &mut files, &mut out);
+    assert_eq!(rt; status, 7);
     assert_eq!(rt; out.written(), "".as_bytes());
-    let long = vec![in alloc; b'#'; 1_048_577]?;
-    let mut files = FixedShelf::new(alloc);
-    files.put_file("plant", long.as_slice())?;
-    let mut out = FixedSink::new(alloc);
-    assert_eq!(rt; run(alloc, words, &mut files, &mut out), 3);
-    assert_eq!(rt; out.written(), "refused plant 1 top 0 0 -\n".as_bytes());
     Ok(())
 }

@@ -23,7 +23,6 @@ use crate::reply::Reply;
 use plan_sim::Verdict;
 use plan_text::{PlanFault, put_plan};
 use plant_text::PlantFault;
-use plant_text::word::{key_text, table_text};
 use std::alloc::{AllocError, Global};
 use stn_model::{Answer, List, Outcome, Plant, Start, Violation};
 
@@ -40,10 +39,10 @@ pub fn refused_plant(alloc: Global, fault: &PlantFault) -> Result<Reply, AllocEr
     ensures { IfOk result (λ reply. (reply.status ≡ 3) × (reply.text.items ≡ fault_text fault.now)) }
 {
     let kind = fault.kind;
-    let table = table_text(fault.table);
+    let table = fault.table.word();
     let item = fault.item;
     let inner = fault.inner;
-    let key = key_text(fault.key);
+    let key = fault.key.word();
     let line = format!(in alloc; "refused plant {kind} {table} {item} {inner} {key}\n")?;
     let text = Vec::from_slice(alloc, line.as_bytes())?;
     Ok(Reply { status: 3, text })

@@ -5,6 +5,6 @@ use Rattle.stn_top.proofs.texts.refused_plant.Goals as goal
 pub returns : goal.returns
 unfolding fault_text
 returns c =
-    let table = c.table_text-table.ensures in
-    let key = c.key_text-key.ensures in
+    let table = c.word-table.ensures in
+    let key = c.word-key.ensures in
     (refl, (c.in_ok-text.ensures.items ∙ (c.as_bytes.ensures.value ∙ (c.in_ok-line.ensures.ok ∙ rw (table, key) refl))))
