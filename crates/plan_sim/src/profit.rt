@@ -49,7 +49,7 @@ fn income(plant: &Plant, stocks: &[i128]) -> i128
     requires stocks { length stocks.now ≡ length plant.now.states * (plant.now.periods + 1) }
     requires small { All (λ level. unsigned_abs level ≤ 2 ^ 66) stocks.now }
     ensures value { result ≡ levels_worth plant.now stocks.now +ℤ payments plant.now }
-    ensures small { unsigned_abs result ≤ 2 ^ 94 }
+    ensures small { unsigned_abs result ≤ 2 ^ 103 }
 {
     worth_of_levels(plant, stocks) + payments(plant)
 }
@@ -60,7 +60,7 @@ fn less_holding(plant: &Plant, stocks: &[i128]) -> i128
     requires stocks { length stocks.now ≡ length plant.now.states * (plant.now.periods + 1) }
     requires small { All (λ level. unsigned_abs level ≤ 2 ^ 66) stocks.now }
     ensures value { result ≡ (levels_worth plant.now stocks.now +ℤ payments plant.now) -ℤ levels_held plant.now stocks.now }
-    ensures small { unsigned_abs result ≤ 2 ^ 102 }
+    ensures small { unsigned_abs result ≤ 2 ^ 112 }
 {
     income(plant, stocks) - cost_of_levels(plant, stocks)
 }
@@ -73,7 +73,7 @@ fn less_utilities(plant: &Plant, stocks: &[i128], loads: &[u128]) -> i128
     requires loads { length loads.now ≡ length plant.now.utilities * plant.now.periods }
     requires light { sum loads.now ≤ 2 ^ 76 }
     ensures value { result ≡ ((levels_worth plant.now stocks.now +ℤ payments plant.now) -ℤ levels_held plant.now stocks.now) -ℤ uses_cost plant.now loads.now }
-    ensures small { unsigned_abs result ≤ 2 ^ 110 }
+    ensures small { unsigned_abs result ≤ 2 ^ 113 }
 {
     less_holding(plant, stocks) - cost_of_uses(plant, loads)
 }
@@ -87,7 +87,7 @@ fn less_starts(plant: &Plant, plan: &[Start], stocks: &[i128], loads: &[u128]) -
     requires light { sum loads.now ≤ 2 ^ 76 }
     requires few { length plan.now < 2 ^ 32 }
     ensures value { result ≡ (((levels_worth plant.now stocks.now +ℤ payments plant.now) -ℤ levels_held plant.now stocks.now) -ℤ uses_cost plant.now loads.now) -ℤ start_cost plant.now plan.now }
-    ensures small { unsigned_abs result ≤ 2 ^ 111 }
+    ensures small { unsigned_abs result ≤ 2 ^ 114 }
 {
     less_utilities(plant, stocks, loads) - start_cost(plant, plan)
 }
@@ -107,7 +107,7 @@ fn worth_of_levels(plant: &Plant, stocks: &[i128]) -> i128
     requires stocks { length stocks.now ≡ length plant.now.states * (plant.now.periods + 1) }
     requires small { All (λ level. unsigned_abs level ≤ 2 ^ 66) stocks.now }
     ensures value { result ≡ levels_worth plant.now stocks.now }
-    ensures small { unsigned_abs result ≤ 2 ^ 93 }
+    ensures small { unsigned_abs result ≤ 2 ^ 102 }
 {
     let mut sum: i128 = 0;
     for state in 0..plant.states.len() {
@@ -122,22 +122,13 @@ fn worth_of(plant: &Plant, stocks: &[i128], state: usize) -> i128
     requires small { All (λ level. unsigned_abs level ≤ 2 ^ 66) stocks.now }
     requires there { state < length plant.now.states }
     ensures value { result ≡ (state_at plant.now state).price *ℤ level plant.now stocks.now state plant.now.periods }
-    ensures small { unsigned_abs result ≤ 2 ^ 86 }
+    ensures small { unsigned_abs result ≤ 2 ^ 96 }
 {
     let price = plant.states.get(state).price;
-    scaled_level(
+    scaled(
         price,
         level_at(plant, stocks, state, plant.periods as usize),
     )
-}
-
-fn scaled_level(rate: i64, level: i128) -> i128
-    requires rate { unsigned_abs rate ≤ 2 ^ 20 }
-    requires level { unsigned_abs level ≤ 2 ^ 66 }
-    ensures value { result ≡ rate *ℤ level }
-    ensures small { unsigned_abs result ≤ 2 ^ 86 }
-{
-    rate as i128 * level
 }
 
 fn level_at(plant: &Plant, stocks: &[i128], state: usize, time: usize) -> i128
@@ -187,7 +178,7 @@ fn cost_of_levels(plant: &Plant, stocks: &[i128]) -> i128
     requires stocks { length stocks.now ≡ length plant.now.states * (plant.now.periods + 1) }
     requires small { All (λ level. unsigned_abs level ≤ 2 ^ 66) stocks.now }
     ensures value { result ≡ levels_held plant.now stocks.now }
-    ensures small { unsigned_abs result ≤ 2 ^ 101 }
+    ensures small { unsigned_abs result ≤ 2 ^ 111 }
 {
     let mut sum: i128 = 0;
     for state in 0..plant.states.len() {
@@ -203,7 +194,7 @@ fn cost_of_level(plant: &Plant, stocks: &[i128], state: usize) -> i128
     requires small { All (λ level. unsigned_abs level ≤ 2 ^ 66) stocks.now }
     requires there { state < length plant.now.states }
     ensures value { result ≡ level_cost plant.now stocks.now state }
-    ensures small { unsigned_abs result ≤ 2 ^ 95 }
+    ensures small { unsigned_abs result ≤ 2 ^ 105 }
 {
     let mut sum: i128 = 0;
     for time in 0..plant.periods as usize {
@@ -219,10 +210,10 @@ fn cost_at(plant: &Plant, stocks: &[i128], state: usize, time: usize) -> i128
     requires there { state < length plant.now.states }
     requires within { time ≤ plant.now.periods }
     ensures value { result ≡ (state_at plant.now state).holding *ℤ level plant.now stocks.now state time }
-    ensures small { unsigned_abs result ≤ 2 ^ 86 }
+    ensures small { unsigned_abs result ≤ 2 ^ 96 }
 {
     let holding = plant.states.get(state).holding;
-    scaled_level(holding, level_at(plant, stocks, state, time))
+    scaled(holding, level_at(plant, stocks, state, time))
 }
 
 #[tactic(auto, using(crate::proofs::Totals::total_below_more))]

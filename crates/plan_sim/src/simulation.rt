@@ -40,8 +40,8 @@ use stn_model::{Plant, Start, Violation};
 
 /// Whether the plant can carry out the plan, and what it earns, or what it breaks first: starts that
 /// do not fit, batches of one unit that meet, units that are not cleaned, and then time by time the
-/// stocks and the loads. The only error is want of memory. It takes memory for one table of stocks
-/// and one of loads, and time with the square of the plan.
+/// stocks and the loads. The only error is want of memory. It takes memory for tables over states and
+/// times and over utilities and periods, whatever the length of the plan, and time with its square.
 pub fn simulate(alloc: Global, plant: &Plant, plan: &[Start]) -> Result<Verdict, AllocError>
     requires sound { Sound plant.now }
     requires few { length plan.now < 2 ^ 32 }
