@@ -1,5 +1,5 @@
 -- The first fault of tests that follow each other.
-use Rattle.std.proofs.Common.{◌≡◌, true, false, List, [], ◌∷◌, ◌++◌, Option, None, Some, Result, Ok, Err, refl, ◌∙◌}
+use Rattle.std.proofs.Common.{◌≡◌, true, false, List, [], ◌∷◌, ◌++◌, None, Result, Ok, Err, refl, ◌∙◌}
 use Rattle.std.specs.Option.{option_or}
 use Rattle.plant_text.specs.declared.fault.PlantStop.{PlantStop}
 use Rattle.plant_text.specs.declared.fault.PlantStop.TheVariants as stop

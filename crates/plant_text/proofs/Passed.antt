@@ -1,19 +1,18 @@
 -- What tests that pass say of the values that they test.
-use Rattle.std.proofs.Common.{◌≡◌, ℤ, pos, negsuc, ℕ, suc, ◌+◌, ◌<◌, ◌≤◌, ◌⊎◌, Bool, true, false, not, eqb, leb, ltb, List, [], ◌∷◌, ◌++◌, map, length, get_or, All, AllPairs, Option, Some, None, is_some, is_none, option_map, unwrap_or, unsigned_abs, IsTrue, append_assoc, refl, sym, ap, ◌∙◌, inl, inr, arith}
+use Rattle.std.proofs.Common.{◌≡◌, ℤ, pos, negsuc, ℕ, ◌<◌, ◌≤◌, Bool, true, false, not, List, [], ◌∷◌, ◌++◌, map, length, get_or, AllPairs, Option, Some, None, is_none, option_map, unwrap_or, unsigned_abs, IsTrue, append_assoc, refl, sym, ◌∙◌, arith}
 use Rattle.std.specs.Option.{option_or}
 use Rattle.std.specs.List.{AllByRecursion}
-use Rattle.std.proofs.lemmas.Bool.{and_parts, eqb-true, leb-true, ltb-false}
+use Rattle.std.proofs.lemmas.Bool.{and_parts, eqb-true, leb-true}
 use Rattle.std.proofs.lemmas.List.{append-nil, length-map}
 use Rattle.std.proofs.lemmas.List.Quantifiers.{all_pairs_push}
-use Rattle.toml.specs.Data.{Data, as_str, as_integer, as_array}
+use Rattle.toml.specs.Data.{Data}
 use Rattle.stn_model.specs.Sound.{Within, is_name}
-use Rattle.fraction.specs.Fractions.{fraction_in}
 use Rattle.plant_text.specs.declared.fault.PlantFault.{PlantFault}
 use Rattle.plant_text.specs.declared.fault.Place.{Place}
 use Rattle.plant_text.specs.declared.fault.KeyName.{KeyName}
 use Rattle.plant_text.specs.declared.find.Key.{Key}
 use Rattle.plant_text.specs.Tests.{Test, first_fault, rows_tests}
-use Rattle.plant_text.specs.Fields.{fault, Kind, declares, refers, count, money, numbers, tables, Places, is_within, is_before, natural, count_of, integer_of, text_of, items_of, numbers_of, place_of, count_tests, kind_tests, value_tests}
+use Rattle.plant_text.specs.Fields.{Kind, declares, refers, count, money, numbers, Places, is_within, is_before, natural, count_of, integer_of, text_of, items_of, numbers_of, place_of, count_tests, kind_tests, value_tests}
 use Rattle.plant_text.proofs.Faults.{faults_append}
 
 -- no test of the list holds

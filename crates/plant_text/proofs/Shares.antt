@@ -1,6 +1,6 @@
 -- The parts of a side of a task, and their amounts.
-use Rattle.std.proofs.Common.{◌≡◌, ◌≢◌, ℕ, ◌*◌, ◌/◌, ◌%◌, ◌<◌, ◌≤◌, Bool, true, false, cond, eqb, List, [], ◌∷◌, ◌++◌, map, length, All, Option, Some, None, refl, sym, ap, ◌∙◌, inl, inr, arith, get_or, option_map, bytes_eq, ltb, leb, decimal, div-add-mod'}
-use Rattle.std.specs.Prelude.{MatchOption, option_and_then, IsTrue, ◌↔◌, unwrap_or, nat_le, ◌&&◌, IfSome}
+use Rattle.std.proofs.Common.{◌≡◌, ◌≢◌, ℕ, ◌*◌, ◌/◌, ◌%◌, ◌<◌, Bool, cond, eqb, List, ◌++◌, map, All, Option, Some, None, refl, inl, inr, arith, get_or, option_map, bytes_eq, ltb, leb, decimal, div-add-mod'}
+use Rattle.std.specs.Prelude.{MatchOption, option_and_then, IsTrue, ◌↔◌, unwrap_or, ◌&&◌, IfSome}
 use Rattle.std.proofs.Math.Nat.{mul-div_cancel, mul-mod_left}
 use Rattle.std.proofs.lemmas.Bool.{cases_Bool, eqb-true, ltb-true, leb-true, and_parts}
 use Rattle.std.specs.List.{before_first, after_first}

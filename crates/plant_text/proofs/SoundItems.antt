@@ -1,21 +1,19 @@
 -- Items whose tests pass are sound.
-use Rattle.std.proofs.Common.{◌≡◌, ℤ, pos, ℕ, zero, suc, ◌+◌, ◌-◌, ◌*◌, ◌/◌, ◌%◌, ◌<◌, ◌≤◌, ◌⊎◌, Bool, true, false, not, eqb, List, [], ◌∷◌, ◌++◌, map, length, get_or, All, Option, Some, None, is_some, option_map, unwrap_or, unsigned_abs, IsTrue, sum_by, replicate, refl, sym, ap, ◌∙◌, inl, inr, arith, add-one}
-use Rattle.std.specs.List.{AllByRecursion, AllZip}
-use Rattle.std.proofs.lemmas.Bool.{eqb-true, ltb-true, ltb-false}
-use Rattle.std.proofs.lemmas.List.{length-replicate, length-map}
+use Rattle.std.proofs.Common.{◌≡◌, ℕ, zero, suc, ◌+◌, ◌≤◌, ◌⊎◌, Bool, not, List, [], length, Option, Some, None, is_some, option_map, IsTrue, replicate, refl, ◌∙◌, inl, inr, arith}
+use Rattle.std.specs.List.{AllByRecursion}
+use Rattle.std.proofs.lemmas.Bool.{ltb-true, ltb-false}
+use Rattle.std.proofs.lemmas.List.{length-replicate}
 use Rattle.std.proofs.lemmas.List.Elements.{All-from_recursion}
 use Rattle.toml.specs.Data.{Data}
 use Rattle.stn_model.specs.declared.plant.Plant.{Plant}
-use Rattle.stn_model.specs.declared.plant.Gap.{Gap}
 use Rattle.stn_model.specs.declared.plant.Run.{Run}
-use Rattle.stn_model.specs.Sound.{Within, SoundState, SoundUtility, SoundRun, SoundGap, SoundReceipt, SoundDelivery, SoundOutage, is_name}
+use Rattle.stn_model.specs.Sound.{SoundState, SoundUtility, SoundRun, SoundGap, SoundReceipt, SoundDelivery, SoundOutage, is_name}
 use Rattle.plant_text.specs.declared.fault.Place.{Place}
 use Rattle.plant_text.specs.declared.find.Key.{Key}
-use Rattle.plant_text.specs.Tests.{Test, first_fault}
-use Rattle.plant_text.specs.Fields.{Kind, count, numbers, count_of, numbers_of, value_tests, kind_tests}
+use Rattle.plant_text.specs.Fields.{count, numbers, count_of, numbers_of, value_tests}
 use Rattle.plant_text.specs.Scope.{Scope}
 use Rattle.plant_text.specs.Tables.{limits_in, state_fields, state_tests, state_of, utility_fields, utility_tests, utility_of, unit_fields, unit_tests, unit_of, run_fields, run_tests, run_more_tests, run_of, gap_fields, gap_tests, gap_of, receipt_fields, receipt_tests, receipt_of, delivery_fields, delivery_tests, delivery_of, outage_fields, outage_tests, outage_more_tests, outage_of}
-use Rattle.plant_text.proofs.Passed.{Pass, Below, AreNumbers, first_pass, both_pass, count_needed, count_most, money_most, name_declared, refers_below, numbers_needed, numbers_there, not_false, absent}
+use Rattle.plant_text.proofs.Passed.{Pass, Below, AreNumbers, first_pass, both_pass, count_needed, count_most, money_most, name_declared, refers_below, numbers_there, not_false, absent}
 
 -- a number that is repeated is at most the bound that it keeps
 all_repeated : (most n : ℕ) → n ≤ most → (many : ℕ) → AllByRecursion (λ k. k ≤ most) (replicate many n)

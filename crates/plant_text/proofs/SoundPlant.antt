@@ -1,9 +1,9 @@
 -- A document whose tests pass has a sound plant.
-use Rattle.std.proofs.Common.{◌≡◌, ◌≢◌, ℕ, zero, suc, ◌+◌, ◌<◌, ◌≤◌, Bool, true, false, not, cond, ltb, eqb, ◌&&◌, List, [], ◌∷◌, ◌++◌, map, take, length, get_or, All, AllPairs, Result, Ok, Err, Option, Some, None, option_map, unwrap_or, IsTrue, refl, sym, ap, ◌∙◌, inl, inr, append_assoc, arith, zero-add}
-use Rattle.std.specs.List.{AllByRecursion, position_from, list_any}
+use Rattle.std.proofs.Common.{◌≡◌, ◌≢◌, ℕ, zero, suc, ◌+◌, ◌<◌, ◌≤◌, Bool, true, false, cond, eqb, ◌&&◌, List, [], ◌∷◌, ◌++◌, map, take, length, get_or, AllPairs, Result, Ok, Err, Some, unwrap_or, IsTrue, refl, sym, ap, ◌∙◌, inl, inr, append_assoc, arith}
+use Rattle.std.specs.List.{position_from}
 use Rattle.std.specs.Str.{bytes_eq}
 use Rattle.std.proofs.lemmas.Bool.{cases_Bool, ltb-false, lt-ltb, or_parts, and_from, eq-eqb}
-use Rattle.std.proofs.lemmas.List.{append-nil, length-map, length-append, length-take, take_all, map_push, map-append, get_or-map, get_or_append_left}
+use Rattle.std.proofs.lemmas.List.{append-nil, length-map, length-append, take_all, map_push, map-append, get_or-map, get_or_append_left}
 use Rattle.std.proofs.lemmas.Simd.{map-map}
 use Rattle.std.proofs.lemmas.List.Elements.{All-from_recursion}
 use Rattle.std.proofs.lemmas.List.Quantifiers.{all_pairs_push}
@@ -11,13 +11,12 @@ use Rattle.std.proofs.lemmas.Slice.Eq.{bytes_eq-Decides}
 use Rattle.std.specs.Prelude.{IfOk}
 use Rattle.toml.specs.Data.{Data, Members, no_members}
 use Rattle.stn_model.specs.declared.plant.Plant.{Plant}
-use Rattle.stn_model.specs.Points.{slot_count, gap_pairs}
-use Rattle.stn_model.specs.Sound.{Within, Sound, SoundCounts, SoundNames}
+use Rattle.stn_model.specs.Sound.{Within, Sound}
 use Rattle.plant_text.specs.declared.fault.PlantStop.{PlantStop}
 use Rattle.plant_text.specs.declared.fault.PlantStop.TheVariants as stop
-use Rattle.plant_text.specs.Tests.{Test, first_fault, rows_tests, Gives}
+use Rattle.plant_text.specs.Tests.{Test, rows_tests, Gives}
 use Rattle.plant_text.specs.Reading as reading
-use Rattle.plant_text.specs.Fields.{Places, is_before}
+use Rattle.plant_text.specs.Fields.{is_before}
 use Rattle.plant_text.specs.Names.{name_in, first_places}
 use Rattle.stn_model.specs.declared.limits.TheConstants.{MAX_STATES, MAX_UTILITIES, MAX_UNITS, MAX_TASKS}
 use Rattle.stn_model.specs.declared.plant.State.{State}

@@ -1,10 +1,10 @@
 -- Tasks whose tests pass are sound.
-use Rattle.std.proofs.Common.{◌≡◌, ℕ, zero, suc, ◌+◌, ◌*◌, ◌/◌, ◌%◌, ◌<◌, ◌≤◌, Bool, true, false, not, List, [], ◌∷◌, ◌++◌, map, length, get_or, All, Option, Some, None, option_map, unwrap_or, IsTrue, sum_by, refl, sym, ap, ◌∙◌, arith, div-add-mod'}
+use Rattle.std.proofs.Common.{◌≡◌, ℕ, ◌+◌, ◌*◌, ◌%◌, ◌<◌, ◌≤◌, Bool, true, false, List, [], ◌∷◌, ◌++◌, map, length, All, Option, Some, None, option_map, unwrap_or, sum_by, refl, arith, div-add-mod'}
 use Rattle.std.specs.List.{AllByRecursion, AllZip}
 use Rattle.std.proofs.lemmas.Bool.{eqb-true, ltb-false}
 use Rattle.std.proofs.lemmas.List.{length-map}
 use Rattle.std.proofs.lemmas.Simd.{map-map}
-use Rattle.std.proofs.lemmas.List.Elements.{All-from_recursion, recursion_from_All, All-map}
+use Rattle.std.proofs.lemmas.List.Elements.{All-from_recursion, All-map}
 use Rattle.toml.specs.Data.{Data}
 use Rattle.fraction.specs.declared.fraction_of.Fraction.{Fraction}
 use Rattle.fraction.specs.Fractions.{IsProper, SumsToOne}
@@ -12,7 +12,6 @@ use Rattle.fraction.proofs.Amounts.{amounts_sum}
 use Rattle.stn_model.specs.declared.plant.Plant.{Plant}
 use Rattle.stn_model.specs.declared.plant.Input.{Input}
 use Rattle.stn_model.specs.declared.plant.Output.{Output}
-use Rattle.stn_model.specs.declared.plant.Draw.{Draw}
 use Rattle.stn_model.specs.Plant.{duration_of}
 use Rattle.stn_model.specs.Sound.{Within, IsPart, SoundInput, SoundOutput, SoundDraw, SoundTask}
 use Rattle.plant_text.specs.declared.fault.Place.{Place}
@@ -20,12 +19,12 @@ use Rattle.plant_text.specs.declared.fault.TableName.TheVariants as table
 use Rattle.plant_text.specs.declared.find.Key.{Key}
 use Rattle.plant_text.specs.declared.scope.Owner.{Owner}
 use Rattle.plant_text.specs.declared.tables.side.SidePart.{SidePart}
-use Rattle.plant_text.specs.Tests.{Test, first_fault, rows_tests}
-use Rattle.plant_text.specs.Fields.{Kind, count, tables, held, items_of, items_at, members_of, needed, optional, value_tests, kind_tests}
+use Rattle.plant_text.specs.Tests.{Test, rows_tests}
+use Rattle.plant_text.specs.Fields.{count, tables, held, items_of, items_at, members_of, needed, optional, value_tests, kind_tests}
 use Rattle.plant_text.specs.declared.fault.KeyName.TheVariants as key
 use Rattle.plant_text.specs.Scope.{Scope}
-use Rattle.plant_text.specs.Tables.{is_output, side_fields, side_tests, side_of, is_whole, amount_in, sums_to_one, output_of, input_of, whole_tests, share_tests, sides_tests, outputs_in, draw_fields, draw_tests, draw_of, owner_in, quantum_in, outputs_of, drawer_in, task_fields, task_tests, task_of}
-use Rattle.plant_text.proofs.Passed.{Pass, Below, AreNumbers, first_pass, both_pass, count_needed, name_declared, refers_below, numbers_needed, rows_all, not_false, absent, tested}
+use Rattle.plant_text.specs.Tables.{is_output, side_fields, side_tests, side_of, amount_in, sums_to_one, output_of, input_of, whole_tests, share_tests, sides_tests, draw_fields, draw_tests, draw_of, owner_in, quantum_in, outputs_of, drawer_in, task_fields, task_tests, task_of}
+use Rattle.plant_text.proofs.Passed.{Pass, Below, first_pass, both_pass, count_needed, name_declared, refers_below, numbers_needed, rows_all, not_false, absent, tested}
 use Rattle.plant_text.proofs.Shares.{side_proper}
 use Rattle.plant_text.proofs.Faults.{nothing}
 

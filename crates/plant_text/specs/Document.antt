@@ -1,5 +1,5 @@
 -- A plant file as a whole: its document, its tests in order, and its plant.
-use Rattle.std.specs.Prelude.{◌≡◌, ℕ, ◌==◌, Bool, not, nat_lt, if◌then◌else◌, List, [], ◌∷◌, ◌++◌, length, map, take, Option, Some, None, is_none, unwrap_or}
+use Rattle.std.specs.Prelude.{◌≡◌, ℕ, ◌==◌, Bool, nat_lt, if◌then◌else◌, List, [], ◌∷◌, ◌++◌, length, map, take, Option, None, is_none, unwrap_or}
 use Rattle.std.specs.Str.{is_utf8}
 use Rattle.toml.specs.Data.{Data, Members, no_members}
 use Rattle.toml.specs.Parse.{parse_document}
@@ -22,7 +22,7 @@ use Rattle.plant_text.specs.declared.fault.TableName.TheVariants as table
 use Rattle.plant_text.specs.declared.fault.KeyName.{KeyName}
 use Rattle.plant_text.specs.declared.fault.KeyName.TheVariants as key
 use Rattle.plant_text.specs.Tests.{Test, rows_tests}
-use Rattle.plant_text.specs.Fields.{fault, Field, row, needed, optional, since, count, tables, at_key, count_of, items_at, items_of, has_unknown, keys_of, fields_tests, Places}
+use Rattle.plant_text.specs.Fields.{fault, Field, row, needed, optional, since, count, tables, at_key, count_of, items_at, has_unknown, keys_of, fields_tests, Places}
 use Rattle.plant_text.specs.Names.{name_in, first_places}
 use Rattle.plant_text.specs.Scope.{Scope}
 use Rattle.plant_text.specs.Tables.{state_tests, state_of, utility_tests, utility_of, unit_tests, unit_of, task_tests, task_of, run_tests, run_of, gap_tests, gap_of, receipt_tests, receipt_of, delivery_tests, delivery_of, outage_tests, outage_of}

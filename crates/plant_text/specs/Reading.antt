@@ -8,7 +8,7 @@ use Rattle.plant_text.specs.declared.fault.PlantStop.{PlantStop}
 use Rattle.plant_text.specs.declared.fault.PlantStop.TheVariants as stop
 use Rattle.plant_text.specs.declared.fault.TableName.TheVariants as table
 use Rattle.plant_text.specs.declared.fault.KeyName.TheVariants as key
-use Rattle.plant_text.specs.Tests.{Test, first_fault}
+use Rattle.plant_text.specs.Tests.{first_fault}
 use Rattle.plant_text.specs.Document.{plant_tests, plant_of}
 
 -- the value where no condition holds, else the first fault

@@ -26,7 +26,7 @@ use Rattle.plant_text.specs.declared.tables.side.SidePart.{SidePart}
 use Rattle.plant_text.specs.declared.fault.KeyName.{KeyName}
 use Rattle.plant_text.specs.declared.fault.KeyName.TheVariants as key
 use Rattle.plant_text.specs.Tests.{Test, rows_tests}
-use Rattle.plant_text.specs.Fields.{fault, Kind, declares, refers, part, count, money, numbers, tables, Field, row, needed, optional, since, held, at_key, text_of, count_of, integer_of, numbers_of, place_of, part_of, whole_part, items_at, members_of, table_tests}
+use Rattle.plant_text.specs.Fields.{fault, declares, refers, part, count, money, numbers, tables, Field, row, needed, optional, since, held, at_key, text_of, count_of, integer_of, numbers_of, place_of, part_of, whole_part, items_at, members_of, table_tests}
 use Rattle.plant_text.specs.Scope.{Scope}
 
 -- a limit for each time or period: the list that is given, or the one number so many times, or none

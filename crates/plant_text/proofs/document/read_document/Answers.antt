@@ -1,4 +1,4 @@
-use Rattle.std.proofs.Common.{◌≡◌, ℕ, ap}
+use Rattle.std.proofs.Common.{◌≡◌, ap}
 use Rattle.std.proofs.lemmas.Result.{err_from_is_err_and}
 use Rattle.toml.specs.View.{table_view}
 use Rattle.stn_model.specs.declared.plant.Plant.{Plant}
@@ -38,6 +38,7 @@ returns-in_err-check_sizes c =
 pub returns : goal.returns
 unfolding document_tests plant_in
 returns c =
-    rw (← c.is_second-second.ensures, ← c.in_ok-context.ensures)
-    (passes _ _ c.in_ok-check_keys.ensures.ok (passes _ _ c.in_ok-periods.ensures.0 (passes _ _ c.in_ok-plant.ensures.gives.0 (rw (← c.in_ok-plant.ensures.gives.1) c.in_ok-check_sizes.ensures.ok))),
-    c.in_ok-plant.ensures.gives.1)
+    rw (← c.is_second-second.ensures, ← c.in_ok-context.ensures) (
+      passes _ _ c.in_ok-check_keys.ensures.ok (passes _ _ c.in_ok-periods.ensures.0 (passes _ _ c.in_ok-plant.ensures.gives.0 (rw (← c.in_ok-plant.ensures.gives.1) c.in_ok-check_sizes.ensures.ok))),
+      c.in_ok-plant.ensures.gives.1,
+    )

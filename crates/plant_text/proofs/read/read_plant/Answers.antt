@@ -1,4 +1,3 @@
-use Rattle.stn_model.specs.declared.plant.Plant.{Plant}
 use Rattle.plant_text.proofs.SoundPlant.{read_sound, read_gives}
 use Rattle.plant_text.proofs.read.read_plant.Goals as goal
 

@@ -1,7 +1,7 @@
-use Rattle.std.proofs.Common.{◌≡◌, List, map, Some, sym}
+use Rattle.std.proofs.Common.{◌≡◌, Some, sym}
 use Rattle.toml.specs.Data.{as_array}
 use Rattle.toml.specs.View.{view, items_view}
-use Rattle.plant_text.proofs.Members.{list_view, items_at_array}
+use Rattle.plant_text.proofs.Members.{items_at_array}
 use Rattle.plant_text.proofs.values.items_of.Goals as goal
 
 pub returns-in-Some-clause-items : goal.returns-in-Some-clause-items

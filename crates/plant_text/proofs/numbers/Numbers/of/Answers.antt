@@ -1,8 +1,5 @@
-use Rattle.std.proofs.Common.{ℕ, ◌≡◌, List, map, ap, ◌∙◌, get_or, rules, arith}
-use Rattle.std.proofs.lemmas.List.{take_all}
-use Rattle.toml.specs.View.{view}
+use Rattle.std.proofs.Common.{arith}
 use Rattle.std.specs.HashMap.{get_by_text}
-use Rattle.plant_text.specs.Names.{name_in, first_places, places_in}
 use Rattle.plant_text.proofs.Places.{goes_on, same_places}
 use Rattle.plant_text.proofs.numbers.Numbers.of.Goals as goal
 

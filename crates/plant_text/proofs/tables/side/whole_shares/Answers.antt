@@ -1,4 +1,4 @@
-use Rattle.std.proofs.Common.{get_or, length, arith}
+use Rattle.std.proofs.Common.{get_or, arith}
 use Rattle.std.proofs.lemmas.List.{get_or_default, length_push, map-id}
 use Rattle.std.proofs.lemmas.Result.{err_from_is_err_and}
 use Rattle.plant_text.specs.declared.tables.side.SidePart.{SidePart}

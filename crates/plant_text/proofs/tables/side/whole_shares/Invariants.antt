@@ -1,5 +1,4 @@
 use Rattle.std.proofs.Common.{◌≡◌, length}
-use Rattle.stn_model.specs.declared.plant.Output.{Output}
 use Rattle.plant_text.specs.declared.tables.side.SidePart.{SidePart}
 use Rattle.plant_text.specs.Tables.{output_of, whole_tests}
 use Rattle.plant_text.proofs.Reading.{IsAt}

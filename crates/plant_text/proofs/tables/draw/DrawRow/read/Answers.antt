@@ -1,4 +1,4 @@
-use Rattle.std.proofs.Common.{rules, w64, refl}
+use Rattle.std.proofs.Common.{refl}
 use Rattle.plant_text.specs.Tables.{draw_tests, draw_of, draw_fields}
 use Rattle.plant_text.proofs.Faults.{passes, nothing}
 use Rattle.plant_text.proofs.tables.draw.DrawRow.read.Goals as goal

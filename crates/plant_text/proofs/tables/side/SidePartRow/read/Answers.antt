@@ -1,4 +1,4 @@
-use Rattle.std.proofs.Common.{rules, w64, refl}
+use Rattle.std.proofs.Common.{refl}
 use Rattle.plant_text.specs.Tables.{side_tests, side_of, side_fields}
 use Rattle.plant_text.proofs.Faults.{passes, nothing}
 use Rattle.plant_text.proofs.tables.side.SidePartRow.read.Goals as goal
