@@ -57,12 +57,7 @@ fn better(
 }
 
 /// The better of what was found and a feasible plan that earns this.
-fn ahead(
-    plant: &Plant,
-    found: Option<Found>,
-    plan: List<Start>,
-    earned: &i128,
-) -> Option<Found>
+fn ahead(plant: &Plant, found: Option<Found>, plan: List<Start>, earned: &i128) -> Option<Found>
     requires feasible { Feasible plant.now plan }
     requires earned { profit plant.now plan ≡ earned.now }
     ensures { IsBetter plant.now plan found result }

@@ -9,5 +9,5 @@ use Rattle.point_listing.proofs.lister.better.Goals as goal
 pub returns-in-Broken : goal.returns-in-Broken
 returns-in-Broken c =
     stays_infeasible (λ is.
-        let says : says_feasible c.in_ok-profit.field-0 ≡ true = c.in_ok-profit.ensures.feasible.1 (subst (Feasible c.args.plant.now) (sym c.as_slice.ensures) is) in
-        false≢true (sym (ap says_feasible c.in-Broken.is) ∙ says))
+    let says : says_feasible c.in_ok-profit.field-0 ≡ true = c.in_ok-profit.ensures.feasible.1 (subst (Feasible c.args.plant.now) (sym c.as_slice.ensures) is) in
+    false≢true (sym (ap says_feasible c.in-Broken.is) ∙ says))
