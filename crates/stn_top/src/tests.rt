@@ -1,5 +1,8 @@
 //! Runs over files and a sink in memory, with answers that were worked out by hand.
 use crate::run;
+use plain_plan::{is_feasible, load_in, profit_of, stock_at};
+use plan_text::read_plan;
+use plant_text::read_plant;
 use std::alloc::{AllocError, Global};
 use std::test::Fail;
 use stn_edge::{FixedShelf, FixedSink, MemShelf, MemSink};
@@ -465,5 +468,60 @@ fn a_failing_read_puts_nothing(rt: HostRuntime) -> Result<(), Fail> {
     let status = run(rt.alloc(), &["solve", "plant", "31"], &mut files, &mut out);
     assert_eq!(rt; status, 7);
     assert_eq!(rt; out.written(), "".as_bytes());
+    Ok(())
+}
+
+// What the definitions' plain program says of the plan on the plant: whether it is feasible, and what it
+// earns.
+fn plainly(alloc: Global, plant: &str, plan: &str) -> Result<(bool, i128), Fail> {
+    let plant = read_plant(alloc, plant.as_bytes())?;
+    let plan = read_plan(alloc, &plant, plan.as_bytes())?;
+    let feasible = is_feasible(&plant, plan.as_slice());
+    Ok((feasible, profit_of(&plant, plan.as_slice())))
+}
+
+#[test]
+fn the_plain_program_agrees(rt: HostRuntime) -> Result<(), Fail> {
+    for (plant, edits, plan, status, text) in SIMULATED {
+        if status < 2 {
+            let plant = edited(rt.alloc(), plant, edits)?;
+            let (feasible, profit) = plainly(rt.alloc(), plant.as_str(), plan)?;
+            assert_eq!(rt; feasible, status == 0);
+            let line = format!(in rt.alloc(); "feasible {profit}\n")?;
+            assert_eq!(rt; line.as_str() == text, feasible);
+        }
+    }
+    Ok(())
+}
+
+// A plan on Sep, a state, a time and the stock of the state at that time.
+const STOCKS: [(u32, u32, i128); 8] = [
+    (0, 0, 10),
+    (1, 0, 0),
+    (1, 1, 0),
+    (2, 1, 0),
+    (2, 2, 1),
+    (3, 1, 0),
+    (3, 2, 9),
+    (3, 3, 9),
+];
+
+#[test]
+fn stocks_are_those_of_the_definitions(rt: HostRuntime) -> Result<(), Fail> {
+    let plant = read_plant(rt.alloc(), SEP.as_bytes())?;
+    let plan = read_plan(rt.alloc(), &plant, "0 S sep 1\n1 V pack 1\n".as_bytes())?;
+    for (state, time, stock) in STOCKS {
+        assert_eq!(rt; stock_at(&plant, plan.as_slice(), state, time), stock);
+    }
+    Ok(())
+}
+
+#[test]
+fn loads_are_those_of_the_definitions(rt: HostRuntime) -> Result<(), Fail> {
+    let text = edited(rt.alloc(), TINY, STEAM)?;
+    let plant = read_plant(rt.alloc(), text.as_bytes())?;
+    let plan = read_plan(rt.alloc(), &plant, "1 U make 3\n".as_bytes())?;
+    assert_eq!(rt; load_in(&plant, plan.as_slice(), 0, 0), 0);
+    assert_eq!(rt; load_in(&plant, plan.as_slice(), 0, 1), 5);
     Ok(())
 }
