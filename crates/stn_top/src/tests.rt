@@ -188,6 +188,106 @@ periods = 0
 cost = 5
 "#;
 
+// The form of the textbook's plant with heating, three reactions and a separation with recycle.
+const FIVE: &str = r#"version = 1
+periods = 7
+state = [
+    { name = "FeedA", initial = 100 },
+    { name = "FeedB", initial = 100 },
+    { name = "FeedC", initial = 100 },
+    { name = "HotA", limit = 100 },
+    { name = "IntAB", limit = 200 },
+    { name = "IntBC", limit = 150 },
+    { name = "ImpureE", limit = 200 },
+    { name = "Prod1", price = 10 },
+    { name = "Prod2", price = 10 },
+]
+utility = [{ name = "steam", limit = 20, rate = 1 }]
+unit = [{ name = "heater" }, { name = "r1" }, { name = "r2" }, { name = "still" }]
+
+[[task]]
+name = "heat"
+quantum = 10
+input = [{ state = "FeedA", part = "1/1" }]
+output = [{ state = "HotA", part = "1/1", delay = 1 }]
+draw = [{ utility = "steam", fixed = [2], each = [1] }]
+
+[[task]]
+name = "react1"
+quantum = 10
+input = [{ state = "FeedB", part = "1/2" }, { state = "FeedC", part = "1/2" }]
+output = [{ state = "IntBC", part = "1/1", delay = 2 }]
+
+[[task]]
+name = "react2"
+quantum = 10
+input = [{ state = "HotA", part = "2/5" }, { state = "IntBC", part = "3/5" }]
+output = [{ state = "Prod1", part = "2/5", delay = 2 }, { state = "IntAB", part = "3/5", delay = 2 }]
+
+[[task]]
+name = "react3"
+quantum = 10
+input = [{ state = "FeedC", part = "1/5" }, { state = "IntAB", part = "4/5" }]
+output = [{ state = "ImpureE", part = "1/1", delay = 1 }]
+
+[[task]]
+name = "sep"
+quantum = 10
+input = [{ state = "ImpureE", part = "1/1" }]
+output = [{ state = "Prod2", part = "9/10", delay = 1 }, { state = "IntAB", part = "1/10", delay = 2 }]
+
+[[run]]
+task = "heat"
+unit = "heater"
+min = 1
+max = 10
+
+[[run]]
+task = "react1"
+unit = "r1"
+min = 1
+max = 8
+
+[[run]]
+task = "react1"
+unit = "r2"
+min = 1
+max = 5
+
+[[run]]
+task = "react2"
+unit = "r1"
+min = 1
+max = 8
+
+[[run]]
+task = "react2"
+unit = "r2"
+min = 1
+max = 5
+
+[[run]]
+task = "react3"
+unit = "r1"
+min = 1
+max = 8
+
+[[run]]
+task = "react3"
+unit = "r2"
+min = 1
+max = 5
+
+[[run]]
+task = "sep"
+unit = "still"
+min = 1
+max = 20
+"#;
+
+const FIVE_PLAN: &str =
+    "0 r1 react1 6\n1 heater heat 4\n2 r1 react2 8\n4 r1 react3 6\n5 still sep 6\n";
+
 // The text with the first place of `old` replaced.
 fn with(alloc: Global, text: &str, old: &str, new: &str) -> Result<String, AllocError> {
     match text.split_once(old) {
@@ -333,7 +433,8 @@ type Simulated = (
     &'static str,
 );
 
-const SIMULATED: [Simulated; 17] = [
+const SIMULATED: [Simulated; 18] = [
+    (FIVE, &[], FIVE_PLAN, 0, "feasible 854\n"),
     (WASH, &[], "0 U A 1\n2 U B 1\n", 1, "broken gap 1 2\n"),
     (WASH, &[], "0 U A 1\n1 U C 1\n2 U B 1\n", 0, "feasible 3\n"),
     (SEP, &[], "0 S sep 1\n1 V pack 1\n", 0, "feasible 9\n"),
@@ -412,7 +513,8 @@ fn plans_are_simulated(rt: HostRuntime) -> Result<(), Fail> {
 
 #[test]
 fn words_are_refused(rt: HostRuntime) -> Result<(), Fail> {
-    let wrong: [&[&str]; 6] = [
+    let wrong: [&[&str]; 7] = [
+        &["solve", "plant", "31", "plant"],
         &[],
         &["solve", "plant", "0"],
         &["solve", "plant", "031"],
@@ -523,5 +625,63 @@ fn loads_are_those_of_the_definitions(rt: HostRuntime) -> Result<(), Fail> {
     let plan = read_plan(rt.alloc(), &plant, "1 U make 3\n".as_bytes())?;
     assert_eq!(rt; load_in(&plant, plan.as_slice(), 0, 0), 0);
     assert_eq!(rt; load_in(&plant, plan.as_slice(), 0, 1), 5);
+    Ok(())
+}
+
+// Tiny with this many units, each of which can make the product.
+fn widened(alloc: Global, periods: &str, units: u32) -> Result<String, AllocError> {
+    let mut text = with(alloc, TINY, "periods = 2", periods)?;
+    for number in 1..units {
+        let more = format!(in alloc;
+            "[[unit]]\nname = \"U{number}\"\n[[run]]\ntask = \"make\"\nunit = \"U{number}\"\nmin = 1\nmax = 3\n"
+        )?;
+        text.push_str(more.as_str())?;
+    }
+    Ok(text)
+}
+
+#[test]
+fn slots_are_limited(rt: HostRuntime) -> Result<(), Fail> {
+    let most = widened(rt.alloc(), "periods = 64", 8)?;
+    let (status, out) = answer(
+        rt.alloc(),
+        most.as_str(),
+        "",
+        &["simulate", "plant", "plan"],
+    )?;
+    assert_eq!(rt; status, 0);
+    assert_eq!(rt; out.written(), "feasible 12\n".as_bytes());
+    let more = widened(rt.alloc(), "periods = 57", 9)?;
+    let (status, out) = answer(
+        rt.alloc(),
+        more.as_str(),
+        "",
+        &["simulate", "plant", "plan"],
+    )?;
+    assert_eq!(rt; status, 3);
+    assert_eq!(rt; out.written(), "refused plant 18 run 0 0 -\n".as_bytes());
+    Ok(())
+}
+
+// The text so many times.
+fn repeated(alloc: Global, line: &str, times: u32) -> Result<String, AllocError> {
+    let mut text = String::new(alloc);
+    for _ in 0..times {
+        text.push_str(line)?;
+    }
+    Ok(text)
+}
+
+#[test]
+fn starts_are_limited(rt: HostRuntime) -> Result<(), Fail> {
+    let plan = repeated(rt.alloc(), "0 U make 1\n", 2049)?;
+    let (status, out) = answer(
+        rt.alloc(),
+        TINY,
+        plan.as_str(),
+        &["simulate", "plant", "plan"],
+    )?;
+    assert_eq!(rt; status, 4);
+    assert_eq!(rt; out.written(), "refused plan 3 2049\n".as_bytes());
     Ok(())
 }
