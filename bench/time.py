@@ -26,23 +26,31 @@ def timed(words):
 
 
 def largest():
-    """A plant of the largest size that a file may have in states, units, tasks, runs and slots."""
-    lines = ["version = 2", "periods = 336"]
+    """A plant of 512 slots, 40 states and 4,032 gaps, in a file of some 220 KiB."""
+    lines = ["version = 1", "periods = 64"]
     for s in range(40):
         lines += ["[[state]]", f'name = "s{s}"', "initial = 1000000", "price = 1", "holding = 1"]
-    for u in range(24):
+    lines += ["[[utility]]", 'name = "steam"', "limit = 1000000", "rate = 1"]
+    for u in range(8):
         lines += ["[[unit]]", f'name = "u{u}"']
-    for t in range(40):
-        lines += ["[[task]]", f'name = "t{t}"', "quantum = 10", "[[task.input]]", f'state = "s{t}"', 'part = "1/1"']
-        lines += ["[[task.output]]", f'state = "s{(t + 1) % 40}"', 'part = "1/1"', "delay = 96"]
-    for r in range(2):
-        lines += ["[[run]]", f'task = "t{r}"', f'unit = "u{r}"', "min = 1", "max = 255", "cost = 1"]
+    for t in range(8):
+        lines += ["[[task]]", f'name = "t{t}"', "quantum = 10"]
+        for i in range(5):
+            lines += ["[[task.input]]", f'state = "s{t * 5 + i}"', 'part = "1/5"']
+        for i in range(5):
+            lines += ["[[task.output]]", f'state = "s{(t * 5 + i + 1) % 40}"', 'part = "1/5"', "delay = 1"]
+        lines += ["[[task.draw]]", 'utility = "steam"', "fixed = [1]", "each = [1]"]
+        lines += ["[[run]]", f'task = "t{t}"', f'unit = "u{t}"', "min = 1", "max = 255", "cost = 1"]
+    for u, a, b in ((u, a, b) for u in range(8) for a in range(8) for b in range(8) if a != b):
+        lines += ["[[gap]]", f'unit = "u{u}"', f'from = "t{a}"', f'to = "t{b}"', "periods = 1"] * 9
     return "\n".join(lines) + "\n"
 
 
 def plan(starts):
-    """Starts on two units, each as soon as the last one has ended, and then the same again."""
-    return "".join(f"{96 * (k // 2 % 3)} u{k % 2} t{k % 2} 1\n" for k in range(starts))
+    """A start in each of the 512 slots, and then the last one again and again."""
+    slots = [(period, unit) for period in range(64) for unit in range(8)]
+    places = (slots + [slots[-1]] * starts)[:starts]
+    return "".join(f"{period} u{unit} t{unit} 3\n" for period, unit in places)
 
 
 def main():
@@ -52,11 +60,11 @@ def main():
     for name, budget in [("tiny", 31), ("paint", 20000), ("juice", 40000), ("soap", 11000)]:
         runs.append(["solve", os.path.join(top, "examples", name + ".toml"), str(budget)])
     with tempfile.TemporaryDirectory() as folder:
-        plant, few, many = (os.path.join(folder, n) for n in ("largest.toml", "few.plan", "many.plan"))
-        for path, text in [(plant, largest()), (few, plan(6)), (many, plan(2048))]:
+        plant, full, late = (os.path.join(folder, n) for n in ("largest.toml", "full.plan", "late.plan"))
+        for path, text in [(plant, largest()), (full, plan(512)), (late, plan(2048))]:
             with open(path, "w") as out:
                 out.write(text)
-        runs += [["simulate", plant, few], ["simulate", plant, many]]
+        runs += [["simulate", plant, full], ["simulate", plant, late]]
         runs += [["solve", p, "1000"] for p in sys.argv[1:]]
         print(f"{'seconds':>8} {'MiB':>7} status  words: first line")
         for words in runs:
