@@ -1,0 +1,6 @@
+pub mod Caps
+pub mod Exchange
+pub mod Fit
+pub mod Greatest
+pub mod LineSums
+pub mod Signed

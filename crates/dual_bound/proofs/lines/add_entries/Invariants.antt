@@ -1,0 +1,12 @@
+-- What has been added and what is still to add give the whole.
+use Rattle.std.proofs.Common.{◌≡◌, ℕ, ◌+◌, ◌*◌, ◌^◌, ◌<◌, length, drop, pos, ◌+ℤ◌, ◌*ℤ◌}
+use Rattle.std.specs.List.{All}
+use Rattle.dual_bound.specs.Line.{line_at, slot_line, IsWithin}
+use Rattle.dual_bound.specs.Total.{entry_at}
+use Rattle.dual_bound.proofs.lines.add_entries.Given as goal
+
+abbrev pub invariant-loop-entry : goal.invariant-loop-entry
+invariant-loop-entry l = record {
+  whole : (slot v : ℕ) → slot < length l.lines → line_at (slot_line l.lines slot) v +ℤ (pos l.factor *ℤ entry_at (drop l.entry-index l.entries) slot v) ≡ line_at (slot_line l.initial.lines slot) v +ℤ (pos l.factor *ℤ entry_at l.entries slot v);
+  within : (most : ℕ) → All (IsWithin most) l.initial.lines → All (IsWithin (most + 2 ^ 71 * l.entry-index)) l.lines;
+}

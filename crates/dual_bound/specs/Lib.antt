@@ -1,0 +1,3 @@
+pub mod Cap
+pub mod Line
+pub mod Total
