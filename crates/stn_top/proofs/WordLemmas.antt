@@ -5,7 +5,8 @@ use lib.Pointwise.{pointwise}
 use Rattle.std.proofs.Common.{◌≡◌, true, false, ◌∙◌, ap, ℕ, ◌<◌, ◌≤◌, List, [], ◌∷◌, length, get_or, refl, arith, Bor}
 use Rattle.std.specs.Prelude.{Option, Some, None, MatchOption}
 use Rattle.stn_top.specs.declared.command.Command.{Command}
-use Rattle.stn_top.specs.Words.{texts, Says, HasNoForm, Solving, Simulating, meaning}
+use Rattle.stn_top.specs.declared.command.PlanUse.TheVariants.{Simulate, Report}
+use Rattle.stn_top.specs.Words.{texts, Says, HasNoForm, Solving, Carrying, meaning}
 
 -- three words are the list of their texts
 pub three_texts : (words : List (Bor (List ℕ))) (d : Bor (List ℕ)) → 3 ≤ length words → length words < 4 → texts words ≡ (get_or words 0 d).now ∷ (get_or words 1 d).now ∷ (get_or words 2 d).now ∷ []
@@ -25,11 +26,12 @@ three_words words d first least most same =
     three_texts words d least most ∙ ap (λ (x : List ℕ). x ∷ (get_or words 1 d).now ∷ (get_or words 2 d).now ∷ []) (same_text _ _ same)
 
 -- words that have none of the forms
-pub has_no_form : (words : List (List ℕ)) → ((plant : List ℕ) (budget : ℕ) → ¬ Says words (Solving plant budget)) → ((plant plan : List ℕ) → ¬ Says words (Simulating plant plan)) → HasNoForm words
-has_no_form words solve simulate (Solving plant budget) = solve plant budget
-has_no_form words solve simulate (Simulating plant plan) = simulate plant plan
+pub has_no_form : (words : List (List ℕ)) → ((plant : List ℕ) (budget : ℕ) → ¬ Says words (Solving plant budget)) → ((plant plan : List ℕ) → ¬ Says words (Carrying Simulate plant plan)) → ((plant plan : List ℕ) → ¬ Says words (Carrying Report plant plan)) → HasNoForm words
+has_no_form words solve simulate report (Solving plant budget) = solve plant budget
+has_no_form words solve simulate report (Carrying Simulate plant plan) = simulate plant plan
+has_no_form words solve simulate report (Carrying Report plant plan) = report plant plan
 
 -- the last form decides
-pub last_form : (words : List (List ℕ)) (command : Option Command) → ((plant : List ℕ) (budget : ℕ) → ¬ Says words (Solving plant budget)) → MatchOption command ((plant plan : List ℕ) → ¬ Says words (Simulating plant plan)) (λ c. Says words (meaning c)) → MatchOption command (HasNoForm words) (λ c. Says words (meaning c))
-last_form words None solve simulate = has_no_form words solve simulate
-last_form words (Some command) solve simulate = simulate
+pub last_form : (words : List (List ℕ)) (command : Option Command) → ((plant : List ℕ) (budget : ℕ) → ¬ Says words (Solving plant budget)) → ((plant plan : List ℕ) → ¬ Says words (Carrying Simulate plant plan)) → MatchOption command ((plant plan : List ℕ) → ¬ Says words (Carrying Report plant plan)) (λ c. Says words (meaning c)) → MatchOption command (HasNoForm words) (λ c. Says words (meaning c))
+last_form words None solve simulate report = has_no_form words solve simulate report
+last_form words (Some command) solve simulate report = report

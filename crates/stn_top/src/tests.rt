@@ -511,9 +511,48 @@ fn plans_are_simulated(rt: HostRuntime) -> Result<(), Fail> {
     Ok(())
 }
 
+// A plant, a plan, the status, and how the text begins and ends.
+type Reported = (&'static str, &'static str, u8, &'static str, &'static str);
+
+const REPORTED: [Reported; 4] = [
+    (
+        TINY,
+        "0 U make 3\n1 U make 3\n",
+        0,
+        "gantt\nU                               |01|01\ntask 01 make\nstock\nstate 01 feed\nstate 02 prod\n",
+        "   0               6               0\n   1               0               6\n   2               0              12\nload\n   0\n   1\nprofit 60\n",
+    ),
+    (
+        SEP,
+        "0 S sep 1\n1 V pack 1\n",
+        0,
+        "gantt\nS                               |01 01 ..\nV                                ..|02 ..\n",
+        "profit 9\n",
+    ),
+    (SEP, "0 S sep 1\n1 S sep 1\n", 1, "broken busy 1 2\n", ""),
+    (
+        FIVE,
+        FIVE_PLAN,
+        0,
+        "gantt\nheater                           ..|01 .. .. .. .. ..\nr1                              |02 02|03 03|04 .. ..\nr2                               .. .. .. .. .. .. ..\nstill                            .. .. .. .. ..|05 05\ntask 01 heat\n",
+        "   6               0\nprofit 854\n",
+    ),
+];
+
+#[test]
+fn plans_are_reported(rt: HostRuntime) -> Result<(), Fail> {
+    for (plant, plan, status, start, end) in REPORTED {
+        let (answered, out) = answer(rt.alloc(), plant, plan, &["report", "plant", "plan"])?;
+        assert_eq!(rt; answered, status);
+        assert!(rt; out.written().starts_with(start.as_bytes()));
+        assert!(rt; out.written().ends_with(end.as_bytes()));
+    }
+    Ok(())
+}
+
 #[test]
 fn words_are_refused(rt: HostRuntime) -> Result<(), Fail> {
-    let wrong: [&[&str]; 7] = [
+    let wrong: [&[&str]; 8] = [
         &["solve", "plant", "31", "plant"],
         &[],
         &["solve", "plant", "0"],
@@ -521,6 +560,7 @@ fn words_are_refused(rt: HostRuntime) -> Result<(), Fail> {
         &["solve", "plant", "100001"],
         &["solve", "", "31"],
         &["simulate", "plant", ""],
+        &["report", "plant"],
     ];
     for words in wrong {
         let (status, out) = answer(rt.alloc(), TINY, "", words)?;
