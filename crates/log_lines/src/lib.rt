@@ -1,0 +1,9 @@
+//! The lines of a proof log: what each says, which line may stand where, and how lines are read from a file.
+//!
+//! `read_line` gives the line that some bytes are, and `put_line` appends the bytes of a line: each undoes the other. `Grammar`
+//! takes the lines of a log one by one and answers the first defect. `LineReader` reads a file of a shelf line by line.
+#![tactic(auto)]
+
+pub mod line;
+
+pub use line::Line;
