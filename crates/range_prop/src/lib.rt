@@ -1,0 +1,14 @@
+//! Cuts: a row takes from a slot's domain the values for which it has no room, whatever the other slots are.
+//!
+//! A cut keeps each point of the area that keeps the row. `cut` makes one, `cut_all` all of them.
+#![tactic(auto)]
+
+mod allowed;
+mod cutting;
+mod narrow;
+mod row_cut;
+mod spread;
+mod sums;
+
+pub use cutting::cut;
+pub use row_cut::RowCut;
