@@ -1,0 +1,11 @@
+//! The text of proofs and of what they claim, as logs of lines.
+//!
+//! `put_proof` and `put_claim` append the lines of a proof and of a claim, and `LogWriter` writes the same lines to a file,
+//! piece by piece.
+#![tactic(auto)]
+
+mod claim;
+mod log;
+
+pub use claim::Claim;
+pub use log::{Defect, Log};
