@@ -1,5 +1,5 @@
 -- The lines in which a proof and its claim are written, and the text that they are.
-use Rattle.std.specs.Prelude.{ℕ, ◌+◌, ◌==◌, if◌then◌else◌, List, [], ◌∷◌, ◌++◌, map, length, flat_map, count_by, not}
+use Rattle.std.specs.Prelude.{ℕ, ◌+◌, ◌==◌, if◌then◌else◌, List, [], ◌∷◌, ◌++◌, map, length, flat_map, count_by, not, drop, None}
 use Rattle.row_kit.specs.declared.area.Area.{Area}
 use Rattle.row_kit.specs.declared.found.Found.{Found}
 use Rattle.range_prop.specs.declared.row_cut.RowCut.{RowCut}
@@ -7,7 +7,9 @@ use Rattle.dual_bound.specs.declared.cert.Cert.{Cert}
 use Rattle.dual_bound.specs.declared.cert.Mult.{Mult}
 use Rattle.proof_tree.specs.declared.item.Item.{Item}
 use Rattle.proof_tree.specs.declared.item.Item.TheVariants.{Node, Cut, Found as FoundItem, Empty, Dual, Point, Pending, Split}
-use Rattle.proof_tree.specs.Tree.{Tree}
+use Rattle.proof_tree.specs.declared.proof.End.{End}
+use Rattle.proof_tree.specs.Items.{tree_items}
+use Rattle.proof_tree.specs.Tree.{Tree, tree_at}
 use Rattle.row_relax.specs.declared.RowPick.{RowPick}
 use Rattle.row_relax.specs.declared.Rows.{Rows}
 use Rattle.log_lines.specs.declared.line.Line.{Line}
@@ -52,6 +54,14 @@ item_lines Point = PointLine ∷ []
 item_lines (Pending cert) = PendingLine cert.scale (length cert.mults) ∷ map mult_line cert.mults
 item_lines (Split pick cert) = SplitLine pick.slot pick.max cert.scale (length cert.mults) ∷ map mult_line cert.mults
 
+-- the lines of a proof: those of its items
+abbrev pub tree_lines : RowTree → List Line
+tree_lines tree = flat_map item_lines (tree_items tree)
+
+-- the lines of the end of a node and of what stands below it: those of a node without cuts and found point, but for the node's own
+abbrev pub end_lines : End RowCut Cert RowPick Found → List Line
+end_lines end = drop 1 (tree_lines (tree_at [] None end))
+
 -- the lines of a claim, with those of its plan's values where it has one
 unfoldable pub claim_lines : Claim → List Line
 claim_lines (Optimal profit point) = ClaimOptimal profit (started point) ∷ value_lines 0 point
@@ -61,7 +71,7 @@ claim_lines (Below cap) = ClaimBelow cap ∷ []
 
 -- the lines of a log: its version, those of the items of its proof, its claim, and an end
 unfoldable pub log_lines : ℕ → List RowItem → Claim → List Line
-log_lines version items claim = Header version ∷ flat_map item_lines items ++ claim_lines claim ++ EndLine ∷ []
+log_lines version items claim = Header version ∷ (flat_map item_lines items ++ (claim_lines claim ++ EndLine ∷ []))
 
 -- the text of lines: each ends with a line feed (10)
 unfoldable pub lines_text : List Line → List ℕ

@@ -4,7 +4,10 @@ use row_kit::List;
 #[derive(Drop)]
 pub enum Claim {
     /// The point has this profit, and no feasible plan earns more.
-    Optimal { profit: i128, point: List<u8> },
+    Optimal {
+        profit: i128,
+        point: List<u8>,
+    },
     /// No plan is feasible.
     Infeasible,
     /// The point has this profit, and no feasible plan earns more than the cap.
@@ -14,5 +17,7 @@ pub enum Claim {
         point: List<u8>,
     },
     /// No feasible plan earns more than the cap.
-    Below { cap: i128 },
+    Below {
+        cap: i128,
+    },
 }

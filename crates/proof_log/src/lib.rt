@@ -5,7 +5,14 @@
 #![tactic(auto)]
 
 mod claim;
+mod claims;
+mod items;
 mod log;
+mod nodes;
+mod parts;
 
 pub use claim::Claim;
+pub use claims::put_claim;
+pub use items::put_item;
 pub use log::{Defect, Log};
+pub use nodes::put_proof;
