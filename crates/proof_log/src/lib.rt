@@ -10,9 +10,11 @@ mod items;
 mod log;
 mod nodes;
 mod parts;
+mod writer;
 
 pub use claim::Claim;
 pub use claims::put_claim;
 pub use items::put_item;
 pub use log::{Defect, Log};
 pub use nodes::put_proof;
+pub use writer::LogWriter;
