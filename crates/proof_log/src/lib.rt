@@ -10,6 +10,8 @@ mod items;
 mod log;
 mod nodes;
 mod parts;
+#[cfg(test)]
+mod tests;
 mod writer;
 
 pub use claim::Claim;
