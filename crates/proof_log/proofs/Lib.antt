@@ -1,3 +1,4 @@
+pub mod GrammarWalk
 pub mod Lines
 pub mod Writing
 pub mod TreeLines

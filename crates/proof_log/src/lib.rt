@@ -4,6 +4,7 @@
 //! piece by piece.
 #![tactic(auto)]
 
+mod accepting;
 mod claim;
 mod claims;
 mod items;
@@ -14,6 +15,7 @@ mod parts;
 mod tests;
 mod writer;
 
+pub use accepting::logs_are_accepted;
 pub use claim::Claim;
 pub use claims::put_claim;
 pub use items::put_item;

@@ -68,7 +68,8 @@ fn puts_a_log(rt: HostRuntime) -> Result<(), Fail> {
         point: point(alloc)?,
     };
     put_claim(alloc, &claim, &mut text)?;
-    let expected = b"stn-log 2\nnode\nfound -34 2\nvalue 0 3\nvalue 2 7\nsplit 0 0 2 2\nmult 1 5\nmult 4 1099511627776\nnode\ndual 1 0\nnode\ncut 3 1\npoint\nclaim between -34 60 2\nvalue 0 3\nvalue 2 7\nend\n";
+    let expected =
+        b"stn-log 2\nnode\nfound -34 2\nvalue 0 3\nvalue 2 7\nsplit 0 0 2 2\nmult 1 5\nmult 4 1099511627776\nnode\ndual 1 0\nnode\ncut 3 1\npoint\nclaim between -34 60 2\nvalue 0 3\nvalue 2 7\nend\n";
     assert_eq!(rt; text.as_slice(), expected.as_slice());
     Ok(())
 }
@@ -86,7 +87,8 @@ fn puts_items_and_claims(rt: HostRuntime) -> Result<(), Fail> {
     put_claim(alloc, &optimal, &mut text)?;
     put_claim(alloc, &Claim::Infeasible, &mut text)?;
     put_claim(alloc, &Claim::Below { cap: -1 }, &mut text)?;
-    let expected = b"pending 2 2\nmult 1 5\nmult 4 1099511627776\nempty\nclaim optimal 34 2\nvalue 0 3\nvalue 2 7\nend\nclaim infeasible\nend\nclaim below -1\nend\n";
+    let expected =
+        b"pending 2 2\nmult 1 5\nmult 4 1099511627776\nempty\nclaim optimal 34 2\nvalue 0 3\nvalue 2 7\nend\nclaim infeasible\nend\nclaim below -1\nend\n";
     assert_eq!(rt; text.as_slice(), expected.as_slice());
     Ok(())
 }
@@ -122,10 +124,7 @@ fn writes_logs(rt: HostRuntime) -> Result<(), Fail> {
     assert_eq!(rt; log(&shelf).len(), 10 + 5000 + 21);
     let mut failing = MemShelf::new(alloc);
     failing.fail_call(2, 5)?;
-    assert_eq!(rt;
-        write_nodes(alloc, &mut failing, 1000),
-        Err(Stop::Failed)
-    );
+    assert_eq!(rt; write_nodes(alloc, &mut failing, 1000), Err(Stop::Failed));
     assert_eq!(rt; log(&failing), b"stn-l".as_slice());
     Ok(())
 }
