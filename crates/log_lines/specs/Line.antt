@@ -1,27 +1,52 @@
 -- The lines of a proof log, and their text.
 use Rattle.std.specs.Prelude.{◌^◌, ◌<◌, ◌≤◌, ⊤, ℕ, ℤ, pos, unsigned_abs, List, [], ◌∷◌, ◌++◌, All, flat_map, codes}
 use Rattle.std.specs.Fmt.{signed_decimal}
+use Rattle.log_lines.specs.declared.form.Form.{Form}
+use Rattle.log_lines.specs.declared.form.Form.TheVariants as form
 use Rattle.log_lines.specs.declared.line.Line.{Line}
 use Rattle.log_lines.specs.declared.line.Line.TheVariants.{Header, Node, Cut, Found, Value, Empty, Point, Dual, Pending, Split, Mult, ClaimOptimal, ClaimInfeasible, ClaimBetween, ClaimBelow, End}
 
--- the words of a line before its numbers
+-- the form of a line
+abbrev pub line_form : Line → Form
+line_form (Header _) = form.Header
+line_form Node = form.Node
+line_form (Cut _ _) = form.Cut
+line_form (Found _ _) = form.Found
+line_form (Value _ _) = form.Value
+line_form Empty = form.Empty
+line_form Point = form.Point
+line_form (Dual _ _) = form.Dual
+line_form (Pending _ _) = form.Pending
+line_form (Split _ _ _ _) = form.Split
+line_form (Mult _ _) = form.Mult
+line_form (ClaimOptimal _ _) = form.ClaimOptimal
+line_form ClaimInfeasible = form.ClaimInfeasible
+line_form (ClaimBetween _ _ _) = form.ClaimBetween
+line_form (ClaimBelow _) = form.ClaimBelow
+line_form End = form.End
+
+-- the words of a form, which stand before its numbers
+abbrev pub form_name : Form → List ℕ
+form_name form.Header = codes "stn-log"
+form_name form.Node = codes "node"
+form_name form.Cut = codes "cut"
+form_name form.Found = codes "found"
+form_name form.Value = codes "value"
+form_name form.Empty = codes "empty"
+form_name form.Point = codes "point"
+form_name form.Dual = codes "dual"
+form_name form.Pending = codes "pending"
+form_name form.Split = codes "split"
+form_name form.Mult = codes "mult"
+form_name form.ClaimOptimal = codes "claim optimal"
+form_name form.ClaimInfeasible = codes "claim infeasible"
+form_name form.ClaimBetween = codes "claim between"
+form_name form.ClaimBelow = codes "claim below"
+form_name form.End = codes "end"
+
+-- the words of a line, which stand before its numbers
 abbrev pub line_name : Line → List ℕ
-line_name (Header _) = codes "stn-log"
-line_name Node = codes "node"
-line_name (Cut _ _) = codes "cut"
-line_name (Found _ _) = codes "found"
-line_name (Value _ _) = codes "value"
-line_name Empty = codes "empty"
-line_name Point = codes "point"
-line_name (Dual _ _) = codes "dual"
-line_name (Pending _ _) = codes "pending"
-line_name (Split _ _ _ _) = codes "split"
-line_name (Mult _ _) = codes "mult"
-line_name (ClaimOptimal _ _) = codes "claim optimal"
-line_name ClaimInfeasible = codes "claim infeasible"
-line_name (ClaimBetween _ _ _) = codes "claim between"
-line_name (ClaimBelow _) = codes "claim below"
-line_name End = codes "end"
+line_name line = form_name (line_form line)
 
 -- the numbers of a line, in their order
 abbrev pub line_numbers : Line → List ℤ

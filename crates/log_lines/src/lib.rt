@@ -4,6 +4,13 @@
 //! takes the lines of a log one by one and answers the first defect. `LineReader` reads a file of a shelf line by line.
 #![tactic(auto)]
 
+mod form;
 pub mod line;
+mod number;
+mod numbers;
+mod print;
+mod read;
 
 pub use line::Line;
+pub use print::put_line;
+pub use read::read_line;
