@@ -63,20 +63,20 @@ mults_left-more n least beside =
 started-cons : (value : ℕ) (point : List ℕ) → started (value ∷ point) ≡ cond (not (value == 0)) 1 0 + started point
 started-cons value point = sum_by-cons (λ (v : ℕ). cond (not (v == 0)) 1 0) value point
 
-started-zero : (value : ℕ) (point : List ℕ) → value ≡ 0 → started (value ∷ point) ≡ started point
+pub started-zero : (value : ℕ) (point : List ℕ) → value ≡ 0 → started (value ∷ point) ≡ started point
 started-zero value point is =
     let none : eqb value 0 ≡ true = eq-eqb value 0 is in
     started-cons value point ∙ ap (λ (b : Bool). cond (not b) 1 0 + started point) none ∙ zero-add (started point)
 
-started-more : (value : ℕ) (point : List ℕ) → value ≢ 0 → started (value ∷ point) ≡ started point + 1
+pub started-more : (value : ℕ) (point : List ℕ) → value ≢ 0 → started (value ∷ point) ≡ started point + 1
 started-more value point is =
     let some : eqb value 0 ≡ false = ne_eqb value 0 is in
     started-cons value point ∙ ap (λ (b : Bool). cond (not b) 1 0 + started point) some ∙ add_comm 1 (started point)
 
-value_lines-zero : (slot value : ℕ) (point : List ℕ) → value ≡ 0 → value_lines slot (value ∷ point) ≡ value_lines (slot + 1) point
+pub value_lines-zero : (slot value : ℕ) (point : List ℕ) → value ≡ 0 → value_lines slot (value ∷ point) ≡ value_lines (slot + 1) point
 value_lines-zero slot value point is = ap (λ (b : Bool). (if b then [] else ValueLine slot value ∷ []) ++ value_lines (slot + 1) point) (eq-eqb value 0 is)
 
-value_lines-more : (slot value : ℕ) (point : List ℕ) → value ≢ 0 → value_lines slot (value ∷ point) ≡ ValueLine slot value ∷ value_lines (slot + 1) point
+pub value_lines-more : (slot value : ℕ) (point : List ℕ) → value ≢ 0 → value_lines slot (value ∷ point) ≡ ValueLine slot value ∷ value_lines (slot + 1) point
 value_lines-more slot value point is = ap (λ (b : Bool). (if b then [] else ValueLine slot value ∷ []) ++ value_lines (slot + 1) point) (ne_eqb value 0 is)
 
 -- a move leads on in the same way from each place
