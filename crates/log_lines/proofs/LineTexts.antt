@@ -72,7 +72,7 @@ one name is other = inl (record { is_word = IsWord-tested name is; other = other
 two : (second : List ℕ) → list_all (λ b. not (eqb b 32)) second ≡ true → IsOne (codes "claim" ++ (32 ∷ second)) ⊎ IsTwo (codes "claim" ++ (32 ∷ second))
 two second is = inr (record { second = second; is_word = IsWord-tested second is; is = refl })
 
-name_words : (form : Form) → IsOne (form_name form) ⊎ IsTwo (form_name form)
+pub name_words : (form : Form) → IsOne (form_name form) ⊎ IsTwo (form_name form)
 name_words form.ClaimOptimal = two (codes "optimal") refl
 name_words form.ClaimInfeasible = two (codes "infeasible") refl
 name_words form.ClaimBetween = two (codes "between") refl
@@ -94,7 +94,7 @@ name_words form.End = one _ refl refl
 other_word : (word : List ℕ) → bytes_eq word (codes "claim") ≡ false → word ≢ codes "claim"
 other_word word other is = false≢true (sym other ∙ (bytes_eq-Decides word (codes "claim")).1 is)
 
-is_word-claim : IsWord (codes "claim")
+pub is_word-claim : IsWord (codes "claim")
 is_word-claim = IsWord-tested (codes "claim") refl
 
 -- a text of `claim`, a word and more
@@ -155,7 +155,7 @@ name_none bytes rest cut none = record {
 -- ---- lines
 
 -- the numbers of a line are those of its form
-Fit-line : (line : Line) → IsLine line → Fit (form_signs (line_form line)) (line_numbers line)
+pub Fit-line : (line : Line) → IsLine line → Fit (form_signs (line_form line)) (line_numbers line)
 Fit-line (Header version) is = (is.short 0 (pos 0) (omega arith), tt, tt)
 Fit-line Node is = tt
 Fit-line (Cut row slot) is = (is.short 0 (pos 0) (omega arith), tt, (is.short 1 (pos 0) (omega arith), tt, tt))
