@@ -1,4 +1,3 @@
-pub mod Grammar
 pub mod Line
 pub mod Numbers
 pub mod Reading

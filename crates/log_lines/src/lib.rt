@@ -5,16 +5,12 @@
 #![tactic(auto)]
 
 mod form;
-mod grammar;
 pub mod line;
 mod number;
 mod numbers;
-mod place;
 mod print;
 mod read;
 
-pub use grammar::{Grammar, MOST_FACTOR, MOST_MULTS, MOST_SCALE};
 pub use line::Line;
-pub use place::{Limits, Move, Place};
 pub use print::put_line;
 pub use read::read_line;

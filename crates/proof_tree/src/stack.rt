@@ -29,13 +29,6 @@ impl<T> Stack<T> {
             items: Vec::new(alloc),
         }
     }
-
-    /// How many items it has.
-    pub fn len(&self) -> usize
-        ensures { result ≡ length self.now }
-    {
-        self.items.len()
-    }
 }
 
 impl<T: Copy> Stack<T> {
