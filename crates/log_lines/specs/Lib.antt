@@ -1,3 +1,4 @@
 pub mod Line
 pub mod Numbers
 pub mod Reading
+pub mod Grammar

@@ -5,12 +5,15 @@
 #![tactic(auto)]
 
 mod form;
+pub mod grammar;
+pub mod kinds;
 pub mod line;
 mod number;
 mod numbers;
 mod print;
 mod read;
 
+pub use grammar::{Grammar, Limits, Place};
 pub use line::Line;
 pub use print::put_line;
 pub use read::read_line;
