@@ -1,3 +1,4 @@
 pub mod Wide
 pub mod NumberTexts
 pub mod LineTexts
+pub mod Sides

@@ -1,10 +1,12 @@
 -- Which line of a log may stand where, and which numbers are too large.
 use Rattle.std.specs.Prelude.{ℕ, ◌-◌, ◌==◌, nat_lt, nat_le, Bool, true, false, if◌then◌else◌, Option, None, Some, List, [], ◌∷◌, length}
-use Rattle.std.specs.Option.{option_map_or}
+use Rattle.std.specs.Option.{option_map, option_map_or}
 use Rattle.log_lines.specs.declared.grammar.Limits.{Limits}
 use Rattle.log_lines.specs.declared.grammar.Place.{Place}
 use Rattle.log_lines.specs.declared.grammar.Place.TheVariants as place
 use Rattle.log_lines.specs.declared.kinds.TheConstants.{GRAMMAR, ROW_NUMBER, SLOT_NUMBER, MULT_TOO_LARGE, SCALE_TOO_LARGE, TOO_MANY_MULTS, TOO_DEEP, MOST_FACTOR, MOST_SCALE, MOST_MULTS}
+use Rattle.log_lines.specs.declared.step.Step.{Step}
+use Rattle.log_lines.specs.declared.step.Step.TheVariants as step
 use Rattle.log_lines.specs.declared.line.Line.{Line}
 use Rattle.log_lines.specs.declared.line.Line.TheVariants.{Header, Node, Cut, Found, Value, Empty, Point, Dual, Pending, Split, Mult, ClaimOptimal, ClaimInfeasible, ClaimBetween, ClaimBelow, End}
 
@@ -19,10 +21,6 @@ pub record Standing : Type 0 where
 abbrev pub new_standing : Standing
 new_standing = record { version = 1; place = place.Header; sides = [] }
 
--- the same, where another thing comes next
-abbrev pub at_place : Standing → Place → Standing
-at_place standing next = record standing { place = next }
-
 -- the open splits after a part that ended: a right part's split has ended too, and so on; after a left part the right part is
 -- under way
 abbrev pub after_part : List Bool → List Bool
@@ -30,80 +28,87 @@ after_part [] = []
 after_part (false ∷ sides) = true ∷ sides
 after_part (true ∷ sides) = after_part sides
 
+-- the innermost part is a right one
+abbrev pub is_right : List Bool → Bool
+is_right [] = false
+is_right (side ∷ _) = side
+
 -- what comes after a part: the node of a right part, or where no split is open the claim
 abbrev pub part_place : List Bool → Place
 part_place [] = place.Claim
 part_place (_ ∷ _) = place.Node
 
--- a part has ended
-abbrev pub part_ended : Standing → Standing
-part_ended standing = record standing { place = part_place (after_part standing.sides); sides = after_part standing.sides }
-
 -- so many value lines come, above the last slot; where none is left, what comes after the group
-abbrev pub values_place : ℕ → Option ℕ → Bool → Place
-values_place left above of_claim =
-    if left == 0 then (if of_claim then place.End else place.Ending) else place.Values left above of_claim
+abbrev pub values_step : ℕ → Option ℕ → Bool → Step
+values_step left above of_claim =
+    step.At (if left == 0 then (if of_claim then place.End else place.Ending) else place.Values left above of_claim)
 
--- so many mult lines come, above the last row; where none is left, a split's left part or the end of the part
-abbrev pub after_mults : Standing → ℕ → Option ℕ → Bool → Standing
-after_mults standing left above splits =
-    if left == 0 then (if splits then record standing { place = place.Node; sides = false ∷ standing.sides } else part_ended standing)
-    else at_place standing (place.Mults left above splits)
+-- so many mult lines come, above the last row; where none is left, a split opens or the part has ended
+abbrev pub mults_step : ℕ → Option ℕ → Bool → Step
+mults_step left above splits =
+    if left == 0 then (if splits then step.Opens else step.Ends) else step.At (place.Mults left above splits)
 
 -- a number is above the last one
 abbrev pub follows : Option ℕ → ℕ → Bool
 follows None _ = true
 follows (Some last) number = nat_lt last number
 
--- after an ending
-abbrev pub next_ending : Standing → Line → Option Standing
-next_ending standing Empty = Some (part_ended standing)
-next_ending standing Point = if standing.version == 2 then Some (part_ended standing) else None
-next_ending standing (Dual _ count) = Some (after_mults standing count None false)
-next_ending standing (Pending _ count) = Some (after_mults standing count None false)
-next_ending standing (Split _ _ _ count) = Some (after_mults standing count None true)
-next_ending _ _ = None
+-- what an ending leads to
+abbrev pub ending_step : ℕ → Line → Option Step
+ending_step _ Empty = Some step.Ends
+ending_step version Point = if version == 2 then Some step.Ends else None
+ending_step _ (Dual _ count) = Some (mults_step count None false)
+ending_step _ (Pending _ count) = Some (mults_step count None false)
+ending_step _ (Split _ _ _ count) = Some (mults_step count None true)
+ending_step _ _ = None
 
--- after a cut, a found line or an ending
-abbrev pub next_inside : Standing → Line → Option Standing
-next_inside standing (Cut _ _) = Some (at_place standing place.Inside)
-next_inside standing (Found _ count) = Some (at_place standing (values_place count None false))
-next_inside standing line = next_ending standing line
+-- what a cut, a found line or an ending leads to
+abbrev pub inside_step : ℕ → Line → Option Step
+inside_step _ (Cut _ _) = Some (step.At place.Inside)
+inside_step _ (Found _ count) = Some (values_step count None false)
+inside_step version line = ending_step version line
 
--- after a claim
-abbrev pub next_claim : Standing → Line → Option Standing
-next_claim standing (ClaimOptimal _ count) = Some (at_place standing (values_place count None true))
-next_claim standing ClaimInfeasible = Some (at_place standing place.End)
-next_claim standing (ClaimBetween _ _ count) = Some (at_place standing (values_place count None true))
-next_claim standing (ClaimBelow _) = Some (at_place standing place.End)
-next_claim _ _ = None
+-- what a claim leads to
+abbrev pub claim_step : Line → Option Step
+claim_step (ClaimOptimal _ count) = Some (values_step count None true)
+claim_step ClaimInfeasible = Some (step.At place.End)
+claim_step (ClaimBetween _ _ count) = Some (values_step count None true)
+claim_step (ClaimBelow _) = Some (step.At place.End)
+claim_step _ = None
 
--- after a line at this place
-abbrev pub next_at : Standing → Place → Line → Option Standing
-next_at standing place.Header (Header version) = Some (record standing { version = version; place = place.Node })
-next_at standing place.Node Node = Some (at_place standing place.Inside)
-next_at standing place.Inside line = next_inside standing line
-next_at standing place.Ending line = next_ending standing line
-next_at standing (place.Values left above of_claim) (Value slot _) =
-    if follows above slot then Some (at_place standing (values_place (left - 1) (Some slot) of_claim)) else None
-next_at standing (place.Mults left above splits) (Mult row _) =
-    if follows above row then Some (after_mults standing (left - 1) (Some row) splits) else None
-next_at standing place.Claim line = next_claim standing line
-next_at standing place.End End = Some (at_place standing place.Done)
-next_at _ _ _ = None
+-- what a line leads to in a log of this version at this place; None where it may not stand there
+abbrev pub step_of : ℕ → Place → Line → Option Step
+step_of _ place.Header (Header version) = Some (step.Begins version)
+step_of _ place.Node Node = Some (step.At place.Inside)
+step_of version place.Inside line = inside_step version line
+step_of version place.Ending line = ending_step version line
+step_of _ (place.Values left above of_claim) (Value slot _) =
+    if follows above slot then Some (values_step (left - 1) (Some slot) of_claim) else None
+step_of _ (place.Mults left above splits) (Mult row _) =
+    if follows above row then Some (mults_step (left - 1) (Some row) splits) else None
+step_of _ place.Claim line = claim_step line
+step_of _ place.End End = Some (step.At place.Done)
+step_of _ _ _ = None
 
--- after a line; None where it may not stand here
+-- the standing after a step
+abbrev pub after_step : Standing → Step → Standing
+after_step standing (step.Begins version) = record standing { version = version; place = place.Node }
+after_step standing (step.At next) = record standing { place = next }
+after_step standing step.Opens = record standing { place = place.Node; sides = false ∷ standing.sides }
+after_step standing step.Ends = record standing { place = part_place (after_part standing.sides); sides = after_part standing.sides }
+
+-- the standing after a line; None where it may not stand here
 abbrev pub next : Standing → Line → Option Standing
-next standing line = next_at standing standing.place line
+next standing line = option_map (after_step standing) (step_of standing.version standing.place line)
 
 -- the kind of the first test that holds
 abbrev pub first_kind : List (Bool × ℕ) → Option ℕ
 first_kind [] = None
 first_kind (test ∷ tests) = if test.0 then Some test.1 else first_kind tests
 
--- the tests of a line's numbers, in their order, each with its kind
-abbrev pub tests_of : Limits → Standing → Line → List (Bool × ℕ)
-tests_of limits standing Node = (nat_lt limits.depth (length standing.sides), TOO_DEEP) ∷ []
+-- the tests of a line where so many splits are open, in their order, each with its kind
+abbrev pub tests_of : Limits → ℕ → Line → List (Bool × ℕ)
+tests_of limits opened Node = (nat_lt limits.depth opened, TOO_DEEP) ∷ []
 tests_of limits _ (Cut row slot) = (nat_le limits.rows row, ROW_NUMBER) ∷ (nat_le limits.slots slot, SLOT_NUMBER) ∷ []
 tests_of limits _ (Value slot _) = (nat_le limits.slots slot, SLOT_NUMBER) ∷ []
 tests_of _ _ (Dual scale count) = (nat_lt MOST_SCALE scale, SCALE_TOO_LARGE) ∷ (nat_lt MOST_MULTS count, TOO_MANY_MULTS) ∷ []
@@ -113,9 +118,13 @@ tests_of limits _ (Split slot _ scale count) =
 tests_of limits _ (Mult row factor) = (nat_le limits.rows row, ROW_NUMBER) ∷ (nat_lt MOST_FACTOR factor, MULT_TOO_LARGE) ∷ []
 tests_of _ _ _ = []
 
--- the kind of the first number of the line that is too large
+-- the kind of the first number of the line that is too large where so many splits are open
+abbrev pub over_at : Limits → ℕ → Line → Option ℕ
+over_at limits opened line = first_kind (tests_of limits opened line)
+
+-- the same, in a log that has come so far
 abbrev pub over : Limits → Standing → Line → Option ℕ
-over limits standing line = first_kind (tests_of limits standing line)
+over limits standing line = over_at limits (length standing.sides) line
 
 -- the kind of a line's defect: it may not stand here, or a number is too large
 abbrev pub line_defect : Limits → Standing → Line → Option ℕ

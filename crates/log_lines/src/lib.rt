@@ -8,10 +8,12 @@ mod form;
 pub mod grammar;
 pub mod kinds;
 pub mod line;
+mod limits;
 mod number;
 mod numbers;
 mod print;
 mod read;
+mod step;
 
 pub use grammar::{Grammar, Limits, Place};
 pub use line::Line;
