@@ -2,3 +2,4 @@ pub mod Line
 pub mod Numbers
 pub mod Reading
 pub mod Grammar
+pub mod Reader
