@@ -1,3 +1,5 @@
 pub mod Line
 pub mod Numbers
 pub mod Reading
+pub mod Grammar
+pub mod Reader

@@ -4,13 +4,21 @@
 //! takes the lines of a log one by one and answers the first defect. `LineReader` reads a file of a shelf line by line.
 #![tactic(auto)]
 
+mod ahead;
 mod form;
+pub mod grammar;
+pub mod kinds;
 pub mod line;
+mod limits;
 mod number;
 mod numbers;
 mod print;
 mod read;
+pub mod reader;
+mod step;
 
+pub use grammar::{Grammar, Limits, Place};
 pub use line::Line;
 pub use print::put_line;
 pub use read::read_line;
+pub use reader::LineEnd;
