@@ -22,3 +22,6 @@ pub use line::Line;
 pub use print::put_line;
 pub use read::read_line;
 pub use reader::LineEnd;
+// A crate can name a step in a contract only if it is exported.
+#[doc(hidden)]
+pub use step::Step;
