@@ -1,5 +1,6 @@
 -- The lines of a log are the lines of no other log, and no first part of those of another.
-use Rattle.std.proofs.Common.{◌≡◌, ◌≢◌, ℕ, ℤ, ◌+◌, ◌≤◌, Bool, true, false, List, [], ◌∷◌, ◌++◌, map, length, flat_map, refl, sym, ap, ◌∙◌, arith, ⊎_elim, append_assoc}
+use Rattle.std.proofs.Common.{◌≡◌, ◌≢◌, ℕ, ℤ, ◌+◌, ◌≤◌, Bool, true, false, List, [], ◌∷◌, ◌++◌, map, length, flat_map, refl, sym, ap, ◌∙◌, arith, ⊎_elim, append_assoc, append-nil, length-append}
+use Rattle.std.proofs.lemmas.List.{append_cancel_left}
 use Rattle.std.specs.List.{All}
 use Rattle.std.proofs.lemmas.Bool.{cases_eq}
 use Rattle.std.proofs.lemmas.List.Elements.{All-head, All-tail}
@@ -7,15 +8,19 @@ use Rattle.row_kit.specs.declared.found.Found.{Found}
 use Rattle.range_prop.specs.declared.row_cut.RowCut.{RowCut}
 use Rattle.dual_bound.specs.declared.cert.Cert.{Cert}
 use Rattle.dual_bound.specs.declared.cert.Mult.{Mult}
+use Rattle.proof_tree.specs.Items.{tree_items}
 use Rattle.proof_tree.specs.declared.item.Item.TheVariants.{Node, Cut, Found as FoundItem, Empty, Dual, Point, Pending, Split}
 use Rattle.row_relax.specs.declared.RowPick.{RowPick}
 use Rattle.log_lines.specs.declared.line.Line.{Line}
-use Rattle.log_lines.specs.declared.line.Line.TheVariants.{Value as ValueLine, ClaimOptimal, ClaimInfeasible, ClaimBetween, ClaimBelow}
+use Rattle.log_lines.specs.declared.line.Line.TheVariants.{Value as ValueLine, ClaimOptimal, ClaimInfeasible, ClaimBetween, ClaimBelow, End as EndLine}
+use Rattle.log_lines.specs.Line.{IsLine, line_text}
+use Rattle.log_lines.proofs.OneLine.{line_text_unique, line_feedless, feed_unique}
 use Rattle.proof_log.specs.declared.claim.Claim.{Claim}
 use Rattle.proof_log.specs.declared.claim.Claim.TheVariants.{Optimal, Infeasible, Between, Below}
-use Rattle.proof_log.specs.Log.{RowItem, started, value_lines, mult_line, item_lines, claim_lines}
-use Rattle.proof_log.specs.OneText.{IsOver, IsClaimOver}
+use Rattle.proof_log.specs.Log.{RowItem, RowTree, started, value_lines, mult_line, item_lines, claim_lines, log_lines, lines_text, log_text}
+use Rattle.proof_log.specs.OneText.{IsOver, IsClaimOver, IsLogOver, LogsHaveOneText}
 use Rattle.proof_log.proofs.GrammarWalk.{started-zero, started-more, value_lines-zero, value_lines-more}
+use Rattle.proof_log.proofs.OneTree.{tree_same}
 
 -- two lists of one length in front of others
 fronts_same : {X : Type 0} (a b c d : List X) → length a ≡ length b → a ++ c ≡ b ++ d → (a ≡ b) × (c ≡ d)
@@ -228,3 +233,61 @@ items_same slots (i ∷ is) (j ∷ js) a b over_i over_j of_a of_b same =
     let head : i ≡ j = first.0 in
     let tail : is ≡ js = others.0 in
     (cc, others.1)
+
+-- the lines of logs, of which one is a first part of the other
+record SameLines (v w : ℕ) (s t : RowTree) (c d : Claim) (rest : List Line) : Type 0 where
+  version : v ≡ w
+  tree : s ≡ t
+  claim : c ≡ d
+  no_rest : rest ≡ []
+
+log_same : (slots v w : ℕ) (s t : RowTree) (c d : Claim) (rest : List Line) → IsLogOver slots v s c → IsLogOver slots w t d → log_lines v (tree_items s) c ≡ log_lines w (tree_items t) d ++ rest → SameLines v w s t c d rest
+unfolding log_lines
+log_same slots v w s t c d rest over_s over_t same =
+    let last : List Line = EndLine ∷ [] in
+    let more : List Line = EndLine ∷ rest in
+    let version : v ≡ w = cc in
+    let tail : flat_map item_lines (tree_items s) ++ (claim_lines c ++ last) ≡ (flat_map item_lines (tree_items t) ++ (claim_lines d ++ last)) ++ rest = cc in
+    let regrouped : (flat_map item_lines (tree_items t) ++ (claim_lines d ++ last)) ++ rest ≡ flat_map item_lines (tree_items t) ++ (claim_lines d ++ more) =
+    append_assoc (flat_map item_lines (tree_items t)) (claim_lines d ++ last) rest ∙ ap (λ (lines : List Line). flat_map item_lines (tree_items t) ++ lines) (append_assoc (claim_lines d) last rest) in
+    let items = items_same slots (tree_items s) (tree_items t) (claim_lines c ++ last) (claim_lines d ++ more) over_s.items over_t.items (claim_first c last) (claim_first d more) (tail ∙ regrouped) in
+    let claims = claim_same slots c d last more over_s.claim_over over_t.claim_over items.1 in
+    let ends : EndLine ∷ [] ≡ EndLine ∷ rest = claims.1 in
+    let none : [] ≡ rest = cc in
+    let whole : tree_items s ++ [] ≡ tree_items t ++ [] = ap (λ (items : List RowItem). items ++ []) items.0 in
+    record { version = version; tree = (tree_same s t [] [] whole).0; claim = claims.0; no_rest = sym none }
+
+-- the text of a line, its line feed, and what follows
+feed_after : (x : Line) (xs : List Line) (rest : List ℕ) → lines_text (x ∷ xs) ++ rest ≡ line_text x ++ (10 ∷ (lines_text xs ++ rest))
+unfolding lines_text
+feed_after x xs rest = append_assoc (line_text x ++ (10 ∷ [])) (lines_text xs) rest ∙ append_assoc (line_text x) (10 ∷ []) (lines_text xs ++ rest)
+
+-- texts of lines, of which one is a first part of the other
+lines_same : (xs ys : List Line) (rest : List ℕ) → All IsLine xs → All IsLine ys → lines_text xs ≡ lines_text ys ++ rest → (zs : List Line) × (xs ≡ ys ++ zs)
+unfolding lines_text
+lines_same xs [] rest of_x of_y same = (xs, refl)
+lines_same [] (y ∷ ys) rest of_x of_y same =
+    let some : lines_text (y ∷ ys) ++ rest ≡ line_text y ++ (10 ∷ (lines_text ys ++ rest)) = feed_after y ys rest in
+    let long : length (line_text y ++ (10 ∷ (lines_text ys ++ rest))) ≡ 0 = ap length (sym some ∙ sym same) in
+    absurd (omega (arith, length-append (line_text y) (10 ∷ (lines_text ys ++ rest)), long))
+lines_same (x ∷ xs) (y ∷ ys) rest of_x of_y same =
+    let first_x = feed_after x xs [] in
+    let first_y = feed_after y ys rest in
+    let texts : line_text x ++ (10 ∷ (lines_text xs ++ [])) ≡ line_text y ++ (10 ∷ (lines_text ys ++ rest)) = sym first_x ∙ append-nil (lines_text (x ∷ xs)) ∙ same ∙ first_y in
+    let is_x = All-head IsLine x xs of_x in
+    let is_y = All-head IsLine y ys of_y in
+    let parts = feed_unique (line_text x) (lines_text xs ++ []) (line_text y) (lines_text ys ++ rest) (line_feedless x is_x) (line_feedless y is_y) texts in
+    let head : x ≡ y = line_text_unique x y is_x is_y parts.0 in
+    let others = lines_same xs ys rest (All-tail IsLine x xs of_x) (All-tail IsLine y ys of_y) (sym (append-nil (lines_text xs)) ∙ parts.1) in
+    let tail : xs ≡ ys ++ others.0 = others.1 in
+    (others.0, cc)
+
+-- two logs of one text are the same
+pub logs_same : LogsHaveOneText
+unfolding log_text
+logs_same slots v w s t c d rest over_s over_t same =
+    let lines = lines_same (log_lines v (tree_items s) c) (log_lines w (tree_items t) d) rest over_s.lines over_t.lines same in
+    let logs = log_same slots v w s t c d lines.0 over_s over_t lines.1 in
+    let alike : log_lines v (tree_items s) c ≡ log_lines w (tree_items t) d = lines.1 ∙ ap (λ (more : List Line). log_lines w (tree_items t) d ++ more) logs.no_rest ∙ append-nil (log_lines w (tree_items t) d) in
+    let ends : lines_text (log_lines w (tree_items t) d) ++ [] ≡ lines_text (log_lines w (tree_items t) d) ++ rest = append-nil (lines_text (log_lines w (tree_items t) d)) ∙ sym (ap lines_text alike) ∙ same in
+    record { version_same = logs.version; tree_same = logs.tree; claim_same = logs.claim; no_rest = sym (append_cancel_left (lines_text (log_lines w (tree_items t) d)) [] rest ends) }
