@@ -88,7 +88,7 @@ row_at_least (e ∷ es) slot ds p named lies =
     (cases_eq e.slot slot)
 
 -- a slot that no entry names has no part in what the row sums to at least
-least_counted-set : (ds : List Domain) (slot : ℕ) (d : Domain) (e : Entry) → (e.slot ≡ slot → ⊥) → least_counted (set ds slot d) e ≡ least_counted ds e
+pub least_counted-set : (ds : List Domain) (slot : ℕ) (d : Domain) (e : Entry) → (e.slot ≡ slot → ⊥) → least_counted (set ds slot d) e ≡ least_counted ds e
 least_counted-set ds slot d e apart = ap (λ (x : Domain). least (counted e) (values_of x)) (get_or-set_other ds slot e.slot d no_values apart)
 
 pub least_sum-without : (es : List Entry) (slot : ℕ) (ds : List Domain) (d : Domain) → IsWithout es slot → least_sum es (set ds slot d) ≡ least_sum es ds

@@ -3,5 +3,8 @@ pub mod CutLaws
 pub mod Entries
 pub mod Kept
 pub mod Least
+pub mod Looks
 pub mod Multiples
+pub mod Rooms
+pub mod Sequences
 pub mod Trails

@@ -5,6 +5,7 @@
 
 mod allowed;
 mod cutting;
+mod look;
 mod narrow;
 mod row_cut;
 mod spread;
