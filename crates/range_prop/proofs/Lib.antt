@@ -3,6 +3,7 @@ pub mod CutLaws
 pub mod Entries
 pub mod Kept
 pub mod Least
+pub mod Listed
 pub mod Looks
 pub mod Multiples
 pub mod Rooms

@@ -5,6 +5,7 @@
 
 mod allowed;
 mod cutting;
+mod index;
 mod look;
 mod narrow;
 mod row_cut;
@@ -12,4 +13,5 @@ mod spread;
 mod sums;
 
 pub use cutting::cut;
+pub use index::RowIndex;
 pub use row_cut::RowCut;
