@@ -6,6 +6,7 @@ pub mod Least
 pub mod Listed
 pub mod Looks
 pub mod Multiples
+pub mod Queues
 pub mod Rooms
 pub mod Sequences
 pub mod Trails

@@ -8,9 +8,12 @@ mod cutting;
 mod index;
 mod look;
 mod narrow;
+mod propagation;
+mod queue;
 mod row_cut;
 mod spread;
 mod sums;
+mod waking;
 
 pub use cutting::cut;
 pub use index::RowIndex;
