@@ -10,13 +10,13 @@ use Rattle.std.proofs.lemmas.List.Folds.{Any-from_list_any, list_any-from_Any}
 use Rattle.row_kit.specs.declared.domain.Domain.{Domain}
 use Rattle.row_kit.specs.declared.row.Entry.{Entry}
 use Rattle.row_kit.specs.declared.row.Row.{Row}
-use Rattle.row_kit.specs.Domain.{IsBare, IsNormal, count_of, domain_at, no_values}
+use Rattle.row_kit.specs.Domain.{Holds, IsBare, IsNormal, count_of, domain_at, no_values}
 use Rattle.row_kit.specs.Point.{LiesIn}
 use Rattle.row_kit.specs.Row.{IsKept, counted, entries_sum}
 use Rattle.row_kit.proofs.Marks.{LiesIn-set}
 use Rattle.range_prop.specs.Cut.{cut_domain, shrinks, has_room, is_bare, kept_of, least_others, own_counted}
 use Rattle.range_prop.proofs.Entries.{row_at_least}
-use Rattle.range_prop.proofs.Kept.{kept_fewer, kept_holds, kept_normal, kept_same}
+use Rattle.range_prop.proofs.Kept.{kept_fewer, kept_holds, kept_normal, kept_same, kept_within}
 use Rattle.range_prop.proofs.Multiples.{le_true, true_le, same_test}
 use Rattle.range_prop.proofs.Trails.{is_same_refl}
 use Rattle.row_kit.specs.Area.{is_same}
@@ -95,3 +95,11 @@ cut_fewer row slot ds normal' less =
     not_true : (b : Bool) → not b ≡ true → b ≡ false
     not_true true h = sym h
     not_true false h = refl
+
+-- a cut adds no value
+pub cut_within : (row : Row) (slot : ℕ) (ds : List Domain) (v : ℕ) → 1 ≤ (domain_at ds slot).lo → Holds (cut_domain row slot ds) v → Holds (domain_at ds slot) v
+cut_within row slot ds v low held =
+    ⊎_elim
+    (λ (e : list_any is_bare ds ≡ true). subst (λ (x : Domain). Holds x v) (cut_bare row slot ds e) held)
+    (λ (e : list_any is_bare ds ≡ false). kept_within (has_room row slot ds) (domain_at ds slot) v low (subst (λ (x : Domain). Holds x v) (cut_open row slot ds e) held))
+    (cases_Bool (list_any is_bare ds))

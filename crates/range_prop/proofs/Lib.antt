@@ -8,5 +8,6 @@ pub mod Looks
 pub mod Multiples
 pub mod Queues
 pub mod Rooms
+pub mod Rounds
 pub mod Sequences
 pub mod Trails
