@@ -17,4 +17,5 @@ mod waking;
 
 pub use cutting::cut;
 pub use index::RowIndex;
+pub use propagation::cut_all;
 pub use row_cut::RowCut;
