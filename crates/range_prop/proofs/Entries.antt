@@ -1,14 +1,14 @@
 -- A row's own entry, and the least that its entries sum to.
-use Rattle.std.proofs.Common.{◌≡◌, ℕ, zero, suc, ◌+◌, ◌<◌, ◌≤◌, Bool, true, false, eqb, cond, List, [], ◌∷◌, length, map, get_or, set, refl, sym, ap, ◌∙◌, ⊎_elim, arith, ℤ, pos, ◌+ℤ◌, ◌≤ℤ◌}
+use Rattle.std.proofs.Common.{◌≡◌, ℕ, zero, suc, ◌<◌, eqb, cond, List, [], ◌∷◌, length, map, get_or, set, refl, ap, ⊎_elim, arith, ℤ, pos, ◌+ℤ◌, ◌≤ℤ◌}
 use Rattle.std.specs.List.{All}
 use Rattle.std.specs.List.Sorted.{IsStrictlyIncreasing}
 use Rattle.std.proofs.lemmas.Bool.{cond-true, cond-false, eq-eqb, ne_eqb, cases_eq}
 use Rattle.std.proofs.lemmas.Int.{ints}
-use Rattle.std.proofs.lemmas.List.{get_or-set_same, get_or-set_other}
+use Rattle.std.proofs.lemmas.List.{get_or-set_other}
 use Rattle.std.proofs.lemmas.List.Elements.{All-head, All-tail}
 use Rattle.row_kit.specs.declared.domain.Domain.{Domain}
 use Rattle.row_kit.specs.declared.row.Entry.{Entry}
-use Rattle.row_kit.specs.Domain.{IsNormal, domain_at, no_values, values_of}
+use Rattle.row_kit.specs.Domain.{domain_at, no_values, values_of}
 use Rattle.row_kit.specs.Point.{LiesIn}
 use Rattle.row_kit.specs.Row.{counted, entries_sum}
 use Rattle.row_kit.proofs.Ascending.{no_entry, other_slots}
@@ -22,7 +22,6 @@ IsWithout es slot = (j : ℕ) → j < length es → (get_or es j no_entry).slot 
 
 tail_without : (e : Entry) (es : List Entry) (slot : ℕ) → IsWithout (e ∷ es) slot → IsWithout es slot
 tail_without e es slot without j lt = without (suc j) (omega arith)
-
 
 pub own_without : (es : List Entry) (slot v : ℕ) → IsWithout es slot → own_counted es slot v ≡ pos 0
 own_without [] slot v without = refl
@@ -66,7 +65,6 @@ others_alone (e ∷ es) (suc k) ds lt only =
     let slot = (get_or es k no_entry).slot in
     let other = cond-false (eqb e.slot slot) (pos 0) (least_counted ds e) (ne_eqb e.slot slot (only 0 (omega arith) (λ q. absurd (omega arith)))) in
     omega (arith, ints, other, others_alone es k ds (omega arith) (λ j h apart. only (suc j) (omega arith) (next_apart j k apart)))
-
 
 -- what a row sums to at a point is at least its own entry plus the least others
 pub row_at_least : (es : List Entry) (slot : ℕ) (ds : List Domain) (p : List ℕ) → All (λ e. e.slot < length ds) es → LiesIn ds p → (own_counted es slot (get_or p slot 0) +ℤ least_others es slot ds) ≤ℤ entries_sum es p

@@ -1,7 +1,7 @@
 -- What a test leaves of a domain.
 use Rattle.std.proofs.Common.{◌≡◌, ℕ, zero, suc, ◌+◌, ◌-◌, ◌<◌, ◌≤◌, min, max, Bool, true, false, ◌&&◌, cond, leb, List, [], ◌∷◌, length, get_or, refl, sym, ap, ◌∙◌, subst, ◌⊎◌, ⊎_elim, inl, inr, arith}
 use Rattle.std.specs.List.{All, filter, range_with_len}
-use Rattle.std.proofs.lemmas.Bool.{cases_Bool, cases_lt, cases_eq, cond-true, cond-false, false≢true}
+use Rattle.std.proofs.lemmas.Bool.{cases_lt, cases_eq, cond-true, cond-false, false≢true}
 use Rattle.std.proofs.lemmas.Bool.Decides.{nat_tests}
 use Rattle.std.proofs.lemmas.List.FromFn.{length-range_with_len, get_or-range_with_len}
 use Rattle.std.proofs.lemmas.List.Elements.{All-filter, filter_passes, filter_agree}
@@ -149,7 +149,6 @@ kept_normal test d normal' =
     let ends = none_kept (passing test d.lo (width d)) none in
     record { positive = omega (arith, ends.0); byte = omega (arith, ends.1); bare = λ less. (ends.0, ends.1) })
     (cases_lt 0 (length (passing test d.lo (width d))))
-
 
 same_range : (a b m n : ℕ) → m ≡ n → (0 < n → a ≡ b) → range_with_len a m ≡ range_with_len b n
 same_range a b m zero e h = ap (range_with_len a) e

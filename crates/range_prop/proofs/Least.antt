@@ -1,5 +1,5 @@
 -- The least of a function over values.
-use Rattle.std.proofs.Common.{◌≡◌, ℕ, zero, suc, true, false, ◌+◌, ◌<◌, ◌≤◌, List, [], ◌∷◌, length, map, get_or, refl, sym, ap, ◌∙◌, subst, ⊎_elim, arith, ℤ, pos, ◌≤ℤ◌, ◌⊎◌, inl, inr}
+use Rattle.std.proofs.Common.{◌≡◌, ℕ, zero, suc, true, false, ◌<◌, ◌≤◌, List, [], ◌∷◌, length, map, get_or, refl, sym, ap, ◌∙◌, subst, ⊎_elim, arith, ℤ, pos, ◌≤ℤ◌, ◌⊎◌, inl, inr}
 use Rattle.std.specs.List.{All, Contains}
 use Rattle.std.proofs.lemmas.Bool.{false≢true}
 use Rattle.std.proofs.lemmas.Int.{ints, fold-int_min_bounds, fold-int_min_reached}
@@ -80,9 +80,9 @@ least_zero f d r m low full held none bound reached below either =
     let each = λ (v : ℕ) (h : Holds d v). ⊎_elim (λ (z : (v ≡ 0) × (d.zero ≡ true)). subst (λ (x : ℕ). m ≤ℤ f x) (sym z.0) (le_same m (pos 0) (f 0) below.1 none)) (λ (z : (1 ≤ v) × (d.lo ≤ v) × (v ≤ d.hi)). le_le m r (f v) below.0 (bound v z.1 z.2)) (by_value d v h) in
     ⊎_elim
     (λ (first : m ≡ r). ⊎_elim
-        (λ (e : r ≡ f d.lo). sym (least_held f d m d.lo low (in_range d d.lo low (omega arith) full) (sym (first ∙ e)) each))
-        (λ (e : r ≡ f d.hi). sym (least_held f d m d.hi low (in_range d d.hi low full (omega arith)) (sym (first ∙ e)) each))
-        reached)
+    (λ (e : r ≡ f d.lo). sym (least_held f d m d.lo low (in_range d d.lo low (omega arith) full) (sym (first ∙ e)) each))
+    (λ (e : r ≡ f d.hi). sym (least_held f d m d.hi low (in_range d d.hi low full (omega arith)) (sym (first ∙ e)) each))
+    reached)
     (λ (second : m ≡ pos 0). sym (least_held f d m 0 low (record { at_zero = λ _. held; above_zero = λ p. absurd (omega arith) }) (none ∙ sym second) each))
     either
 

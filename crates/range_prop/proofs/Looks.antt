@@ -3,9 +3,9 @@ use Rattle.std.proofs.Common.{◌≡◌, ℕ, ◌+◌, ◌<◌, ◌≤◌, Bool,
 use Rattle.std.specs.Prelude.{int_le}
 use Rattle.std.specs.List.{All, Any, list_any}
 use Rattle.std.specs.List.Sorted.{IsStrictlyIncreasing}
-use Rattle.std.proofs.lemmas.Bool.{cases_lt, eqb-true, ne_eqb}
+use Rattle.std.proofs.lemmas.Bool.{cases_lt, ne_eqb}
 use Rattle.std.proofs.lemmas.Int.{ints}
-use Rattle.std.proofs.lemmas.List.{get_or-set_same, get_or-set_other, get_or_default, length-set}
+use Rattle.std.proofs.lemmas.List.{get_or-set_same, get_or-set_other, length-set}
 use Rattle.std.proofs.lemmas.List.Elements.{All-set}
 use Rattle.std.proofs.lemmas.List.Folds.{list_any_none}
 use Rattle.row_kit.specs.declared.domain.Domain.{Domain}
@@ -18,13 +18,13 @@ use Rattle.row_kit.proofs.Ascending.{no_entry}
 use Rattle.row_kit.proofs.Histories.{is_same_true}
 use Rattle.range_prop.specs.declared.row_cut.RowCut.{RowCut}
 use Rattle.range_prop.specs.Cut.{cut_domain, has_room, is_bare, kept_of, least_counted, least_others, least_sum, own_counted, row_at, shrinks}
-use Rattle.range_prop.specs.Cuts.{HasCut, HasRoom, IsMade, after_cut}
+use Rattle.range_prop.specs.Cuts.{HasCut, IsMade, after_cut}
 use Rattle.range_prop.proofs.CutLaws.{cut_is, cut_normal, cut_open}
 use Rattle.range_prop.proofs.Entries.{alone, least_counted-set, others_alone, own_alone}
 use Rattle.range_prop.proofs.Kept.{kept_none}
 use Rattle.range_prop.proofs.Rooms.{least_sum-same, sum_below}
 use Rattle.range_prop.proofs.Sequences.{HasCut-one, HasCut-then, present-after_cut}
-use Rattle.range_prop.proofs.Trails.{domain-with_domain, is_same_refl, with_domain_same}
+use Rattle.range_prop.proofs.Trails.{with_domain_same}
 
 -- a record of a look that has come to an entry: what is cut, and that all entries before count little more than at their least
 pub record IsCutTo (rows : List Row) (es : List Entry) (slack : ℤ) (old new : List (List Domain)) (before after : List RowCut) (i : ℕ) : Type 0 where

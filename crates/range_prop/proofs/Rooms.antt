@@ -1,11 +1,10 @@
 -- When a row has room for each value: no cut of it shrinks a domain.
-use Rattle.std.proofs.Common.{◌≡◌, ◌⊎◌, ℕ, zero, suc, ◌+◌, ◌<◌, ◌≤◌, Bool, true, false, not, eqb, List, [], ◌∷◌, ◌++◌, length, map, get_or, set, refl, sym, ap, ◌∙◌, subst, inl, inr, ⊎_elim, arith, ℤ, pos, ◌+ℤ◌, ◌-ℤ◌, ◌≤ℤ◌, ◌<ℤ◌}
-use Rattle.std.specs.List.{All, Any, list_any}
+use Rattle.std.proofs.Common.{◌≡◌, ◌⊎◌, ℕ, zero, suc, ◌<◌, true, false, not, eqb, List, [], ◌∷◌, length, map, get_or, set, sym, ap, ◌∙◌, subst, inl, inr, ⊎_elim, arith, ℤ, pos, ◌+ℤ◌, ◌-ℤ◌, ◌≤ℤ◌}
+use Rattle.std.specs.List.{All, list_any}
 use Rattle.std.specs.List.Sorted.{IsStrictlyIncreasing}
 use Rattle.std.proofs.lemmas.Bool.{cases_Bool, cases_eq, cond-true, cond-false, eq-eqb, ne_eqb}
 use Rattle.std.proofs.lemmas.Int.{ints}
 use Rattle.std.proofs.lemmas.List.{get_or-set_same, get_or-set_other}
-use Rattle.std.proofs.lemmas.List.Elements.{All-head, All-tail}
 use Rattle.row_kit.specs.declared.domain.Domain.{Domain}
 use Rattle.row_kit.specs.declared.row.Entry.{Entry}
 use Rattle.row_kit.specs.declared.row.Row.{Row}
@@ -13,10 +12,10 @@ use Rattle.row_kit.specs.Area.{is_same}
 use Rattle.row_kit.specs.Domain.{Holds, IsNormal, domain_at, no_values}
 use Rattle.row_kit.specs.Row.{counted}
 use Rattle.row_kit.proofs.Ascending.{no_entry}
-use Rattle.range_prop.specs.Cut.{cut_domain, has_room, is_bare, kept_of, least_counted, least_others, least_sum, own_counted, shrinks}
+use Rattle.range_prop.specs.Cut.{cut_domain, has_room, is_bare, least_counted, least_others, least_sum, own_counted}
 use Rattle.range_prop.specs.Cuts.{HasRoom, IsStill}
 use Rattle.range_prop.proofs.CutLaws.{cut_bare, cut_open}
-use Rattle.range_prop.proofs.Entries.{IsWithout, alone, least_counted-set, least_others-own, least_others-without, others_alone, others_without, own_alone, own_without}
+use Rattle.range_prop.proofs.Entries.{IsWithout, alone, least_others-own, least_others-without, others_alone, others_without, own_alone, own_without}
 use Rattle.range_prop.proofs.Kept.{kept_all}
 use Rattle.range_prop.proofs.Least.{least_below}
 use Rattle.range_prop.proofs.Multiples.{le_true}

@@ -1,18 +1,18 @@
 -- What a look at one row leaves to the others.
-use Rattle.std.proofs.Common.{◌≡◌, ◌⊎◌, ℕ, ◌+◌, ◌*◌, ◌-◌, ◌<◌, ◌≤◌, Bool, true, false, List, [], ◌∷◌, ◌++◌, length, get_or, set, take, drop, refl, sym, ap, ◌∙◌, subst, inl, inr, ⊎_elim, arith}
-use Rattle.std.specs.List.{All, Any, Contains, count_by, list_any, sum_by}
-use Rattle.std.proofs.lemmas.Bool.{cases_Bool, cases_eq, false≢true}
-use Rattle.std.proofs.lemmas.List.{append-nil, drop_at, length-append, length-set, nil_from_length, take_all}
+use Rattle.std.proofs.Common.{◌≡◌, ℕ, ◌+◌, ◌*◌, ◌-◌, ◌<◌, ◌≤◌, Bool, true, false, List, [], ◌∷◌, length, get_or, take, drop, refl, sym, ap, ◌∙◌, subst, ⊎_elim, arith}
+use Rattle.std.specs.List.{All, Contains, count_by, sum_by}
+use Rattle.std.proofs.lemmas.Bool.{cases_eq, false≢true}
+use Rattle.std.proofs.lemmas.List.{drop_at, length-append, length-set, nil_from_length, take_all}
 use Rattle.std.proofs.lemmas.List.Elements.{All-cons, All-head, All-nil, All-set, All-tail}
 use Rattle.std.proofs.lemmas.List.Sums.{count_by-le-length}
 use Rattle.row_kit.specs.declared.domain.Domain.{Domain}
 use Rattle.row_kit.specs.declared.row.Row.{Row}
 use Rattle.row_kit.specs.Area.{present}
-use Rattle.row_kit.specs.Domain.{Holds, IsBare, IsNormal, IsOpen, count_of, domain_at, no_values}
+use Rattle.row_kit.specs.Domain.{IsNormal, count_of, no_values}
 use Rattle.range_prop.specs.declared.row_cut.RowCut.{RowCut}
 use Rattle.range_prop.specs.Cut.{cut_domain, row_at}
 use Rattle.range_prop.specs.Cuts.{AreMade, HasCut, HasRoom, after_cut, after_cuts}
-use Rattle.range_prop.specs.Index.{HasEntry, IsIndex, list_of}
+use Rattle.range_prop.specs.Index.{IsIndex, list_of}
 use Rattle.range_prop.specs.Queue.{AreAwake, AreQuiet, waits}
 use Rattle.range_prop.proofs.CutLaws.{cut_normal, cut_within}
 use Rattle.range_prop.proofs.Entries.{IsWithout}

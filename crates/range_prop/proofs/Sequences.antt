@@ -1,18 +1,18 @@
 -- Cuts made one after another: what they keep, and that each takes a value away.
-use Rattle.std.proofs.Common.{◌≡◌, ℕ, ◌+◌, ◌-◌, ◌<◌, ◌≤◌, Bool, true, false, not, List, [], ◌∷◌, ◌++◌, length, get_or, set, take, refl, sym, ap, ◌∙◌, subst, arith, append_assoc}
+use Rattle.std.proofs.Common.{◌≡◌, ℕ, ◌+◌, ◌-◌, ◌<◌, ◌≤◌, List, [], ◌∷◌, ◌++◌, length, set, take, refl, sym, ap, ◌∙◌, subst, arith, append_assoc}
 use Rattle.std.specs.List.{All, sum_by}
 use Rattle.std.proofs.lemmas.List.{append-nil, length-append, length-set, length-take, take-append-le, take-take, take_all}
 use Rattle.std.proofs.lemmas.List.Elements.{All-set}
 use Rattle.std.proofs.lemmas.List.Sums.{sum_by-set}
 use Rattle.row_kit.specs.declared.domain.Domain.{Domain}
 use Rattle.row_kit.specs.declared.row.Row.{Row}
-use Rattle.row_kit.specs.Area.{is_same, present, with_domain}
-use Rattle.row_kit.specs.Domain.{IsNormal, count_of, domain_at, no_values}
+use Rattle.row_kit.specs.Area.{present}
+use Rattle.row_kit.specs.Domain.{IsNormal, count_of, no_values}
 use Rattle.row_kit.specs.Point.{LiesIn}
 use Rattle.row_kit.specs.Row.{IsKept}
 use Rattle.row_kit.proofs.Marks.{present-with_domain, take-with_domain}
 use Rattle.range_prop.specs.declared.row_cut.RowCut.{RowCut}
-use Rattle.range_prop.specs.Cut.{cut_domain, no_row, row_at, shrinks}
+use Rattle.range_prop.specs.Cut.{cut_domain, no_row, row_at}
 use Rattle.range_prop.specs.Cuts.{AreMade, HasCut, IsMade, after_cut, after_cuts}
 use Rattle.range_prop.proofs.CutLaws.{cut_fewer, cut_keeps, cut_normal}
 

@@ -13,6 +13,8 @@ mod queue;
 mod row_cut;
 mod spread;
 mod sums;
+#[cfg(test)]
+mod tests;
 mod waking;
 
 pub use cutting::cut;

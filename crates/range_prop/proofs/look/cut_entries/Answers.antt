@@ -1,5 +1,5 @@
 -- One look at a row, entry by entry.
-use Rattle.std.proofs.Common.{Vec, Global, ◌≡◌, ◌∙◌, ◌+◌, ◌<◌, ℕ, ℤ, List, length, map, get_or, take, refl, sym, ap, subst, arith, pos, ◌+ℤ◌, ◌-ℤ◌, ◌≤ℤ◌}
+use Rattle.std.proofs.Common.{Vec, Global, ◌≡◌, ◌∙◌, ◌+◌, ◌<◌, ℕ, ℤ, List, length, map, get_or, take, refl, sym, ap, subst, arith, ◌+ℤ◌, ◌-ℤ◌, ◌≤ℤ◌}
 use Rattle.std.specs.List.{All}
 use Rattle.std.specs.List.Sorted.{IsStrictlyIncreasing}
 use Rattle.row_kit.specs.declared.domain.Domain.{Domain}
@@ -8,7 +8,7 @@ use Rattle.row_kit.specs.declared.row.Row.{Row}
 use Rattle.row_kit.specs.Bounds.{IsBoundedRow}
 use Rattle.range_prop.specs.declared.row_cut.RowCut.{RowCut}
 use Rattle.range_prop.specs.Cuts.{HasCut}
-use Rattle.row_kit.specs.Area.{present, with_domain}
+use Rattle.row_kit.specs.Area.{present}
 use Rattle.row_kit.specs.Domain.{Holds, domain_at, no_values}
 use Rattle.row_kit.specs.Row.{counted}
 use Rattle.row_kit.proofs.Ascending.{no_entry}
@@ -16,7 +16,7 @@ use Rattle.row_kit.proofs.Marks.{take-with_domain}
 use Rattle.range_prop.specs.Cut.{least_counted, least_sum, no_row, row_at}
 use Rattle.range_prop.proofs.Looks.{IsCutTo, look_cut, look_kept}
 use Rattle.range_prop.proofs.Rooms.{HasRoom-near}
-use Rattle.range_prop.proofs.Sequences.{HasCut-keeps, HasCut-lists, HasCut-none, HasCut-slots, take-then}
+use Rattle.range_prop.proofs.Sequences.{HasCut-keeps, HasCut-none, HasCut-slots, take-then}
 use Rattle.range_prop.proofs.look.cut_entries.Goals as goal
 use Rattle.range_prop.proofs.look.cut_entries.Goals.{then-keep_near+in_ok-push, else-keep_near}
 

@@ -1,5 +1,5 @@
 -- Where the least entries leave slack, each entry is looked at; else one cut leaves nothing.
-use Rattle.std.proofs.Common.{◌≡◌, ◌∙◌, ◌<◌, ◌≤◌, ℕ, ℤ, List, length, take, sym, ap, subst, inl, inr, ⊎_elim, arith, pos, ◌-ℤ◌, ◌<ℤ◌, ◌≤ℤ◌, to_z, of_z}
+use Rattle.std.proofs.Common.{◌≡◌, ◌∙◌, ℤ, List, length, take, ap, inl, arith, ◌<ℤ◌}
 use Rattle.std.proofs.lemmas.Int.{ints}
 use Rattle.std.proofs.lemmas.List.{get_or_read}
 use Rattle.std.specs.List.{Any}
@@ -12,9 +12,7 @@ use Rattle.row_kit.proofs.Ascending.{few_entries}
 use Rattle.row_kit.proofs.Marks.{take-with_domain}
 use Rattle.range_prop.specs.Cut.{cut_domain, least_sum, no_row, row_at}
 use Rattle.range_prop.proofs.Looks.{look_none}
-use Rattle.range_prop.proofs.Sequences.{HasCut-none}
 use Rattle.range_prop.proofs.look.cut_row.Goals as goal
-use mir.Syntax.{w128}
 
 pub least_sum-requires-clause-few : goal.least_sum-requires-clause-few
 least_sum-requires-clause-few c =

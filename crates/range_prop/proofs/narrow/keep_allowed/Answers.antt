@@ -1,5 +1,5 @@
 -- The slot is given what its domain shares with the allowed values.
-use Rattle.std.proofs.Common.{◌≡◌, ◌∙◌, ◌+◌, ◌<◌, ◌≤◌, ℕ, Bool, true, false, not, refl, set, leb, ◌&&◌, List, length, sym, ap, subst, arith, ℤ, ◌≤ℤ◌}
+use Rattle.std.proofs.Common.{◌≡◌, ◌∙◌, ◌≤◌, ℕ, Bool, true, false, not, refl, set, List, length, sym, ap, subst, arith}
 use Rattle.std.specs.Prelude.{int_le}
 use Rattle.row_kit.specs.declared.domain.Domain.{Domain}
 use Rattle.row_kit.specs.Domain.{Holds, count_of, domain_at, no_values, normal, shared}

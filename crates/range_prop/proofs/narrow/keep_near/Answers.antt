@@ -1,9 +1,9 @@
 -- The value that counts least stays, and all others stay that count little more.
-use Rattle.std.proofs.Common.{◌≡◌, ◌∙◌, ◌<◌, ◌≤◌, ℕ, ℤ, Bool, not, List, length, sym, ap, subst, arith, pos, ◌+ℤ◌, ◌≤ℤ◌, to_z, of_z}
+use Rattle.std.proofs.Common.{◌≡◌, ◌∙◌, ◌≤◌, ℕ, ℤ, not, List, sym, ap, subst, arith, pos, ◌+ℤ◌, ◌≤ℤ◌, to_z, of_z}
 use Rattle.std.specs.Prelude.{int_le}
 use Rattle.std.proofs.lemmas.Int.{ints}
 use Rattle.row_kit.specs.declared.domain.Domain.{Domain}
-use Rattle.row_kit.specs.Domain.{Holds, IsNormal, count_of, domain_at, values_of}
+use Rattle.row_kit.specs.Domain.{Holds, IsNormal, domain_at, values_of}
 use Rattle.row_kit.specs.Area.{is_same, present, with_domain}
 use Rattle.row_kit.specs.Row.{counted}
 use Rattle.range_prop.specs.Cut.{kept_of, least, least_counted}

@@ -1,6 +1,5 @@
 -- Each cut keeps the points that keep the rows.
 use Rattle.std.proofs.Common.{length}
-use Rattle.row_kit.specs.declared.row.Row.{Row}
 use Rattle.range_prop.proofs.Sequences.{HasCut-points}
 use Rattle.range_prop.proofs.propagation.cut_all.Goals as goal
 

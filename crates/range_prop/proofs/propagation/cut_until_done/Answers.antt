@@ -1,6 +1,5 @@
 -- One look more.
-use Rattle.std.proofs.Common.{◌≡◌, ◌∙◌, length, take}
-use Rattle.row_kit.specs.Area.{present}
+use Rattle.std.proofs.Common.{◌∙◌}
 use Rattle.range_prop.proofs.Sequences.{HasCut-keeps, HasCut-lists, HasCut-slots, HasCut-then, take-then}
 use Rattle.range_prop.proofs.propagation.cut_until_done.Goals as goal
 

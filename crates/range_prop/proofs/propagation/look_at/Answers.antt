@@ -1,5 +1,5 @@
 -- A look cuts nothing, or takes values away and wakes the rows that it touches.
-use Rattle.std.proofs.Common.{◌≡◌, ◌⊎◌, ◌∙◌, ◌+◌, ◌-◌, ◌*◌, ◌<◌, ◌≤◌, ℕ, Bool, true, false, List, length, take, drop, sym, ap, subst, inl, inr, ⊎_elim, refl, arith}
+use Rattle.std.proofs.Common.{◌≡◌, ◌⊎◌, ◌∙◌, ◌-◌, ◌<◌, ◌≤◌, ℕ, Bool, true, false, List, length, take, drop, sym, ap, subst, ⊎_elim, arith}
 use Rattle.std.specs.List.{All, Any}
 use Rattle.row_kit.specs.declared.domain.Domain.{Domain}
 use Rattle.std.proofs.lemmas.Bool.{false≢true}

@@ -1,5 +1,5 @@
 -- Where no row waits, each has room for each value, so that no cut of it shrinks a domain.
-use Rattle.std.proofs.Common.{◌≡◌, ◌<◌, ℕ, length, get_or, inr, subst}
+use Rattle.std.proofs.Common.{get_or, inr, subst}
 use Rattle.std.proofs.lemmas.List.{get_or_default}
 use Rattle.row_kit.specs.declared.row.Row.{Row}
 use Rattle.row_kit.specs.Area.{present}
