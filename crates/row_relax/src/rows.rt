@@ -25,7 +25,8 @@ impl Rows {
         ensures root { IfOk result (λ area. area ≡ self.now.program.root ∷ []) }
         ensures fits { IfOk result (λ area. Fits self.now.program (shown_last (map view_of area))) }
     {
-        Area::new(alloc, &self.program)
+        let area = Area::new(alloc, &self.program)?;
+        Ok(area)
     }
 }
 
@@ -58,7 +59,10 @@ impl Relaxation for Rows {
     ghost sound = { λ rows. rows_sound rows.program };
 
     fn cut(&self, area: &mut Area, trim: &RowCut) -> bool {
-        if trim.row as usize >= self.program.rows.len() || trim.slot >= area.slot_count() {
+        if trim.row as usize >= self.program.rows.len() {
+            return false;
+        }
+        if trim.slot >= area.slot_count() {
             return false;
         }
         cut(&self.program, area, trim.row, trim.slot);
@@ -99,5 +103,6 @@ impl Relaxation for Rows {
 
     fn back(&self, area: &mut Area, mark: u32) {
         area.back(mark);
+        let _slots = area.slot_count();
     }
 }
