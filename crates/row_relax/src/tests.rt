@@ -68,14 +68,7 @@ fn chain(
     };
     let root = List::from_slice(alloc, &[slot, slot])?;
     let tags = List::from_slice(alloc, &[tag, tag])?;
-    Ok(Program::checked(
-        rows,
-        profit,
-        base,
-        root,
-        tags,
-        List::new(alloc),
-    ))
+    Ok(Program::checked(rows, profit, base, root, tags, List::new(alloc)))
 }
 
 // The program of a state that no task touches.
