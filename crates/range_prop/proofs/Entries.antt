@@ -1,14 +1,14 @@
 -- A row's own entry, and the least that its entries sum to.
-use Rattle.std.proofs.Common.{◌≡◌, ℕ, zero, suc, ◌+◌, ◌<◌, ◌≤◌, Bool, true, false, eqb, cond, List, [], ◌∷◌, length, map, get_or, set, refl, sym, ap, ◌∙◌, ⊎_elim, arith, ℤ, pos, ◌+ℤ◌, ◌≤ℤ◌}
+use Rattle.std.proofs.Common.{◌≡◌, ℕ, zero, suc, ◌<◌, eqb, cond, List, [], ◌∷◌, length, map, get_or, set, refl, ap, ⊎_elim, arith, ℤ, pos, ◌+ℤ◌, ◌≤ℤ◌}
 use Rattle.std.specs.List.{All}
 use Rattle.std.specs.List.Sorted.{IsStrictlyIncreasing}
 use Rattle.std.proofs.lemmas.Bool.{cond-true, cond-false, eq-eqb, ne_eqb, cases_eq}
 use Rattle.std.proofs.lemmas.Int.{ints}
-use Rattle.std.proofs.lemmas.List.{get_or-set_same, get_or-set_other}
+use Rattle.std.proofs.lemmas.List.{get_or-set_other}
 use Rattle.std.proofs.lemmas.List.Elements.{All-head, All-tail}
 use Rattle.row_kit.specs.declared.domain.Domain.{Domain}
 use Rattle.row_kit.specs.declared.row.Entry.{Entry}
-use Rattle.row_kit.specs.Domain.{IsNormal, domain_at, no_values, values_of}
+use Rattle.row_kit.specs.Domain.{domain_at, no_values, values_of}
 use Rattle.row_kit.specs.Point.{LiesIn}
 use Rattle.row_kit.specs.Row.{counted, entries_sum}
 use Rattle.row_kit.proofs.Ascending.{no_entry, other_slots}
@@ -22,7 +22,6 @@ IsWithout es slot = (j : ℕ) → j < length es → (get_or es j no_entry).slot 
 
 tail_without : (e : Entry) (es : List Entry) (slot : ℕ) → IsWithout (e ∷ es) slot → IsWithout es slot
 tail_without e es slot without j lt = without (suc j) (omega arith)
-
 
 pub own_without : (es : List Entry) (slot v : ℕ) → IsWithout es slot → own_counted es slot v ≡ pos 0
 own_without [] slot v without = refl
@@ -67,7 +66,6 @@ others_alone (e ∷ es) (suc k) ds lt only =
     let other = cond-false (eqb e.slot slot) (pos 0) (least_counted ds e) (ne_eqb e.slot slot (only 0 (omega arith) (λ q. absurd (omega arith)))) in
     omega (arith, ints, other, others_alone es k ds (omega arith) (λ j h apart. only (suc j) (omega arith) (next_apart j k apart)))
 
-
 -- what a row sums to at a point is at least its own entry plus the least others
 pub row_at_least : (es : List Entry) (slot : ℕ) (ds : List Domain) (p : List ℕ) → All (λ e. e.slot < length ds) es → LiesIn ds p → (own_counted es slot (get_or p slot 0) +ℤ least_others es slot ds) ≤ℤ entries_sum es p
 row_at_least [] slot ds p named lies = omega (arith, ints)
@@ -88,7 +86,7 @@ row_at_least (e ∷ es) slot ds p named lies =
     (cases_eq e.slot slot)
 
 -- a slot that no entry names has no part in what the row sums to at least
-least_counted-set : (ds : List Domain) (slot : ℕ) (d : Domain) (e : Entry) → (e.slot ≡ slot → ⊥) → least_counted (set ds slot d) e ≡ least_counted ds e
+pub least_counted-set : (ds : List Domain) (slot : ℕ) (d : Domain) (e : Entry) → (e.slot ≡ slot → ⊥) → least_counted (set ds slot d) e ≡ least_counted ds e
 least_counted-set ds slot d e apart = ap (λ (x : Domain). least (counted e) (values_of x)) (get_or-set_other ds slot e.slot d no_values apart)
 
 pub least_sum-without : (es : List Entry) (slot : ℕ) (ds : List Domain) (d : Domain) → IsWithout es slot → least_sum es (set ds slot d) ≡ least_sum es ds

@@ -1,14 +1,13 @@
 -- What a test leaves of a domain.
 use Rattle.std.proofs.Common.{◌≡◌, ℕ, zero, suc, ◌+◌, ◌-◌, ◌<◌, ◌≤◌, min, max, Bool, true, false, ◌&&◌, cond, leb, List, [], ◌∷◌, length, get_or, refl, sym, ap, ◌∙◌, subst, ◌⊎◌, ⊎_elim, inl, inr, arith}
 use Rattle.std.specs.List.{All, filter, range_with_len}
-use Rattle.std.proofs.lemmas.Bool.{cases_Bool, cases_lt, cases_eq, cond-true, cond-false, false≢true}
+use Rattle.std.proofs.lemmas.Bool.{cases_lt, cases_eq, cond-true, cond-false, false≢true}
 use Rattle.std.proofs.lemmas.Bool.Decides.{nat_tests}
 use Rattle.std.proofs.lemmas.List.FromFn.{length-range_with_len, get_or-range_with_len}
 use Rattle.std.proofs.lemmas.List.Elements.{All-filter, filter_passes, filter_agree}
 use Rattle.row_kit.specs.declared.domain.Domain.{Domain}
 use Rattle.row_kit.specs.Domain.{Holds, IsNormal, count_of, normal, shared}
 use Rattle.row_kit.specs.Area.{is_same}
-use Rattle.row_kit.proofs.Domains.{shared_fewer}
 use Rattle.range_prop.specs.Cut.{kept_of}
 
 -- the numbers of a range that pass a test
@@ -150,7 +149,6 @@ kept_normal test d normal' =
     let ends = none_kept (passing test d.lo (width d)) none in
     record { positive = omega (arith, ends.0); byte = omega (arith, ends.1); bare = λ less. (ends.0, ends.1) })
     (cases_lt 0 (length (passing test d.lo (width d))))
-
 
 same_range : (a b m n : ℕ) → m ≡ n → (0 < n → a ≡ b) → range_with_len a m ≡ range_with_len b n
 same_range a b m zero e h = ap (range_with_len a) e
@@ -304,8 +302,41 @@ kept_same test other d agree =
     (ap (λ (b : Bool). d.zero && b) (agree 0)) (ap (λ (xs : List ℕ). get_or xs 0 1) e) (ap last_of e)
 
 -- where what is kept is another domain, it holds fewer values
-pub kept_fewer : (test : ℕ → Bool) (d : Domain) (a b : ℕ) → IsNormal d → ((v : ℕ) → d.lo ≤ v → v ≤ d.hi → test v ≡ (leb a v && leb v b)) → is_same d (kept_of test d) ≡ false → count_of (kept_of test d) < count_of d
-kept_fewer test d a b normal' agree other =
-    let e = kept_shared test d a b normal' agree in
-    let less = shared_fewer d (normal (test 0) a b) normal' (ap (is_same d) (sym e) ∙ other) in
-    omega (arith, less, ap count_of e)
+fewer_some : (y t : Bool) (l h m k : ℕ) → l ≤ m → m ≤ k → k ≤ h → is_same (domain_of y l h) (domain_of (y && t) m k) ≡ false → count_of (domain_of (y && t) m k) < count_of (domain_of y l h)
+fewer_some true true l h m k a b c e = grind (arith, nat_tests)
+fewer_some true false l h m k a b c e = grind (arith, nat_tests)
+fewer_some false t l h m k a b c e = grind (arith, nat_tests)
+
+fewer_none : (y t : Bool) (l h : ℕ) → 1 ≤ l → (h < l → (l ≡ 1) × (h ≡ 0)) → is_same (domain_of y l h) (domain_of (y && t) 1 0) ≡ false → count_of (domain_of (y && t) 1 0) < count_of (domain_of y l h)
+fewer_none true true l h a bare e = grind (arith, nat_tests)
+fewer_none true false l h a bare e = grind (arith, nat_tests)
+fewer_none false t l h a bare e = grind (arith, nat_tests)
+
+pub kept_fewer : (test : ℕ → Bool) (d : Domain) → IsNormal d → is_same d (kept_of test d) ≡ false → count_of (kept_of test d) < count_of d
+unfolding kept_of
+kept_fewer test d normal' other =
+    let xs = passing test d.lo (width d) in
+    ⊎_elim
+    (λ (more : 0 < length xs).
+    let ends = some_kept test d normal'.positive more in
+    fewer_some d.zero (test 0) d.lo d.hi (get_or xs 0 1) (last_of xs) ends.0 ends.2 ends.1 other)
+    (λ (none : length xs ≤ 0).
+    let ends = none_kept xs none in
+    let e = same_domain (d.zero && test 0) (d.zero && test 0) (get_or xs 0 1) 1 (last_of xs) 0 refl ends.0 ends.1 in
+    let less = fewer_none d.zero (test 0) d.lo d.hi normal'.positive normal'.bare (ap (is_same d) (sym e) ∙ other) in
+    omega (arith, less, ap count_of e))
+    (cases_lt 0 (length xs))
+
+-- where no value passes, none is kept
+pub kept_none : (test : ℕ → Bool) (d : Domain) → IsNormal d → ((v : ℕ) → Holds d v → test v ≡ false) → count_of (kept_of test d) ≡ 0
+kept_none test d normal' none =
+    let agree = λ (v : ℕ) (low : d.lo ≤ v) (high : v ≤ d.hi). none v (record { at_zero = λ e. absurd (omega (arith, normal'.positive)); above_zero = λ _. (low, high) }) ∙ sym (never v) in
+    let zero' : (d.zero && test 0) ≡ false = not_zero d.zero (test 0) (λ e. none 0 (record { at_zero = λ _. e; above_zero = λ p. absurd (omega arith) })) in
+    ap count_of (kept_shared test d 1 0 normal' agree ∙ shared_none d.zero (test 0) d.lo d.hi 1 0 normal'.positive (omega (arith, normal'.positive)) ∙ same_domain (d.zero && test 0) false 1 1 0 0 zero' refl refl)
+  where
+    never : (v : ℕ) → (leb 1 v && leb v 0) ≡ false
+    never v = grind (arith, nat_tests)
+
+    not_zero : (y z : Bool) → (y ≡ true → z ≡ false) → (y && z) ≡ false
+    not_zero true z h = h refl
+    not_zero false z h = refl

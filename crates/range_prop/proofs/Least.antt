@@ -1,12 +1,12 @@
 -- The least of a function over values.
-use Rattle.std.proofs.Common.{◌≡◌, ℕ, zero, suc, true, false, ◌+◌, ◌<◌, ◌≤◌, List, [], ◌∷◌, length, map, get_or, refl, sym, ap, ◌∙◌, subst, ⊎_elim, arith, ℤ, pos, ◌≤ℤ◌, ◌⊎◌, inl, inr}
+use Rattle.std.proofs.Common.{◌≡◌, ℕ, zero, suc, true, false, ◌<◌, ◌≤◌, List, [], ◌∷◌, length, map, get_or, refl, sym, ap, ◌∙◌, subst, ⊎_elim, arith, ℤ, pos, ◌≤ℤ◌, ◌⊎◌, inl, inr}
 use Rattle.std.specs.List.{All, Contains}
 use Rattle.std.proofs.lemmas.Bool.{false≢true}
 use Rattle.std.proofs.lemmas.Int.{ints, fold-int_min_bounds, fold-int_min_reached}
 use Rattle.std.proofs.lemmas.List.{get_or-map, length-map, get_or_default}
 use Rattle.row_kit.specs.declared.domain.Domain.{Domain}
-use Rattle.row_kit.specs.Domain.{Holds, values_of}
-use Rattle.row_kit.proofs.Domains.{Holds-from_values, values-from_Holds}
+use Rattle.row_kit.specs.Domain.{Holds, count_of, values_of}
+use Rattle.row_kit.proofs.Domains.{Holds-from_values, values-from_Holds, length-values_of}
 use Rattle.range_prop.specs.Cut.{least}
 
 at_place : (f : ℕ → ℤ) (v : ℕ) (vs : List ℕ) (w k : ℕ) → k < length (v ∷ vs) → get_or (v ∷ vs) k w ≡ w → (g : ℤ) → g ≤ℤ f v → All (λ x. g ≤ℤ x) (map f vs) → g ≤ℤ f w
@@ -80,9 +80,9 @@ least_zero f d r m low full held none bound reached below either =
     let each = λ (v : ℕ) (h : Holds d v). ⊎_elim (λ (z : (v ≡ 0) × (d.zero ≡ true)). subst (λ (x : ℕ). m ≤ℤ f x) (sym z.0) (le_same m (pos 0) (f 0) below.1 none)) (λ (z : (1 ≤ v) × (d.lo ≤ v) × (v ≤ d.hi)). le_le m r (f v) below.0 (bound v z.1 z.2)) (by_value d v h) in
     ⊎_elim
     (λ (first : m ≡ r). ⊎_elim
-        (λ (e : r ≡ f d.lo). sym (least_held f d m d.lo low (in_range d d.lo low (omega arith) full) (sym (first ∙ e)) each))
-        (λ (e : r ≡ f d.hi). sym (least_held f d m d.hi low (in_range d d.hi low full (omega arith)) (sym (first ∙ e)) each))
-        reached)
+    (λ (e : r ≡ f d.lo). sym (least_held f d m d.lo low (in_range d d.lo low (omega arith) full) (sym (first ∙ e)) each))
+    (λ (e : r ≡ f d.hi). sym (least_held f d m d.hi low (in_range d d.hi low full (omega arith)) (sym (first ∙ e)) each))
+    reached)
     (λ (second : m ≡ pos 0). sym (least_held f d m 0 low (record { at_zero = λ _. held; above_zero = λ p. absurd (omega arith) }) (none ∙ sym second) each))
     either
 
@@ -93,3 +93,27 @@ most_zero f d r m none bound above v h =
   where
     le_of : (a m : ℤ) → a ≡ pos 0 → pos 0 ≤ℤ m → a ≤ℤ m
     le_of a m e k = omega (arith, ints)
+
+-- some value of a domain that holds one is the least
+pub least_reached : (f : ℕ → ℤ) (d : Domain) → 1 ≤ d.lo → 0 < count_of d → (w : ℕ) × Holds d w × (f w ≡ least f (values_of d))
+least_reached f d low some = of_list (values_of d) (λ v c. Holds-from_values d v low c) (omega (arith, some, length-values_of d))
+  where
+    of_list : (vs : List ℕ) → ((v : ℕ) → Contains vs v → Holds d v) → 0 < length vs → (w : ℕ) × Holds d w × (f w ≡ least f vs)
+    of_list [] held lt = absurd (omega arith)
+    of_list (v ∷ vs) held lt =
+        ⊎_elim
+        (λ (first : least f (v ∷ vs) ≡ f v). (v, held v (0, omega arith, refl), sym first))
+        (λ (later : Contains (map f vs) (least f (v ∷ vs))).
+        let k = later.0 in
+        let short : k < length vs = omega (arith, later.1, length-map vs f) in
+        let e = sym (get_or-map f vs k 0 (least f (v ∷ vs)) short) ∙ later.2 in
+        (get_or vs k 0, held (get_or vs k 0) (suc k, omega arith, get_or_default vs k (get_or vs k 0) 0 short), e))
+        (fold-int_min_reached (f v) (map f vs) (least f (v ∷ vs)) refl)
+
+-- a domain that holds a value is not empty
+pub held_open : (d : Domain) (w : ℕ) → Holds d w → 0 < count_of d
+held_open d w held = let c = values-from_Holds d w held in omega (arith, c.1, length-values_of d)
+
+-- no value of a domain counts less than the least
+pub least_below : (f : ℕ → ℤ) (d : Domain) (v : ℕ) → Holds d v → least f (values_of d) ≤ℤ f v
+least_below f d v held = least_bound f (values_of d) v (values-from_Holds d v held)

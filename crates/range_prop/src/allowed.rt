@@ -34,11 +34,7 @@ fn at_least(zero: bool, least: u16) -> Domain
     ensures range { (v : ℕ) → 1 ≤ v → v ≤ 255 → (nat_le result.lo v && nat_le v result.hi) ≡ nat_le least v }
 {
     if least > 255 {
-        Domain {
-            zero,
-            lo: 1,
-            hi: 0,
-        }
+        Domain { zero, lo: 1, hi: 0 }
     } else {
         Domain {
             zero,

@@ -24,11 +24,7 @@ pub fn spread_of(entry: &Entry, domain: &Domain) -> Spread
         return Spread { least: 0, most: 0 };
     }
     let range = ends(entry, domain.lo, domain.hi);
-    if domain.zero {
-        with_zero(range)
-    } else {
-        range
-    }
+    if domain.zero { with_zero(range) } else { range }
 }
 
 // The spread of values besides 0, with 0.

@@ -1,5 +1,5 @@
 -- An entry counts at most the room where a multiple is small or great enough.
-use Rattle.std.proofs.Common.{◌≡◌, ◌∙◌, ℤ, ◌-ℤ◌, ◌≤ℤ◌, pos, to_z, of_z, ap, unsigned_abs, arith}
+use Rattle.std.proofs.Common.{◌≡◌, ◌∙◌, ◌-ℤ◌, ◌≤ℤ◌, pos, to_z, of_z, ap, unsigned_abs, arith}
 use Rattle.std.proofs.lemmas.Int.{ints}
 use Rattle.range_prop.proofs.Multiples.{allowed_up, allowed_down}
 use Rattle.range_prop.proofs.allowed.allowed.Goals as goal

@@ -1,5 +1,5 @@
 -- The slot is given what its domain shares with the allowed values.
-use Rattle.std.proofs.Common.{◌≡◌, ◌∙◌, ◌+◌, ◌<◌, ◌≤◌, ℕ, Bool, true, false, not, refl, set, leb, ◌&&◌, List, length, sym, ap, subst, arith, ℤ, ◌≤ℤ◌}
+use Rattle.std.proofs.Common.{◌≡◌, ◌∙◌, ◌≤◌, ℕ, Bool, true, false, not, refl, set, List, length, sym, ap, subst, arith}
 use Rattle.std.specs.Prelude.{int_le}
 use Rattle.row_kit.specs.declared.domain.Domain.{Domain}
 use Rattle.row_kit.specs.Domain.{Holds, count_of, domain_at, no_values, normal, shared}
@@ -50,11 +50,9 @@ returns-clause-fewer c = λ shrank.
     let e = c.args.entry.now in
     let ds = present c.args.area.now in
     let d = domain_at ds e.slot in
-    let k = c.allowed-kept.result in
     let test = λ (v : ℕ). int_le (counted e v) c.args.room.now in
-    let agree = λ (v : ℕ) (low : d.lo ≤ v) (high : v ≤ d.hi). c.allowed-kept.ensures.range v (omega (arith, low, c.requires.normal.positive)) (omega (arith, high, c.requires.normal.byte)) in
     let other : is_same d (kept_of test d) ≡ false = not_true (is_same d (kept_of test d)) (sym (returns-clause-shrank c) ∙ shrank) in
-    let less = kept_fewer test d k.lo k.hi c.requires.normal agree other in
+    let less = kept_fewer test d c.requires.normal other in
     let now' : present c.keep.new.self ≡ set ds e.slot (kept_of test d) = ap present (returns-clause-marks c) ∙ present-with_domain c.args.area.now e.slot (kept_of test d) c.requires.slot in
     omega (arith, less, sum_by-set count_of ds e.slot (kept_of test d) no_values c.requires.slot, ap (sum_by count_of) now')
   where

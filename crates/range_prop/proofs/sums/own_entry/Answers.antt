@@ -1,5 +1,5 @@
 -- The first entry that is the slot's is its only one.
-use Rattle.std.proofs.Common.{◌≡◌, ◌∙◌, ◌<◌, ◌*ℤ◌, ℕ, zero, suc, refl, pos, ap, sym, length, get_or, arith}
+use Rattle.std.proofs.Common.{◌≡◌, ◌∙◌, ℕ, zero, suc, refl, pos, ap, sym, get_or, arith}
 use Rattle.std.proofs.lemmas.Int.{ints}
 use Rattle.std.proofs.Math.IntN.{zero-*ℤ}
 use Rattle.row_kit.specs.Row.{counted}
