@@ -1,5 +1,6 @@
 pub mod Wide
 pub mod NumberTexts
 pub mod LineTexts
+pub mod SaidLines
 pub mod Sides
 pub mod FileParts

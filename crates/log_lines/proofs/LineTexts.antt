@@ -15,7 +15,7 @@ use Rattle.log_lines.specs.declared.form.TheConstants.{FORMS}
 use Rattle.log_lines.specs.declared.line.Line.{Line}
 use Rattle.log_lines.specs.declared.line.Line.TheVariants.{Header, Node, Cut, Found, Value, Empty, Point, Dual, Pending, Split, Mult, ClaimOptimal, ClaimInfeasible, ClaimBetween, ClaimBelow, End}
 use Rattle.log_lines.specs.Line.{IsShort, IsLine, IsInRange, form_name, line_form, line_numbers, line_text, number_text}
-use Rattle.log_lines.specs.Numbers.{IsWord, IsCut, Fit, Reads}
+use Rattle.log_lines.specs.Numbers.{IsRest, IsWord, IsCut, Fit, Reads}
 use Rattle.log_lines.specs.Reading.{form_named, form_signs, IsLineOf, ReadsLine, IsNameCut}
 use Rattle.log_lines.proofs.NumberTexts.{IsRest-number_text, word_unique, number_text_unique}
 
@@ -47,7 +47,7 @@ chosen_passes p true y later x is others found = let same : y ≡ x = cc in ap p
 chosen_passes p false y later x is others found = others found
 
 -- what is found passes
-find_passes : {X : Type 0} (p : X → Bool) (xs : List X) (x : X) → find p xs ≡ Some x → p x ≡ true
+pub find_passes : {X : Type 0} (p : X → Bool) (xs : List X) (x : X) → find p xs ≡ Some x → p x ≡ true
 find_passes p [] x found = cc
 find_passes p (y ∷ ys) x found = chosen_passes p (p y) y (find p ys) x refl (find_passes p ys x) found
 
@@ -152,10 +152,20 @@ name_none bytes rest cut none = record {
   ];
 }
 
+-- a form's words and its numbers are cut apart in one way
+pub name_alone : (form : Form) (numbers : List ℕ) → IsRest numbers → IsNameCut (form_name form ++ numbers) (form_name form) numbers
+name_alone form numbers is_rest = elim (name_words form) [
+  | inl one ↦ name_one (form_name form ++ numbers) (form_name form) numbers (record { is_word = one.is_word; is_rest = is_rest; is = refl }) one.other
+  | inr two ↦
+    subst (λ name. IsNameCut (name ++ numbers) name numbers) (sym two.is)
+    (name_two ((codes "claim" ++ (32 ∷ two.second)) ++ numbers) (32 ∷ (two.second ++ numbers)) (two.second ++ numbers) two.second numbers
+    (record { is_word = is_word-claim; is_rest = λ some. refl; is = refl }) refl (record { is_word = two.is_word; is_rest = is_rest; is = refl }))
+]
+
 -- ---- lines
 
 -- the numbers of a line are those of its form
-Fit-line : (line : Line) → IsLine line → Fit (form_signs (line_form line)) (line_numbers line)
+pub Fit-line : (line : Line) → IsLine line → Fit (form_signs (line_form line)) (line_numbers line)
 Fit-line (Header version) is = (is.short 0 (pos 0) (omega arith), tt, tt)
 Fit-line Node is = tt
 Fit-line (Cut row slot) is = (is.short 0 (pos 0) (omega arith), tt, (is.short 1 (pos 0) (omega arith), tt, tt))
