@@ -157,9 +157,9 @@ pub name_alone : (form : Form) (numbers : List ℕ) → IsRest numbers → IsNam
 name_alone form numbers is_rest = elim (name_words form) [
   | inl one ↦ name_one (form_name form ++ numbers) (form_name form) numbers (record { is_word = one.is_word; is_rest = is_rest; is = refl }) one.other
   | inr two ↦
-    subst (λ name. IsNameCut (name ++ numbers) name numbers) (sym two.is)
-    (name_two ((codes "claim" ++ (32 ∷ two.second)) ++ numbers) (32 ∷ (two.second ++ numbers)) (two.second ++ numbers) two.second numbers
-    (record { is_word = is_word-claim; is_rest = λ some. refl; is = refl }) refl (record { is_word = two.is_word; is_rest = is_rest; is = refl }))
+      subst (λ name. IsNameCut (name ++ numbers) name numbers) (sym two.is)
+      (name_two ((codes "claim" ++ (32 ∷ two.second)) ++ numbers) (32 ∷ (two.second ++ numbers)) (two.second ++ numbers) two.second numbers
+      (record { is_word = is_word-claim; is_rest = λ some. refl; is = refl }) refl (record { is_word = two.is_word; is_rest = is_rest; is = refl }))
 ]
 
 -- ---- lines

@@ -8,8 +8,8 @@ mod ahead;
 mod form;
 pub mod grammar;
 pub mod kinds;
-pub mod line;
 mod limits;
+pub mod line;
 mod number;
 mod numbers;
 mod part;
@@ -23,3 +23,6 @@ pub use line::Line;
 pub use print::put_line;
 pub use read::read_line;
 pub use reader::{LineEnd, LineReader};
+
+#[cfg(test)]
+mod tests;

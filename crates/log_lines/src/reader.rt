@@ -40,8 +40,11 @@ pub struct LineReader {
 impl Model for LineReader {
     ghost use Rattle.std.specs.Prelude.{◌≡◌, ◌≤◌, take, length};
     ghost use Rattle.log_lines.specs.Reader.{Reading};
+
     ghost Value = { Reading };
+
     ghost view = { λ r. record { place = r.ahead.place; ahead = r.ahead.bytes; line = take r.count r.line.items; ended = r.ended } };
+
     ghost invariant = { λ r. (r.count ≤ 200) × (length r.line.items ≡ 200) };
 }
 
