@@ -15,7 +15,7 @@ use Rattle.log_lines.specs.declared.form.TheConstants.{FORMS}
 use Rattle.log_lines.specs.declared.line.Line.{Line}
 use Rattle.log_lines.specs.declared.line.Line.TheVariants.{Header, Node, Cut, Found, Value, Empty, Point, Dual, Pending, Split, Mult, ClaimOptimal, ClaimInfeasible, ClaimBetween, ClaimBelow, End}
 use Rattle.log_lines.specs.Line.{IsShort, IsLine, IsInRange, form_name, line_form, line_numbers, line_text, number_text}
-use Rattle.log_lines.specs.Numbers.{IsWord, IsCut, Fit, Reads}
+use Rattle.log_lines.specs.Numbers.{IsRest, IsWord, IsCut, Fit, Reads}
 use Rattle.log_lines.specs.Reading.{form_named, form_signs, IsLineOf, ReadsLine, IsNameCut}
 use Rattle.log_lines.proofs.NumberTexts.{IsRest-number_text, word_unique, number_text_unique}
 
@@ -47,7 +47,7 @@ chosen_passes p true y later x is others found = let same : y ≡ x = cc in ap p
 chosen_passes p false y later x is others found = others found
 
 -- what is found passes
-find_passes : {X : Type 0} (p : X → Bool) (xs : List X) (x : X) → find p xs ≡ Some x → p x ≡ true
+pub find_passes : {X : Type 0} (p : X → Bool) (xs : List X) (x : X) → find p xs ≡ Some x → p x ≡ true
 find_passes p [] x found = cc
 find_passes p (y ∷ ys) x found = chosen_passes p (p y) y (find p ys) x refl (find_passes p ys x) found
 
@@ -72,7 +72,7 @@ one name is other = inl (record { is_word = IsWord-tested name is; other = other
 two : (second : List ℕ) → list_all (λ b. not (eqb b 32)) second ≡ true → IsOne (codes "claim" ++ (32 ∷ second)) ⊎ IsTwo (codes "claim" ++ (32 ∷ second))
 two second is = inr (record { second = second; is_word = IsWord-tested second is; is = refl })
 
-pub name_words : (form : Form) → IsOne (form_name form) ⊎ IsTwo (form_name form)
+name_words : (form : Form) → IsOne (form_name form) ⊎ IsTwo (form_name form)
 name_words form.ClaimOptimal = two (codes "optimal") refl
 name_words form.ClaimInfeasible = two (codes "infeasible") refl
 name_words form.ClaimBetween = two (codes "between") refl
@@ -94,7 +94,7 @@ name_words form.End = one _ refl refl
 other_word : (word : List ℕ) → bytes_eq word (codes "claim") ≡ false → word ≢ codes "claim"
 other_word word other is = false≢true (sym other ∙ (bytes_eq-Decides word (codes "claim")).1 is)
 
-pub is_word-claim : IsWord (codes "claim")
+is_word-claim : IsWord (codes "claim")
 is_word-claim = IsWord-tested (codes "claim") refl
 
 -- a text of `claim`, a word and more
@@ -151,6 +151,16 @@ name_none bytes rest cut none = record {
     | inr two ↦ absurd (none (two.second ++ numbers) (word_unique (codes "claim") rest (codes "claim") (32 ∷ (two.second ++ numbers)) is_word-claim is_word-claim cut.is_rest (λ some. refl) (sym cut.is ∙ same ∙ ap (λ w. w ++ numbers) two.is)).1)
   ];
 }
+
+-- a form's words and its numbers are cut apart in one way
+pub name_alone : (form : Form) (numbers : List ℕ) → IsRest numbers → IsNameCut (form_name form ++ numbers) (form_name form) numbers
+name_alone form numbers is_rest = elim (name_words form) [
+  | inl one ↦ name_one (form_name form ++ numbers) (form_name form) numbers (record { is_word = one.is_word; is_rest = is_rest; is = refl }) one.other
+  | inr two ↦
+      subst (λ name. IsNameCut (name ++ numbers) name numbers) (sym two.is)
+      (name_two ((codes "claim" ++ (32 ∷ two.second)) ++ numbers) (32 ∷ (two.second ++ numbers)) (two.second ++ numbers) two.second numbers
+      (record { is_word = is_word-claim; is_rest = λ some. refl; is = refl }) refl (record { is_word = two.is_word; is_rest = is_rest; is = refl }))
+]
 
 -- ---- lines
 

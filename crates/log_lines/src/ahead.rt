@@ -23,9 +23,13 @@ pub(crate) struct Ahead {
 impl Model for Ahead {
     ghost use Rattle.std.specs.Prelude.{◌+◌, ◌-◌, ◌<◌, ◌≤◌, ◌^◌, take, drop, length};
     ghost use Rattle.log_lines.specs.Reader.{Held, held_code};
+
     ghost Value = { Held };
+
     ghost coded = { held_code };
+
     ghost view = { λ a. record { place = a.place; bytes = take (a.end - a.start) (drop a.start a.buffer.items) } };
+
     ghost invariant = { λ a. (a.start ≤ a.end) × (a.end ≤ length a.buffer.items) × (0 < length a.buffer.items) × (length a.buffer.items ≤ 4096) × (a.place + (a.end - a.start) < 2 ^ 64) };
 }
 
@@ -45,7 +49,11 @@ impl Ahead {
     }
 
     // The next byte of the file, or None at its end, and at the last place that there is.
-    pub(crate) fn next_byte<F: Shelf>(&mut self, files: &mut F, name: &str) -> Result<Option<u8>, Failed>
+    pub(crate) fn next_byte<F: Shelf>(
+        &mut self,
+        files: &mut F,
+        name: &str,
+    ) -> Result<Option<u8>, Failed>
         requires allowed { IsTrue (F.may_read files.old name.now) }
         requires ahead { IfSome (F.files files.old) (λ m. IsAhead (file_of m name.now) self.old.place self.old.bytes) }
         ensures told { IfOk result (λ byte. IfSome (F.files files.old) (λ m. GivesByte (file_of m name.now) self.old self.new byte)) }

@@ -4,8 +4,8 @@ ghost use Rattle.log_lines.specs.declared.grammar.Place.TheVariants as place;
 ghost use Rattle.log_lines.specs.Grammar.{Standing, after_part, after_step, is_right, line_defect, new_standing, next, part_place};
 
 use crate::kinds::GRAMMAR;
-use crate::line::Line;
 use crate::limits::over;
+use crate::line::Line;
 use crate::step::{Step, step_of};
 use std::alloc::{AllocError, Global};
 use std::marker::Model;
@@ -73,7 +73,9 @@ pub struct Grammar {
 impl Model for Grammar {
     ghost use Rattle.std.specs.Prelude.{reverse};
     ghost use Rattle.log_lines.specs.Grammar.{Standing};
+
     ghost Value = { Standing };
+
     ghost view = { λ g. record { version = g.version; place = g.place; sides = reverse g.sides.items } };
 }
 
@@ -88,7 +90,6 @@ impl Grammar {
             sides: Vec::new(alloc),
         }
     }
-
 
     /// Takes the next line, or answers the kind of its defect: that it may not stand here, or that a number is too large. After
     /// a defect or want of memory the grammar is as before.

@@ -8,10 +8,11 @@ mod ahead;
 mod form;
 pub mod grammar;
 pub mod kinds;
-pub mod line;
 mod limits;
+pub mod line;
 mod number;
 mod numbers;
+mod part;
 mod print;
 mod read;
 pub mod reader;
@@ -21,7 +22,11 @@ pub use grammar::{Grammar, Limits, Place};
 pub use line::Line;
 pub use print::put_line;
 pub use read::read_line;
-pub use reader::LineEnd;
+pub use reader::{LineEnd, LineReader};
+
 // A crate can name a step in a contract only if it is exported.
 #[doc(hidden)]
 pub use step::Step;
+
+#[cfg(test)]
+mod tests;

@@ -4,6 +4,7 @@ ghost use Rattle.log_lines.specs.declared.form.Form.TheVariants as form;
 ghost use Rattle.log_lines.specs.Line.{IsLine, IsInRange, line_text, line_form, line_numbers};
 ghost use Rattle.log_lines.specs.Numbers.{IsCut};
 ghost use Rattle.log_lines.specs.Reading.{ReadsLine, IsNameCut};
+ghost use Rattle.log_lines.specs.Said.{line_said};
 
 use crate::form::{Form, form_of};
 use crate::line::Line;
@@ -11,6 +12,14 @@ use crate::numbers::{cut_word, four, natural, pair, signed, signed_pair, signed_
 
 /// The line that the bytes are, without a line feed; None exactly where they are no line. It takes no memory.
 pub fn read_line(bytes: &[u8]) -> Option<Line>
+    ensures is { MatchOption result ((line : Line) → IsLine line → line_text line ≢ bytes.now) (λ line. IsLine line × (line_text line ≡ bytes.now)) }
+    ensures said { result ≡ line_said bytes.now }
+{
+    read(bytes)
+}
+
+// The same.
+fn read(bytes: &[u8]) -> Option<Line>
     ensures { MatchOption result ((line : Line) → IsLine line → line_text line ≢ bytes.now) (λ line. IsLine line × (line_text line ≡ bytes.now)) }
 {
     let (name, rest) = cut_name(bytes);
