@@ -14,7 +14,8 @@ use Rattle.row_relax.specs.declared.RowPick.{RowPick}
 use Rattle.log_lines.specs.declared.line.Line.{Line}
 use Rattle.log_lines.specs.declared.line.Line.TheVariants.{Value as ValueLine, ClaimOptimal, ClaimInfeasible, ClaimBetween, ClaimBelow, End as EndLine}
 use Rattle.log_lines.specs.Line.{IsLine, line_text}
-use Rattle.log_lines.proofs.OneLine.{line_text_unique, HasNoFeed-line, feed_unique}
+use Rattle.log_lines.proofs.OneLine.{HasNoFeed-line, feed_unique}
+use Rattle.log_lines.proofs.SaidLines.{one_line}
 use Rattle.proof_log.specs.declared.claim.Claim.{Claim}
 use Rattle.proof_log.specs.declared.claim.Claim.TheVariants.{Optimal, Infeasible, Between, Below}
 use Rattle.proof_log.specs.Log.{RowItem, RowTree, started, value_lines, mult_line, item_lines, claim_lines, log_lines, lines_text, log_text}
@@ -277,7 +278,7 @@ lines_same (x ∷ xs) (y ∷ ys) rest of_x of_y same =
     let is_x = All-head IsLine x xs of_x in
     let is_y = All-head IsLine y ys of_y in
     let parts = feed_unique (line_text x) (lines_text xs ++ []) (line_text y) (lines_text ys ++ rest) (HasNoFeed-line x is_x) (HasNoFeed-line y is_y) texts in
-    let head : x ≡ y = line_text_unique x y is_x is_y parts.0 in
+    let head : x ≡ y = one_line x y is_x is_y parts.0 in
     let others = lines_same xs ys rest (All-tail IsLine x xs of_x) (All-tail IsLine y ys of_y) (sym (append-nil (lines_text xs)) ∙ parts.1) in
     let tail : xs ≡ ys ++ others.0 = others.1 in
     (others.0, cc)
