@@ -2,7 +2,7 @@
 use Rattle.std.proofs.Common.{◌≡◌, ◌≢◌, ℕ, ◌+◌, ◌<◌, Bool, true, false, eqb, ltb, List, [], ◌∷◌, length, Option, None, Some, option_and_then, refl, ap, ◌∙◌, arith, append_assoc}
 use Rattle.std.specs.List.{All, slice_split}
 use Rattle.std.proofs.lemmas.Bool.{false_from_ne_true, ltb-true, ne_eqb}
-use Rattle.std.proofs.lemmas.List.Elements.{All-head, All-tail}
+use Rattle.std.proofs.lemmas.List.Elements.{All-head, All-tail, All-weaker}
 use Rattle.std.proofs.lemmas.List.Splits.{slice_split_at, length-slice_split}
 use Rattle.log_lines.specs.declared.grammar.Limits.{Limits}
 use Rattle.log_lines.specs.declared.grammar.Place.{Place}
@@ -12,7 +12,7 @@ use Rattle.log_lines.specs.Line.{IsLine, line_text}
 use Rattle.log_lines.specs.Grammar.{Standing, next, line_defect, new_standing}
 use Rattle.log_lines.specs.Said.{line_said}
 use Rattle.log_lines.specs.TextDefect.{is_done, text_defect}
-use Rattle.log_lines.proofs.OneLine.{line_feedless, line_short}
+use Rattle.log_lines.proofs.LineBytes.{HasNoFeed-line_text, length-line_text}
 use Rattle.log_lines.proofs.SaidLines.{line_said-line}
 use Rattle.proof_log.specs.Log.{lines_text, log_text, log_lines}
 use Rattle.proof_log.specs.Accepted.{unless, leads, LogsHaveNoDefect}
@@ -46,7 +46,7 @@ parts_of : (line : Line) (lines : List Line) → IsLine line → slice_split (λ
 unfolding lines_text
 parts_of line lines is =
     ap (slice_split (λ byte. eqb byte 10)) (append_assoc (line_text line) (10 ∷ []) (lines_text lines))
-    ∙ slice_split_at (λ byte. eqb byte 10) (line_text line) 10 (lines_text lines) (line_feedless line is) refl
+    ∙ slice_split_at (λ byte. eqb byte 10) (line_text line) 10 (lines_text lines) (All-weaker (λ b. b ≢ 10) (λ b. eqb b 10 ≡ false) (λ b other. ne_eqb b 10 other) (line_text line) (HasNoFeed-line_text line is)) refl
 
 no_defect : (limits : Limits) (standing end : Standing) (number : ℕ) (lines : List Line) → All IsLine lines → is_done end.place ≡ true → leads limits standing lines ≡ Some end → text_defect limits standing number (slice_split (λ byte. eqb byte 10) (lines_text lines)) ≡ None
 unfolding lines_text text_defect
@@ -59,7 +59,7 @@ no_defect limits standing end number (line ∷ lines) of_lines over leading =
     let parts = slice_split (λ byte. eqb byte 10) (lines_text lines) in
     let on = leads_on (line_defect limits standing line) (next standing line) (λ later. leads limits later lines) end leading in
     let going = not_done standing.version standing.place standing.sides line on.0 on.2 in
-    let short : ltb 200 (length (line_text line)) ≡ false = false_from_ne_true (ltb 200 (length (line_text line))) (λ long. let high : 200 < length (line_text line) = ltb-true 200 (length (line_text line)) long in let low = line_short line is in omega arith) in
+    let short : ltb 200 (length (line_text line)) ≡ false = false_from_ne_true (ltb 200 (length (line_text line))) (λ long. let high : 200 < length (line_text line) = ltb-true 200 (length (line_text line)) long in let low = length-line_text line is in omega arith) in
     let some : length parts ≢ 0 = λ none. omega (arith, length-slice_split (λ byte. eqb byte 10) (lines_text lines)) in
     let more : eqb (length parts) 0 ≡ false = ne_eqb (length parts) 0 some in
     ap (text_defect limits standing number) (parts_of line lines is)
