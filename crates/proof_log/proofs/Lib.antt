@@ -2,6 +2,7 @@ pub mod GrammarWalk
 pub mod Lines
 pub mod NoDefect
 pub mod OneTree
+pub mod WrittenLines
 pub mod OneText
 pub mod Writing
 pub mod TreeLines

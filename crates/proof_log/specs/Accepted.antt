@@ -1,5 +1,5 @@
 -- That the lines of a log may come one after another.
-use Rattle.std.specs.Prelude.{◌≡◌, ℕ, ◌<◌, ◌≤◌, true, ⊤, List, [], ◌∷◌, length, Option, None, Some, option_and_then, ◌+◌}
+use Rattle.std.specs.Prelude.{◌≡◌, ℕ, ◌<◌, ◌≤◌, true, ⊤, List, [], ◌∷◌, length, Option, None, Some, option_and_then, ◌+◌, ◌^◌}
 use Rattle.std.specs.List.{All}
 use Rattle.proof_tree.specs.declared.item.Item.TheVariants.{Node, Cut, Found, Empty, Dual, Point, Pending, Split}
 use Rattle.proof_tree.specs.Items.{tree_items, depth}
@@ -8,7 +8,7 @@ use Rattle.log_lines.specs.declared.line.Line.{Line}
 use Rattle.log_lines.specs.declared.grammar.Limits.{Limits}
 use Rattle.log_lines.specs.declared.grammar.Place.TheVariants.{Done}
 use Rattle.log_lines.specs.Grammar.{Standing, next, line_defect, new_standing}
-use Rattle.log_lines.specs.Line.{IsLine}
+use Rattle.log_lines.specs.Line.{IsLine, IsShort}
 use Rattle.log_lines.specs.TextDefect.{log_text_defect}
 use Rattle.proof_log.specs.declared.claim.Claim.{Claim}
 use Rattle.proof_log.specs.declared.claim.Claim.TheVariants.{Optimal, Infeasible, Between, Below}
@@ -53,3 +53,31 @@ abbrev pub LogsHaveNoDefect : Type 0
 LogsHaveNoDefect =
     (limits : Limits) (version : ℕ) (tree : RowTree) (claim : Claim) → All (IsFitItem limits version) (tree_items tree) → depth tree ≤ limits.depth + 1 → IsFitClaim limits claim
     → All IsLine (log_lines version (tree_items tree) claim) → log_text_defect limits (log_text version (tree_items tree) claim) ≡ None
+
+-- each value of a point is a byte
+abbrev pub AreBytes : List ℕ → Type 0
+AreBytes point = All (λ value. value ≤ 255) point
+
+-- the numbers of an item have at most 30 digits and keep their ranges
+abbrev pub IsShortItem : RowItem → Type 0
+IsShortItem Node = ⊤
+IsShortItem (Cut cut) = ⊤
+IsShortItem (Found found) = IsShort found.value × AreBytes found.point
+IsShortItem Empty = ⊤
+IsShortItem (Dual cert) = ⊤
+IsShortItem Point = ⊤
+IsShortItem (Pending cert) = ⊤
+IsShortItem (Split pick cert) = pick.max ≤ 254
+
+-- the numbers of a claim have at most 30 digits and keep their ranges
+abbrev pub IsShortClaim : Claim → Type 0
+IsShortClaim (Optimal profit point) = IsShort profit × AreBytes point
+IsShortClaim Infeasible = ⊤
+IsShortClaim (Between profit cap point) = IsShort profit × IsShort cap × AreBytes point
+IsShortClaim (Below cap) = IsShort cap
+
+-- the lines of such a log may be written, where its numbers have at most 30 digits and keep their ranges
+abbrev pub LogsMayBeWritten : Type 0
+LogsMayBeWritten =
+    (limits : Limits) (version : ℕ) (tree : RowTree) (claim : Claim) → limits.rows < 2 ^ 32 → limits.slots < 2 ^ 32 → 1 ≤ version → version ≤ 2
+    → All (IsFitItem limits version) (tree_items tree) → IsFitClaim limits claim → All IsShortItem (tree_items tree) → IsShortClaim claim → All IsLine (log_lines version (tree_items tree) claim)

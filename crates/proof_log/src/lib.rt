@@ -4,10 +4,10 @@
 //! piece by piece.
 #![tactic(auto)]
 
-mod accepting;
 mod claim;
 mod claims;
 mod items;
+mod laws;
 mod log;
 mod nodes;
 mod parts;
@@ -15,10 +15,10 @@ mod parts;
 mod tests;
 mod writer;
 
-pub use accepting::{logs_are_accepted, logs_have_no_defect, logs_have_one_text};
 pub use claim::Claim;
 pub use claims::put_claim;
 pub use items::put_item;
+pub use laws::{logs_are_accepted, logs_have_no_defect, logs_have_one_text, logs_may_be_written};
 pub use log::{Defect, Log};
 pub use nodes::put_proof;
 pub use writer::LogWriter;
