@@ -1,10 +1,13 @@
 -- Texts of lines, one after another.
-use Rattle.std.proofs.Common.{◌≡◌, ℕ, ◌+◌, ◌<◌, List, [], ◌∷◌, ◌++◌, length, take, refl, sym, ap, ◌∙◌, append_assoc, append-nil, add-zero, arith, get_or}
+use Rattle.std.proofs.Common.{◌≡◌, ℕ, ◌+◌, ◌<◌, List, [], ◌∷◌, ◌++◌, length, take, refl, sym, ap, ◌∙◌, append_assoc, append-nil, add-zero, arith, get_or, flat_map, Result, Ok, Err, OnOk, if◌then◌else◌}
+use Rattle.std.specs.Result.{is_ok}
 use Rattle.std.proofs.lemmas.Grind.{common_steps, flat_map-append}
 use Rattle.std.proofs.lemmas.List.{take_more}
 use Rattle.log_lines.specs.declared.line.Line.{Line}
+use Rattle.log_lines.specs.declared.line.Line.TheVariants.{Header, End}
 use Rattle.log_lines.specs.Line.{line_text}
-use Rattle.proof_log.specs.Log.{lines_text, value_line, value_lines}
+use Rattle.proof_log.specs.declared.claim.Claim.{Claim}
+use Rattle.proof_log.specs.Log.{RowItem, item_lines, claim_lines, lines_text, log_lines, log_text, value_line, value_lines}
 
 -- the text of some lines and then of others
 pub lines_text-append : (a b : List Line) → lines_text (a ++ b) ≡ lines_text a ++ lines_text b
@@ -48,3 +51,26 @@ pub text_more : (text a b : List ℕ) (xs ys : List Line) → a ≡ text ++ line
 text_more text a b xs ys first second =
     second ∙ ap (λ (t : List ℕ). t ++ lines_text ys) first ∙ append_assoc text (lines_text xs) (lines_text ys)
     ∙ ap (λ (t : List ℕ). text ++ t) (sym (lines_text-append xs ys))
+
+-- the lines of a proof, and then those of a claim and the end, are the text of a log
+pub log_text-parts : (items : List RowItem) (claim : Claim) → lines_text (Header 2 ∷ flat_map item_lines items) ++ lines_text (claim_lines claim ++ End ∷ []) ≡ log_text 2 items claim
+unfolding log_lines log_text
+log_text-parts items claim = sym (lines_text-append (Header 2 ∷ flat_map item_lines items) (claim_lines claim ++ End ∷ []))
+
+-- the same, where they stand behind other bytes
+pub log_text-behind : (before old new : List ℕ) (items : List RowItem) (claim : Claim) → old ≡ before ++ lines_text (Header 2 ∷ flat_map item_lines items) → new ≡ old ++ lines_text (claim_lines claim ++ End ∷ []) → new ≡ before ++ log_text 2 items claim
+log_text-behind before old new items claim first second =
+    let text = lines_text (claim_lines claim ++ End ∷ []) in
+    second ∙ ap (λ (bytes : List ℕ). bytes ++ text) first ∙ append_assoc before (lines_text (Header 2 ∷ flat_map item_lines items)) text ∙ ap (λ (bytes : List ℕ). before ++ bytes) (log_text-parts items claim)
+
+-- the lines of a claim, and its end
+pub claim_text : (claim : Claim) (a b c d : List ℕ) → a ≡ [] → b ≡ a ++ lines_text (claim_lines claim) → c ≡ b ++ (line_text End ++ (10 ∷ [])) → d ≡ c → d ≡ lines_text (claim_lines claim ++ End ∷ [])
+claim_text claim a b c d none first second third =
+    third ∙ second ∙ ap (λ (bytes : List ℕ). bytes ++ (line_text End ++ (10 ∷ []))) (first ∙ ap (λ (bytes : List ℕ). bytes ++ lines_text (claim_lines claim)) none)
+    ∙ sym (lines_text-append (claim_lines claim) (End ∷ []) ∙ ap (λ (bytes : List ℕ). lines_text (claim_lines claim) ++ bytes) (lines_text-one End))
+
+-- where they were put behind the lines of a proof
+pub log_text-extended : {T E : Type 0} (r : Result T E) (old new slice : List ℕ) (claim : Claim) → new ≡ (if is_ok r then old ++ slice else old) → slice ≡ lines_text (claim_lines claim ++ End ∷ [])
+    → OnOk r ((before : List ℕ) (items : List RowItem) → old ≡ before ++ lines_text (Header 2 ∷ flat_map item_lines items) → new ≡ before ++ log_text 2 items claim)
+log_text-extended (Ok x) old new slice claim is text = λ before items first. log_text-behind before old new items claim first (is ∙ ap (λ (bytes : List ℕ). old ++ bytes) text)
+log_text-extended (Err e) old new slice claim is text = tt

@@ -9,9 +9,9 @@ use Rattle.stn_edge.proofs.FileLemmas.{file_of-cleared, file_of-appended, get-ap
 use Rattle.log_lines.specs.declared.line.Line.{Line}
 use Rattle.log_lines.specs.declared.line.Line.TheVariants.{Header, End}
 use Rattle.proof_log.specs.declared.claim.Claim.{Claim}
-use Rattle.proof_log.specs.Log.{RowItem, item_lines, claim_lines, lines_text, log_lines, log_text}
+use Rattle.proof_log.specs.Log.{RowItem, item_lines, claim_lines, lines_text, log_text}
 use Rattle.proof_log.specs.Writer.{Writing, whole, IsWhole, Keeps, Took, Broke}
-use Rattle.proof_log.proofs.Lines.{lines_text-append}
+use Rattle.proof_log.proofs.Lines.{lines_text-append, log_text-parts}
 
 -- a writer of a file of this name that holds these bytes back
 abbrev pub at : List ℕ → List ℕ → Option FileMap → ℕ → Writing
@@ -115,12 +115,10 @@ file_alone name text (Some files) is = sym (append-nil (file_of files name)) ∙
 
 -- the lines of a proof, and then those of a claim and the end, are the text of the log
 pub log_written : (name held : List ℕ) (files new : Option FileMap) (reads later : ℕ) (items : List RowItem) (claim : Claim) → Took (at name held files reads) (at name [] new later) (lines_text (claim_lines claim ++ End ∷ [])) → IsWhole (at name held files reads) (lines_text (Header 2 ∷ flat_map item_lines items)) → IfSome new (λ m. file_of m name ≡ log_text 2 items claim)
-unfolding log_lines log_text
 log_written name held files new reads later items claim took is =
     let front = Header 2 ∷ flat_map item_lines items in
-    let text : lines_text front ++ lines_text (claim_lines claim ++ End ∷ []) ≡ log_text 2 items claim = sym (lines_text-append front (claim_lines claim ++ End ∷ [])) in
     file_alone name (log_text 2 items claim) new
-    (subst (IsWhole (at name [] new later)) text (IsWhole-took (at name held files reads) (at name [] new later) (lines_text front) (lines_text (claim_lines claim ++ End ∷ [])) is took))
+    (subst (IsWhole (at name [] new later)) (log_text-parts items claim) (IsWhole-took (at name held files reads) (at name [] new later) (lines_text front) (lines_text (claim_lines claim ++ End ∷ [])) is took))
 
 -- a text after which nothing is taken
 pub Took-after : (a b c : Writing) (text : List ℕ) → Took a b text → Took b c [] → Took a c text

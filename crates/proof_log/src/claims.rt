@@ -1,8 +1,8 @@
 //! The lines of a claim.
 
-ghost use Rattle.std.specs.Prelude.{◌≡◌, ◌++◌, ◌∷◌, [], OnOk, OnErr};
+ghost use Rattle.std.specs.Prelude.{◌≡◌, ℕ, ◌++◌, ◌∷◌, [], List, flat_map, OnOk, OnErr};
 ghost use Rattle.log_lines.specs.declared.line.Line.{Line};
-ghost use Rattle.proof_log.specs.Log.{claim_lines, lines_text, started, value_lines};
+ghost use Rattle.proof_log.specs.Log.{RowItem, item_lines, claim_lines, lines_text, log_text, started, value_lines};
 
 use crate::claim::Claim;
 use crate::parts::{put_values, started};
@@ -14,6 +14,11 @@ use std::alloc::{AllocError, Global};
 pub fn put_claim(alloc: Global, claim: &Claim, into: &mut Vec<u8>) -> Result<(), AllocError>
     ensures ok { OnOk result (into.new.items ≡ into.old.items ++ lines_text (claim_lines claim.now ++ Line.End ∷ [])) }
     ensures err { OnErr result (into.new.items ≡ into.old.items) }
+
+    // Behind the lines of a proof that makes the text of a log.
+    ensures log { OnOk result ((before : List ℕ) (items : List RowItem)
+        → into.old.items ≡ before ++ lines_text (Line.Header 2 ∷ flat_map item_lines items)
+        → into.new.items ≡ before ++ log_text 2 items claim.now) }
 {
     let mut lines = Vec::new(alloc);
     append_claim(alloc, claim, &mut lines)?;
