@@ -23,11 +23,12 @@ use Rattle.time_grid.proofs.PlanPoints.{in-from_share, same_slot, same_run}
 use Rattle.time_grid.proofs.Reordered.{AllPairs-permutation}
 use Rattle.time_grid.proofs.OnePlan.{quanta_in-cons, quanta_in-none, map-agree}
 
-in_own : (plant : Plant) (slot : ℕ × ℕ) (value : ℕ) → is_in plant slot (start_in plant slot value) ≡ true
+-- the start of a slot is in it
+pub in_own : (plant : Plant) (slot : ℕ × ℕ) (value : ℕ) → is_in plant slot (start_in plant slot value) ≡ true
 in_own plant slot value = and_from _ _ (eq-eqb slot.1 slot.1 refl) (and_from _ _ (eq-eqb (run_at plant slot.0).task _ refl) (eq-eqb (run_at plant slot.0).unit _ refl))
 
 -- the run of a task on a unit is found at its number
-found_run : (plant : Plant) (run : ℕ) → Sound plant → run < length plant.runs → run_on plant (run_at plant run).task (run_at plant run).unit ≡ Some (run_at plant run)
+pub found_run : (plant : Plant) (run : ℕ) → Sound plant → run < length plant.runs → run_on plant (run_at plant run).task (run_at plant run).unit ≡ Some (run_at plant run)
 unfolding run_on
 found_run plant run sound l =
     let p = is_of (run_at plant run).task (run_at plant run).unit in
