@@ -1,11 +1,11 @@
 -- The entries of slots: what they sum to, and their bounds.
-use Rattle.std.proofs.Common.{◌≡◌, ℕ, zero, suc, ◌+◌, ◌<◌, ◌≤◌, true, false, List, [], ◌∷◌, length, map, get_or, drop, refl, sym, ap, ap₂, ◌∙◌, inl, inr, arith, ℤ, pos, ◌+ℤ◌, ◌*ℤ◌, unsigned_abs, eqb}
+use Rattle.std.proofs.Common.{◌≡◌, ℕ, zero, suc, ◌+◌, ◌<◌, ◌≤◌, true, false, List, [], ◌∷◌, ◌++◌, length, map, get_or, set, take, drop, refl, sym, ap, ap₂, ◌∙◌, inl, inr, arith, ℤ, pos, ◌+ℤ◌, ◌*ℤ◌, unsigned_abs, eqb}
 use Rattle.std.specs.List.{All}
 use Rattle.std.specs.List.Sorted.{IsStrictlyIncreasing}
 use Rattle.std.specs.Ordering.{int_eq}
 use Rattle.std.proofs.lemmas.Bool.{cases_Bool, cases_eq, cond-true, cond-false, and_parts, eq-eqb, ne_eqb}
 use Rattle.std.proofs.lemmas.Bool.Decides.{Decides-int_eq}
-use Rattle.std.proofs.lemmas.List.{drop_more}
+use Rattle.std.proofs.lemmas.List.{drop_more, take_more_set, map_more, take_all}
 use Rattle.std.proofs.lemmas.List.Elements.{All-cons, All-head, All-tail}
 use Rattle.std.proofs.Math.IntN.{zero-*ℤ, +ℤ_idl}
 use Rattle.row_kit.specs.declared.row.Entry.{Entry}
@@ -98,3 +98,13 @@ AreBounded-from most parts small = record {
   fixed_small = each_entry (λ e. unsigned_abs e.fixed ≤ most) 0 parts (λ k d l. (small k d l).fixed);
   per_small = each_entry (λ e. unsigned_abs e.per ≤ most) 0 parts (λ k d l. (small k d l).per);
 }
+
+-- places that are written one after another, with what a function makes of the items of a list
+pub filled_more : {X Y : Type 0} (f : X → Y) (xs : List X) (ys : List Y) (i : ℕ) (d : X) (y : Y) → i < length xs → i < length ys →
+    take i ys ≡ map f (take i xs) → y ≡ f (get_or xs i d) → take (i + 1) (set ys i y) ≡ map f (take (i + 1) xs)
+filled_more f xs ys i d y l m e is =
+    take_more_set ys i y m ∙ ap₂ (λ front back. front ++ back ∷ []) e is ∙ sym (map_more f xs i d l)
+
+pub filled_all : {X Y : Type 0} (f : X → Y) (xs : List X) (ys : List Y) (i : ℕ) → length xs ≤ i → length ys ≡ length xs →
+    take i ys ≡ map f (take i xs) → ys ≡ map f xs
+filled_all f xs ys i l same e = sym (take_all i ys (omega arith)) ∙ e ∙ ap (map f) (take_all i xs l)

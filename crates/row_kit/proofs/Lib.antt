@@ -4,3 +4,4 @@ pub mod Gathered
 pub mod Histories
 pub mod Marks
 pub mod Starts
+pub mod Tables

@@ -31,6 +31,15 @@ total_zip-agree f g (x ∷ xs) [] h = refl
 total_zip-agree {X} {Y} f g (x ∷ xs) (y ∷ ys) h =
     ap₂ (λ a b. a +ℤ b) (All-head (λ z. (v : Y) → f z v ≡ g z v) x xs h y) (total_zip-agree f g xs ys (All-tail (λ z. (v : Y) → f z v ≡ g z v) x xs h))
 
+-- any sum place by place, by its steps
+pub total_zip-is : {X Y : Type 0} (f : X → Y → ℤ) (by : List X → List Y → ℤ) →
+    ((ys : List Y) → by [] ys ≡ pos 0) → ((x : X) (xs : List X) → by (x ∷ xs) [] ≡ pos 0) →
+    ((x : X) (xs : List X) (y : Y) (ys : List Y) → by (x ∷ xs) (y ∷ ys) ≡ f x y +ℤ by xs ys) →
+    (xs : List X) (ys : List Y) → by xs ys ≡ total_zip f xs ys
+total_zip-is f by none left step [] ys = none ys
+total_zip-is f by none left step (x ∷ xs) [] = left x xs
+total_zip-is f by none left step (x ∷ xs) (y ∷ ys) = step x xs y ys ∙ ap (λ n. f x y +ℤ n) (total_zip-is f by none left step xs ys)
+
 -- a list beside what a function makes of it
 pub total_zip-map : {X Y : Type 0} (f : X → Y → ℤ) (g : X → Y) (xs : List X) → total_zip f xs (map g xs) ≡ total (λ x. f x (g x)) xs
 total_zip-map f g [] = refl

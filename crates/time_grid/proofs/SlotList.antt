@@ -1,5 +1,5 @@
 -- The slots of a plant: which they are, in which order, and how many.
-use Rattle.std.proofs.Common.{◌≡◌, ℕ, zero, suc, ◌+◌, ◌*◌, ◌<◌, Bool, cond, if◌then◌else◌, List, [], ◌∷◌, ◌++◌, length, get_or, map, filter, sum_by, count_by, sym, refl, ap, ◌∙◌, inl, inr, ap₂, arith, one-mul, mul_assoc, mul-one, add-one, append-nil}
+use Rattle.std.proofs.Common.{◌≡◌, ℕ, zero, suc, ◌+◌, ◌*◌, ◌<◌, ◌≤◌, Bool, cond, if◌then◌else◌, List, [], ◌∷◌, ◌++◌, length, get_or, map, filter, sum_by, count_by, sym, refl, ap, ◌∙◌, inl, inr, ap₂, arith, one-mul, mul_assoc, mul-one, add-one, append-nil}
 use Rattle.std.specs.List.{All, AllPairs, Contains, flat_map, range_with_len}
 use Rattle.std.proofs.lemmas.List.{length-map, map-append}
 use Rattle.std.proofs.lemmas.List.Elements.{All-map, All-filter, filter-append, filter_passes}
@@ -10,6 +10,7 @@ use Rattle.std.proofs.lemmas.Bool.{cases_Bool, cond-true, cond-false}
 use Rattle.stn_model.specs.declared.plant.Plant.{Plant}
 use Rattle.stn_model.specs.declared.plant.Run.{Run}
 use Rattle.stn_model.specs.Sums.{sum_below, count_below, product_by, product_below}
+use Rattle.stn_model.specs.Sound.{Sound}
 use Rattle.stn_model.specs.Points.{has_slot, choices, points, slots_of, slot_count}
 use Rattle.time_grid.specs.Slots.{no_run, run_at, run_slots, slots_before, slots, slot_choices, IsSlotOf, Earlier}
 use Rattle.time_grid.proofs.Lists.{map-range_get_or, All-below, range-more, All-flat_map, Contains-map, Contains-filter, Contains-range, Contains-flat_map, AllPairs-map, AllPairs-range, AllPairs-flat_map}
@@ -85,6 +86,10 @@ length-slots plant =
     ∙ sum_by-same (λ run. length (run_slots plant run)) (λ run. slots_of plant (run_at plant run)) (length-run_slots plant) range
     ∙ sym (sum_by-map (slots_of plant) (run_at plant) range)
     ∙ ap (sum_by (slots_of plant)) (map-range_get_or plant.runs no_run)
+
+-- a sound plant has few slots
+pub few-slots : (plant : Plant) → Sound plant → length (slots plant) ≤ 512
+few-slots plant sound = omega (arith, length-slots plant, sound.counts.slots)
 
 pub product_by-append : {X : Type 0} (f : X → ℕ) (xs ys : List X) → product_by f (xs ++ ys) ≡ product_by f xs * product_by f ys
 product_by-append f [] ys = sym (one-mul (product_by f ys))

@@ -7,7 +7,7 @@ use Rattle.stn_model.specs.declared.plant.Plant.{Plant}
 use Rattle.time_grid.specs.Slots.{slots, IsGrid, IsSlotOf}
 use Rattle.stn_model.specs.Sound.{Sound}
 use Rattle.time_grid.proofs.Lists.{range-push}
-use Rattle.time_grid.proofs.SlotList.{slots-are, length-slots}
+use Rattle.time_grid.proofs.SlotList.{slots-are, few-slots}
 
 -- a slot of the grid is one of the plant
 pub grid-are : (plant : Plant) (grid : List (ℕ × ℕ)) (place : ℕ) (slot : ℕ × ℕ) → IsGrid plant grid → place < length grid → slot ≡ get_or grid place slot → IsSlotOf plant slot
@@ -29,7 +29,7 @@ map_done f xs zs ys i l same e = e ∙ ap (map f) (take_all i xs l ∙ same)
 -- the slots are few
 pub few_parts : {Y : Type 0} (plant : Plant) (f : ℕ × ℕ → Y) (ys : List Y) → Sound plant → ys ≡ map f (slots plant) → length ys ≤ 512
 few_parts plant f ys sound e =
-    omega (arith, ap length e, length-map (slots plant) f, length-slots plant, sound.counts.slots)
+    omega (arith, ap length e, length-map (slots plant) f, few-slots plant sound)
 
 -- a list that goes on begins with what it was
 pub begins : {X : Type 0} (old more new : List X) → new ≡ old ++ more → take (length old) new ≡ old

@@ -9,14 +9,9 @@ use Rattle.time_grid.specs.Slots.{slots, IsSlotOf}
 use Rattle.time_grid.specs.PlanPoint.{HasPoint, plan_point, start_in}
 use Rattle.time_grid.proofs.PlanPoints.{length-plan_point}
 use Rattle.time_grid.proofs.SlotList.{slots-are}
-use Rattle.time_grid.proofs.PointSums.{total_zip, counted_at, total_zip-agree, total-plan_point}
+use Rattle.time_grid.proofs.PointSums.{total_zip, counted_at, total_zip-agree, total_zip-is, total-plan_point}
 use Rattle.row_kit.specs.Row.{entries_sum, entries_from, part_at, parts_sum}
 use Rattle.row_kit.proofs.Gathered.{entries_sum-from}
-
-parts_sum-zip : (part : ℕ × ℕ → ℤ × ℤ) (grid : List (ℕ × ℕ)) (values : List ℕ) → parts_sum (map part grid) values ≡ total_zip (λ slot value. part_at (part slot) value) grid values
-parts_sum-zip part [] values = refl
-parts_sum-zip part (slot ∷ grid) [] = refl
-parts_sum-zip part (slot ∷ grid) (value ∷ values) = ap (λ n. part_at (part slot) value +ℤ n) (parts_sum-zip part grid values)
 
 -- the entries of all slots sum to what the plan's starts count, where each slot counts what its starts do
 pub entries_sum-plan_point : (plant : Plant) (part : ℕ × ℕ → ℤ × ℤ) (g : Start → ℤ) (plan : List Start) → Sound plant → HasPoint plant plan →
@@ -24,7 +19,7 @@ pub entries_sum-plan_point : (plant : Plant) (part : ℕ × ℕ → ℤ × ℤ) 
     entries_sum (entries_from 0 (map part (slots plant))) (plan_point plant plan) ≡ total g plan
 entries_sum-plan_point plant part g plan sound has agree =
     entries_sum-from (map part (slots plant)) (plan_point plant plan) (length-map (slots plant) part ∙ sym (length-plan_point plant plan))
-    ∙ parts_sum-zip part (slots plant) (plan_point plant plan)
+    ∙ total_zip-is (λ slot value. part_at (part slot) value) (λ grid values. parts_sum (map part grid) values) (λ ys. refl) (λ x xs. refl) (λ x xs y ys. refl) (slots plant) (plan_point plant plan)
     ∙ total_zip-agree (λ slot value. part_at (part slot) value) (counted_at plant g) (slots plant) (plan_point plant plan)
     (λ k d l value. ap (cond (eqb value 0) (pos 0)) (agree _ (slots-are plant k d l) value))
     ∙ total-plan_point plant g plan sound has
