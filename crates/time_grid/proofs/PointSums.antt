@@ -1,5 +1,5 @@
 -- Sums over the slots of a plan's point are sums over the plan's starts.
-use Rattle.std.proofs.Common.{◌≡◌, ℕ, ◌==◌, if◌then◌else◌, List, [], ◌∷◌, map, sum_by, ℤ, pos, ◌+ℤ◌, sym, refl, ap, ap₂, ◌∙◌, arith, inl, inr}
+use Rattle.std.proofs.Common.{◌≡◌, ℕ, ◌==◌, if◌then◌else◌, List, [], ◌∷◌, map, sum_by, ℤ, pos, ◌+ℤ◌, ◌-ℤ◌, sym, refl, ap, ap₂, ◌∙◌, arith, inl, inr}
 use Rattle.std.specs.List.{All}
 use Rattle.std.proofs.lemmas.Int.{ints}
 use Rattle.std.proofs.lemmas.List.Elements.{All-head, All-tail}
@@ -49,6 +49,15 @@ total_zip-map f g (x ∷ xs) = ap (λ n. f x (g x) +ℤ n) (total_zip-map f g xs
 pub total-pos : {X : Type 0} (f : X → ℕ) (xs : List X) → total (λ x. pos (f x)) xs ≡ pos (sum_by f xs)
 total-pos f [] = refl
 total-pos f (x ∷ xs) = let e = sum_by-cons f x xs in let ih = total-pos f xs in omega (arith, ints, e, ih)
+
+-- a sum of differences of such numbers
+pub total-minus : {X : Type 0} (f g : X → ℕ) (xs : List X) → total (λ x. pos (f x) -ℤ pos (g x)) xs ≡ pos (sum_by f xs) -ℤ pos (sum_by g xs)
+total-minus f g [] = refl
+total-minus f g (x ∷ xs) =
+    let a = sum_by-cons f x xs in
+    let b = sum_by-cons g x xs in
+    let ih = total-minus f g xs in
+    omega (arith, ints, a, b, ih)
 
 -- the sum over the starts of a point, slot by slot
 pub total-point_starts : (plant : Plant) (g : Start → ℤ) (grid : List (ℕ × ℕ)) (values : List ℕ) → total g (point_starts plant grid values) ≡ total_zip (counted_at plant g) grid values
