@@ -1,1 +1,2 @@
 pub mod ProfitParts
+pub mod PlantProgram
