@@ -1,5 +1,5 @@
 -- The program of a plant: of which parts it is made, and what its points mean.
-use Rattle.std.specs.Prelude.{◌≡◌, ◌↔◌, ℕ, nat_lt, Bool, true, List, [], ◌++◌, map, filter, ℤ, pos, ◌≤ℤ◌}
+use Rattle.std.specs.Prelude.{◌≡◌, ◌↔◌, ℕ, nat_lt, Bool, true, List, [], ◌++◌, map, filter, pos, ◌≤ℤ◌}
 use Rattle.stn_model.specs.declared.plant.Plant.{Plant}
 use Rattle.stn_model.specs.declared.plant.Gap.{Gap}
 use Rattle.stn_model.specs.declared.start.Start.{Start}
