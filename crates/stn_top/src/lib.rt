@@ -8,6 +8,8 @@ pub mod command;
 pub mod reply;
 pub mod sources;
 #[cfg(test)]
+mod program_tests;
+#[cfg(test)]
 mod tests;
 pub mod texts;
 pub mod top;

@@ -7,7 +7,7 @@ use std::alloc::{AllocError, Global};
 use std::test::Fail;
 use stn_edge::{FixedShelf, FixedSink, MemShelf, MemSink};
 
-const TINY: &str = r#"version = 1
+pub const TINY: &str = r#"version = 1
 periods = 2
 [[state]]
 name = "feed"
@@ -55,7 +55,7 @@ amount = 5
 "#;
 
 // Three tasks on one unit, with cleaning of two periods from A to B.
-const WASH: &str = r#"version = 1
+pub const WASH: &str = r#"version = 1
 periods = 3
 [[state]]
 name = "raw"
@@ -145,7 +145,7 @@ max = 1
 "#;
 
 // Two tasks on one unit, whose changeovers cost 5 each way.
-const TINT: &str = r#"version = 2
+pub const TINT: &str = r#"version = 2
 periods = 2
 state = [
     { name = "ra", initial = 1 },
@@ -297,7 +297,7 @@ fn with(alloc: Global, text: &str, old: &str, new: &str) -> Result<String, Alloc
 }
 
 // The text with several places replaced, one after the other.
-fn edited(alloc: Global, text: &str, edits: &[(&str, &str)]) -> Result<String, AllocError> {
+pub fn edited(alloc: Global, text: &str, edits: &[(&str, &str)]) -> Result<String, AllocError> {
     let mut edited = String::from_str(alloc, text)?;
     for (old, new) in edits {
         edited = with(alloc, edited.as_str(), old, new)?;
@@ -483,7 +483,7 @@ const FLAT: &[(&str, &str)] = &[
 ];
 
 // Tiny with a utility of which three quanta draw all.
-const STEAM: &[(&str, &str)] = &[
+pub const STEAM: &[(&str, &str)] = &[
     ("max = 3", "max = 4"),
     (
         "[[task.input]]",
