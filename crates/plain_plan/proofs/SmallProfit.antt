@@ -48,7 +48,8 @@ below-small f m (suc n) h =
     let b = below-small f m n (λ k l. h k (omega arith)) in
     omega (arith, ints, a, b)
 
-times-small : (x y : ℤ) (m n : ℕ) → unsigned_abs x ≤ m → unsigned_abs y ≤ n → unsigned_abs (x *ℤ y) ≤ m * n
+-- a product of two small numbers
+pub times-small : (x y : ℤ) (m n : ℕ) → unsigned_abs x ≤ m → unsigned_abs y ≤ n → unsigned_abs (x *ℤ y) ≤ m * n
 times-small x y m n a b = rw (unsigned_abs-mul x y) (mul-le-mul a b)
 
 module _ (plant : Plant) (sound : Sound plant) (plan : List Start) (one : length plan ≤ 1) (small : All (SmallStart plant) plan) where

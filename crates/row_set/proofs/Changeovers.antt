@@ -1,7 +1,6 @@
 -- The changeovers of a plan's point cost what the plan's do.
-use Rattle.std.proofs.Common.{◌≡◌, ℕ, ◌+◌, ◌==◌, ◌&&◌, ◌||◌, not, nat_lt, max, Bool, true, false, cond, if◌then◌else◌, List, [], ◌∷◌, map, filter, sum_by, sym, refl, ap, ap₂, ◌∙◌, inl, inr, arith}
+use Rattle.std.proofs.Common.{◌≡◌, ℕ, ◌==◌, ◌&&◌, ◌||◌, not, nat_lt, max, Bool, true, false, cond, if◌then◌else◌, List, [], ◌∷◌, map, filter, sum_by, sym, refl, ap, ap₂, ◌∙◌, inl, inr, arith}
 use Rattle.std.specs.List.{list_all, list_any}
-use Rattle.std.proofs.lemmas.List.Sums.{sum_by-cons}
 use Rattle.std.proofs.lemmas.Bool.{eq-eqb, ne_eqb, ltb-false, cond-true, cond-false, cases_Bool, cases_eq}
 use Rattle.stn_model.specs.declared.plant.Plant.{Plant}
 use Rattle.stn_model.specs.declared.plant.Gap.{Gap}
@@ -13,7 +12,7 @@ use Rattle.stn_model.specs.Profit.{changeover, change_costs}
 use Rattle.stn_model.specs.Sound.{Sound}
 use Rattle.time_grid.specs.Slots.{slots}
 use Rattle.time_grid.specs.PlanPoint.{HasPoint, plan_point, point_starts}
-use Rattle.time_grid.proofs.SlotList.{sum_by-same}
+use Rattle.time_grid.proofs.SlotList.{sum_by-map, sum_by-same}
 use Rattle.time_grid.proofs.OnePlan.{starts-permutation}
 use Rattle.time_grid.proofs.Reordered.{change_costs-permutation}
 use Rattle.row_kit.specs.declared.row.Tag.{Tag}
@@ -52,9 +51,6 @@ next_is : (a b : Start) (plan : List Start) → is_next plan a b ≡ comes_next 
 unfolding is_next
 next_is a b plan = ap₂ (λ s t. s && nat_lt a.period b.period && t) (turned a.unit b.unit) (none_between a b plan)
 
-both-tests : (a b : Bool) (n m : ℕ) → n ≡ m → max (cond a n 0) m ≡ m
-both-tests a b n m e = elim (cases_Bool a) [ inl t ↦ rw t (omega arith) | inr t ↦ rw t (omega arith) ]
-
 -- the costs that are listed for two tasks on a unit: those of the gaps
 listed_is : (unit from to : ℕ) (gaps : List Gap) → listed_cost (map gap_change (filter has_cost gaps)) unit from to ≡ greatest_by (λ gap. if is_between unit from to gap then gap.cost else 0) gaps
 listed_is unit from to [] = refl
@@ -85,10 +81,6 @@ pair_is : (plant : Plant) (plan : List Start) (a b : Start) → pair_cost (plant
 unfolding plant_changes changeover cost_between
 pair_is plant plan a b =
     ap₂ (λ t n. cond t n 0) (sym (next_is a b plan)) (listed_is a.unit a.task b.task plant.gaps)
-
-sum_by-map : {X Y : Type 0} (f : Y → ℕ) (g : X → Y) (xs : List X) → sum_by f (map g xs) ≡ sum_by (λ x. f (g x)) xs
-sum_by-map f g [] = refl
-sum_by-map f g (x ∷ xs) = simp sum_by-cons (ap (λ n. f (g x) + n) (sum_by-map f g xs))
 
 -- what the changeovers of a list of starts cost, by their tags
 costs_are : (plant : Plant) (plan : List Start) → sum_by (costs_after (plant_changes plant) (map tag_of plan)) (map tag_of plan) ≡ change_costs plant plan

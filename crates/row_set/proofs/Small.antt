@@ -1,7 +1,7 @@
 -- How large prices, amounts and profits are.
 use Rattle.std.proofs.Common.{◌≡◌, ℕ, ◌+◌, ◌-◌, ◌*◌, ◌<◌, ◌≤◌, ◌^◌, List, [], ◌∷◌, length, get_or, take, sum, sum_by, sym, ap, ap₂, ◌∙◌, subst, arith, ℤ, pos, ◌+ℤ◌, ◌-ℤ◌, ◌*ℤ◌, unsigned_abs, FitsSigned, to_z, of_z, mul-le-mul, le_refl}
 use Rattle.std.specs.List.{All}
-use Rattle.std.proofs.lemmas.Int.{ints, unsigned_abs-mul, to_z-of_z, to_z_pos, fits_signed_from_abs}
+use Rattle.std.proofs.lemmas.Int.{ints, to_z-of_z, to_z_pos, fits_signed_from_abs}
 use mir.Syntax.{w64}
 use Rattle.std.proofs.lemmas.List.Elements.{All-head, All-tail, All-take}
 use Rattle.std.proofs.lemmas.List.Sums.{sum_by-cons, sum_by-le, sum_by-take-le}
@@ -13,6 +13,7 @@ use Rattle.stn_model.specs.declared.plant.State.{State}
 use Rattle.stn_model.specs.Plant.{state_at, no_state, utility_at, no_utility, task_at, no_task, duration_of}
 use Rattle.stn_model.specs.Sums.{total, greatest_by}
 use Rattle.stn_model.specs.Sound.{Sound, SoundTask}
+use Rattle.plain_plan.proofs.SmallProfit.{times-small}
 use Rattle.plain_plan.proofs.Totals.{total_more}
 use Rattle.row_set.proofs.GainParts.{greatest-each, task_in}
 use Rattle.row_kit.proofs.Gathered.{IsPartWithin}
@@ -22,11 +23,8 @@ use Rattle.std.proofs.lemmas.List.{get_or_default}
 use Rattle.stn_model.specs.declared.plant.Run.{Run}
 use Rattle.row_set.specs.ProfitParts.{worth_from, output_worth, input_worth, fixed_cost, each_cost, fixed_profit, each_profit, profit_part}
 
-pub product-small : (x y : ℤ) (m n : ℕ) → unsigned_abs x ≤ m → unsigned_abs y ≤ n → unsigned_abs (x *ℤ y) ≤ m * n
-product-small x y m n a b = rw (unsigned_abs-mul x y) (mul-le-mul a b)
-
 pub amount-small : (a : ℕ) (w : ℤ) → unsigned_abs w ≤ 337000000 → unsigned_abs (pos a *ℤ w) ≤ a * 337000000
-amount-small a w h = product-small (pos a) w a 337000000 (omega arith) h
+amount-small a w h = times-small (pos a) w a 337000000 (omega arith) h
 
 -- a sum whose terms are bounded by multiples of what adds up to no more than a whole
 pub total-weighted : {X : Type 0} (f : X → ℤ) (n : X → ℕ) (m : ℕ) (xs : List X) → All (λ x. unsigned_abs (f x) ≤ n x * m) xs → unsigned_abs (total f xs) ≤ sum_by n xs * m
@@ -98,7 +96,7 @@ worth_from-small : (plant : Plant) (state time : ℕ) → Sound plant → state 
 unfolding worth_from
 worth_from-small plant state time sound l =
     let fine = sound.states state no_state l in
-    let held = product-small (state_at plant state).holding (pos (plant.periods - time)) 1000000 336 fine.holding (omega (arith, sound.counts.periods)) in
+    let held = times-small (state_at plant state).holding (pos (plant.periods - time)) 1000000 336 fine.holding (omega (arith, sound.counts.periods)) in
     omega (arith, ints, fine.price, held)
 
 -- the first outputs, inputs and draws of a task
@@ -128,7 +126,7 @@ fixed-part plant task i sound fine =
     let draw = get_or task.draws k d in
     let is = fine.draw k d l in
     let all = few-small draw.fixed (omega (arith, is.fixed, duration-small plant task fine)) is.fixed_small in
-    let cost = product-small (utility_at plant draw.utility).rate (pos (sum draw.fixed)) 1000000 96000000 (sound.utilities draw.utility no_utility is.utility).rate (omega (arith, all)) in
+    let cost = times-small (utility_at plant draw.utility).rate (pos (sum draw.fixed)) 1000000 96000000 (sound.utilities draw.utility no_utility is.utility).rate (omega (arith, all)) in
     omega (arith, cost))
     (omega (arith, sum_by-le (λ draw. 1) 1 task.draws (λ k d l. omega arith), fine.draws))
 
@@ -139,7 +137,7 @@ each-part plant task i sound fine =
     let draw = get_or task.draws k d in
     let is = fine.draw k d l in
     let all = few-small draw.each (omega (arith, is.each, duration-small plant task fine)) is.each_small in
-    let cost = product-small (utility_at plant draw.utility).rate (pos (sum draw.each)) 1000000 96000000 (sound.utilities draw.utility no_utility is.utility).rate (omega (arith, all)) in
+    let cost = times-small (utility_at plant draw.utility).rate (pos (sum draw.each)) 1000000 96000000 (sound.utilities draw.utility no_utility is.utility).rate (omega (arith, all)) in
     omega (arith, cost))
     (omega (arith, sum_by-le (λ draw. 1) 1 task.draws (λ k d l. omega arith), fine.draws))
 

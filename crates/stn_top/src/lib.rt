@@ -5,10 +5,10 @@
 #![tactic(auto)]
 
 pub mod command;
-pub mod reply;
-pub mod sources;
 #[cfg(test)]
 mod program_tests;
+pub mod reply;
+pub mod sources;
 #[cfg(test)]
 mod tests;
 pub mod texts;

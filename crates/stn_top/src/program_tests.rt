@@ -8,13 +8,7 @@ use std::test::Fail;
 
 // A plant, its edits, a row of its program, and the row's limit and entries: each a slot, a fixed part and a
 // part for each quantum.
-const ROWS: [(
-    &str,
-    &[(&str, &str)],
-    usize,
-    i128,
-    &[(u32, i64, i64)],
-); 11] = [
+const ROWS: [(&str, &[(&str, &str)], usize, i128, &[(u32, i64, i64)]); 11] = [
     (TINY, &[], 0, 1, &[(0, 1, 0)]),
     (TINY, &[], 1, 1, &[(1, 1, 0)]),
     (TINY, &[], 2, 12, &[(0, 0, 2)]),

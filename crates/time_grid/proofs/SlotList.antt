@@ -63,7 +63,7 @@ slots-rise plant =
     (λ j e n. inl l)))
     (range_with_len 0 (length plant.runs)) (AllPairs-range 0 (length plant.runs))
 
-sum_by-map : {X Y : Type 0} (f : Y → ℕ) (g : X → Y) (xs : List X) → sum_by f (map g xs) ≡ sum_by (λ x. f (g x)) xs
+pub sum_by-map : {X Y : Type 0} (f : Y → ℕ) (g : X → Y) (xs : List X) → sum_by f (map g xs) ≡ sum_by (λ x. f (g x)) xs
 sum_by-map f g [] = refl
 sum_by-map f g (x ∷ xs) = simp sum_by-cons (ap (λ n. f (g x) + n) (sum_by-map f g xs))
 

@@ -19,7 +19,7 @@ use Rattle.row_kit.specs.declared.row.Row.{Row}
 use Rattle.row_kit.specs.Row.{entries_sum, IsKept}
 use Rattle.unit_rows.specs.Busy.{runs_in, busy_part, busy_row, unit_busy_rows, busy_rows}
 use Rattle.unit_rows.proofs.Counts.{two_counted, at_most_one}
-use Rattle.unit_rows.proofs.PointRows.{entries_sum-plan_point}
+use Rattle.unit_rows.proofs.PointRows.{entries_sum-plan_point, in_slot}
 
 -- a batch runs on the unit in the period
 abbrev is_running : Plant → ℕ → ℕ → Start → Bool
@@ -103,10 +103,9 @@ unit_there : (plant : Plant) (plan : List Start) (i : ℕ) (d : Start) → Sound
 unit_there plant plan i d sound has l =
     let a = get_or plan i d in
     let at = fits-at plant a sound (has.fits i d l) in
-    let of = and_parts _ _ (and_parts _ _ at.holds).1 in
     let is : SoundRun plant (run_at plant at.run) = sound.runs at.run no_run at.slot.run in
-    let unit : (run_at plant at.run).unit ≡ a.unit = eqb-true _ _ of.1 in
-    omega (arith, unit, is.unit)
+    let here = in_slot plant (at.run, a.period) a at.holds in
+    omega (arith, here.unit_is, is.unit)
 
 -- batches of which never two run at once are apart
 apart_from_counts : (plant : Plant) (plan : List Start) → Sound plant → HasPoint plant plan →

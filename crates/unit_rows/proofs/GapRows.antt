@@ -26,7 +26,7 @@ use Rattle.row_kit.specs.Row.{entries_sum, IsKept}
 use Rattle.unit_rows.specs.Busy.{slot_end, is_on}
 use Rattle.unit_rows.specs.Gaps.{is_either, lies_between, gap_part, gap_row, is_too_soon, rows_after, unit_gap_rows, gap_rows}
 use Rattle.unit_rows.proofs.Counts.{two_counted, at_most_one, passes_one, either_counted, same_test}
-use Rattle.unit_rows.proofs.PointRows.{entries_sum-plan_point}
+use Rattle.unit_rows.proofs.PointRows.{entries_sum-plan_point, InSlot, in_slot}
 
 -- a start is in one of two slots
 abbrev is_in_either : Plant → ℕ × ℕ → ℕ × ℕ → Start → Bool
@@ -85,18 +85,6 @@ gap_row-kept plant a b plan sound has is is2 =
     let sum = gap_row-counts plant a b plan sound has is is2 in
     let limit = gap_row-limit plant a b in
     (λ h. omega (arith, ints, sum, limit, h), λ h. omega (arith, ints, sum, limit, h))
-
--- what holds of a start in a slot
-record InSlot (plant : Plant) (slot : ℕ × ℕ) (start : Start) : Type 0 where
-  period_is : start.period ≡ slot.1
-  unit_is : (run_at plant slot.0).unit ≡ start.unit
-  task_is : (run_at plant slot.0).task ≡ start.task
-
-in_slot : (plant : Plant) (slot : ℕ × ℕ) (start : Start) → is_in plant slot start ≡ true → InSlot plant slot start
-in_slot plant slot start t =
-    let one = and_parts _ _ t in
-    let of = and_parts _ _ one.1 in
-    record { period_is = eqb-true _ _ one.0; unit_is = eqb-true _ _ of.1; task_is = eqb-true _ _ of.0 }
 
 -- what it means that two slots are too near for the cleaning
 record TooNear (plant : Plant) (a b : ℕ × ℕ) : Type 0 where
@@ -277,12 +265,16 @@ one_in_slot : (plant : Plant) (plan : List Start) (s : ℕ × ℕ) → HasPoint 
 one_in_slot plant plan s has =
     at_most_one (is_in plant s) plan (λ i j d l m t u. has.apart i j d l m (share-from_in plant s (get_or plan i d) (get_or plan j d) t u))
 
+strictly : (plant : Plant) (s t : ℕ × ℕ) (c : Start) → is_amid_slots plant s t c ≡ true → (s.1 < c.period) × (c.period < t.1)
+strictly plant s t c u =
+    let parts = and_parts _ _ u in
+    (ltb-true _ _ (and_parts _ _ parts.0).1, ltb-true _ _ parts.1)
+
 -- a start strictly between two slots is in neither, so it is counted
 amid-one : (plant : Plant) (s t : ℕ × ℕ) (c : Start) → is_amid_slots plant s t c ≡ true → amid plant s t c ≡ 1
 amid-one plant s t c u =
-    let parts = and_parts _ _ u in
-    let later : s.1 < c.period = ltb-true _ _ (and_parts _ _ parts.0).1 in
-    let sooner : c.period < t.1 = ltb-true _ _ parts.1 in
+    let later : s.1 < c.period = (strictly plant s t c u).0 in
+    let sooner : c.period < t.1 = (strictly plant s t c u).1 in
     let out : is_in_either plant s t c ≡ false = or_from _ _
     (false_from_ne_true (is_in plant s c) (λ h. let is = in_slot plant s c h in omega (arith, is.period_is, later)))
     (false_from_ne_true (is_in plant t c) (λ h. let is = in_slot plant t c h in omega (arith, is.period_is, sooner))) in

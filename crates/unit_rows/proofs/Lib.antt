@@ -1,4 +1,4 @@
-pub mod Grids
+pub mod Growing
 pub mod Counts
 pub mod Nearness
 pub mod PointRows

@@ -1,12 +1,13 @@
--- What rows of slots sum to at the point of a plan.
-use Rattle.std.proofs.Common.{◌≡◌, ℕ, eqb, cond, List, map, ℤ, pos, ◌+ℤ◌, ◌*ℤ◌, sym, refl, ap, ◌∙◌}
+-- What rows of slots sum to at the point of a plan, and what a start in a slot is.
+use Rattle.std.proofs.Common.{◌≡◌, ℕ, true, eqb, cond, List, map, ℤ, pos, ◌+ℤ◌, ◌*ℤ◌, sym, refl, ap, ◌∙◌}
 use Rattle.std.proofs.lemmas.List.{length-map}
+use Rattle.std.proofs.lemmas.Bool.{eqb-true, and_parts}
 use Rattle.stn_model.specs.declared.plant.Plant.{Plant}
 use Rattle.stn_model.specs.declared.start.Start.{Start}
 use Rattle.stn_model.specs.Sound.{Sound}
 use Rattle.stn_model.specs.Sums.{total}
-use Rattle.time_grid.specs.Slots.{slots, IsSlotOf}
-use Rattle.time_grid.specs.PlanPoint.{HasPoint, plan_point, start_in}
+use Rattle.time_grid.specs.Slots.{run_at, slots, IsSlotOf}
+use Rattle.time_grid.specs.PlanPoint.{HasPoint, plan_point, start_in, is_in}
 use Rattle.time_grid.proofs.PlanPoints.{length-plan_point}
 use Rattle.time_grid.proofs.SlotList.{slots-are}
 use Rattle.time_grid.proofs.PointSums.{counted_at, total_zip-agree, total_zip-is, total-plan_point}
@@ -23,3 +24,15 @@ entries_sum-plan_point plant part g plan sound has agree =
     ∙ total_zip-agree (λ slot value. part_at (part slot) value) (counted_at plant g) (slots plant) (plan_point plant plan)
     (λ k d l value. ap (cond (eqb value 0) (pos 0)) (agree _ (slots-are plant k d l) value))
     ∙ total-plan_point plant g plan sound has
+
+-- what holds of a start in a slot
+pub record InSlot (plant : Plant) (slot : ℕ × ℕ) (start : Start) : Type 0 where
+  pub period_is : start.period ≡ slot.1
+  pub unit_is : (run_at plant slot.0).unit ≡ start.unit
+  pub task_is : (run_at plant slot.0).task ≡ start.task
+
+pub in_slot : (plant : Plant) (slot : ℕ × ℕ) (start : Start) → is_in plant slot start ≡ true → InSlot plant slot start
+in_slot plant slot start t =
+    let one = and_parts _ _ t in
+    let of = and_parts _ _ one.1 in
+    record { period_is = eqb-true _ _ one.0; unit_is = eqb-true _ _ of.1; task_is = eqb-true _ _ of.0 }

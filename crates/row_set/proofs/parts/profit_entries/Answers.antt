@@ -1,7 +1,7 @@
 -- The slots are few.
 use Rattle.std.proofs.Common.{◌≤◌, length, ap, arith}
 use Rattle.row_set.specs.ProfitParts.{profit_part}
-use Rattle.unit_rows.proofs.Grids.{few_parts}
+use Rattle.unit_rows.proofs.Growing.{few_parts}
 use Rattle.row_set.proofs.parts.profit_entries.Goals as goal
 
 pub entries_of-requires : goal.entries_of-requires

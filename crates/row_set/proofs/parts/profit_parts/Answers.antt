@@ -3,7 +3,7 @@ use Rattle.std.proofs.Common.{arith}
 use Rattle.time_grid.specs.Slots.{slots}
 use Rattle.row_set.specs.ProfitParts.{profit_part}
 use Rattle.time_grid.proofs.SlotList.{grid-are}
-use Rattle.unit_rows.proofs.Grids.{map_next, map_done}
+use Rattle.unit_rows.proofs.Growing.{map_next, map_done}
 use Rattle.row_set.proofs.parts.profit_parts.Goals as goal
 
 pub profit_part-requires-clause-slot : goal.profit_part-requires-clause-slot

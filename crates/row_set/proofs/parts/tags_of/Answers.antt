@@ -3,7 +3,7 @@ use Rattle.std.proofs.Common.{◌∙◌, arith}
 use Rattle.time_grid.specs.Slots.{slots}
 use Rattle.row_set.specs.PlantProgram.{slot_tag}
 use Rattle.time_grid.proofs.SlotList.{grid-are}
-use Rattle.unit_rows.proofs.Grids.{map_next, map_done}
+use Rattle.unit_rows.proofs.Growing.{map_next, map_done}
 use Rattle.row_set.proofs.parts.tags_of.Goals as goal
 
 pub slot_tag-requires : goal.slot_tag-requires

@@ -2,7 +2,7 @@
 use Rattle.std.proofs.Common.{◌≡◌, ℕ, ◌+◌, ◌++◌, length, take, ap, ◌∙◌, arith}
 use Rattle.std.specs.List.{flat_map, range_with_len}
 use Rattle.unit_rows.specs.Busy.{unit_busy_rows, busy_rows}
-use Rattle.unit_rows.proofs.Grids.{begins-again, flat_map-range_next, added_next, on_err}
+use Rattle.unit_rows.proofs.Growing.{begins-again, flat_map-range_next, added_next, on_err}
 use Rattle.unit_rows.proofs.busy.push_rows.Goals as goal
 
 pub returns-in_err-push_unit_rows-clause-err : goal.returns-in_err-push_unit_rows-clause-err

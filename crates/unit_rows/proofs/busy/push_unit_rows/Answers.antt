@@ -1,7 +1,7 @@
 -- One more period.
 use Rattle.std.proofs.Common.{◌+◌, ◌++◌, ◌∷◌, [], ap, sym, ◌∙◌, append-nil}
 use Rattle.unit_rows.specs.Busy.{busy_row, unit_busy_rows}
-use Rattle.unit_rows.proofs.Grids.{map-range_next, added_next}
+use Rattle.unit_rows.proofs.Growing.{map-range_next, added_next}
 use Rattle.unit_rows.proofs.busy.push_unit_rows.Goals as goal
 
 pub loop-period-init : goal.loop-period-init

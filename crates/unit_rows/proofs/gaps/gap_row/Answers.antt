@@ -3,7 +3,7 @@ use Rattle.std.proofs.Common.{◌≤◌, List, length, pos, ap, ◌∙◌, arith
 use Rattle.row_kit.specs.declared.row.Entry.{Entry}
 use Rattle.row_kit.specs.Row.{entries_from}
 use Rattle.unit_rows.specs.Gaps.{gap_part, gap_row}
-use Rattle.unit_rows.proofs.Grids.{few_parts}
+use Rattle.unit_rows.proofs.Growing.{few_parts}
 use Rattle.unit_rows.proofs.gaps.gap_row.Goals as goal
 
 pub entries_of-requires : goal.entries_of-requires

@@ -1,4 +1,4 @@
--- The slots of a grid, and lists of rows that grow.
+-- Lists that grow: of what a function makes of slots, and of rows, one family or one number after another.
 use Rattle.std.proofs.Common.{◌≡◌, ℕ, Result, Ok, Err, OnErr, ◌+◌, ◌<◌, ◌≤◌, List, [], ◌∷◌, ◌++◌, length, get_or, map, take, refl, sym, ap, ◌∙◌, arith, append_assoc, append-nil, zero-add}
 use Rattle.std.specs.List.{flat_map, range_with_len}
 use Rattle.std.proofs.lemmas.List.{take_all, take_at, take-take, map_more, map_push, length-append, length-map}
