@@ -1,5 +1,7 @@
 pub mod Ascending
 pub mod Domains
+pub mod Gathered
 pub mod Histories
 pub mod Marks
 pub mod Starts
+pub mod Tables

@@ -1,0 +1,25 @@
+-- What rows of slots sum to at the point of a plan.
+use Rattle.std.proofs.Common.{◌≡◌, ℕ, eqb, cond, List, [], ◌∷◌, map, ℤ, pos, ◌+ℤ◌, ◌*ℤ◌, sym, refl, ap, ◌∙◌}
+use Rattle.std.proofs.lemmas.List.{length-map}
+use Rattle.stn_model.specs.declared.plant.Plant.{Plant}
+use Rattle.stn_model.specs.declared.start.Start.{Start}
+use Rattle.stn_model.specs.Sound.{Sound}
+use Rattle.stn_model.specs.Sums.{total}
+use Rattle.time_grid.specs.Slots.{slots, IsSlotOf}
+use Rattle.time_grid.specs.PlanPoint.{HasPoint, plan_point, start_in}
+use Rattle.time_grid.proofs.PlanPoints.{length-plan_point}
+use Rattle.time_grid.proofs.SlotList.{slots-are}
+use Rattle.time_grid.proofs.PointSums.{total_zip, counted_at, total_zip-agree, total_zip-is, total-plan_point}
+use Rattle.row_kit.specs.Row.{entries_sum, entries_from, part_at, parts_sum}
+use Rattle.row_kit.proofs.Gathered.{entries_sum-from}
+
+-- the entries of all slots sum to what the plan's starts count, where each slot counts what its starts do
+pub entries_sum-plan_point : (plant : Plant) (part : ℕ × ℕ → ℤ × ℤ) (g : Start → ℤ) (plan : List Start) → Sound plant → HasPoint plant plan →
+    ((slot : ℕ × ℕ) → IsSlotOf plant slot → (value : ℕ) → (part slot).0 +ℤ ((part slot).1 *ℤ pos value) ≡ g (start_in plant slot value)) →
+    entries_sum (entries_from 0 (map part (slots plant))) (plan_point plant plan) ≡ total g plan
+entries_sum-plan_point plant part g plan sound has agree =
+    entries_sum-from (map part (slots plant)) (plan_point plant plan) (length-map (slots plant) part ∙ sym (length-plan_point plant plan))
+    ∙ total_zip-is (λ slot value. part_at (part slot) value) (λ grid values. parts_sum (map part grid) values) (λ ys. refl) (λ x xs. refl) (λ x xs y ys. refl) (slots plant) (plan_point plant plan)
+    ∙ total_zip-agree (λ slot value. part_at (part slot) value) (counted_at plant g) (slots plant) (plan_point plant plan)
+    (λ k d l value. ap (cond (eqb value 0) (pos 0)) (agree _ (slots-are plant k d l) value))
+    ∙ total-plan_point plant g plan sound has
