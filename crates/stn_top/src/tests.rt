@@ -433,7 +433,7 @@ type Simulated = (
     &'static str,
 );
 
-const SIMULATED: [Simulated; 18] = [
+const SIMULATED: [Simulated; 20] = [
     (FIVE, &[], FIVE_PLAN, 0, "feasible 854\n"),
     (WASH, &[], "0 U A 1\n2 U B 1\n", 1, "broken gap 1 2\n"),
     (WASH, &[], "0 U A 1\n1 U C 1\n2 U B 1\n", 0, "feasible 3\n"),
@@ -468,6 +468,8 @@ const SIMULATED: [Simulated; 18] = [
     (TINY, FLAT, "0 U make 3\n", 1, "broken stock-high prod 1\n"),
     (TINY, STEAM, "0 U make 3\n", 0, "feasible 36\n"),
     (TINY, STEAM, "0 U make 4\n", 1, "broken load steam 0\n"),
+    (TINY, LESS_STEAM, "0 U make 4\n", 0, "feasible 44\n"),
+    (TINY, LESS_STEAM, "1 U make 4\n", 1, "broken load steam 1\n"),
     (TINY, &[], "0 U make\n", 4, "refused plan 1 1\n"),
     (TINY, &[], "0 V make 1\n", 4, "refused plan 2 1\n"),
 ];
@@ -492,6 +494,20 @@ const STEAM: &[(&str, &str)] = &[
     (
         "[[unit]]",
         "[[utility]]\nname = \"steam\"\nlimit = 5\n[[unit]]",
+    ),
+];
+
+// The same, with enough steam for four quanta in the first period alone.
+const LESS_STEAM: &[(&str, &str)] = &[
+    ("version = 1", "version = 2"),
+    ("max = 3", "max = 4"),
+    (
+        "[[task.input]]",
+        "draw = [{ utility = \"steam\", fixed = [2], each = [1] }]\n[[task.input]]",
+    ),
+    (
+        "[[unit]]",
+        "[[utility]]\nname = \"steam\"\nlimits = [6, 5]\n[[unit]]",
     ),
 ];
 
