@@ -1,0 +1,6 @@
+pub mod Members
+pub mod Names
+pub mod Parts
+pub mod Tables
+pub mod Passing
+pub mod Chains
