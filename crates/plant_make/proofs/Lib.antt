@@ -4,3 +4,5 @@ pub mod Parts
 pub mod Tables
 pub mod Passing
 pub mod Chains
+pub mod Lists
+pub mod Reading

@@ -64,10 +64,10 @@ same_either false x = refl
 
 held_fold : (word : List ℕ) (entries : List Entry) (ms : Members) → get_member word (fold with_entry ms entries) ≡ entry_or word entries (get_member word ms)
 held_fold word [] ms = refl
-held_fold word ((named, None) ∷ es) ms = held_fold word es ms ∙ ap (entry_or word es) (sym (same_either (bytes_eq word (key_word named)) (get_member word ms)))
-held_fold word ((named, Some d) ∷ es) ms =
-    held_fold word es (with_member (key_word named) d ms)
-    ∙ ap (entry_or word es) (get_with word (key_word named) d ms ∙ ap (λ (b : Bool). cond b (Some d) (get_member word ms)) (is_eq-slice_cmp word (key_word named)))
+held_fold word ((which, None) ∷ es) ms = held_fold word es ms ∙ ap (entry_or word es) (sym (same_either (bytes_eq word (key_word which)) (get_member word ms)))
+held_fold word ((which, Some d) ∷ es) ms =
+    held_fold word es (with_member (key_word which) d ms)
+    ∙ ap (entry_or word es) (get_with word (key_word which) d ms ∙ ap (λ (b : Bool). cond b (Some d) (get_member word ms)) (is_eq-slice_cmp word (key_word which)))
 
 -- what a table of entries holds at a key that the file's version knows
 pub held_is : (key : Key) (entries : List Entry) (o : Option Data) → key.known ≡ true → entry_or (key_word key.name) entries None ≡ o → held (table_of entries) key ≡ o
@@ -95,10 +95,10 @@ known_with keys word d (member l e more) known rest =
 
 known_fold : (keys : List Key) (entries : List Entry) (ms : Members) → list_all (λ (e : Entry). is_known keys (key_word e.0)) entries ≡ true → has_unknown keys ms ≡ false → has_unknown keys (fold with_entry ms entries) ≡ false
 known_fold keys [] ms known rest = rest
-known_fold keys ((named, None) ∷ es) ms known rest = known_fold keys es ms (and_parts _ _ known).1 rest
-known_fold keys ((named, Some d) ∷ es) ms known rest =
-    let parts = and_parts (is_known keys (key_word named)) (list_all (λ (e : Entry). is_known keys (key_word e.0)) es) known in
-    known_fold keys es (with_member (key_word named) d ms) parts.1 (known_with keys (key_word named) d ms parts.0 rest)
+known_fold keys ((which, None) ∷ es) ms known rest = known_fold keys es ms (and_parts _ _ known).1 rest
+known_fold keys ((which, Some d) ∷ es) ms known rest =
+    let parts = and_parts (is_known keys (key_word which)) (list_all (λ (e : Entry). is_known keys (key_word e.0)) es) known in
+    known_fold keys es (with_member (key_word which) d ms) parts.1 (known_with keys (key_word which) d ms parts.0 rest)
 
 -- a table of entries has no other keys
 pub all_known : (keys : List Key) (entries : List Entry) → list_all (λ (e : Entry). is_known keys (key_word e.0)) entries ≡ true → has_unknown keys (table_of entries) ≡ false
@@ -112,8 +112,8 @@ head_ok place keys entries known = rw (all_known keys entries known) refl
 
 -- how deep what an entry holds is
 abbrev pub entry_depth : Entry → ℕ
-entry_depth (named, None) = 0
-entry_depth (named, Some d) = depth d
+entry_depth (which, None) = 0
+entry_depth (which, Some d) = depth d
 
 abbrev pub Shallow : ℕ → List Entry → Type 0
 Shallow n entries = AllByRecursion (λ (e : Entry). entry_depth e ≤ n) entries
@@ -133,8 +133,8 @@ depth_with n word d (member l e more) low rest =
 
 depth_fold : (n : ℕ) (entries : List Entry) (ms : Members) → Shallow n entries → members_depth ms ≤ n → members_depth (fold with_entry ms entries) ≤ n
 depth_fold n [] ms low rest = rest
-depth_fold n ((named, None) ∷ es) ms low rest = depth_fold n es ms low.1 rest
-depth_fold n ((named, Some d) ∷ es) ms low rest = depth_fold n es (with_member (key_word named) d ms) low.1 (depth_with n (key_word named) d ms low.0 rest)
+depth_fold n ((which, None) ∷ es) ms low rest = depth_fold n es ms low.1 rest
+depth_fold n ((which, Some d) ∷ es) ms low rest = depth_fold n es (with_member (key_word which) d ms) low.1 (depth_with n (key_word which) d ms low.0 rest)
 
 pub depth_of_entries : (n : ℕ) (entries : List Entry) → Shallow n entries → members_depth (table_of entries) ≤ n
 unfolding table_of
