@@ -5,4 +5,5 @@ pub mod Tables
 pub mod Passing
 pub mod Chains
 pub mod Lists
+pub mod Limits
 pub mod Reading

@@ -6,6 +6,7 @@ use Rattle.stn_model.specs.Sound.{IsPart}
 use Rattle.fraction.specs.declared.fraction_of.Fraction.{Fraction}
 use Rattle.fraction.specs.declared.fraction_of.TheConstants.{MAX_PART}
 use Rattle.fraction.specs.Fractions.{IsProper, IsLeast}
+use Rattle.plant_text.specs.Tables.{is_whole, amount_in}
 use Rattle.plant_make.specs.Numbers.{least_from, part_of}
 
 -- the search from one denominator on finds the least one that serves
@@ -62,3 +63,69 @@ part_there quantum amount part none some =
     let same : part.0 * quantum ≡ part.1.0 * amount = omega (arith, part.1.1.2) in
     let large : MAX_PART < part.1.0 = none part.0 part.1.0 (omega arith) same in
     omega arith
+
+-- the number serves as a denominator, and is at most another one
+record Serves (amount quantum from most under : ℕ) : Type 0 where
+  low : from ≤ under
+  high : under ≤ most
+  whole : (amount * under) % quantum ≡ 0
+
+serves : (amount quantum most more from : ℕ) → (amount * most) % quantum ≡ 0 → from ≤ most → most < from + more → Serves amount quantum from most (least_from amount quantum more from)
+unfolding least_from
+serves amount quantum most zero from whole low high = absurd (omega arith)
+serves amount quantum most (suc more) from whole low high =
+    elim (cases_Bool (eqb ((amount * from) % quantum) 0)) [
+      | inl e ↦ rw e record { low = omega arith; high = low; whole = eqb-true _ _ e }
+      | inr e ↦
+          let differ : from ≡ most → true ≡ false = λ same. sym (rw same (eq-eqb _ _ whole)) ∙ e in
+          let above : from < most = grind (arith, differ) in
+          let rest = serves amount quantum most more (from + 1) whole (omega arith) (omega arith) in
+          rw e record { low = omega (arith, rest.low); high = rest.high; whole = rest.whole }
+    ]
+
+-- the fraction is the part that the amount is of the quantum
+pub record IsPartOf (quantum amount : ℕ) (f : Fraction) : Type 0 where
+  pub proper : IsProper f
+  pub same : amount * f.under ≡ quantum * f.over
+
+over_some : (amount quantum under over : ℕ) → 1 ≤ amount → 1 ≤ under → amount * under ≡ quantum * over → 1 ≤ over
+over_some amount quantum under zero some positive same =
+    let least : amount * 1 ≤ amount * under = mul-le-mul_left amount positive in
+    absurd (omega arith)
+over_some amount quantum under (suc over) some positive same = omega arith
+
+over_most : (amount quantum under over : ℕ) → 1 ≤ quantum → amount ≤ quantum → amount * under ≡ quantum * over → over ≤ under
+over_most amount quantum under over some most same =
+    let below : amount * under ≤ quantum * under = mul-le-mul_right under most in
+    let above : suc under ≤ over → quantum * suc under ≤ quantum * over = mul-le-mul_left quantum in
+    grind (arith, above)
+
+-- a part is what its lowest terms say
+pub part_good : (quantum amount : ℕ) → 1 ≤ quantum → IsPart quantum amount → IsPartOf quantum amount (part_of quantum amount)
+unfolding part_of
+part_good quantum amount some part =
+    let small : part.1.0 ≤ MAX_PART = part.1.1.1.1 in
+    let there : 1 ≤ part.1.0 = part.1.1.1.0 in
+    let product : amount * part.1.0 ≡ part.0 * quantum = omega (arith, part.1.1.2) in
+    let whole : (amount * part.1.0) % quantum ≡ 0 = rw product (mul-mod_left part.0 quantum) in
+    let found = serves amount quantum part.1.0 MAX_PART 1 whole there (omega arith) in
+    let under : ℕ = least_from amount quantum MAX_PART 1 in
+    let same : amount * under ≡ quantum * ((amount * under) / quantum) = omega (arith, found.whole, div-add-mod' (amount * under) quantum) in
+    record {
+      proper = record {
+        some = over_some amount quantum under _ (part_some quantum amount some part) found.low same;
+        most = over_most amount quantum under _ some (part_most quantum amount some part) same;
+        small = omega (arith, found.high);
+      };
+      same = same;
+    }
+
+-- the quantum times the part is the amount
+pub part_whole : (quantum amount : ℕ) (f : Fraction) → IsPartOf quantum amount f → (is_whole quantum f ≡ true) × (amount_in quantum f ≡ amount)
+part_whole quantum amount f is =
+    let product : quantum * f.over ≡ amount * f.under = sym is.same in
+    let positive : 0 < f.under = omega (arith, is.proper.some, is.proper.most) in
+    (
+      rw (product, mul-mod_left amount f.under) refl,
+      rw product (mul-div_cancel amount positive),
+    )

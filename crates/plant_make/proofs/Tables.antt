@@ -74,6 +74,14 @@ pub held_is : (key : Key) (entries : List Entry) (o : Option Data) → key.known
 unfolding table_of
 held_is key entries o known is = rw known (held_fold (key_word key.name) entries no_members ∙ is)
 
+or_none : {X : Type 0} (o : Option X) → option_or o None ≡ o
+or_none None = refl
+or_none (Some x) = refl
+
+-- the same of a key that may be left out
+pub held_maybe : (key : Key) (entries : List Entry) (o : Option Data) → key.known ≡ true → entry_or (key_word key.name) entries None ≡ option_or o None → held (table_of entries) key ≡ o
+held_maybe key entries o known is = held_is key entries (option_or o None) known is ∙ or_none o
+
 not_true : (b : Bool) → b ≡ true → not b ≡ false
 not_true true e = refl
 not_true false e = absurd cc
