@@ -7,3 +7,4 @@ pub mod Chains
 pub mod Lists
 pub mod Limits
 pub mod Reading
+pub mod TaskReading

@@ -1,6 +1,6 @@
 -- Names at their places, and items one after the other.
-use Rattle.std.proofs.Common.{◌≡◌, ◌≢◌, ℕ, zero, suc, ◌+◌, ◌<◌, ◌≤◌, Bool, true, false, cond, List, [], ◌∷◌, ◌++◌, map, take, length, get_or, AllPairs, Option, Some, append_assoc, length-append, refl, sym, ap, ◌∙◌, inl, inr, arith, add-zero, subst}
-use Rattle.std.specs.List.{position_from}
+use Rattle.std.proofs.Common.{◌≡◌, ◌≢◌, ℕ, zero, suc, ◌+◌, ◌<◌, ◌≤◌, Bool, true, false, cond, List, [], ◌∷◌, ◌++◌, map, length, get_or, All, AllPairs, Option, Some, append_assoc, length-append, refl, sym, ap, ◌∙◌, inl, inr, arith, add-zero, subst}
+use Rattle.std.specs.List.{position_from, list_any, AllByRecursion}
 use Rattle.std.specs.Str.{bytes_eq}
 use Rattle.std.proofs.lemmas.Bool.{cases_Bool}
 use Rattle.std.proofs.lemmas.List.{append-nil}
@@ -32,7 +32,7 @@ module _ {X : Type 0} (name_of : X → List ℕ) where
 -- the item comes right after these in the list
 pub record IsNext {Y : Type 0} (whole earlier : List Y) (y : Y) : Type 0 where
   pub within : length earlier < length whole
-  pub is : get_or whole (length earlier) y ≡ y
+  pub is : (d : Y) → get_or whole (length earlier) d ≡ y
   pub before : (k : ℕ) (d : Y) → k < length earlier → get_or earlier k d ≡ get_or whole k d
 
 get_or-front : {Y : Type 0} (earlier rest : List Y) (k : ℕ) (d : Y) → k < length earlier → get_or earlier k d ≡ get_or (earlier ++ rest) k d
@@ -47,7 +47,7 @@ get_or-middle (x ∷ xs) rest y d = get_or-middle xs rest y d
 next_in : {Y : Type 0} (earlier rest : List Y) (y : Y) → IsNext (earlier ++ y ∷ rest) earlier y
 next_in earlier rest y = record {
   within = omega (arith, length-append earlier (y ∷ rest));
-  is = get_or-middle earlier rest y y;
+  is = λ d. get_or-middle earlier rest y d;
   before = λ k d within. get_or-front earlier (y ∷ rest) k d within;
 }
 
@@ -63,3 +63,24 @@ module _ {X Y : Type 0} (tests : List Y → X → List Test) (value : X → Y) (
   -- printed items pass their tests, and are read as they were
   pub rows_read : Pass (rows_tests tests value [] (map made whole)) × (map value (map made whole) ≡ whole)
   rows_read = rows_from [] whole refl
+
+-- what holds of each item, holds of the next one
+pub at_next : {Y : Type 0} (P : Y → Type 0) (whole earlier : List Y) (y : Y) → All P whole → IsNext whole earlier y → P y
+at_next P whole earlier y all next = subst P (next.is y) (all (length earlier) y next.within)
+
+-- what follows from each of some facts
+pub all_so : {X : Type 0} (P Q : X → Type 0) → ((x : X) → P x → Q x) → (xs : List X) → AllByRecursion P xs → AllByRecursion Q xs
+all_so P Q so [] all = tt
+all_so P Q so (x ∷ xs) all = (so x all.0, all_so P Q so xs all.1)
+
+-- two steps that come to one
+pub map_same : {X Y Z : Type 0} (f : Y → Z) (g : X → Y) (h : X → Z) → ((x : X) → f (g x) ≡ h x) → (xs : List X) → map f (map g xs) ≡ map h xs
+map_same f g h same [] = refl
+map_same f g h same (x ∷ xs) = rw (same x, map_same f g h same xs) refl
+
+-- no item passes
+pub none_any : {X : Type 0} (p : X → Bool) (xs : List X) → ((k : ℕ) (d : X) → k < length xs → p (get_or xs k d) ≡ false) → list_any p xs ≡ false
+none_any p [] none = refl
+none_any p (x ∷ xs) none =
+    let here : p x ≡ false = none 0 x (omega arith) in
+    rw here (none_any p xs (λ k d within. none (suc k) d (omega arith)))

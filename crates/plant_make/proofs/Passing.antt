@@ -8,6 +8,7 @@ use Rattle.toml.specs.View.{items_of as packed}
 use Rattle.stn_model.specs.Sound.{is_name}
 use Rattle.fraction.specs.declared.fraction_of.Fraction.{Fraction}
 use Rattle.fraction.specs.Fractions.{fraction_in}
+use Rattle.plant_text.specs.declared.fault.PlantFault.{PlantFault}
 use Rattle.plant_text.specs.declared.fault.Place.{Place}
 use Rattle.plant_text.specs.declared.fault.KeyName.{KeyName}
 use Rattle.plant_text.specs.declared.find.Key.{Key}
@@ -93,3 +94,13 @@ maybe_tables_ok place key most below (d ∷ ds) o is required few inside = table
 pub items_back : (ds : List Data) (o : Option Data) → o ≡ some_items ds → unwrap_or (option_map items_of o) [] ≡ ds
 items_back [] o is = rw is refl
 items_back (d ∷ ds) o is = rw is (packed_back (d ∷ ds))
+
+-- an array that is not empty is there
+pub some_there : (ds : List Data) → 1 ≤ length ds → some_items ds ≡ Some (array_of ds)
+some_there [] some = absurd (omega arith)
+some_there (d ∷ ds) some = refl
+
+-- a test that does not hold, before others that pass
+pub one_more : (b : Bool) (f : PlantFault) (tests : List Test) → b ≡ false → Pass tests → Pass ((b, f) ∷ tests)
+unfolding first_fault
+one_more b f tests is rest = rw is rest
