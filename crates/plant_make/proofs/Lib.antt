@@ -8,3 +8,6 @@ pub mod Lists
 pub mod Limits
 pub mod Reading
 pub mod TaskReading
+pub mod PlantReading
+pub mod Depths
+pub mod Texts

@@ -119,12 +119,12 @@ unfolding head_tests first_fault
 head_ok place keys entries known = rw (all_known keys entries known) refl
 
 -- how deep what an entry holds is
-abbrev pub entry_depth : Entry → ℕ
-entry_depth (which, None) = 0
-entry_depth (which, Some d) = depth d
+abbrev pub held_depth : Option Data → ℕ
+held_depth None = 0
+held_depth (Some d) = depth d
 
 abbrev pub Shallow : ℕ → List Entry → Type 0
-Shallow n entries = AllByRecursion (λ (e : Entry). entry_depth e ≤ n) entries
+Shallow n entries = AllByRecursion (λ (e : Entry). held_depth e.1 ≤ n) entries
 
 depth_match : (n : ℕ) (o : Ordering) (a b c : Members) → members_depth a ≤ n → members_depth b ≤ n → members_depth c ≤ n → members_depth (match_ordering o a b c) ≤ n
 depth_match n Less a b c x y z = x

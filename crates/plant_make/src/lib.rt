@@ -10,4 +10,4 @@ mod table;
 mod tasks;
 mod values;
 
-
+pub use print::put_plant;

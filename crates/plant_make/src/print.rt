@@ -1,9 +1,11 @@
 //! Printing a plant as a plant file.
-ghost use Rattle.std.specs.Prelude.{◌≡◌, OnOk, OnErr, IfOk};
+ghost use Rattle.std.specs.Prelude.{◌≡◌, Some, OnOk, OnErr, IfOk, string_bytes};
 ghost use Rattle.toml.specs.View.{table_view};
+ghost use Rattle.toml.specs.Parse.{parse_document};
 ghost use Rattle.stn_model.specs.Sound.{Sound};
 ghost use Rattle.plant_make.specs.Entries.{table_of};
 ghost use Rattle.plant_make.specs.Printed.{plant_entries};
+ghost use Rattle.plant_make.specs.Meaning.{Puts};
 
 use crate::rows::rows;
 use crate::table::{put, put_items};
@@ -41,4 +43,33 @@ fn document(alloc: Global, plant: &Plant) -> Result<Table, AllocError>
     put_items(alloc, &mut table, KeyName::Delivery, deliveries)?;
     put_items(alloc, &mut table, KeyName::Outage, outages)?;
     Ok(table)
+}
+
+// The text of a plant's document. The document has no dates, so want of memory is the only error.
+fn text_of(alloc: Global, plant: &Plant) -> Result<String, AllocError>
+    requires { Sound plant.now }
+    ensures { IfOk result (λ text. parse_document (string_bytes text) ≡ Some (table_of (plant_entries plant.now))) }
+{
+    let table = document(alloc, plant)?;
+    match toml::table_to_string(alloc, &table) {
+        Ok(text) => Ok(text),
+        Err(_) => Err(AllocError),
+    }
+}
+
+/// Appends a plant file that means the plant, of version 2.
+///
+/// A list of limits that are all the same is written as one `limit`, and parts are written in lowest
+/// terms. After want of memory `into` is as before.
+pub fn put_plant(alloc: Global, plant: &Plant, into: &mut Vec<u8>) -> Result<(), AllocError>
+    requires { Sound plant.now }
+
+    // What is appended means the plant, however long it is; where it is no longer than a plant file may
+    // be, it is read as the plant.
+    ensures ok { OnOk result (Puts plant.now into.old.items into.new.items) }
+    ensures err { OnErr result (into.new.items ≡ into.old.items) }
+{
+    let text = text_of(alloc, plant)?;
+    into.extend_from_slice(text.as_str().as_bytes())?;
+    Ok(())
 }
