@@ -11,7 +11,6 @@ use Rattle.stn_top.specs.declared.command.Command.TheVariants as variants
 pub data Request : Type 0 where
   Solving : (plant : List ℕ) (budget : ℕ) → Request
   Carrying : (usage : PlanUse) (plant plan : List ℕ) → Request
-  Checking : (plant log : List ℕ) → Request
   Upgrading : (plant : List ℕ) → Request
 
 -- the first word of a command that carries out a plan
@@ -29,20 +28,11 @@ pub record IsBudget (word : List ℕ) (budget : ℕ) : Type 0 where
   pub some : 1 ≤ budget
   pub most : budget ≤ MAX_BUDGET
 
--- the words are a command's name and a file's name that is not empty
-abbrev pub NameFile : List (List ℕ) → List ℕ → List ℕ → Type 0
-NameFile words command file = (words ≡ command ∷ file ∷ []) × (file ≢ [])
-
--- the words are a command's name and two files' names that are not empty
-abbrev pub NameFiles : List (List ℕ) → List ℕ → List ℕ → List ℕ → Type 0
-NameFiles words command first second = (words ≡ command ∷ first ∷ second ∷ []) × (first ≢ []) × (second ≢ [])
-
--- the words say the request
+-- the words say the request; no file has an empty name
 abbrev pub Says : List (List ℕ) → Request → Type 0
 Says words (Solving plant budget) = (word : List ℕ) × ((words ≡ codes "solve" ∷ plant ∷ word ∷ []) × (plant ≢ []) × IsBudget word budget)
-Says words (Carrying usage plant plan) = NameFiles words (use_word usage) plant plan
-Says words (Checking plant log) = NameFiles words (codes "check") plant log
-Says words (Upgrading plant) = NameFile words (codes "upgrade") plant
+Says words (Carrying usage plant plan) = (words ≡ use_word usage ∷ plant ∷ plan ∷ []) × (plant ≢ []) × (plan ≢ [])
+Says words (Upgrading plant) = (words ≡ codes "upgrade" ∷ plant ∷ []) × (plant ≢ [])
 
 -- the words have the form of no command
 abbrev pub HasNoForm : List (List ℕ) → Type 0
@@ -52,5 +42,4 @@ HasNoForm words = (request : Request) → ¬ Says words request
 abbrev pub meaning : declared.Command → Request
 meaning (variants.Solve plant budget) = Solving plant.now budget
 meaning (variants.Carry usage plant plan) = Carrying usage plant.now plan.now
-meaning (variants.Check plant log) = Checking plant.now log.now
 meaning (variants.Upgrade plant) = Upgrading plant.now

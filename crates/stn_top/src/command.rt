@@ -1,6 +1,6 @@
 //! The words of a command.
 ghost use Rattle.std.specs.Prelude.{◌≡◌, ℕ, List, MatchOption};
-ghost use Rattle.stn_top.specs.Words.{Says, HasNoForm, IsBudget, NameFiles, Solving, Carrying, Checking, Upgrading, texts, meaning, use_word};
+ghost use Rattle.stn_top.specs.Words.{Says, HasNoForm, IsBudget, Solving, Carrying, Upgrading, texts, meaning, use_word};
 
 use text_words::read_number;
 
@@ -30,10 +30,10 @@ pub enum Command<'a> {
         plant: &'a str,
         plan: &'a str,
     },
-    /// `check PLANT LOG`: check a log.
-    Check { plant: &'a str, log: &'a str },
     /// `upgrade PLANT`: print the plant as a file of version 2.
-    Upgrade { plant: &'a str },
+    Upgrade {
+        plant: &'a str,
+    },
 }
 
 /// The command that the words say, if they have the form of one. It takes no memory.
@@ -47,9 +47,6 @@ pub fn command_of<'a>(words: &[&'a str]) -> Option<Command<'a>>
         return Some(command);
     }
     if let Some(command) = carry_of(words, "report", PlanUse::Report) {
-        return Some(command);
-    }
-    if let Some(command) = check_of(words) {
         return Some(command);
     }
     upgrade_of(words)
@@ -76,19 +73,11 @@ fn carry_of<'a>(words: &[&'a str], word: &str, usage: PlanUse) -> Option<Command
     ensures { MatchOption result ((plant plan : List ℕ) → ¬ Says (texts words.now) (Carrying usage plant plan))
         (λ command. Says (texts words.now) (meaning command)) }
 {
-    match files_of(words, word) {
-        Some((plant, plan)) => Some(Command::Carry { usage, plant, plan }),
-        None => None,
-    }
-}
-
-fn check_of<'a>(words: &[&'a str]) -> Option<Command<'a>>
-    ensures { MatchOption result ((plant log : List ℕ) → ¬ Says (texts words.now) (Checking plant log))
-        (λ command. Says (texts words.now) (meaning command)) }
-{
-    match files_of(words, "check") {
-        Some((plant, log)) => Some(Command::Check { plant, log }),
-        None => None,
+    match words {
+        [first, plant, plan] if *first == word && !plant.is_empty() && !plan.is_empty() => {
+            Some(Command::Carry { usage, plant, plan })
+        }
+        _ => None,
     }
 }
 
@@ -99,19 +88,6 @@ fn upgrade_of<'a>(words: &[&'a str]) -> Option<Command<'a>>
     match words {
         [first, plant] if *first == "upgrade" && !plant.is_empty() => {
             Some(Command::Upgrade { plant })
-        }
-        _ => None,
-    }
-}
-
-// The two files that follow this word, if the words are just these.
-fn files_of<'a>(words: &[&'a str], word: &str) -> Option<(&'a str, &'a str)>
-    ensures { MatchOption result ((a b : List ℕ) → ¬ NameFiles (texts words.now) word.now a b)
-        (λ files. NameFiles (texts words.now) word.now files.0.now files.1.now) }
-{
-    match words {
-        [name, first, second] if *name == word && !first.is_empty() && !second.is_empty() => {
-            Some((first, second))
         }
         _ => None,
     }

@@ -566,9 +566,38 @@ fn plans_are_reported(rt: HostRuntime) -> Result<(), Fail> {
     Ok(())
 }
 
+// A plant, edits of it, a budget, and how the answer of planning begins, of the plant and of its upgraded text.
+type Upgraded = (
+    &'static str,
+    &'static [(&'static str, &'static str)],
+    &'static str,
+    &'static str,
+);
+
+const UPGRADED: [Upgraded; 4] = [
+    (TINY, &[], "31", "# optimal 60\n"),
+    (TINY, OUT_OF_USE, "7", "# optimal 36\n"),
+    (TINY, LESS_STEAM, "25", "# optimal 60\n"),
+    (TINT, &[], "31", "# optimal 6\n"),
+];
+
+#[test]
+fn plants_are_upgraded(rt: HostRuntime) -> Result<(), Fail> {
+    for (plant, edits, budget, start) in UPGRADED {
+        let plant = edited(rt.alloc(), plant, edits)?;
+        let (status, out) = answer(rt.alloc(), plant.as_str(), "", &["upgrade", "plant"])?;
+        assert_eq!(rt; status, 0);
+        let text = str::from_utf8(out.written()).ok().ok_or("text")?;
+        let (status, out) = answer(rt.alloc(), text, "", &["solve", "plant", budget])?;
+        assert_eq!(rt; status, 0);
+        assert!(rt; out.written().starts_with(start.as_bytes()));
+    }
+    Ok(())
+}
+
 #[test]
 fn words_are_refused(rt: HostRuntime) -> Result<(), Fail> {
-    let wrong: [&[&str]; 8] = [
+    let wrong: [&[&str]; 9] = [
         &["solve", "plant", "31", "plant"],
         &[],
         &["solve", "plant", "0"],
@@ -577,6 +606,7 @@ fn words_are_refused(rt: HostRuntime) -> Result<(), Fail> {
         &["solve", "", "31"],
         &["simulate", "plant", ""],
         &["report", "plant"],
+        &["upgrade", "plant", "plant"],
     ];
     for words in wrong {
         let (status, out) = answer(rt.alloc(), TINY, "", words)?;
