@@ -16,8 +16,9 @@ use Rattle.stn_model.specs.Stock.{taken, given, inflow, outflow, stock}
 use Rattle.stn_model.specs.Feasible.{StockKept}
 use Rattle.stn_model.specs.Sound.{Sound}
 use Rattle.time_grid.specs.Slots.{slots}
-use Rattle.time_grid.specs.PlanPoint.{HasPoint, quanta_in, plan_point, start_in}
-use Rattle.time_grid.proofs.PointSums.{counted_at, total_zip-is, total-plan_point}
+use Rattle.time_grid.specs.PlanPoint.{HasPoint, plan_point, start_in}
+use Rattle.time_grid.proofs.PlanPoints.{length-plan_point}
+use Rattle.time_grid.proofs.PointSums.{counted_at, total_zip-is, total-minus, total-plan_point}
 use Rattle.row_kit.specs.declared.row.Row.{Row}
 use Rattle.row_kit.specs.Table.{row_table}
 use Rattle.row_kit.specs.Row.{part_at, parts_sum, entries_from, entries_sum, IsKept}
@@ -31,11 +32,6 @@ sum_by-times f g v each [] = omega arith
 sum_by-times f g v each (x ∷ xs) =
     let rest : sum_by f xs ≡ v * sum_by g xs = sum_by-times f g v each xs in
     rw (sum_by-cons g x xs) (omega (arith, each x, rest, sum_by-cons f x xs))
-
--- a sum of differences is the difference of the sums
-total-minus : {X : Type 0} (f g : X → ℕ) (xs : List X) → total (λ x. pos (f x) -ℤ pos (g x)) xs ≡ pos (sum_by f xs) -ℤ pos (sum_by g xs)
-total-minus f g [] = refl
-total-minus f g (x ∷ xs) = omega (arith, ints, total-minus f g xs, sum_by-cons f x xs, sum_by-cons g x xs)
 
 -- a term that a test lets through is v times what it is for one quantum
 scaled : (t : Bool) (v n : ℕ) → cond t (v * n) 0 ≡ v * cond t (1 * n) 0
@@ -85,9 +81,8 @@ counts_start plant g a b slot v e =
 entries_plan : (plant : Plant) (parts : ℕ × ℕ → ℤ × ℤ) (g : Start → ℤ) (plan : List Start) → Sound plant → HasPoint plant plan →
     ((slot : ℕ × ℕ) (v : ℕ) → part_at (parts slot) v ≡ counted_at plant g slot v) →
     entries_sum (entries_from 0 (map parts (slots plant))) (plan_point plant plan) ≡ total g plan
-unfolding plan_point
 entries_plan plant parts g plan sound has each =
-    entries_sum-from (map parts (slots plant)) (plan_point plant plan) (length-map (slots plant) parts ∙ sym (length-map (slots plant) (quanta_in plant plan)))
+    entries_sum-from (map parts (slots plant)) (plan_point plant plan) (length-map (slots plant) parts ∙ sym (length-plan_point plant plan))
     ∙ total_zip-is (counted_at plant g) (λ grid values. parts_sum (map parts grid) values) (λ ys. refl) (λ x xs. refl) (λ x xs y ys. ap (λ n. n +ℤ parts_sum (map parts xs) ys) (each x y)) (slots plant) (plan_point plant plan)
     ∙ total-plan_point plant g plan sound has
 

@@ -1,10 +1,6 @@
 -- The rows that keep stocks: what each slot does to the stock of a state by a time, and how far that may go.
-use Rattle.std.specs.Prelude.{ℕ, ℤ, pos, ◌+◌, ◌*◌, ◌==◌, ◌&&◌, nat_le, if◌then◌else◌, ◌-ℤ◌, List, ◌++◌, length, map, slice_index}
+use Rattle.std.specs.Prelude.{ℕ, ℤ, pos, ◌+◌, ◌-ℤ◌, List, ◌++◌, length, map, slice_index}
 use Rattle.stn_model.specs.declared.plant.Plant.{Plant}
-use Rattle.stn_model.specs.declared.plant.Input.{Input}
-use Rattle.stn_model.specs.declared.plant.Output.{Output}
-use Rattle.stn_model.specs.declared.plant.Receipt.{Receipt}
-use Rattle.stn_model.specs.declared.plant.Delivery.{Delivery}
 use Rattle.stn_model.specs.Plant.{state_at}
 use Rattle.stn_model.specs.Stock.{received, delivered, taken, given}
 use Rattle.time_grid.specs.Slots.{slots}
@@ -59,19 +55,3 @@ high_rows plant = row_table (high_row plant) (limit_count plant) (length plant.s
 -- the rows that keep stocks: first the low ones, then the high ones
 unfoldable pub stock_rows : Plant → List Row
 stock_rows plant = low_rows plant ++ high_rows plant
-
--- what an input of a batch of one quantum, started in a period, has taken from the state by a time
-abbrev pub input_taken : ℕ → ℕ → ℕ → Input → ℕ
-input_taken state time period input = if input.state == state && nat_le period time then 1 * input.amount else 0
-
--- what an output of a batch of one quantum, started in a period, has given to the state by a time
-abbrev pub output_given : ℕ → ℕ → ℕ → Output → ℕ
-output_given state time period output = if output.state == state && nat_le (period + output.delay) time then 1 * output.amount else 0
-
--- what a receipt has brought to the state by a time
-abbrev pub received_by : ℕ → ℕ → Receipt → ℕ
-received_by state time receipt = if receipt.state == state && nat_le receipt.time time then receipt.amount else 0
-
--- what a delivery has carried off from the state by a time
-abbrev pub delivered_by : ℕ → ℕ → Delivery → ℕ
-delivered_by state time delivery = if delivery.state == state && nat_le delivery.time time then delivery.amount else 0

@@ -3,7 +3,8 @@ ghost use Rattle.std.specs.Prelude.{◌≡◌, ◌≤◌, ◌<◌, ◌^◌, pos,
 ghost use Rattle.stn_model.specs.Sound.{Sound};
 ghost use Rattle.stn_model.specs.Plant.{task_at};
 ghost use Rattle.time_grid.specs.Slots.{run_at};
-ghost use Rattle.balance_rows.specs.StockRows.{taken_in, given_in, input_taken, output_given};
+ghost use Rattle.balance_rows.specs.StockRows.{taken_in, given_in};
+ghost use Rattle.balance_rows.specs.Summands.{input_taken, output_given};
 
 use stn_model::{Input, Output, Plant, Task};
 

@@ -2,7 +2,8 @@
 ghost use Rattle.std.specs.Prelude.{◌≡◌, ◌≤◌, ◌<◌, ◌^◌, length, All, sum_by, unsigned_abs};
 ghost use Rattle.stn_model.specs.Sound.{Sound};
 ghost use Rattle.stn_model.specs.Stock.{received, delivered};
-ghost use Rattle.balance_rows.specs.StockRows.{supply, received_by, delivered_by};
+ghost use Rattle.balance_rows.specs.StockRows.{supply};
+ghost use Rattle.balance_rows.specs.Summands.{received_by, delivered_by};
 
 use stn_model::{Delivery, Plant, Receipt};
 

@@ -1,5 +1,5 @@
 -- The slots of a plant: which they are, in which order, and how many.
-use Rattle.std.proofs.Common.{◌≡◌, ℕ, zero, suc, ◌+◌, ◌*◌, ◌<◌, ◌≤◌, Bool, cond, if◌then◌else◌, List, [], ◌∷◌, ◌++◌, length, get_or, map, filter, sum_by, count_by, sym, refl, ap, ◌∙◌, inl, inr, ap₂, arith, one-mul, mul_assoc, mul-one, add-one, append-nil}
+use Rattle.std.proofs.Common.{◌≡◌, ℕ, zero, suc, ◌+◌, ◌*◌, ◌<◌, ◌≤◌, Bool, cond, if◌then◌else◌, List, [], ◌∷◌, ◌++◌, length, get_or, map, filter, sum_by, count_by, sym, refl, ap, ◌∙◌, subst, inl, inr, ap₂, arith, one-mul, mul_assoc, mul-one, add-one, append-nil}
 use Rattle.std.specs.List.{All, AllPairs, Contains, flat_map, range_with_len}
 use Rattle.std.proofs.lemmas.List.{length-map, map-append}
 use Rattle.std.proofs.lemmas.List.Elements.{All-map, All-filter, filter-append, filter_passes}
@@ -12,7 +12,7 @@ use Rattle.stn_model.specs.declared.plant.Run.{Run}
 use Rattle.stn_model.specs.Sums.{sum_below, count_below, product_by, product_below}
 use Rattle.stn_model.specs.Sound.{Sound}
 use Rattle.stn_model.specs.Points.{has_slot, choices, points, slots_of, slot_count}
-use Rattle.time_grid.specs.Slots.{no_run, run_at, run_slots, slots_before, slots, slot_choices, IsSlotOf, Earlier}
+use Rattle.time_grid.specs.Slots.{no_run, run_at, run_slots, slots_before, slots, IsGrid, slot_choices, IsSlotOf, Earlier}
 use Rattle.time_grid.proofs.Lists.{map-range_get_or, All-below, range-more, All-flat_map, Contains-map, Contains-filter, Contains-range, Contains-flat_map, AllPairs-map, AllPairs-range, AllPairs-flat_map}
 
 run_slots-are : (plant : Plant) (run : ℕ) → run < length plant.runs → All (IsSlotOf plant) (run_slots plant run)
@@ -33,6 +33,13 @@ unfolding slots
 slots-are plant =
     All-flat_map (IsSlotOf plant) (run_slots plant) (range_with_len 0 (length plant.runs))
     (λ k d m. run_slots-are plant (get_or (range_with_len 0 (length plant.runs)) k d) (All-below (length plant.runs) k d m))
+
+-- a slot of the plant's grid is one
+pub grid-are : (plant : Plant) (grid : List (ℕ × ℕ)) (place : ℕ) (slot : ℕ × ℕ) → IsGrid plant grid → place < length grid → slot ≡ get_or grid place slot → IsSlotOf plant slot
+grid-are plant grid place slot e l is =
+    let at : slot ≡ get_or (slots plant) place slot = is ∙ ap (λ g. get_or g place slot) e in
+    let within : place < length (slots plant) = omega (arith, l, ap length e) in
+    subst (IsSlotOf plant) (sym at) (slots-are plant place slot within)
 
 -- every slot is among them
 pub Contains-slots : (plant : Plant) (slot : ℕ × ℕ) → IsSlotOf plant slot → Contains (slots plant) slot

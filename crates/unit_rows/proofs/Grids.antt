@@ -1,20 +1,13 @@
 -- The slots of a grid, and lists of rows that grow.
-use Rattle.std.proofs.Common.{◌≡◌, ℕ, Result, Ok, Err, OnErr, ◌+◌, ◌<◌, ◌≤◌, List, [], ◌∷◌, ◌++◌, length, get_or, map, take, refl, sym, ap, ◌∙◌, subst, arith, append_assoc, append-nil, zero-add}
+use Rattle.std.proofs.Common.{◌≡◌, ℕ, Result, Ok, Err, OnErr, ◌+◌, ◌<◌, ◌≤◌, List, [], ◌∷◌, ◌++◌, length, get_or, map, take, refl, sym, ap, ◌∙◌, arith, append_assoc, append-nil, zero-add}
 use Rattle.std.specs.List.{flat_map, range_with_len}
 use Rattle.std.proofs.lemmas.List.{take_all, take_at, take-take, map_more, map_push, length-append, length-map}
 use Rattle.std.proofs.lemmas.List.Concat.{flat_map-append}
 use Rattle.stn_model.specs.declared.plant.Plant.{Plant}
-use Rattle.time_grid.specs.Slots.{slots, IsGrid, IsSlotOf}
+use Rattle.time_grid.specs.Slots.{slots}
 use Rattle.stn_model.specs.Sound.{Sound}
 use Rattle.time_grid.proofs.Lists.{range-push}
-use Rattle.time_grid.proofs.SlotList.{slots-are, few-slots}
-
--- a slot of the grid is one of the plant
-pub grid-are : (plant : Plant) (grid : List (ℕ × ℕ)) (place : ℕ) (slot : ℕ × ℕ) → IsGrid plant grid → place < length grid → slot ≡ get_or grid place slot → IsSlotOf plant slot
-grid-are plant grid place slot e l is =
-    let at : slot ≡ get_or (slots plant) place slot = is ∙ ap (λ g. get_or g place slot) e in
-    let within : place < length (slots plant) = omega (arith, l, ap length e) in
-    subst (IsSlotOf plant) (sym at) (slots-are plant place slot within)
+use Rattle.time_grid.proofs.SlotList.{few-slots}
 
 -- what a function makes of one more item
 pub map_next : {X Y : Type 0} (f : X → Y) (xs : List X) (ys zs : List Y) (i : ℕ) (x : X) (y : Y) → i < length xs → x ≡ get_or xs i x → y ≡ f x →

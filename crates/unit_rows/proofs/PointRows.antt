@@ -1,5 +1,5 @@
 -- What rows of slots sum to at the point of a plan.
-use Rattle.std.proofs.Common.{◌≡◌, ℕ, eqb, cond, List, [], ◌∷◌, map, ℤ, pos, ◌+ℤ◌, ◌*ℤ◌, sym, refl, ap, ◌∙◌}
+use Rattle.std.proofs.Common.{◌≡◌, ℕ, eqb, cond, List, map, ℤ, pos, ◌+ℤ◌, ◌*ℤ◌, sym, refl, ap, ◌∙◌}
 use Rattle.std.proofs.lemmas.List.{length-map}
 use Rattle.stn_model.specs.declared.plant.Plant.{Plant}
 use Rattle.stn_model.specs.declared.start.Start.{Start}
@@ -9,7 +9,7 @@ use Rattle.time_grid.specs.Slots.{slots, IsSlotOf}
 use Rattle.time_grid.specs.PlanPoint.{HasPoint, plan_point, start_in}
 use Rattle.time_grid.proofs.PlanPoints.{length-plan_point}
 use Rattle.time_grid.proofs.SlotList.{slots-are}
-use Rattle.time_grid.proofs.PointSums.{total_zip, counted_at, total_zip-agree, total_zip-is, total-plan_point}
+use Rattle.time_grid.proofs.PointSums.{counted_at, total_zip-agree, total_zip-is, total-plan_point}
 use Rattle.row_kit.specs.Row.{entries_sum, entries_from, part_at, parts_sum}
 use Rattle.row_kit.proofs.Gathered.{entries_sum-from}
 

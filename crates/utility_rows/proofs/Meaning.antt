@@ -13,7 +13,8 @@ use Rattle.stn_model.specs.Load.{drawn_in, drawn, load}
 use Rattle.stn_model.specs.Feasible.{LoadKept}
 use Rattle.stn_model.specs.Sound.{Sound}
 use Rattle.time_grid.specs.Slots.{slots, run_at}
-use Rattle.time_grid.specs.PlanPoint.{HasPoint, quanta_in, plan_point, start_in}
+use Rattle.time_grid.specs.PlanPoint.{HasPoint, plan_point, start_in}
+use Rattle.time_grid.proofs.PlanPoints.{length-plan_point}
 use Rattle.time_grid.proofs.PointSums.{counted_at, total_zip-is, sum-plan_point}
 use Rattle.row_kit.specs.declared.row.Row.{Row}
 use Rattle.row_kit.specs.Row.{part_at, parts_sum, entries_sum, IsKept}
@@ -61,10 +62,10 @@ counts_start plant utility period slot v =
 -- at a plan's point a load row's entries sum to the load
 pub load_sum : (plant : Plant) (plan : List Start) (utility period : ℕ) → Sound plant → HasPoint plant plan →
     entries_sum (load_row plant utility period).entries (plan_point plant plan) ≡ pos (load plant plan utility period)
-unfolding load_row load plan_point
+unfolding load_row load
 load_sum plant plan utility period sound has =
     let parts = load_parts plant utility period in
-    entries_sum-from (map parts (slots plant)) (plan_point plant plan) (length-map (slots plant) parts ∙ sym (length-map (slots plant) (quanta_in plant plan)))
+    entries_sum-from (map parts (slots plant)) (plan_point plant plan) (length-map (slots plant) parts ∙ sym (length-plan_point plant plan))
     ∙ total_zip-is (counted_at plant (draws_of plant utility period)) (λ grid values. parts_sum (map parts grid) values) (λ ys. refl) (λ x xs. refl)
     (λ x xs y ys. ap (λ n. n +ℤ parts_sum (map parts xs) ys) (counts_start plant utility period x y)) (slots plant) (plan_point plant plan)
     ∙ sum-plan_point plant (drawn plant utility period) plan sound has

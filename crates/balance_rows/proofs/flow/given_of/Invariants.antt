@@ -1,5 +1,5 @@
 use Rattle.std.proofs.Common.{◌≡◌, ◌≤◌, ◌*◌, ◌^◌, sum_by, take}
-use Rattle.balance_rows.specs.StockRows.{output_given}
+use Rattle.balance_rows.specs.Summands.{output_given}
 use Rattle.balance_rows.proofs.flow.given_of.Given as goal
 
 abbrev pub invariant-loop-output : goal.invariant-loop-output

@@ -2,7 +2,8 @@
 use Rattle.std.proofs.Common.{◌≡◌, ◌≤◌, ◌^◌, sum_by, ap, ◌∙◌, arith}
 use Rattle.std.proofs.lemmas.Int.{ints}
 use Rattle.stn_model.specs.Stock.{taken, given}
-use Rattle.balance_rows.specs.StockRows.{taken_in, given_in, input_taken, output_given}
+use Rattle.balance_rows.specs.StockRows.{taken_in, given_in}
+use Rattle.balance_rows.specs.Summands.{input_taken, output_given}
 use Rattle.balance_rows.proofs.flow.net_taken.Goals as goal
 
 pub returns-clause-value : goal.returns-clause-value

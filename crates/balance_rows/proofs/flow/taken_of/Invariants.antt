@@ -1,5 +1,5 @@
 use Rattle.std.proofs.Common.{◌≡◌, ◌≤◌, ◌*◌, ◌^◌, sum_by, take}
-use Rattle.balance_rows.specs.StockRows.{input_taken}
+use Rattle.balance_rows.specs.Summands.{input_taken}
 use Rattle.balance_rows.proofs.flow.taken_of.Given as goal
 
 abbrev pub invariant-loop-input : goal.invariant-loop-input

@@ -2,17 +2,14 @@
 use Rattle.std.proofs.Common.{◌≡◌, ◌<◌, ℤ, pos, ◌-ℤ◌, length, get_or, ap, ◌∙◌, arith, to_z, of_z, w64}
 use Rattle.std.proofs.lemmas.Int.{ints}
 use Rattle.time_grid.specs.Slots.{slots}
-use Rattle.time_grid.proofs.SlotList.{slots-are}
+use Rattle.time_grid.proofs.SlotList.{grid-are}
 use Rattle.row_kit.proofs.Gathered.{filled_more}
 use Rattle.balance_rows.specs.StockRows.{taken_in, given_in, low_parts}
 use Rattle.balance_rows.proofs.rows.fill_low.Goals as goal
 
 pub net_taken-net-requires-clause-run : goal.net_taken-net-requires-clause-run
 net_taken-net-requires-clause-run c =
-    let plant = c.args.plant.now in
-    let within : c.loop-slot.slot < length (slots plant) = omega (arith, ap length c.requires.grid) in
-    let slot : c.run_period.result ≡ get_or (slots plant) c.loop-slot.slot c.run_period.result = c.run_period.ensures ∙ ap (λ grid. get_or grid c.loop-slot.slot c.run_period.result) c.requires.grid in
-    rw slot (slots-are plant c.loop-slot.slot c.run_period.result within).run
+    (grid-are c.args.plant.now c.args.grid.now c.loop-slot.slot c.run_period.result c.requires.grid (omega arith) c.run_period.ensures).run
 
 pub loop-slot-preserved : goal.loop-slot-preserved
 unfolding low_parts

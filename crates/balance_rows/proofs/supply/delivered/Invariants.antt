@@ -1,5 +1,5 @@
 use Rattle.std.proofs.Common.{◌≡◌, ◌≤◌, ◌*◌, ◌^◌, sum_by, take}
-use Rattle.balance_rows.specs.StockRows.{delivered_by}
+use Rattle.balance_rows.specs.Summands.{delivered_by}
 use Rattle.balance_rows.proofs.supply.delivered.Given as goal
 
 abbrev pub invariant-loop-delivery : goal.invariant-loop-delivery

@@ -1,5 +1,5 @@
 use Rattle.std.proofs.Common.{◌≡◌, ◌≤◌, ◌*◌, ◌^◌, sum_by, take}
-use Rattle.balance_rows.specs.StockRows.{received_by}
+use Rattle.balance_rows.specs.Summands.{received_by}
 use Rattle.balance_rows.proofs.supply.received.Given as goal
 
 abbrev pub invariant-loop-receipt : goal.invariant-loop-receipt

@@ -4,7 +4,8 @@ use Rattle.std.proofs.lemmas.Int.{ints}
 use Rattle.std.proofs.lemmas.List.{get_or_default}
 use Rattle.stn_model.specs.Plant.{no_state}
 use Rattle.stn_model.specs.Stock.{received, delivered}
-use Rattle.balance_rows.specs.StockRows.{supply, received_by, delivered_by}
+use Rattle.balance_rows.specs.StockRows.{supply}
+use Rattle.balance_rows.specs.Summands.{received_by, delivered_by}
 use Rattle.balance_rows.proofs.supply.supply.Goals as goal
 
 pub returns-clause-value : goal.returns-clause-value

@@ -2,7 +2,8 @@
 use Rattle.std.proofs.Common.{arith}
 use Rattle.time_grid.specs.Slots.{slots}
 use Rattle.unit_rows.specs.Busy.{busy_part}
-use Rattle.unit_rows.proofs.Grids.{grid-are, map_next, map_done}
+use Rattle.time_grid.proofs.SlotList.{grid-are}
+use Rattle.unit_rows.proofs.Grids.{map_next, map_done}
 use Rattle.unit_rows.proofs.busy.busy_parts.Goals as goal
 
 pub busy_part-requires-clause-run : goal.busy_part-requires-clause-run

@@ -2,7 +2,8 @@
 use Rattle.std.proofs.Common.{arith}
 use Rattle.time_grid.specs.Slots.{slots}
 use Rattle.unit_rows.specs.Gaps.{gap_part}
-use Rattle.unit_rows.proofs.Grids.{grid-are, map_next, map_done}
+use Rattle.time_grid.proofs.SlotList.{grid-are}
+use Rattle.unit_rows.proofs.Grids.{map_next, map_done}
 use Rattle.unit_rows.proofs.gaps.gap_parts.Goals as goal
 
 pub gap_part-requires-clause-slot : goal.gap_part-requires-clause-slot

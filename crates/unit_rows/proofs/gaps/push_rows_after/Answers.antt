@@ -1,6 +1,6 @@
 -- The second slot is one of the plant.
 use Rattle.std.proofs.Common.{arith}
-use Rattle.unit_rows.proofs.Grids.{grid-are}
+use Rattle.time_grid.proofs.SlotList.{grid-are}
 use Rattle.unit_rows.proofs.gaps.push_rows_after.Goals as goal
 
 pub is_too_soon-requires-clause-second : goal.is_too_soon-requires-clause-second

@@ -2,7 +2,8 @@
 use Rattle.std.proofs.Common.{◌≡◌, ◌++◌, length, take, ap, ◌∙◌, arith}
 use Rattle.std.proofs.lemmas.List.{take_all}
 use Rattle.unit_rows.specs.Gaps.{rows_from, unit_gap_rows}
-use Rattle.unit_rows.proofs.Grids.{grid-are, begins-again, on_err}
+use Rattle.time_grid.proofs.SlotList.{grid-are}
+use Rattle.unit_rows.proofs.Grids.{begins-again, on_err}
 use Rattle.unit_rows.proofs.gaps.push_unit_rows.Goals as goal
 
 pub is_on-requires : goal.is_on-requires

@@ -1,27 +1,19 @@
 -- The slot is one of the plant's, and its place takes what it counts.
-use Rattle.std.proofs.Common.{◌≡◌, ◌<◌, ℕ, List, ℤ, pos, length, get_or, ap, ap₂, ◌∙◌, arith, to_z, w64}
+use Rattle.std.proofs.Common.{◌≡◌, ◌<◌, ℤ, pos, length, get_or, ap, ap₂, ◌∙◌, arith, to_z, w64}
 use Rattle.std.proofs.lemmas.Int.{ints}
-use Rattle.stn_model.specs.declared.plant.Plant.{Plant}
 use Rattle.time_grid.specs.Slots.{slots}
-use Rattle.time_grid.proofs.SlotList.{slots-are}
+use Rattle.time_grid.proofs.SlotList.{grid-are}
 use Rattle.row_kit.proofs.Gathered.{filled_more}
 use Rattle.utility_rows.specs.LoadRows.{fixed_drawn, each_drawn, load_parts}
 use Rattle.utility_rows.proofs.rows.fill.Goals as goal
 
--- a slot that the grid gives is of a run that is there
-run_within : (plant : Plant) (grid : List (ℕ × ℕ)) (place : ℕ) (at : ℕ × ℕ) → grid ≡ slots plant → place < length grid → at ≡ get_or grid place at → at.0 < length plant.runs
-run_within plant grid place at is within e =
-    let inside : place < length (slots plant) = omega (arith, ap length is) in
-    let slot : at ≡ get_or (slots plant) place at = e ∙ ap (λ xs. get_or xs place at) is in
-    rw slot (slots-are plant place at inside).run
-
 pub fixed_drawn-fixed-requires-clause-run : goal.fixed_drawn-fixed-requires-clause-run
 fixed_drawn-fixed-requires-clause-run c =
-    run_within c.args.plant.now c.args.grid.now c.loop-slot.slot c.run_period-at.result c.requires.grid (omega arith) c.run_period-at.ensures
+    (grid-are c.args.plant.now c.args.grid.now c.loop-slot.slot c.run_period-at.result c.requires.grid (omega arith) c.run_period-at.ensures).run
 
 pub each_drawn-each-requires-clause-run : goal.each_drawn-each-requires-clause-run
 each_drawn-each-requires-clause-run c =
-    run_within c.args.plant.now c.args.grid.now c.loop-slot.slot c.run_period-at.result c.requires.grid (omega arith) c.run_period-at.ensures
+    (grid-are c.args.plant.now c.args.grid.now c.loop-slot.slot c.run_period-at.result c.requires.grid (omega arith) c.run_period-at.ensures).run
 
 pub loop-slot-preserved : goal.loop-slot-preserved
 unfolding load_parts
