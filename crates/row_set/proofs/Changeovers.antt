@@ -1,8 +1,8 @@
 -- The changeovers of a plan's point cost what the plan's do.
-use Rattle.std.proofs.Common.{◌≡◌, ℕ, zero, suc, ◌+◌, ◌<◌, ◌≤◌, ◌==◌, ◌&&◌, ◌||◌, not, nat_lt, max, Bool, true, false, cond, if◌then◌else◌, List, [], ◌∷◌, map, filter, sum_by, IsPermutation, pos, unsigned_abs, sym, refl, ap, ap₂, ◌∙◌, inl, inr, arith}
+use Rattle.std.proofs.Common.{◌≡◌, ℕ, ◌+◌, ◌==◌, ◌&&◌, ◌||◌, not, nat_lt, max, Bool, true, false, cond, if◌then◌else◌, List, [], ◌∷◌, map, filter, sum_by, sym, refl, ap, ap₂, ◌∙◌, inl, inr, arith}
 use Rattle.std.specs.List.{list_all, list_any}
 use Rattle.std.proofs.lemmas.List.Sums.{sum_by-cons}
-use Rattle.std.proofs.lemmas.Bool.{eqb-true, eq-eqb, ne_eqb, ltb-false, cond-true, cond-false, cases_Bool, cases_eq}
+use Rattle.std.proofs.lemmas.Bool.{eq-eqb, ne_eqb, ltb-false, cond-true, cond-false, cases_Bool, cases_eq}
 use Rattle.stn_model.specs.declared.plant.Plant.{Plant}
 use Rattle.stn_model.specs.declared.plant.Gap.{Gap}
 use Rattle.stn_model.specs.declared.start.Start.{Start}
@@ -11,14 +11,13 @@ use Rattle.stn_model.specs.Batches.{is_amid, is_next}
 use Rattle.stn_model.specs.Sums.{greatest_by}
 use Rattle.stn_model.specs.Profit.{changeover, change_costs}
 use Rattle.stn_model.specs.Sound.{Sound}
-use Rattle.time_grid.specs.Slots.{run_at, slots}
-use Rattle.time_grid.specs.PlanPoint.{HasPoint, plan_point, point_starts, start_in}
+use Rattle.time_grid.specs.Slots.{slots}
+use Rattle.time_grid.specs.PlanPoint.{HasPoint, plan_point, point_starts}
 use Rattle.time_grid.proofs.SlotList.{sum_by-same}
 use Rattle.time_grid.proofs.OnePlan.{starts-permutation}
 use Rattle.time_grid.proofs.Reordered.{change_costs-permutation}
-use Rattle.row_kit.specs.declared.row.Change.{Change}
 use Rattle.row_kit.specs.declared.row.Tag.{Tag}
-use Rattle.row_kit.specs.Change.{started, is_after, is_between as lies_between, comes_next, is_listed, listed_cost, pair_cost, costs_after, changeovers}
+use Rattle.row_kit.specs.Change.{started, is_between as lies_between, comes_next, listed_cost, pair_cost, costs_after, changeovers}
 use Rattle.row_set.specs.PlantProgram.{slot_tag, gap_change, has_cost, plant_changes}
 
 -- the tag of a start
@@ -67,9 +66,9 @@ listed_is unit from to (gap ∷ gaps) =
           ap (λ gs. listed_cost (map gap_change gs) unit from to) (cond-true (has_cost gap) (gap ∷ filter has_cost gaps) (filter has_cost gaps) t)
           ∙ (elim (cases_Bool (is_between unit from to gap)) [
             | inl u ↦ cond-true {A = ℕ} (is_between unit from to gap) (max gap.cost (listed_cost (map gap_change (filter has_cost gaps)) unit from to)) (listed_cost (map gap_change (filter has_cost gaps)) unit from to) u
-              ∙ ap (λ n. max gap.cost n) rest ∙ ap (λ n. max n all) (sym (cond-true {A = ℕ} (is_between unit from to gap) gap.cost 0 u))
+                ∙ ap (λ n. max gap.cost n) rest ∙ ap (λ n. max n all) (sym (cond-true {A = ℕ} (is_between unit from to gap) gap.cost 0 u))
             | inr u ↦ cond-false {A = ℕ} (is_between unit from to gap) (max gap.cost (listed_cost (map gap_change (filter has_cost gaps)) unit from to)) (listed_cost (map gap_change (filter has_cost gaps)) unit from to) u
-              ∙ rest ∙ (let z : max 0 all ≡ all = omega arith in sym z) ∙ ap (λ n. max n all) (sym (cond-false {A = ℕ} (is_between unit from to gap) gap.cost 0 u))
+                ∙ rest ∙ (let z : max 0 all ≡ all = omega arith in sym z) ∙ ap (λ n. max n all) (sym (cond-false {A = ℕ} (is_between unit from to gap) gap.cost 0 u))
           ])
       | inr t ↦
           let none : gap.cost ≡ 0 = let h = ltb-false 0 gap.cost t in omega (arith, h) in

@@ -1,5 +1,5 @@
 -- What a start in a slot gains: its fixed part, and its part for each quantum.
-use Rattle.std.proofs.Common.{◌≡◌, ℕ, zero, suc, ◌+◌, ◌-◌, ◌*◌, ◌<◌, ◌≤◌, ◌==◌, ◌&&◌, nat_le, nat_lt, min, Bool, true, false, cond, Option, Some, List, [], ◌∷◌, length, get_or, take, sum, sum_by, slice_index, sym, refl, ap, ap₂, ◌∙◌, arith, add-one, ℤ, pos, ◌+ℤ◌, ◌-ℤ◌, ◌*ℤ◌}
+use Rattle.std.proofs.Common.{◌≡◌, ℕ, zero, suc, ◌+◌, ◌-◌, ◌*◌, ◌<◌, ◌≤◌, ◌==◌, ◌&&◌, nat_le, nat_lt, min, Bool, true, false, cond, List, [], ◌∷◌, length, get_or, take, sum, sum_by, slice_index, sym, refl, ap, ap₂, ◌∙◌, arith, add-one, ℤ, pos, ◌+ℤ◌, ◌-ℤ◌, ◌*ℤ◌}
 use Rattle.std.specs.List.{All}
 use Rattle.std.proofs.lemmas.Int.{ints}
 use Rattle.std.proofs.Math.IntN.{*ℤ-zero}
@@ -7,7 +7,6 @@ use Rattle.std.proofs.Math.Seq.{take-length}
 use Rattle.std.proofs.lemmas.List.Sums.{sum_by_more}
 use Rattle.std.proofs.lemmas.Bool.{cond-true, le-leb, leb-true, and_parts}
 use Rattle.stn_model.specs.declared.plant.Plant.{Plant}
-use Rattle.stn_model.specs.declared.plant.Run.{Run}
 use Rattle.stn_model.specs.declared.plant.Task.{Task}
 use Rattle.stn_model.specs.declared.plant.Input.{Input}
 use Rattle.stn_model.specs.declared.plant.Output.{Output}
@@ -18,8 +17,8 @@ use Rattle.stn_model.specs.Stock.{given, taken, inflow, outflow, stock}
 use Rattle.stn_model.specs.Load.{drawn_in, drawn, load}
 use Rattle.stn_model.specs.Points.{has_slot}
 use Rattle.stn_model.specs.Sums.{total, total_below, sum_below, greatest_by}
-use Rattle.stn_model.specs.Profit.{end_value, payments, holding_cost, utility_cost, cost_of, start_cost, change_costs, profit}
-use Rattle.stn_model.specs.Sound.{Sound, SoundRun, SoundTask}
+use Rattle.stn_model.specs.Profit.{end_value, holding_cost, utility_cost, cost_of, start_cost, profit}
+use Rattle.stn_model.specs.Sound.{Sound, SoundTask}
 use Rattle.plain_plan.proofs.SmallProfit.{change_costs-nil, change_costs-one}
 use Rattle.plain_plan.proofs.Linear.{gain_alone}
 use Rattle.time_grid.specs.Slots.{no_run, run_at, IsSlotOf}
@@ -27,7 +26,7 @@ use Rattle.time_grid.specs.PlanPoint.{start_in}
 use Rattle.time_grid.proofs.SlotList.{sum_by-same}
 use Rattle.time_grid.proofs.PointPlan.{found_run}
 use Rattle.row_set.specs.ProfitParts.{worth_from, output_worth, input_worth, fixed_cost, each_cost, fixed_profit, each_profit}
-use Rattle.row_set.proofs.Signed.{times-add, times-sub, times-plus, parts-worth, quanta-parts, quanta-price, scale-add, scale-sub, total-scale}
+use Rattle.row_set.proofs.Signed.{times-add, times-sub, times-plus, parts-worth, quanta-parts, quanta-price, scale-sub, total-scale}
 use Rattle.row_set.proofs.Below.{below-agree, total-agree, below-add, below-sub, total-add, total-sub, below-zero, below-turn, below-total, by_items, below-from, below-window, below-times}
 
 both-tests : (a b : Bool) (n : ℕ) → cond (a && b) n 0 ≡ cond a (cond b n 0) 0
@@ -125,7 +124,7 @@ holding-one plant a c n m =
     (below-sub come gone n ∙ ap₂ (λ x y. x -ℤ y) (sym (below-turn (λ s t. c s *ℤ pos (given plant s t a)) m n)) (sym (below-turn (λ s t. c s *ℤ pos (taken plant s t a)) m n)))
 
 -- the task of a slot
-abbrev task_in : Plant → ℕ × ℕ → Task
+abbrev pub task_in : Plant → ℕ × ℕ → Task
 task_in plant slot = task_at plant (run_at plant slot.0).task
 
 abbrev price_of : Plant → ℕ → ℤ
@@ -146,17 +145,18 @@ taken-moved : (plant : Plant) (slot : ℕ × ℕ) (v s t : ℕ) → taken plant 
 unfolding taken moved
 taken-moved plant slot v s t = refl
 
-greatest-each : {X : Type 0} (f : X → ℕ) (xs : List X) → All (λ x. f x ≤ greatest_by f xs) xs
+-- each is no greater than the greatest
+pub greatest-each : {X : Type 0} (f : X → ℕ) (xs : List X) → All (λ x. f x ≤ greatest_by f xs) xs
 greatest-each f [] k d l = absurd (omega arith)
 greatest-each f (x ∷ xs) zero d l = omega arith
 greatest-each f (x ∷ xs) (suc k) d l = let h = greatest-each f xs k d (omega arith) in omega (arith, h)
 
 -- a slot's batch ends by the horizon, and so do its outputs
-record EndsBy (plant : Plant) (slot : ℕ × ℕ) : Type 0 where
-  ends : slot.1 + duration_of (task_in plant slot) ≤ plant.periods
-  outputs : All (λ output. slot.1 + output.delay ≤ plant.periods) (task_in plant slot).outputs
+pub record EndsBy (plant : Plant) (slot : ℕ × ℕ) : Type 0 where
+  pub ends : slot.1 + duration_of (task_in plant slot) ≤ plant.periods
+  pub outputs : All (λ output. slot.1 + output.delay ≤ plant.periods) (task_in plant slot).outputs
 
-ends_by : (plant : Plant) (slot : ℕ × ℕ) → IsSlotOf plant slot → EndsBy plant slot
+pub ends_by : (plant : Plant) (slot : ℕ × ℕ) → IsSlotOf plant slot → EndsBy plant slot
 unfolding has_slot duration_of
 ends_by plant slot is =
     let ends : slot.1 + duration_of (task_in plant slot) ≤ plant.periods = leb-true _ _ (and_parts _ _ is.has).0 in

@@ -1,5 +1,5 @@
 -- What the points of a plant's program mean.
-use Rattle.std.proofs.Common.{◌≡◌, ◌↔◌, ℕ, ◌+◌, ◌<◌, ◌≤◌, List, [], ◌∷◌, ◌++◌, map, length, sym, refl, ap, ap₂, ◌∙◌, subst, arith, ℤ, pos, ◌+ℤ◌, ◌-ℤ◌, ◌*ℤ◌, ◌≤ℤ◌}
+use Rattle.std.proofs.Common.{◌≡◌, ℕ, List, ◌++◌, map, sym, ap, ap₂, ◌∙◌, subst, arith}
 use Rattle.std.specs.List.{All}
 use Rattle.std.proofs.lemmas.Int.{ints}
 use Rattle.std.proofs.lemmas.List.Elements.{All-append}
@@ -11,9 +11,9 @@ use Rattle.stn_model.specs.Sums.{total}
 use Rattle.stn_model.specs.Sound.{Sound}
 use Rattle.plain_plan.proofs.Linear.{gain_alone, profit-gains}
 use Rattle.time_grid.specs.Slots.{slots}
-use Rattle.time_grid.specs.PlanPoint.{HasPoint, plan_point, IsPlanOf}
+use Rattle.time_grid.specs.PlanPoint.{HasPoint, plan_point, point_starts}
 use Rattle.time_grid.proofs.OnePlan.{has_point-feasible}
-use Rattle.time_grid.proofs.PointPlan.{point-of_plan, plan_point-is}
+use Rattle.time_grid.proofs.PointPlan.{starts-of_point, point-of_plan, plan_point-is}
 use Rattle.row_kit.specs.declared.domain.Domain.{Domain}
 use Rattle.row_kit.specs.declared.program.Program.{Program}
 use Rattle.row_kit.specs.declared.row.Row.{Row}
@@ -22,7 +22,7 @@ use Rattle.row_kit.specs.declared.row.Change.{Change}
 use Rattle.row_kit.specs.declared.row.Entry.{Entry}
 use Rattle.row_kit.specs.Row.{entries_sum, entries_from, IsKept}
 use Rattle.row_kit.specs.Change.{changeovers}
-use Rattle.row_kit.specs.Point.{LiesIn, IsLawful, value_of, worth_of}
+use Rattle.row_kit.specs.Point.{LiesIn, worth_of}
 use Rattle.row_kit.proofs.Tables.{All-front, All-back}
 use Rattle.balance_rows.specs.StockRows.{stock_rows}
 use Rattle.balance_rows.proofs.Meaning.{stock_rows-kept}
@@ -34,7 +34,7 @@ use Rattle.unit_rows.proofs.BusyRows.{busy_rows-kept}
 use Rattle.unit_rows.proofs.GapRows.{gap_rows-kept}
 use Rattle.unit_rows.proofs.PointRows.{entries_sum-plan_point}
 use Rattle.row_set.specs.ProfitParts.{profit_part}
-use Rattle.row_set.specs.PlantProgram.{plant_rows, slot_domain, slot_tag, plant_changes, IsMadeOf, IsProgramOf}
+use Rattle.row_set.specs.PlantProgram.{plant_rows, IsMadeOf, IsProgramOf}
 use Rattle.row_set.proofs.GainParts.{gain-parts}
 use Rattle.row_set.proofs.Roots.{point-of_root, root-of_point}
 use Rattle.row_set.proofs.Changeovers.{changeovers-are}
@@ -115,6 +115,13 @@ program-of_parts plant program sound made = record {
   );
   worth = λ plan has. worth-profit plant program plan sound made has;
   most = λ point. omega (arith, ints);
+  some = λ point lawful.
+      let own = starts-of_point plant point sound (point-of_root plant point (subst (λ (ds : List Domain). LiesIn ds point) made.root_is lawful.lies)) in
+      let plan = point_starts plant (slots plant) point in
+      let keeps = subst (λ (p : List ℕ). All (IsKept p) program.rows) (sym own.1) lawful.keeps in (
+        plan,
+        (feasible_from_rows plant plan sound own.0 (subst (All (IsKept (plan_point plant plan))) made.rows_are keeps), own.1),
+      );
   plans = λ point plan lawful is.
       point-of_plan plant point plan sound (point-of_root plant point (subst (λ (ds : List Domain). LiesIn ds point) made.root_is lawful.lies)) is;
 }

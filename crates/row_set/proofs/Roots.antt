@@ -1,14 +1,14 @@
 -- The points of the root are the points of the plant.
-use Rattle.std.proofs.Common.{◌≡◌, ℕ, zero, suc, ◌+◌, ◌<◌, ◌≤◌, true, false, List, [], ◌∷◌, length, get_or, map, sym, refl, ap, ◌∙◌, inl, inr, arith}
+use Rattle.std.proofs.Common.{ℕ, zero, suc, ◌<◌, false, List, [], ◌∷◌, length, get_or, map, refl, inl, inr, arith}
 use Rattle.std.specs.List.{All, AllZip}
 use Rattle.std.proofs.lemmas.List.Elements.{All-map}
 use Rattle.std.proofs.lemmas.Bool.{cases_eq}
 use Rattle.stn_model.specs.declared.plant.Plant.{Plant}
 use Rattle.stn_model.specs.Sound.{Sound}
-use Rattle.time_grid.specs.Slots.{no_run, run_at, slots}
+use Rattle.time_grid.specs.Slots.{no_run, slots}
 use Rattle.time_grid.specs.PlanPoint.{IsChoice, IsPoint}
 use Rattle.time_grid.proofs.SlotList.{slots-are}
-use Rattle.row_kit.specs.Domain.{Holds, IsNormal, IsOpen, count_of}
+use Rattle.row_kit.specs.Domain.{Holds, IsNormal, IsOpen}
 use Rattle.row_kit.specs.Point.{LiesIn}
 use Rattle.row_set.specs.PlantProgram.{slot_domain}
 
@@ -23,9 +23,10 @@ choices-of : (plant : Plant) (grid : List (ℕ × ℕ)) (point : List ℕ) → L
 choices-of plant [] [] lies = tt
 choices-of plant [] (value ∷ values) lies = absurd (let h = lies.same_length in omega (arith, h))
 choices-of plant (slot ∷ grid) [] lies = absurd (let h = lies.same_length in omega (arith, h))
-choices-of plant (slot ∷ grid) (value ∷ values) lies =
-    (choice-of plant slot value (lies.held 0 (omega arith)),
-      choices-of plant grid values (record { same_length = (let h = lies.same_length in omega (arith, h)); held = λ k l. lies.held (suc k) (omega arith) }))
+choices-of plant (slot ∷ grid) (value ∷ values) lies = (
+  choice-of plant slot value (lies.held 0 (omega arith)),
+  choices-of plant grid values (record { same_length = (let h = lies.same_length in omega (arith, h)); held = λ k l. lies.held (suc k) (omega arith) }),
+)
 
 lies-of : (plant : Plant) (grid : List (ℕ × ℕ)) (point : List ℕ) → AllZip (IsChoice plant) grid point → LiesIn (map (slot_domain plant) grid) point
 lies-of plant [] [] choices = record { same_length = refl; held = λ k l. absurd (omega arith) }

@@ -1,5 +1,5 @@
 -- The program of a plant: of which parts it is made, and what its points mean.
-use Rattle.std.specs.Prelude.{◌≡◌, ◌↔◌, ℕ, nat_lt, Bool, true, List, [], ◌++◌, map, filter, ℤ, pos, ◌≤ℤ◌}
+use Rattle.std.specs.Prelude.{◌≡◌, ◌↔◌, ℕ, nat_lt, Bool, true, List, [], ◌++◌, map, filter, pos, ◌≤ℤ◌}
 use Rattle.stn_model.specs.declared.plant.Plant.{Plant}
 use Rattle.stn_model.specs.declared.plant.Gap.{Gap}
 use Rattle.stn_model.specs.declared.start.Start.{Start}
@@ -53,11 +53,12 @@ pub record IsMadeOf (plant : Plant) (program : Program) : Type 0 where
   pub tags_are : program.tags ≡ map (slot_tag plant) (slots plant)
   pub changes_are : program.changes ≡ plant_changes plant
 
--- The program says of points what the plant says of plans: a list of starts is feasible exactly where it
--- has a point and the point is lawful; the worth of a list's point is the list's profit, and never above
--- the point's value; and a lawful point is the point of its plan.
+-- The program says of points what the plant says of plans. A list of starts is feasible exactly where it
+-- has a point and the point is lawful; the worth of a list's point is the list's profit; the worth of a
+-- point is never above its value; each lawful point is the point of a feasible list, and of its own plan.
 pub record IsProgramOf (plant : Plant) (program : Program) : Type 0 where
   pub feasible : (plan : List Start) → Feasible plant plan ↔ (HasPoint plant plan × IsLawful program (plan_point plant plan))
   pub worth : (plan : List Start) → HasPoint plant plan → worth_of program (plan_point plant plan) ≡ profit plant plan
   pub most : (point : List ℕ) → worth_of program point ≤ℤ value_of program point
+  pub some : (point : List ℕ) → IsLawful program point → (plan : List Start) × (Feasible plant plan × (plan_point plant plan ≡ point))
   pub plans : (point : List ℕ) (plan : List Start) → IsLawful program point → IsPlanOf plant point plan → HasPoint plant plan × (plan_point plant plan ≡ point)

@@ -149,13 +149,19 @@ pub plan_point-permutation : (plant : Plant) (P Q : List Start) → IsPermutatio
 unfolding plan_point quanta_in
 plan_point-permutation plant P Q same = map-same (quanta_in plant P) (quanta_in plant Q) (λ slot. sym (sum_by-IsPermutation (quanta_of plant slot) P Q same)) (slots plant)
 
+-- the starts of a point have that point
+pub starts-of_point : (plant : Plant) (point : List ℕ) → Sound plant → IsPoint plant point →
+    HasPoint plant (point_starts plant (slots plant) point) × (plan_point plant (point_starts plant (slots plant) point) ≡ point)
+unfolding plan_point
+starts-of_point plant point sound choices =
+    let own = point-of_starts plant (slots plant) point sound (slots-are plant) (slots-rise plant) choices in (own.has, own.values_are)
+
 -- the plan of a point has that point
 pub point-of_plan : (plant : Plant) (point : List ℕ) (plan : List Start) → Sound plant → IsPoint plant point → IsPlanOf plant point plan → HasPoint plant plan × (plan_point plant plan ≡ point)
-unfolding plan_point
 point-of_plan plant point plan sound choices is =
-    let own = point-of_starts plant (slots plant) point sound (slots-are plant) (slots-rise plant) choices in (
-      has_point-permutation plant (point_starts plant (slots plant) point) plan is.starts own.has,
-      sym (plan_point-permutation plant (point_starts plant (slots plant) point) plan is.starts) ∙ own.values_are,
+    let own = starts-of_point plant point sound choices in (
+      has_point-permutation plant (point_starts plant (slots plant) point) plan is.starts own.0,
+      sym (plan_point-permutation plant (point_starts plant (slots plant) point) plan is.starts) ∙ own.1,
     )
 
 -- what a plan has in a slot is one of the slot's choices
