@@ -1,0 +1,3 @@
+pub mod Settle
+pub mod Steps
+pub mod View
