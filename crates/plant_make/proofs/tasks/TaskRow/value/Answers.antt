@@ -2,7 +2,7 @@ use Rattle.std.proofs.Common.{refl, ap, ◌∙◌}
 use Rattle.toml.specs.Data.{string, table}
 use Rattle.toml.specs.View.{members_view}
 use Rattle.toml.proofs.Views.{view-Table}
-use Rattle.plant_make.proofs.Chains.{task_chain}
+use Rattle.plant_make.proofs.KeyByKey.{task_chain}
 use Rattle.plant_make.proofs.tasks.TaskRow.value.Goals as goal
 
 pub rows-requires-clause-fits : goal.rows-requires-clause-fits
