@@ -50,11 +50,12 @@ not_true false e = refl
 none_same : {X : Type 0} (p : X → Bool) (xs : List X) → list_any p xs ≡ false → AllByRecursion (λ x. p x ≡ false) xs
 none_same p [] none = tt
 none_same p (x ∷ xs) none = elim (cases_Bool (p x)) [ inl e ↦ absurd (contradiction e none) | inr e ↦ (e, none_same p xs (rest e none)) ]
-    where
-      contradiction : p x ≡ true → list_any p (x ∷ xs) ≡ false → ⊥
-      contradiction e none = let there : list_any p (x ∷ xs) ≡ true = rw e refl in cc
-      rest : p x ≡ false → list_any p (x ∷ xs) ≡ false → list_any p xs ≡ false
-      rest e none = rw e at none
+  where
+    contradiction : p x ≡ true → list_any p (x ∷ xs) ≡ false → ⊥
+    contradiction e none = let there : list_any p (x ∷ xs) ≡ true = rw e refl in cc
+
+    rest : p x ≡ false → list_any p (x ∷ xs) ≡ false → list_any p xs ≡ false
+    rest e none = rw e at none
 
 apart : {Y X : Type 0} (see : Y → X) (same : X → X → Bool) → ((a b : X) → a ≡ b → same a b ≡ true) → (ys : List Y) → differ same (map see ys) ≡ true → AllPairs (λ (a b : Y). see a ≢ see b) ys
 apart see same reflects [] are = λ i j d less within. absurd (omega arith)
@@ -63,10 +64,10 @@ apart see same reflects (y ∷ ys) are =
     AllPairs-cons (λ a b. see a ≢ see b) y ys
     (All-from_recursion (λ b. see y ≢ see b) ys (others ys (none_same (same (see y)) (map see ys) (not_true _ parts.0))))
     (apart see same reflects ys parts.1)
-    where
-      others : (zs : List _) → AllByRecursion (λ x. same (see y) x ≡ false) (map see zs) → AllByRecursion (λ b. see y ≢ see b) zs
-      others [] none = tt
-      others (z ∷ zs) none = ((λ e. let there = reflects (see y) (see z) e in absurd cc), others zs none.1)
+  where
+    others : (zs : List _) → AllByRecursion (λ x. same (see y) x ≡ false) (map see zs) → AllByRecursion (λ b. see y ≢ see b) zs
+    others [] none = tt
+    others (z ∷ zs) none = ((λ e. let there = reflects (see y) (see z) e in absurd cc), others zs none.1)
 
 texts_reflect : (a b : List ℕ) → a ≡ b → bytes_eq a b ≡ true
 texts_reflect a b e = (bytes_eq-Decides a b).1 e
@@ -137,8 +138,7 @@ states_sound seed chain below =
     let price = taken-below seed (15 * chain + 1) 3 (omega arith) in
     let limit = taken-below seed (15 * chain + 2) 5 (omega arith) in
     let holding = taken-below seed (15 * chain + 3) 2 (omega arith) in
-    let earns = taken-below seed (15 * chain + 4) 11 (omega arith) in
-    (
+    let earns = taken-below seed (15 * chain + 4) 11 (omega arith) in (
       record {
         name = name_of_letter 70 chain refl digit;
         initial = omega (arith, stock);
@@ -147,22 +147,27 @@ states_sound seed chain below =
         price = omega (arith, price);
         holding = omega arith;
       },
-      (record {
-        name = name_of_letter 73 chain refl digit;
-        initial = omega arith;
-        limits = inr refl;
-        limit = All-from_recursion (λ n. n ≤ 1000000000) (replicate 13 (20 + 10 * of_chain seed chain 2 5)) (all_repeated 1000000000 (20 + 10 * of_chain seed chain 2 5) 13 (omega (arith, limit)));
-        price = omega arith;
-        holding = omega (arith, holding);
-      },
-      (record {
-        name = name_of_letter 80 chain refl digit;
-        initial = omega arith;
-        limits = inl refl;
-        limit = λ k d within. absurd (omega arith);
-        price = omega (arith, earns);
-        holding = omega arith;
-      }, tt)),
+      (
+        record {
+          name = name_of_letter 73 chain refl digit;
+          initial = omega arith;
+          limits = inr refl;
+          limit = All-from_recursion (λ n. n ≤ 1000000000) (replicate 13 (20 + 10 * of_chain seed chain 2 5)) (all_repeated 1000000000 (20 + 10 * of_chain seed chain 2 5) 13 (omega (arith, limit)));
+          price = omega arith;
+          holding = omega (arith, holding);
+        },
+        (
+          record {
+            name = name_of_letter 80 chain refl digit;
+            initial = omega arith;
+            limits = inl refl;
+            limit = λ k d within. absurd (omega arith);
+            price = omega (arith, earns);
+            holding = omega arith;
+          },
+          tt,
+        ),
+      ),
     )
 
 part_is : (quantum amount over under : ℕ) → 1 ≤ over → over ≤ under → under ≤ 10000 → amount * under ≡ quantum * over → IsPart quantum amount
@@ -177,8 +182,7 @@ tasks_sound plant seed chains chain states utilities below most =
     let digit : chain < 9 = omega arith in
     let long : ℕ = 1 + of_chain seed chain 5 2 in
     let short = taken-below seed (15 * chain + 5) 2 (omega arith) in
-    let lasts = taken-below seed (15 * chain + 6) 2 (omega arith) in
-    (
+    let lasts = taken-below seed (15 * chain + 6) 2 (omega arith) in (
       record {
         name = name_of_letter 77 chain refl digit;
         quantum = (omega arith, omega arith);
@@ -197,21 +201,24 @@ tasks_sound plant seed chains chain states utilities below most =
         taken = refl;
         given = refl;
       },
-      (record {
-        name = name_of_letter 75 chain refl digit;
-        quantum = (omega arith, omega arith);
-        inputs = (omega arith, omega arith);
-        outputs = (omega arith, omega arith);
-        draws = omega arith;
-        input = all_of_one (SoundInput plant 5) _ record { state = omega arith; part = part_is 5 5 1 1 (omega arith) (omega arith) (omega arith) (omega arith) };
-        output = All-from_recursion (SoundOutput plant 5) (second_task seed chain).outputs (
-          record { state = omega arith; part = part_is 5 4 4 5 (omega arith) (omega arith) (omega arith) (omega arith); delay = (omega arith, omega (arith, lasts)) },
-          (record { state = omega arith; part = part_is 5 1 1 5 (omega arith) (omega arith) (omega arith) (omega arith); delay = (omega arith, omega arith) }, tt),
-        );
-        draw = λ k d within. absurd (omega arith);
-        taken = refl;
-        given = refl;
-      }, tt),
+      (
+        record {
+          name = name_of_letter 75 chain refl digit;
+          quantum = (omega arith, omega arith);
+          inputs = (omega arith, omega arith);
+          outputs = (omega arith, omega arith);
+          draws = omega arith;
+          input = all_of_one (SoundInput plant 5) _ record { state = omega arith; part = part_is 5 5 1 1 (omega arith) (omega arith) (omega arith) (omega arith) };
+          output = All-from_recursion (SoundOutput plant 5) (second_task seed chain).outputs (
+            record { state = omega arith; part = part_is 5 4 4 5 (omega arith) (omega arith) (omega arith) (omega arith); delay = (omega arith, omega (arith, lasts)) },
+            (record { state = omega arith; part = part_is 5 1 1 5 (omega arith) (omega arith) (omega arith) (omega arith); delay = (omega arith, omega arith) }, tt),
+          );
+          draw = λ k d within. absurd (omega arith);
+          taken = refl;
+          given = refl;
+        },
+        tt,
+      ),
     )
 
 runs_sound : (plant : Plant) (seed chains chain : ℕ) → length plant.tasks ≡ 2 * chains → length plant.units ≡ 3 → chain < chains → AllByRecursion (SoundRun plant) (runs_of seed chain)
@@ -224,8 +231,7 @@ runs_sound plant seed chains chain tasks units below =
     let b11 = taken-below seed (15 * chain + 11) 3 (omega arith) in
     let b12 = taken-below seed (15 * chain + 12) 2 (omega arith) in
     let b13 = taken-below seed (15 * chain + 13) 5 (omega arith) in
-    let b14 = taken-below seed (15 * chain + 14) 4 (omega arith) in
-    (
+    let b14 = taken-below seed (15 * chain + 14) 4 (omega arith) in (
       record { task = omega arith; unit = omega (arith, b7); least = omega arith; range = omega (arith, b8); most = omega (arith, b9); cost = omega (arith, b10) },
       (record { task = omega arith; unit = omega (arith, b11); least = omega arith; range = omega (arith, b12); most = omega (arith, b13); cost = omega (arith, b14) }, tt),
     )

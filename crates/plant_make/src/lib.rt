@@ -15,3 +15,6 @@ mod values;
 
 pub use made::make;
 pub use print::put_plant;
+
+#[cfg(test)]
+mod tests;
