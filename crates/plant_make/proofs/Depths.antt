@@ -103,10 +103,16 @@ unfolding task_entries
 task_low plant task =
     made_low 3 (task_entries plant task) (
       omega arith,
-      (omega arith,
-      (some_low 2 _ (rows_low _ 2 (input_low plant task.quantum) task.inputs),
-      (some_low 2 _ (rows_low _ 2 (output_low plant task.quantum) task.outputs),
-      (some_low 2 _ (rows_low _ 2 (draw_low plant) task.draws), tt)))),
+      (
+        omega arith,
+        (
+          some_low 2 _ (rows_low _ 2 (input_low plant task.quantum) task.inputs),
+          (
+            some_low 2 _ (rows_low _ 2 (output_low plant task.quantum) task.outputs),
+            (some_low 2 _ (rows_low _ 2 (draw_low plant) task.draws), tt),
+          ),
+        ),
+      ),
     )
 
 -- two levels for small records, where there is room for four
@@ -119,14 +125,32 @@ unfolding plant_entries
 document_low plant =
     depth_of_entries 5 (plant_entries plant) (
       omega arith,
-      (omega arith,
-      (some_low 4 _ (rows_low _ 4 (λ state. four (made_of (state_entries state)) (state_low state)) plant.states),
-      (some_low 4 _ (rows_low _ 4 (λ utility. four (made_of (utility_entries utility)) (utility_low utility)) plant.utilities),
-      (some_low 4 _ (rows_low _ 4 (λ unit. four (made_of (unit_entries unit)) (unit_low unit)) plant.units),
-      (some_low 4 _ (rows_low _ 4 (task_low plant) plant.tasks),
-      (some_low 4 _ (rows_low _ 4 (λ run. four (made_of (run_entries plant run)) (run_low plant run)) plant.runs),
-      (some_low 4 _ (rows_low _ 4 (λ gap. four (made_of (gap_entries plant gap)) (gap_low plant gap)) plant.gaps),
-      (some_low 4 _ (rows_low _ 4 (λ receipt. four (made_of (receipt_entries plant receipt)) (receipt_low plant receipt)) plant.receipts),
-      (some_low 4 _ (rows_low _ 4 (λ delivery. four (made_of (delivery_entries plant delivery)) (delivery_low plant delivery)) plant.deliveries),
-      (some_low 4 _ (rows_low _ 4 (λ outage. four (made_of (outage_entries plant outage)) (outage_low plant outage)) plant.outages), tt)))))))))),
+      (
+        omega arith,
+        (
+          some_low 4 _ (rows_low _ 4 (λ state. four (made_of (state_entries state)) (state_low state)) plant.states),
+          (
+            some_low 4 _ (rows_low _ 4 (λ utility. four (made_of (utility_entries utility)) (utility_low utility)) plant.utilities),
+            (
+              some_low 4 _ (rows_low _ 4 (λ unit. four (made_of (unit_entries unit)) (unit_low unit)) plant.units),
+              (
+                some_low 4 _ (rows_low _ 4 (task_low plant) plant.tasks),
+                (
+                  some_low 4 _ (rows_low _ 4 (λ run. four (made_of (run_entries plant run)) (run_low plant run)) plant.runs),
+                  (
+                    some_low 4 _ (rows_low _ 4 (λ gap. four (made_of (gap_entries plant gap)) (gap_low plant gap)) plant.gaps),
+                    (
+                      some_low 4 _ (rows_low _ 4 (λ receipt. four (made_of (receipt_entries plant receipt)) (receipt_low plant receipt)) plant.receipts),
+                      (
+                        some_low 4 _ (rows_low _ 4 (λ delivery. four (made_of (delivery_entries plant delivery)) (delivery_low plant delivery)) plant.deliveries),
+                        (some_low 4 _ (rows_low _ 4 (λ outage. four (made_of (outage_entries plant outage)) (outage_low plant outage)) plant.outages), tt),
+                      ),
+                    ),
+                  ),
+                ),
+              ),
+            ),
+          ),
+        ),
+      ),
     )

@@ -3,7 +3,7 @@ pub mod Names
 pub mod Parts
 pub mod Tables
 pub mod Passing
-pub mod Chains
+pub mod KeyByKey
 pub mod Lists
 pub mod Limits
 pub mod Reading
@@ -11,3 +11,5 @@ pub mod TaskReading
 pub mod PlantReading
 pub mod Depths
 pub mod Texts
+pub mod Counts
+pub mod MadeSound

@@ -57,16 +57,14 @@ module _ (place : Place) (lone_key several_key : Key) (o p : Option Data) (ns : 
             (absent_ok place lone_key o (count 0 most) o_is (lone_free o_is), absent_ok place several_key p (fields.numbers (is_some o) size most) p_is several_free, rw (o_is, p_is, empty) refl)
         | one n rest is l s all ↦
             let o_is : o ≡ Some (number n) = is_o ∙ ap (option_map number) l in
-            let p_is : p ≡ None = is_p ∙ ap (option_map numbers) s in
-            (
+            let p_is : p ≡ None = is_p ∙ ap (option_map numbers) s in (
               count_ok place lone_key 0 most n o o_is (omega arith) (first_small most n ns rest is small),
               absent_ok place several_key p (fields.numbers (is_some o) size most) p_is several_free,
               rw (o_is, p_is) (ap (λ (m : ℕ). replicate m n) (sym (is_long n size ns rest is long)) ∙ sym all),
             )
         | many n rest is l s ↦
             let o_is : o ≡ None = is_o ∙ ap (option_map number) l in
-            let p_is : p ≡ Some (numbers ns) = is_p ∙ ap (option_map numbers) s in
-            (
+            let p_is : p ≡ Some (numbers ns) = is_p ∙ ap (option_map numbers) s in (
               absent_ok place lone_key o (count 0 most) o_is (lone_free o_is),
               numbers_ok place several_key (is_some o) size most ns p p_is (rw o_is refl) (is_long n size ns rest is long) small,
               rw (o_is, p_is) (numbers_back ns),

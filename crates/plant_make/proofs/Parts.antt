@@ -124,8 +124,7 @@ part_good quantum amount some part =
 pub part_whole : (quantum amount : ℕ) (f : Fraction) → IsPartOf quantum amount f → (is_whole quantum f ≡ true) × (amount_in quantum f ≡ amount)
 part_whole quantum amount f is =
     let product : quantum * f.over ≡ amount * f.under = sym is.same in
-    let positive : 0 < f.under = omega (arith, is.proper.some, is.proper.most) in
-    (
+    let positive : 0 < f.under = omega (arith, is.proper.some, is.proper.most) in (
       rw (product, mul-mod_left amount f.under) refl,
       rw product (mul-div_cancel amount positive),
     )

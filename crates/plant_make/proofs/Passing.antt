@@ -29,10 +29,10 @@ packed_back (d ∷ ds) = ap (λ (rest : List Data). d ∷ rest) (packed_back ds)
 
 pub numbers_back : (ns : List ℕ) → numbers_of (made.numbers ns) ≡ ns
 numbers_back ns = ap (map count_of) (packed_back (map number ns)) ∙ counts ns
-    where
-      counts : (ms : List ℕ) → map count_of (map number ms) ≡ ms
-      counts [] = refl
-      counts (m ∷ ms) = ap (λ (rest : List ℕ). m ∷ rest) (counts ms)
+  where
+    counts : (ms : List ℕ) → map count_of (map number ms) ≡ ms
+    counts [] = refl
+    counts (m ∷ ms) = ap (λ (rest : List ℕ). m ∷ rest) (counts ms)
 
 within : (low high n : ℕ) → low ≤ n → n ≤ high → is_within low high (pos n) ≡ true
 within low high n least most = rw (le-leb low n least, le-leb n high most) refl

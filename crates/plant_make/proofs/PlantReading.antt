@@ -233,17 +233,17 @@ plant_is : (plant : Plant) (inside : Members) → Sound plant → Holds plant in
 unfolding plant_in plant_with
 plant_is plant inside sound holds =
     rw (scope_is plant inside sound holds) (
-      let states : items_at inside (optional key.State) ≡ map state_made plant.states = items_back _ _ holds.states in
-      let utilities : items_at inside (optional key.Utility) ≡ map utility_made plant.utilities = items_back _ _ holds.utilities in
-      let units : items_at inside (optional key.StnUnit) ≡ map unit_made plant.units = items_back _ _ holds.units in
-      let tasks : items_at inside (optional key.Task) ≡ map (task_made plant) plant.tasks = items_back _ _ holds.tasks in
-      let runs : items_at inside (optional key.Run) ≡ map (run_made plant) plant.runs = items_back _ _ holds.runs in
-      let gaps : items_at inside (optional key.Gap) ≡ map (gap_made plant) plant.gaps = items_back _ _ holds.gaps in
-      let receipts : items_at inside (optional key.Receipt) ≡ map (receipt_made plant) plant.receipts = items_back _ _ holds.receipts in
-      let deliveries : items_at inside (optional key.Delivery) ≡ map (delivery_made plant) plant.deliveries = items_back _ _ holds.deliveries in
-      let outages : items_at inside (since true key.Outage) ≡ map (outage_made plant) plant.outages = items_back _ _ holds.outages in
-      rw (states, utilities, units, tasks, runs, gaps, receipts, deliveries, outages)
-      (rw ((states_read plant sound).1, (utilities_read plant sound).1, (units_read plant sound).1, (tasks_read plant sound).1, (runs_read plant sound).1, (gaps_read plant sound).1, (receipts_read plant sound).1, (deliveries_read plant sound).1, (outages_read plant sound).1) refl)
+    let states : items_at inside (optional key.State) ≡ map state_made plant.states = items_back _ _ holds.states in
+    let utilities : items_at inside (optional key.Utility) ≡ map utility_made plant.utilities = items_back _ _ holds.utilities in
+    let units : items_at inside (optional key.StnUnit) ≡ map unit_made plant.units = items_back _ _ holds.units in
+    let tasks : items_at inside (optional key.Task) ≡ map (task_made plant) plant.tasks = items_back _ _ holds.tasks in
+    let runs : items_at inside (optional key.Run) ≡ map (run_made plant) plant.runs = items_back _ _ holds.runs in
+    let gaps : items_at inside (optional key.Gap) ≡ map (gap_made plant) plant.gaps = items_back _ _ holds.gaps in
+    let receipts : items_at inside (optional key.Receipt) ≡ map (receipt_made plant) plant.receipts = items_back _ _ holds.receipts in
+    let deliveries : items_at inside (optional key.Delivery) ≡ map (delivery_made plant) plant.deliveries = items_back _ _ holds.deliveries in
+    let outages : items_at inside (since true key.Outage) ≡ map (outage_made plant) plant.outages = items_back _ _ holds.outages in
+    rw (states, utilities, units, tasks, runs, gaps, receipts, deliveries, outages)
+    (rw ((states_read plant sound).1, (utilities_read plant sound).1, (units_read plant sound).1, (tasks_read plant sound).1, (runs_read plant sound).1, (gaps_read plant sound).1, (receipts_read plant sound).1, (deliveries_read plant sound).1, (outages_read plant sound).1) refl)
     )
 
 sizes_ok : (plant : Plant) → Sound plant → Pass (size_tests plant)

@@ -54,12 +54,11 @@ receipt_ok scope plant place receipt reads sound =
     let state : held inside (needed key.State) ≡ Some (state_name plant receipt.state) = held_is (needed key.State) es _ refl refl in
     let time : held inside (needed key.Time) ≡ Some (number receipt.time) = held_is (needed key.Time) es _ refl refl in
     let amount : held inside (needed key.Amount) ≡ Some (number receipt.amount) = held_is (needed key.Amount) es _ refl refl in
-    let first = reads.states receipt.state sound.state in
-    (
+    let first = reads.states receipt.state sound.state in (
       passes _ _ (head_ok _ _ es refl)
-      (passes _ _ (refers_ok _ _ _ _ _ _ state first)
-      (passes _ _ (count_ok _ _ _ _ _ _ time (omega arith) (rw reads.periods sound.time))
-      (passes _ _ (count_ok _ _ _ _ _ _ amount sound.amount.0 sound.amount.1) nothing))),
+          (passes _ _ (refers_ok _ _ _ _ _ _ state first)
+          (passes _ _ (count_ok _ _ _ _ _ _ time (omega arith) (rw reads.periods sound.time))
+          (passes _ _ (count_ok _ _ _ _ _ _ amount sound.amount.0 sound.amount.1) nothing))),
       rw (state, time, amount, first) refl,
     )
 
@@ -73,13 +72,12 @@ delivery_ok scope plant place delivery reads sound =
     let time : held inside (needed key.Time) ≡ Some (number delivery.time) = held_is (needed key.Time) es _ refl refl in
     let amount : held inside (needed key.Amount) ≡ Some (number delivery.amount) = held_is (needed key.Amount) es _ refl refl in
     let payment : held inside (optional key.Payment) ≡ Some (integer delivery.payment) = held_is (optional key.Payment) es _ refl refl in
-    let first = reads.states delivery.state sound.state in
-    (
+    let first = reads.states delivery.state sound.state in (
       passes _ _ (head_ok _ _ es refl)
-      (passes _ _ (refers_ok _ _ _ _ _ _ state first)
-      (passes _ _ (count_ok _ _ _ _ _ _ time (omega arith) (rw reads.periods sound.time))
-      (passes _ _ (count_ok _ _ _ _ _ _ amount sound.amount.0 sound.amount.1)
-      (passes _ _ (money_ok _ _ _ _ _ payment sound.payment) nothing)))),
+          (passes _ _ (refers_ok _ _ _ _ _ _ state first)
+          (passes _ _ (count_ok _ _ _ _ _ _ time (omega arith) (rw reads.periods sound.time))
+          (passes _ _ (count_ok _ _ _ _ _ _ amount sound.amount.0 sound.amount.1)
+          (passes _ _ (money_ok _ _ _ _ _ payment sound.payment) nothing)))),
       rw (state, time, amount, payment, first) refl,
     )
 
@@ -99,14 +97,13 @@ outage_ok scope plant place outage reads sound =
     let first = reads.units outage.unit sound.unit in
     let back : outage_of scope (made_of es) ≡ outage = rw (unit, from, to, first) refl in
     let begins : outage.from ≤ scope.periods - 1 = rw reads.periods (omega (arith, sound.some, sound.to)) in
-    let ends : 1 ≤ outage.to = omega (arith, sound.some) in
-    (
+    let ends : 1 ≤ outage.to = omega (arith, sound.some) in (
       passes (table_tests (outage_place place) (outage_fields scope) (made_of es)) (outage_more_tests place (outage_of scope (made_of es)))
-      (passes _ _ (head_ok _ _ es refl)
-      (passes _ _ (refers_ok _ _ _ _ _ _ unit first)
-      (passes _ _ (count_ok _ _ _ _ _ _ from (omega arith) begins)
-      (passes _ _ (count_ok _ _ _ _ _ _ to ends (rw reads.periods sound.to)) nothing))))
-      (rw back (outage_more_ok place outage sound.some)),
+          (passes _ _ (head_ok _ _ es refl)
+          (passes _ _ (refers_ok _ _ _ _ _ _ unit first)
+          (passes _ _ (count_ok _ _ _ _ _ _ from (omega arith) begins)
+          (passes _ _ (count_ok _ _ _ _ _ _ to ends (rw reads.periods sound.to)) nothing))))
+          (rw back (outage_more_ok place outage sound.some)),
       back,
     )
 
@@ -124,14 +121,13 @@ gap_ok scope plant place gap reads sound =
     let low : cond scope.second 0 1 ≤ gap.periods = rw reads.second (omega arith) in
     let at_unit = reads.units gap.unit sound.unit in
     let at_from = reads.tasks gap.from sound.from in
-    let at_to = reads.tasks gap.to sound.to in
-    (
+    let at_to = reads.tasks gap.to sound.to in (
       passes _ _ (head_ok _ _ es (rw reads.second refl))
-      (passes _ _ (refers_ok _ _ _ _ _ _ unit at_unit)
-      (passes _ _ (refers_ok _ _ _ _ _ _ from at_from)
-      (passes _ _ (refers_ok _ _ _ _ _ _ to at_to)
-      (passes _ _ (count_ok _ _ _ _ _ _ periods low sound.periods)
-      (passes _ _ (count_ok _ _ _ _ _ _ cost (omega arith) sound.cost) nothing))))),
+          (passes _ _ (refers_ok _ _ _ _ _ _ unit at_unit)
+          (passes _ _ (refers_ok _ _ _ _ _ _ from at_from)
+          (passes _ _ (refers_ok _ _ _ _ _ _ to at_to)
+          (passes _ _ (count_ok _ _ _ _ _ _ periods low sound.periods)
+          (passes _ _ (count_ok _ _ _ _ _ _ cost (omega arith) sound.cost) nothing))))),
       rw (unit, from, to, periods, cost, at_unit, at_from, at_to) refl,
     )
 
@@ -156,16 +152,15 @@ run_ok scope plant earlier run reads sound alone =
     let at_unit = reads.units run.unit sound.unit in
     let back : run_of scope (made_of es) ≡ run = rw (task, unit, min, max, cost, at_task, at_unit) refl in
     let least : run.min ≤ 255 = omega (arith, sound.range, sound.most) in
-    let some : 1 ≤ run.max = omega (arith, sound.least, sound.range) in
-    (
+    let some : 1 ≤ run.max = omega (arith, sound.least, sound.range) in (
       passes (table_tests (run_place (length earlier)) (run_fields scope) (made_of es)) (run_more_tests earlier (run_of scope (made_of es)))
-      (passes _ _ (head_ok _ _ es refl)
-      (passes _ _ (refers_ok _ _ _ _ _ _ task at_task)
-      (passes _ _ (refers_ok _ _ _ _ _ _ unit at_unit)
-      (passes _ _ (count_ok _ _ _ _ _ _ min sound.least least)
-      (passes _ _ (count_ok _ _ _ _ _ _ max some sound.most)
-      (passes _ _ (money_ok _ _ _ _ _ cost sound.cost) nothing))))))
-      (rw back (run_more_ok earlier run sound.range alone)),
+          (passes _ _ (head_ok _ _ es refl)
+          (passes _ _ (refers_ok _ _ _ _ _ _ task at_task)
+          (passes _ _ (refers_ok _ _ _ _ _ _ unit at_unit)
+          (passes _ _ (count_ok _ _ _ _ _ _ min sound.least least)
+          (passes _ _ (count_ok _ _ _ _ _ _ max some sound.most)
+          (passes _ _ (money_ok _ _ _ _ _ cost sound.cost) nothing))))))
+          (rw back (run_more_ok earlier run sound.range alone)),
       back,
     )
 
@@ -175,10 +170,9 @@ unfolding unit_tests unit_fields unit_of unit_entries key_word
 unit_ok scope place unit good declared =
     let es = unit_entries unit in
     let inside = table_of es in
-    let name : held inside (needed key.Name) ≡ Some (string unit.name) = held_is (needed key.Name) es _ refl refl in
-    (
+    let name : held inside (needed key.Name) ≡ Some (string unit.name) = held_is (needed key.Name) es _ refl refl in (
       passes _ _ (head_ok _ _ es refl)
-      (passes _ _ (name_ok _ _ _ _ _ _ name good declared) nothing),
+          (passes _ _ (name_ok _ _ _ _ _ _ name good declared) nothing),
       rw (name) refl,
     )
 
@@ -195,13 +189,12 @@ utility_ok scope plant place utility reads sound some declared =
     let lone_key : Key = record { name = key.Limit; known = true; required = not (is_some (held inside (since scope.second key.Limits))) } in
     let long : length utility.limits ≡ scope.periods = sound.limits ∙ sym reads.periods in
     let kept = limits_ok (record { table = table.Utility; item = place + 1; inner = 0 }) lone_key (since scope.second key.Limits) (held inside (needed key.Limit)) (held inside (since scope.second key.Limits)) utility.limits scope.periods 1000000000
-    limit limits (λ absent. always_some _ _ utility.limits limit limits (omega (arith, sound.limits)) absent) refl (inr long) (recursion_from_All (λ n. n ≤ 1000000000) utility.limits sound.limit) in
-    (
+    limit limits (λ absent. always_some _ _ utility.limits limit limits (omega (arith, sound.limits)) absent) refl (inr long) (recursion_from_All (λ n. n ≤ 1000000000) utility.limits sound.limit) in (
       passes _ _ (head_ok _ _ es (rw reads.second refl))
-      (passes _ _ (name_ok _ _ _ _ _ _ name sound.name declared)
-      (passes _ _ (kept.0)
-      (passes _ _ (kept.1)
-      (passes _ _ (money_ok _ _ _ _ _ rate sound.rate) nothing)))),
+          (passes _ _ (name_ok _ _ _ _ _ _ name sound.name declared)
+          (passes _ _ (kept.0)
+          (passes _ _ (kept.1)
+          (passes _ _ (money_ok _ _ _ _ _ rate sound.rate) nothing)))),
       rw (name, rate, kept.2) refl,
     )
 
@@ -219,15 +212,14 @@ state_ok scope plant place state reads sound declared =
     let holding : held inside (optional key.Holding) ≡ Some (integer state.holding) = held_is (optional key.Holding) es _ refl refl in
     let times : suc plant.periods ≡ scope.periods + 1 = omega (arith, reads.periods) in
     let kept = limits_ok (record { table = table.State; item = place + 1; inner = 0 }) (optional key.Limit) (since scope.second key.Limits) (held inside (optional key.Limit)) (held inside (since scope.second key.Limits)) state.limits (scope.periods + 1) 1000000000
-    limit limits (λ none. refl) refl (elim sound.limits [ inl none ↦ inl none | inr all ↦ inr (all ∙ times) ]) (recursion_from_All (λ n. n ≤ 1000000000) state.limits sound.limit) in
-    (
+    limit limits (λ none. refl) refl (elim sound.limits [ inl none ↦ inl none | inr all ↦ inr (all ∙ times) ]) (recursion_from_All (λ n. n ≤ 1000000000) state.limits sound.limit) in (
       passes _ _ (head_ok _ _ es (rw reads.second refl))
-      (passes _ _ (name_ok _ _ _ _ _ _ name sound.name declared)
-      (passes _ _ (count_ok _ _ _ _ _ _ initial (omega arith) sound.initial)
-      (passes _ _ (kept.0)
-      (passes _ _ (kept.1)
-      (passes _ _ (money_ok _ _ _ _ _ price sound.price)
-      (passes _ _ (money_ok _ _ _ _ _ holding sound.holding) nothing)))))),
+          (passes _ _ (name_ok _ _ _ _ _ _ name sound.name declared)
+          (passes _ _ (count_ok _ _ _ _ _ _ initial (omega arith) sound.initial)
+          (passes _ _ (kept.0)
+          (passes _ _ (kept.1)
+          (passes _ _ (money_ok _ _ _ _ _ price sound.price)
+          (passes _ _ (money_ok _ _ _ _ _ holding sound.holding) nothing)))))),
       rw (name, initial, price, holding, kept.2) refl,
     )
 
@@ -240,11 +232,10 @@ draw_ok scope plant owner place draw reads sound =
     let utility : held inside (needed key.Utility) ≡ Some (utility_name plant draw.utility) = held_is (needed key.Utility) es _ refl refl in
     let fixed : held inside (needed key.Fixed) ≡ Some (numbers draw.fixed) = held_is (needed key.Fixed) es _ refl refl in
     let each : held inside (needed key.Each) ≡ Some (numbers draw.each) = held_is (needed key.Each) es _ refl refl in
-    let first = reads.utilities draw.utility sound.utility in
-    (
+    let first = reads.utilities draw.utility sound.utility in (
       passes _ _ (head_ok _ _ es refl)
-      (passes _ _ (refers_ok _ _ _ _ _ _ utility first)
-      (passes _ _ (numbers_ok _ _ _ _ _ _ _ fixed refl sound.fixed (recursion_from_All (λ n. n ≤ 1000000) draw.fixed sound.fixed_small))
-      (passes _ _ (numbers_ok _ _ _ _ _ _ _ each refl sound.each (recursion_from_All (λ n. n ≤ 1000000) draw.each sound.each_small)) nothing))),
+          (passes _ _ (refers_ok _ _ _ _ _ _ utility first)
+          (passes _ _ (numbers_ok _ _ _ _ _ _ _ fixed refl sound.fixed (recursion_from_All (λ n. n ≤ 1000000) draw.fixed sound.fixed_small))
+          (passes _ _ (numbers_ok _ _ _ _ _ _ _ each refl sound.each (recursion_from_All (λ n. n ≤ 1000000) draw.each sound.each_small)) nothing))),
       rw (utility, fixed, each, first, numbers_back draw.fixed, numbers_back draw.each) refl,
     )

@@ -37,21 +37,21 @@ get_within word other l d e more Less is rest = looked (slice_cmp nat_cmp word o
 get_within word other l d e more Equal is rest =
     let same : other ≡ l = same_word other l is in
     rw same (by_order (slice_cmp nat_cmp word l) (get_member word more))
-    where
-      by_order : (r : Ordering) (found : Option Data) → match_ordering r found (Some d) found ≡ cond (is_eq r) (Some d) (match_ordering r found (Some e) found)
-      by_order Less found = refl
-      by_order Equal found = refl
-      by_order Greater found = refl
+  where
+    by_order : (r : Ordering) (found : Option Data) → match_ordering r found (Some d) found ≡ cond (is_eq r) (Some d) (match_ordering r found (Some e) found)
+    by_order Less found = refl
+    by_order Equal found = refl
+    by_order Greater found = refl
 get_within word other l d e more Greater is rest = by_order (slice_cmp nat_cmp word l) refl
-    where
-      by_order : (r : Ordering) → slice_cmp nat_cmp word l ≡ r
-          → match_ordering r (get_member word (with_member other d more)) (Some e) (get_member word (with_member other d more)) ≡ cond (is_eq (slice_cmp nat_cmp word other)) (Some d) (match_ordering r (get_member word more) (Some e) (get_member word more))
-      by_order Less at = rest
-      by_order Greater at = rest
-      by_order Equal at =
-          let here : word ≡ l = same_word word l at in
-          let before : slice_cmp nat_cmp word other ≡ Less = rw here (nat_list_cmp_total.antisymm l other ∙ ap ordering_reverse is) in
-          rw before refl
+  where
+    by_order : (r : Ordering) → slice_cmp nat_cmp word l ≡ r
+        → match_ordering r (get_member word (with_member other d more)) (Some e) (get_member word (with_member other d more)) ≡ cond (is_eq (slice_cmp nat_cmp word other)) (Some d) (match_ordering r (get_member word more) (Some e) (get_member word more))
+    by_order Less at = rest
+    by_order Greater at = rest
+    by_order Equal at =
+        let here : word ≡ l = same_word word l at in
+        let before : slice_cmp nat_cmp word other ≡ Less = rw here (nat_list_cmp_total.antisymm l other ∙ ap ordering_reverse is) in
+        rw before refl
 
 -- what is at a word after one more key
 get_with : (word other : List ℕ) (d : Data) (ms : Members) → get_member word (with_member other d ms) ≡ cond (is_eq (slice_cmp nat_cmp word other)) (Some d) (get_member word ms)

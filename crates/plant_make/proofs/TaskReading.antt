@@ -61,10 +61,10 @@ input_is scope plant quantum input reads some sound =
     record {
       pass = λ owner place is.
           rw is (
-            passes _ _ (head_ok _ _ es refl)
-            (passes _ _ (refers_ok _ _ _ _ _ _ state first)
-            (passes _ _ (part_ok _ _ _ _ _ part again)
-            (passes _ _ (absent_ok _ _ None _ refl refl) nothing)))
+          passes _ _ (head_ok _ _ es refl)
+          (passes _ _ (refers_ok _ _ _ _ _ _ state first)
+          (passes _ _ (part_ok _ _ _ _ _ part again)
+          (passes _ _ (absent_ok _ _ None _ refl refl) nothing)))
           );
       read = rw (state, part, first, again) refl;
       part = good;
@@ -86,10 +86,10 @@ output_is scope plant quantum output reads some sound =
     record {
       pass = λ owner place is.
           rw is (
-            passes _ _ (head_ok _ _ es refl)
-            (passes _ _ (refers_ok _ _ _ _ _ _ state first)
-            (passes _ _ (part_ok _ _ _ _ _ part again)
-            (passes _ _ (count_ok _ _ _ _ _ _ delay sound.delay.0 sound.delay.1) nothing)))
+          passes _ _ (head_ok _ _ es refl)
+          (passes _ _ (refers_ok _ _ _ _ _ _ state first)
+          (passes _ _ (part_ok _ _ _ _ _ part again)
+          (passes _ _ (count_ok _ _ _ _ _ _ delay sound.delay.0 sound.delay.1) nothing)))
           );
       read = rw (state, part, delay, first, again) refl;
       part = good;
@@ -164,12 +164,11 @@ inputs_ok scope plant place task reads sound =
     let quantum = task.quantum in
     let amount = λ (input : Input). input.amount in
     let owner = owner_in table.Input place 0 in
-    let are = all_so (SoundInput plant quantum) (λ (input : Input). IsSide scope false quantum (input_made plant quantum input) (input_side quantum input) input.amount) (λ input good. input_is scope plant quantum input reads sound.quantum.0 good) task.inputs (recursion_from_All (SoundInput plant quantum) task.inputs sound.input) in
-    (
+    let are = all_so (SoundInput plant quantum) (λ (input : Input). IsSide scope false quantum (input_made plant quantum input) (input_side quantum input) input.amount) (λ input good. input_is scope plant quantum input reads sound.quantum.0 good) task.inputs (recursion_from_All (SoundInput plant quantum) task.inputs sound.input) in (
       sides_ok scope owner quantum (input_made plant quantum) (input_side quantum) amount task.inputs are sound.quantum.0 sound.taken,
       ap (map input_of) (sides_back scope owner quantum (input_made plant quantum) (input_side quantum) amount task.inputs are)
-      ∙ map_same input_of (λ (input : Input). record { state = input.state; amount = input.amount; delay = 0 }) (λ (input : Input). input) (λ input. refl) task.inputs
-      ∙ map-id task.inputs,
+          ∙ map_same input_of (λ (input : Input). record { state = input.state; amount = input.amount; delay = 0 }) (λ (input : Input). input) (λ input. refl) task.inputs
+          ∙ map-id task.inputs,
     )
 
 outputs_ok : (scope : Scope) (plant : Plant) (place : ℕ) (task : Task) → IsScopeOf plant scope → SoundTask plant task
@@ -179,8 +178,7 @@ outputs_ok scope plant place task reads sound =
     let quantum = task.quantum in
     let amount = λ (output : Output). output.amount in
     let owner = owner_in table.Output place 0 in
-    let are = all_so (SoundOutput plant quantum) (λ (output : Output). IsSide scope true quantum (output_made plant quantum output) (output_side quantum output) output.amount) (λ output good. output_is scope plant quantum output reads sound.quantum.0 good) task.outputs (recursion_from_All (SoundOutput plant quantum) task.outputs sound.output) in
-    (
+    let are = all_so (SoundOutput plant quantum) (λ (output : Output). IsSide scope true quantum (output_made plant quantum output) (output_side quantum output) output.amount) (λ output good. output_is scope plant quantum output reads sound.quantum.0 good) task.outputs (recursion_from_All (SoundOutput plant quantum) task.outputs sound.output) in (
       sides_ok scope owner quantum (output_made plant quantum) (output_side quantum) amount task.outputs are sound.quantum.0 sound.given,
       sides_back scope owner quantum (output_made plant quantum) (output_side quantum) amount task.outputs are ∙ map-id task.outputs,
     )
@@ -219,13 +217,12 @@ task_ok scope plant place task reads sound declared =
     let ins_some : 1 ≤ length in_ds = rw (length-map task.inputs (input_made plant task.quantum)) sound.inputs.0 in
     let outs_few : length out_ds ≤ 8 = rw (length-map task.outputs (output_made plant task.quantum)) sound.outputs.1 in
     let outs_some : 1 ≤ length out_ds = rw (length-map task.outputs (output_made plant task.quantum)) sound.outputs.0 in
-    let draws_few : length draw_ds ≤ 8 = rw (length-map task.draws (draw_made plant)) sound.draws in
-    (
+    let draws_few : length draw_ds ≤ 8 = rw (length-map task.draws (draw_made plant)) sound.draws in (
       passes _ _ (head_ok _ _ es refl)
-      (passes _ _ (name_ok _ _ _ _ _ _ name sound.name declared)
-      (passes _ _ (count_ok _ _ _ _ _ _ size sound.quantum.0 sound.quantum.1)
-      (passes _ _ (tables_ok _ _ _ _ in_ds _ (ins ∙ some_there in_ds ins_some) ins_few (rw quantum taken.0))
-      (passes _ _ (tables_ok _ _ _ _ out_ds _ (outs ∙ some_there out_ds outs_some) outs_few (rw quantum given.0))
-      (passes _ _ (maybe_tables_ok _ _ _ _ draw_ds _ drawn refl draws_few draws.0) nothing))))),
+          (passes _ _ (name_ok _ _ _ _ _ _ name sound.name declared)
+          (passes _ _ (count_ok _ _ _ _ _ _ size sound.quantum.0 sound.quantum.1)
+          (passes _ _ (tables_ok _ _ _ _ in_ds _ (ins ∙ some_there in_ds ins_some) ins_few (rw quantum taken.0))
+          (passes _ _ (tables_ok _ _ _ _ out_ds _ (outs ∙ some_there out_ds outs_some) outs_few (rw quantum given.0))
+          (passes _ _ (maybe_tables_ok _ _ _ _ draw_ds _ drawn refl draws_few draws.0) nothing))))),
       rw (name, quantum, in_items, out_items, draw_items, taken.1, given.1, draws.1) refl,
     )

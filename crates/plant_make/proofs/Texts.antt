@@ -14,10 +14,9 @@ use Rattle.plant_make.specs.Meaning.{Means, Puts}
 use Rattle.plant_make.proofs.Passing.{Pass, one_more}
 use Rattle.plant_make.proofs.PlantReading.{document_ok}
 
-text_means : (plant : Plant) (text : List ℕ) → Sound plant → IsUtf8 text → parse_document text ≡ Some (table_of (plant_entries plant)) → Means plant text
+text_means : (plant : Plant) (text : List ℕ) → Sound plant → document_of text ≡ Some (table_of (plant_entries plant)) → Means plant text
 unfolding plant_tests plant_of
-text_means plant text sound utf8 parsed =
-    let document : document_of text ≡ Some (table_of (plant_entries plant)) = rw (is_utf8-from_IsUtf8 text utf8) parsed in
+text_means plant text sound document =
     let read = document_ok plant sound in
     record {
       passes = rw document (one_more _ _ _ refl read.0);
@@ -33,5 +32,6 @@ text_reads plant text means short =
 -- appending such a text puts the plant
 pub text_puts : (plant : Plant) (text old new : List ℕ) → Sound plant → IsUtf8 text → parse_document text ≡ Some (table_of (plant_entries plant)) → new ≡ old ++ text → Puts plant old new
 text_puts plant text old new sound utf8 parsed appended =
-    let means = text_means plant text sound utf8 parsed in
-    record { text = text; appended = appended; means = means; reads = text_reads plant text means }
+    let document : document_of text ≡ Some (table_of (plant_entries plant)) = rw (is_utf8-from_IsUtf8 text utf8) parsed in
+    let means = text_means plant text sound document in
+    record { text = text; appended = appended; document = document; means = means; reads = text_reads plant text means }

@@ -26,11 +26,26 @@ impl Row for State {
         let several = several_value(alloc, self.limits.as_slice())?;
         let mut table = Table::new(alloc);
         put(alloc, &mut table, KeyName::Name, name)?;
-        put(alloc, &mut table, KeyName::Initial, number_value(self.initial))?;
+        put(
+            alloc,
+            &mut table,
+            KeyName::Initial,
+            number_value(self.initial),
+        )?;
         put_some(alloc, &mut table, KeyName::Limit, lone)?;
         put_some(alloc, &mut table, KeyName::Limits, several)?;
-        put(alloc, &mut table, KeyName::Price, Value::Integer(self.price))?;
-        put(alloc, &mut table, KeyName::Holding, Value::Integer(self.holding))?;
+        put(
+            alloc,
+            &mut table,
+            KeyName::Price,
+            Value::Integer(self.price),
+        )?;
+        put(
+            alloc,
+            &mut table,
+            KeyName::Holding,
+            Value::Integer(self.holding),
+        )?;
         Ok(Value::Table(table))
     }
 }
@@ -101,7 +116,12 @@ impl Row for Gap {
         put(alloc, &mut table, KeyName::StnUnit, unit)?;
         put(alloc, &mut table, KeyName::From, from)?;
         put(alloc, &mut table, KeyName::To, to)?;
-        put(alloc, &mut table, KeyName::Periods, short_value(self.periods))?;
+        put(
+            alloc,
+            &mut table,
+            KeyName::Periods,
+            short_value(self.periods),
+        )?;
         put(alloc, &mut table, KeyName::Cost, short_value(self.cost))?;
         Ok(Value::Table(table))
     }
@@ -118,7 +138,12 @@ impl Row for Receipt {
         let mut table = Table::new(alloc);
         put(alloc, &mut table, KeyName::State, state)?;
         put(alloc, &mut table, KeyName::Time, short_value(self.time))?;
-        put(alloc, &mut table, KeyName::Amount, number_value(self.amount))?;
+        put(
+            alloc,
+            &mut table,
+            KeyName::Amount,
+            number_value(self.amount),
+        )?;
         Ok(Value::Table(table))
     }
 }
@@ -134,8 +159,18 @@ impl Row for Delivery {
         let mut table = Table::new(alloc);
         put(alloc, &mut table, KeyName::State, state)?;
         put(alloc, &mut table, KeyName::Time, short_value(self.time))?;
-        put(alloc, &mut table, KeyName::Amount, number_value(self.amount))?;
-        put(alloc, &mut table, KeyName::Payment, Value::Integer(self.payment))?;
+        put(
+            alloc,
+            &mut table,
+            KeyName::Amount,
+            number_value(self.amount),
+        )?;
+        put(
+            alloc,
+            &mut table,
+            KeyName::Payment,
+            Value::Integer(self.payment),
+        )?;
         Ok(Value::Table(table))
     }
 }

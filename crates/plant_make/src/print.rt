@@ -32,7 +32,12 @@ fn document(alloc: Global, plant: &Plant) -> Result<Table, AllocError>
     let outages = rows(alloc, plant, 0, plant.outages.as_slice())?;
     let mut table = Table::new(alloc);
     put(alloc, &mut table, KeyName::Version, short_value(2))?;
-    put(alloc, &mut table, KeyName::Periods, short_value(plant.periods))?;
+    put(
+        alloc,
+        &mut table,
+        KeyName::Periods,
+        short_value(plant.periods),
+    )?;
     put_items(alloc, &mut table, KeyName::State, states)?;
     put_items(alloc, &mut table, KeyName::Utility, utilities)?;
     put_items(alloc, &mut table, KeyName::StnUnit, units)?;
@@ -64,8 +69,8 @@ fn text_of(alloc: Global, plant: &Plant) -> Result<String, AllocError>
 pub fn put_plant(alloc: Global, plant: &Plant, into: &mut Vec<u8>) -> Result<(), AllocError>
     requires { Sound plant.now }
 
-    // What is appended means the plant, however long it is; where it is no longer than a plant file may
-    // be, it is read as the plant.
+    // What is appended is a text of the plant's document. It means the plant, however long it is; where it
+    // is no longer than a plant file may be, it is read as the plant.
     ensures ok { OnOk result (Puts plant.now into.old.items into.new.items) }
     ensures err { OnErr result (into.new.items ≡ into.old.items) }
 {

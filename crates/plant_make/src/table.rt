@@ -9,12 +9,7 @@ use std::alloc::{AllocError, Global};
 use toml::{Table, Value};
 
 /// Puts a key with its value into a table.
-pub fn put(
-    alloc: Global,
-    table: &mut Table,
-    name: KeyName,
-    value: Value,
-) -> Result<(), AllocError>
+pub fn put(alloc: Global, table: &mut Table, name: KeyName, value: Value) -> Result<(), AllocError>
     ensures { OnOk result (table_view table.new ≡ with_member (key_word name) (view value) (table_view table.old)) }
 {
     let word = String::from_str(alloc, name.word())?;

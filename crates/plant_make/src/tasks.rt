@@ -6,7 +6,9 @@ ghost use Rattle.plant_make.specs.Printed.{made_of, task_entries, input_entries,
 
 use crate::rows::{Row, rows};
 use crate::table::{put, put_items};
-use crate::values::{name_value, part_value, short_value, shorts_value, state_value, utility_value};
+use crate::values::{
+    name_value, part_value, short_value, shorts_value, state_value, utility_value,
+};
 use plant_text::KeyName;
 use std::alloc::{AllocError, Global};
 use stn_model::{Draw, Input, Output, Plant, Task};
@@ -76,7 +78,12 @@ impl Row for Task {
         let draws = rows(alloc, plant, self.quantum, self.draws.as_slice())?;
         let mut table = Table::new(alloc);
         put(alloc, &mut table, KeyName::Name, name)?;
-        put(alloc, &mut table, KeyName::Quantum, short_value(self.quantum))?;
+        put(
+            alloc,
+            &mut table,
+            KeyName::Quantum,
+            short_value(self.quantum),
+        )?;
         put_items(alloc, &mut table, KeyName::Input, inputs)?;
         put_items(alloc, &mut table, KeyName::Output, outputs)?;
         put_items(alloc, &mut table, KeyName::Draw, draws)?;

@@ -1,6 +1,6 @@
 use Rattle.std.proofs.Common.{ap, refl, ◌∙◌}
 use Rattle.toml.specs.View.{members_view}
-use Rattle.plant_make.proofs.Chains.{plant_chain}
+use Rattle.plant_make.proofs.KeyByKey.{plant_chain}
 use Rattle.plant_make.proofs.print.document.Goals as goal
 
 pub returns : goal.returns
