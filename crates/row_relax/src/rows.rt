@@ -1,8 +1,9 @@
-ghost use Rattle.std.specs.Prelude.{map};
+ghost use Rattle.std.specs.Prelude.{◌≡◌, ◌∷◌, [], map, IfOk};
 ghost use Rattle.row_kit.specs.Point.{IsLawful, worth_of};
+ghost use Rattle.proof_tree.specs.Views.{present as shown_last};
 ghost use Rattle.row_relax.specs.View.{view_of, Fits, IsIn};
 ghost use Rattle.row_relax.specs.Steps.{row_steps};
-ghost use Rattle.row_relax.proofs.Laws.{rows_sound};
+ghost use Rattle.row_relax.specs.Laws.{rows_sound};
 
 use crate::pick::RowPick;
 use crate::settling::settle;
@@ -10,11 +11,23 @@ use dual_bound::{Cert, cap};
 use proof_tree::{Capped, Proof, Relaxation};
 use range_prop::{RowCut, cut};
 use row_kit::{Area, Found, Program};
+use std::alloc::{AllocError, Global};
 
 /// The rows of a program, as what a proof needs of the areas that it caps. An area fits where it has the program's slots.
 #[derive(Drop)]
 pub struct Rows {
     pub program: Program,
+}
+
+impl Rows {
+    /// An area of the root. It fits.
+    pub fn root_area(&self, alloc: Global) -> Result<Area, AllocError>
+        ensures root { IfOk result (λ area. area ≡ self.now.program.root ∷ []) }
+        ensures fits { IfOk result (λ area. Fits self.now.program (shown_last (map view_of area))) }
+    {
+        let area = Area::new(alloc, &self.program)?;
+        Ok(area)
+    }
 }
 
 /// A proof over the rows of a program.
@@ -46,7 +59,10 @@ impl Relaxation for Rows {
     ghost sound = { λ rows. rows_sound rows.program };
 
     fn cut(&self, area: &mut Area, trim: &RowCut) -> bool {
-        if trim.row as usize >= self.program.rows.len() || trim.slot >= area.slot_count() {
+        if trim.row as usize >= self.program.rows.len() {
+            return false;
+        }
+        if trim.slot >= area.slot_count() {
             return false;
         }
         cut(&self.program, area, trim.row, trim.slot);
@@ -87,5 +103,6 @@ impl Relaxation for Rows {
 
     fn back(&self, area: &mut Area, mark: u32) {
         area.back(mark);
+        let _slots = area.slot_count();
     }
 }
