@@ -1,5 +1,5 @@
 -- The document of a plant is not deep.
-use Rattle.std.proofs.Common.{◌≡◌, ℕ, ◌+◌, ◌≤◌, List, [], ◌∷◌, map, Option, Some, None, option_map, arith}
+use Rattle.std.proofs.Common.{ℕ, ◌+◌, ◌≤◌, List, [], ◌∷◌, map, Option, Some, None, option_map, arith}
 use Rattle.std.specs.List.{AllByRecursion}
 use Rattle.toml.specs.Data.{Data, depth, items_depth, members_depth}
 use Rattle.toml.specs.View.{items_of}
@@ -16,7 +16,7 @@ use Rattle.stn_model.specs.declared.plant.Gap.{Gap}
 use Rattle.stn_model.specs.declared.plant.Receipt.{Receipt}
 use Rattle.stn_model.specs.declared.plant.Delivery.{Delivery}
 use Rattle.stn_model.specs.declared.plant.Outage.{Outage}
-use Rattle.plant_make.specs.Entries.{Entry, table_of, number, numbers, array_of, some_items}
+use Rattle.plant_make.specs.Entries.{Entry, table_of, number, numbers, some_items}
 use Rattle.plant_make.specs.Numbers.{lone, several}
 use Rattle.plant_make.specs.Printed.{made_of, state_entries, utility_entries, unit_entries, input_entries, output_entries, draw_entries, task_entries, run_entries, gap_entries, receipt_entries, delivery_entries, outage_entries, plant_entries}
 use Rattle.plant_make.proofs.Tables.{Shallow, held_depth, depth_of_entries}

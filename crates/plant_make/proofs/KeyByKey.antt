@@ -1,5 +1,5 @@
 -- Tables that are built key by key.
-use Rattle.std.proofs.Common.{◌≡◌, ℕ, List, map, refl, ◌∙◌}
+use Rattle.std.proofs.Common.{◌≡◌, List, map, refl, ◌∙◌}
 use Rattle.toml.specs.Data.{Data, string, Members, no_members}
 use Rattle.stn_model.specs.declared.plant.Plant.{Plant}
 use Rattle.stn_model.specs.declared.plant.State.{State}

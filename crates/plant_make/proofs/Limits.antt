@@ -1,5 +1,5 @@
 -- Limits that are printed as one number or as a list are read as they were.
-use Rattle.std.proofs.Common.{◌≡◌, ℕ, ◌+◌, ◌≤◌, ◌⊎◌, ◌&&◌, eqb, Bool, true, false, not, List, [], ◌∷◌, length, replicate, Option, Some, None, is_some, option_map, refl, sym, ap, ◌∙◌, inl, inr, arith}
+use Rattle.std.proofs.Common.{◌≡◌, ℕ, ◌≤◌, ◌⊎◌, eqb, true, false, not, List, [], ◌∷◌, length, replicate, Option, Some, None, is_some, option_map, refl, sym, ap, ◌∙◌, inl, inr, arith}
 use Rattle.std.specs.List.{AllByRecursion, list_all}
 use Rattle.std.proofs.lemmas.Bool.{cases_Bool, and_parts, eqb-true}
 use Rattle.toml.specs.Data.{Data}

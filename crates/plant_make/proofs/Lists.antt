@@ -1,9 +1,8 @@
 -- Names at their places, and items one after the other.
-use Rattle.std.proofs.Common.{◌≡◌, ◌≢◌, ℕ, zero, suc, ◌+◌, ◌<◌, ◌≤◌, Bool, true, false, cond, List, [], ◌∷◌, ◌++◌, map, length, get_or, All, AllPairs, Option, Some, append_assoc, length-append, refl, sym, ap, ◌∙◌, inl, inr, arith, add-zero, subst}
+use Rattle.std.proofs.Common.{◌≡◌, ◌≢◌, ℕ, zero, suc, ◌+◌, ◌<◌, Bool, true, false, List, [], ◌∷◌, ◌++◌, map, length, get_or, All, AllPairs, Some, append_assoc, length-append, refl, sym, ap, ◌∙◌, inl, inr, arith, add-zero, subst}
 use Rattle.std.specs.List.{position_from, list_any, AllByRecursion}
 use Rattle.std.specs.Str.{bytes_eq}
 use Rattle.std.proofs.lemmas.Bool.{cases_Bool}
-use Rattle.std.proofs.lemmas.List.{append-nil}
 use Rattle.std.proofs.lemmas.Slice.Eq.{bytes_eq-Decides}
 use Rattle.plant_text.specs.Tests.{Test, rows_tests}
 use Rattle.plant_text.specs.Names.{first_places}

@@ -1,9 +1,9 @@
 -- The plants that are made are sound.
-use Rattle.std.proofs.Common.{◌≡◌, ◌≢◌, ℕ, zero, suc, pos, ◌+◌, ◌*◌, ◌%◌, ◌<◌, ◌≤◌, ◌⊎◌, ◌&&◌, nat_le, nat_lt, eqb, Bool, true, false, not, cond, List, [], ◌∷◌, ◌++◌, map, length, get_or, replicate, All, AllPairs, IsTrue, sum_by, unsigned_abs, length-append, le-leb, lt-ltb, refl, sym, subst, ap, ◌∙◌, inl, inr, arith}
+use Rattle.std.proofs.Common.{◌≡◌, ◌≢◌, ℕ, zero, suc, ◌+◌, ◌*◌, ◌<◌, ◌≤◌, ◌&&◌, nat_le, eqb, Bool, true, false, not, cond, List, [], ◌∷◌, ◌++◌, map, length, replicate, All, AllPairs, IsTrue, length-append, refl, sym, subst, ◌∙◌, inl, inr, arith}
 use Rattle.std.specs.List.{AllByRecursion, list_any}
 use Rattle.std.specs.Char.{is_ascii_alphabetic}
 use Rattle.std.specs.Str.{bytes_eq}
-use Rattle.std.proofs.lemmas.Bool.{cases_Bool, and_parts, eqb-true, leb-true}
+use Rattle.std.proofs.lemmas.Bool.{cases_Bool, and_parts, leb-true}
 use Rattle.std.proofs.lemmas.Bool.Decides.{nat_tests}
 use Rattle.std.proofs.lemmas.List.{length-replicate}
 use Rattle.std.proofs.lemmas.List.Elements.{All-from_recursion}
@@ -11,14 +11,13 @@ use Rattle.std.proofs.lemmas.List.Kept.{AllPairs-cons}
 use Rattle.std.proofs.lemmas.Slice.Eq.{bytes_eq-Decides}
 use Rattle.stn_model.specs.declared.plant.Plant.{Plant}
 use Rattle.stn_model.specs.declared.plant.State.{State}
-use Rattle.stn_model.specs.declared.plant.Utility.{Utility}
 use Rattle.stn_model.specs.declared.plant.StnUnit.{StnUnit}
 use Rattle.stn_model.specs.declared.plant.Task.{Task}
 use Rattle.stn_model.specs.declared.plant.Run.{Run}
 use Rattle.stn_model.specs.declared.plant.Gap.{Gap}
 use Rattle.stn_model.specs.Plant.{duration_of}
 use Rattle.stn_model.specs.Sound.{Sound, SoundState, SoundUtility, SoundInput, SoundOutput, SoundDraw, SoundTask, SoundRun, SoundGap, SoundCounts, SoundNames, IsPart, is_name, is_name_byte}
-use Rattle.plant_make.specs.Made.{taken, of_chain, letter_name, chained, states_of, first_task, second_task, tasks_of, runs_of, units_of, gaps_of, steam_of, plant_made}
+use Rattle.plant_make.specs.Made.{taken, of_chain, letter_name, chained, states_of, second_task, tasks_of, runs_of, units_of, gaps_of, steam_of, plant_made}
 use Rattle.plant_make.proofs.Counts.{AreShort, few_slots, few_pairs}
 
 -- a number is below its bound

@@ -1,5 +1,5 @@
 -- The document of a plant is read as the plant.
-use Rattle.std.proofs.Common.{◌≡◌, ◌≢◌, ℕ, ◌+◌, ◌<◌, ◌≤◌, nat_lt, Bool, true, false, ◌&&◌, eqb, List, [], ◌∷◌, ◌++◌, map, take, length, get_or, All, AllPairs, Option, Some, None, option_map, unwrap_or, refl, sym, ap, ◌∙◌, inl, inr, arith}
+use Rattle.std.proofs.Common.{◌≡◌, ◌≢◌, ℕ, ◌≤◌, nat_lt, true, false, ◌&&◌, eqb, List, [], ◌++◌, map, take, length, get_or, AllPairs, Option, Some, option_map, unwrap_or, refl, ap, inl, inr, arith}
 use Rattle.std.proofs.lemmas.Bool.{cases_Bool, and_parts, eqb-true}
 use Rattle.std.proofs.lemmas.Bool.Decides.{nat_tests}
 use Rattle.std.proofs.lemmas.List.{length-map, take_all}
@@ -25,10 +25,10 @@ use Rattle.plant_text.specs.Fields.{held, needed, optional, since, items_of, ite
 use Rattle.plant_text.specs.Names.{name_in, first_places}
 use Rattle.plant_text.specs.Scope.{Scope}
 use Rattle.plant_text.specs.Tables.{has_run, state_tests, state_of, utility_tests, utility_of, unit_tests, unit_of, task_tests, task_of, run_tests, run_of, gap_tests, gap_of, receipt_tests, receipt_of, delivery_tests, delivery_of, outage_tests, outage_of}
-use Rattle.plant_text.specs.Document.{is_second, names_at, scope_in, size_fields, array_fields, plant_with, plant_in, size_tests, unknown_tests, document_tests, top_place}
+use Rattle.plant_text.specs.Document.{is_second, scope_in, size_fields, array_fields, plant_with, plant_in, size_tests, unknown_tests, document_tests, top_place}
 use Rattle.plant_text.specs.Fields as fields
 use Rattle.plant_text.proofs.Faults.{passes, nothing}
-use Rattle.plant_make.specs.Entries.{Entry, table_of, number, some_items}
+use Rattle.plant_make.specs.Entries.{table_of, number, some_items}
 use Rattle.plant_make.specs.Printed.{made_of, state_entries, utility_entries, unit_entries, task_entries, run_entries, gap_entries, receipt_entries, delivery_entries, outage_entries, plant_entries}
 use Rattle.plant_make.proofs.Lists.{IsNext, named_at, rows_read, at_next, map_same, none_any}
 use Rattle.plant_make.proofs.Tables.{held_is, held_maybe, all_known}

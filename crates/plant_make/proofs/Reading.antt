@@ -1,10 +1,8 @@
 -- Tables of records are read as the records.
-use Rattle.std.proofs.Common.{◌≡◌, ℤ, pos, ℕ, suc, ◌+◌, ◌-◌, ◌<◌, ◌≤◌, ◌⊎◌, nat_lt, nat_le, Bool, true, false, cond, not, List, [], ◌∷◌, ◌++◌, map, length, get_or, replicate, All, Option, Some, None, is_some, option_map, unwrap_or, unsigned_abs, IsTrue, refl, sym, ap, ◌∙◌, inl, inr, arith, le-leb, lt-ltb}
-use Rattle.std.specs.List.{AllByRecursion, list_all, list_any}
-use Rattle.std.proofs.lemmas.Bool.{cases_Bool, and_parts, eqb-true}
+use Rattle.std.proofs.Common.{◌≡◌, ℕ, suc, ◌+◌, ◌-◌, ◌<◌, ◌≤◌, nat_lt, true, false, cond, not, List, length, Some, is_some, option_map, IsTrue, refl, sym, ◌∙◌, inl, inr, arith, lt-ltb}
 use Rattle.std.proofs.lemmas.Bool.Decides.{nat_tests}
 use Rattle.std.proofs.lemmas.List.Elements.{recursion_from_All}
-use Rattle.toml.specs.Data.{Data, string, integer}
+use Rattle.toml.specs.Data.{string, integer}
 use Rattle.stn_model.specs.declared.plant.Plant.{Plant}
 use Rattle.stn_model.specs.declared.plant.State.{State}
 use Rattle.stn_model.specs.declared.plant.Utility.{Utility}
@@ -17,23 +15,21 @@ use Rattle.stn_model.specs.declared.plant.Delivery.{Delivery}
 use Rattle.stn_model.specs.declared.plant.Outage.{Outage}
 use Rattle.stn_model.specs.Plant.{state_at, utility_at, task_at}
 use Rattle.stn_model.specs.Sound.{SoundState, SoundUtility, SoundDraw, SoundRun, SoundGap, SoundReceipt, SoundDelivery, SoundOutage, is_name}
-use Rattle.plant_text.specs.declared.fault.Place.{Place}
 use Rattle.plant_text.specs.declared.fault.KeyName.TheVariants as key
 use Rattle.plant_text.specs.declared.fault.TableName.TheVariants as table
 use Rattle.plant_text.specs.declared.find.Key.{Key}
 use Rattle.plant_text.specs.declared.scope.Owner.{Owner}
 use Rattle.plant_text.specs.Words.{key_word}
 use Rattle.plant_text.specs.Tests.{first_fault}
-use Rattle.plant_text.specs.Fields.{table_tests, held, needed, optional, since, count, count_of, numbers_of, value_tests}
-use Rattle.plant_text.specs.Fields as fields
+use Rattle.plant_text.specs.Fields.{table_tests, held, needed, optional, since}
 use Rattle.plant_text.specs.Scope.{Scope}
-use Rattle.plant_text.specs.Tables.{limits_in, has_run, run_place, outage_place, state_fields, state_tests, state_of, utility_fields, utility_tests, utility_of, unit_fields, unit_tests, unit_of, run_fields, run_tests, run_more_tests, run_of, gap_fields, gap_tests, gap_of, receipt_fields, receipt_tests, receipt_of, delivery_fields, delivery_tests, delivery_of, outage_fields, outage_tests, outage_more_tests, outage_of, draw_fields, draw_tests, draw_of}
+use Rattle.plant_text.specs.Tables.{has_run, run_place, outage_place, state_fields, state_tests, state_of, utility_fields, utility_tests, utility_of, unit_fields, unit_tests, unit_of, run_fields, run_tests, run_more_tests, run_of, gap_fields, gap_tests, gap_of, receipt_fields, receipt_tests, receipt_of, delivery_fields, delivery_tests, delivery_of, outage_fields, outage_tests, outage_more_tests, outage_of, draw_fields, draw_tests, draw_of}
 use Rattle.plant_text.proofs.Faults.{passes, nothing}
 use Rattle.plant_make.specs.Entries.{table_of, number, numbers}
 use Rattle.plant_make.specs.Numbers.{lone, several}
 use Rattle.plant_make.specs.Printed.{made_of, unit_at, state_name, utility_name, unit_name, task_name, state_entries, utility_entries, unit_entries, run_entries, gap_entries, receipt_entries, delivery_entries, outage_entries, draw_entries}
 use Rattle.plant_make.proofs.Tables.{held_is, held_maybe, head_ok}
-use Rattle.plant_make.proofs.Passing.{Pass, absent_ok, count_ok, money_ok, name_ok, refers_ok, numbers_ok, numbers_back}
+use Rattle.plant_make.proofs.Passing.{Pass, count_ok, money_ok, name_ok, refers_ok, numbers_ok, numbers_back}
 use Rattle.plant_make.proofs.Limits.{limits_ok, always_some}
 
 -- the scope is that of the plant: version 2, its horizon, and its names at their places

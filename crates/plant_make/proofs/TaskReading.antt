@@ -1,11 +1,11 @@
 -- Tables of tasks are read as the tasks.
-use Rattle.std.proofs.Common.{◌≡◌, ℕ, ◌+◌, ◌*◌, ◌<◌, ◌≤◌, Bool, true, false, not, List, [], ◌∷◌, ◌++◌, map, length, All, Option, Some, None, sum_by, eq-eqb, refl, sym, ap, ◌∙◌, arith, subst}
+use Rattle.std.proofs.Common.{◌≡◌, ℕ, ◌*◌, ◌≤◌, Bool, true, false, List, [], ◌∷◌, ◌++◌, map, length, Some, None, sum_by, eq-eqb, refl, sym, ap, ◌∙◌, subst}
 use Rattle.std.specs.List.{AllByRecursion, AllZip}
 use Rattle.std.proofs.lemmas.List.{length-map, map-id}
 use Rattle.std.proofs.lemmas.List.Elements.{All-from_recursion, recursion_from_All}
 use Rattle.toml.specs.Data.{Data, string}
 use Rattle.fraction.specs.declared.fraction_of.Fraction.{Fraction}
-use Rattle.fraction.specs.Fractions.{IsProper, SumsToOne, fraction_text}
+use Rattle.fraction.specs.Fractions.{IsProper, SumsToOne}
 use Rattle.fraction.proofs.Amounts.{parts_sum}
 use Rattle.fraction.proofs.Written.{fraction_in-text}
 use Rattle.stn_model.specs.declared.plant.Plant.{Plant}
@@ -26,11 +26,11 @@ use Rattle.plant_text.specs.Fields.{held, needed, optional, items_at}
 use Rattle.plant_text.specs.Scope.{Scope}
 use Rattle.plant_text.specs.Tables.{is_output, side_fields, side_tests, side_of, sums_to_one, output_of, input_of, whole_tests, share_tests, sides_tests, outputs_in, draw_tests, draw_of, owner_in, quantum_in, outputs_of, drawer_in, task_fields, task_tests, task_of}
 use Rattle.plant_text.proofs.Faults.{passes, nothing}
-use Rattle.plant_make.specs.Entries.{table_of, number, array_of, some_items}
+use Rattle.plant_make.specs.Entries.{table_of, number, some_items}
 use Rattle.plant_make.specs.Numbers.{part_of}
 use Rattle.plant_make.specs.Printed.{made_of, state_name, part_text, input_entries, output_entries, draw_entries, task_entries}
 use Rattle.plant_make.proofs.Parts.{IsPartOf, part_good, part_whole}
-use Rattle.plant_make.proofs.Lists.{IsNext, rows_read, at_next, all_so, map_same}
+use Rattle.plant_make.proofs.Lists.{rows_read, at_next, all_so, map_same}
 use Rattle.plant_make.proofs.Tables.{held_is, held_maybe, head_ok}
 use Rattle.plant_make.proofs.Passing.{Pass, absent_ok, count_ok, name_ok, refers_ok, part_ok, tables_ok, maybe_tables_ok, items_back, some_there, one_more}
 use Rattle.plant_make.proofs.Reading.{IsScopeOf, draw_ok}

@@ -11,7 +11,7 @@ use Rattle.plant_text.specs.Reading.{reading}
 use Rattle.plant_make.specs.Entries.{table_of}
 use Rattle.plant_make.specs.Printed.{plant_entries}
 use Rattle.plant_make.specs.Meaning.{Means, Puts}
-use Rattle.plant_make.proofs.Passing.{Pass, one_more}
+use Rattle.plant_make.proofs.Passing.{one_more}
 use Rattle.plant_make.proofs.PlantReading.{document_ok}
 
 text_means : (plant : Plant) (text : List ℕ) → Sound plant → document_of text ≡ Some (table_of (plant_entries plant)) → Means plant text

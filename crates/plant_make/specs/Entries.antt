@@ -1,9 +1,9 @@
 -- Tables of a plant file as they are printed: keys and what they hold.
-use Rattle.std.specs.Prelude.{ℕ, ℤ, pos, List, [], ◌∷◌, map, Option, Some, None}
+use Rattle.std.specs.Prelude.{ℕ, pos, List, [], ◌∷◌, map, Option, Some, None}
 use Rattle.std.specs.Ordering.{nat_cmp, match_ordering}
 use Rattle.std.specs.Cmp.Lexicographic.{slice_cmp}
 use Rattle.std.specs.List.{fold}
-use Rattle.toml.specs.Data.{Data, integer, array, table, Members, no_members, member}
+use Rattle.toml.specs.Data.{Data, integer, array, Members, no_members, member}
 use Rattle.toml.specs.View.{items_of}
 use Rattle.plant_text.specs.declared.fault.KeyName.{KeyName}
 use Rattle.plant_text.specs.Words.{key_word}

@@ -1,6 +1,6 @@
 -- What the records of a plant are printed as: the keys of each table, in the order of the field table.
-use Rattle.std.specs.Prelude.{ℕ, pos, List, [], ◌∷◌, map, Option, Some, option_map, slice_index_or}
-use Rattle.toml.specs.Data.{Data, string, integer, table, Members}
+use Rattle.std.specs.Prelude.{ℕ, List, [], ◌∷◌, map, Some, option_map, slice_index_or}
+use Rattle.toml.specs.Data.{Data, string, integer, table}
 use Rattle.stn_model.specs.declared.plant.Plant.{Plant}
 use Rattle.stn_model.specs.declared.plant.State.{State}
 use Rattle.stn_model.specs.declared.plant.Utility.{Utility}
@@ -17,7 +17,7 @@ use Rattle.stn_model.specs.declared.plant.Outage.{Outage}
 use Rattle.stn_model.specs.Plant.{state_at, utility_at, task_at}
 use Rattle.fraction.specs.Fractions.{fraction_text}
 use Rattle.plant_text.specs.declared.fault.KeyName.TheVariants as key
-use Rattle.plant_make.specs.Entries.{Entry, table_of, number, numbers, array_of, some_items}
+use Rattle.plant_make.specs.Entries.{Entry, table_of, number, numbers, some_items}
 use Rattle.plant_make.specs.Numbers.{lone, several, part_of}
 
 -- the table of some entries as a value

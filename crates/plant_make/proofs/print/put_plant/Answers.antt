@@ -1,4 +1,4 @@
-use Rattle.std.proofs.Common.{◌≡◌, ◌++◌, ℕ, List, string_bytes, ap, ◌∙◌}
+use Rattle.std.proofs.Common.{◌≡◌, string_bytes, ◌∙◌}
 use Rattle.plant_make.proofs.Texts.{text_puts}
 use Rattle.plant_make.proofs.print.put_plant.Goals as goal
 
