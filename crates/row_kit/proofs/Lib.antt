@@ -3,5 +3,6 @@ pub mod Domains
 pub mod Gathered
 pub mod Histories
 pub mod Marks
+pub mod Parts
 pub mod Starts
 pub mod Tables

@@ -1,5 +1,5 @@
 -- The texts of the answers.
-use Rattle.std.specs.Prelude.{◌≡◌, ◌<◌, ◌+◌, ℕ, ℤ, length, List, [], ◌∷◌, ◌++◌, All, codes, decimal, Option, Some, None, IfSome}
+use Rattle.std.specs.Prelude.{◌<◌, ◌≤◌, ◌+◌, ◌^◌, ℕ, ℤ, unsigned_abs, length, List, [], ◌++◌, All, codes, decimal, Option, Some, None, IfSome}
 use Rattle.std.specs.Fmt.{signed_decimal}
 use Rattle.stn_model.specs.declared.plant.Plant.{Plant}
 use Rattle.stn_model.specs.declared.start.Start.{Start}
@@ -14,6 +14,9 @@ use Rattle.plan_sim.specs.declared.verdict.Verdict.{Verdict}
 use Rattle.plan_sim.specs.declared.verdict.Verdict.TheVariants.{Feasible, Broken}
 use Rattle.plant_text.specs.declared.fault.PlantFault.{PlantFault}
 use Rattle.plant_text.specs.Words.{table_word, key_word}
+use Rattle.gantt_report.specs.Report.{report_text}
+use Rattle.stn_top.specs.declared.command.PlanUse.{PlanUse}
+use Rattle.stn_top.specs.declared.command.PlanUse.TheVariants.{Simulate, Report}
 
 -- the line on words that have the form of no command
 abbrev pub words_text : List ℕ
@@ -46,6 +49,23 @@ answer_text plant used (Optimal plan earned) =
 answer_text plant used Infeasible = codes "# infeasible\n" ++ boxes_line used
 answer_text plant used (BudgetSpent plan earned cap) =
     codes "# budget-spent " ++ (profit_word plan earned ++ (codes " " ++ (signed_decimal cap ++ (codes "\n" ++ (boxes_line used ++ found_lines plant plan)))))
+
+-- the plan that an answer prints: no starts where it has none
+abbrev pub printed_plan : Answer → List Start
+printed_plan (Optimal plan earned) = plan
+printed_plan Infeasible = []
+printed_plan (BudgetSpent None earned cap) = []
+printed_plan (BudgetSpent (Some plan) earned cap) = plan
+
+-- an amount of money has at most 128 bits, one of them for its sign
+abbrev pub IsMoney : ℤ → Type 0
+IsMoney amount = unsigned_abs amount ≤ 2 ^ 127
+
+-- the answer's profit and cap are such amounts
+abbrev pub IsInMoney : Answer → Type 0
+IsInMoney (Optimal plan earned) = IsMoney earned
+IsInMoney Infeasible = Unit {0}
+IsInMoney (BudgetSpent plan earned cap) = IsMoney earned × IsMoney cap
 
 -- the exit status of an answer
 abbrev pub status_of : Answer → ℕ
@@ -84,6 +104,12 @@ violation_text plant (Load utility period) = named_line (codes "broken load ") (
 unfoldable pub verdict_text : Plant → Verdict → List ℕ
 verdict_text plant (Feasible earned) = codes "feasible " ++ (signed_decimal earned ++ codes "\n")
 verdict_text plant (Broken violation) = violation_text plant violation
+
+-- the text that a use of a plan puts: what it earns, or its report, or what it breaks first
+abbrev pub use_text : PlanUse → Plant → List Start → Verdict → List ℕ
+use_text Simulate plant plan verdict = verdict_text plant verdict
+use_text Report plant plan (Feasible earned) = report_text plant plan
+use_text Report plant plan (Broken violation) = violation_text plant violation
 
 -- the exit status of a verdict
 abbrev pub verdict_status : Verdict → ℕ

@@ -2,13 +2,21 @@
 use Rattle.std.specs.Prelude.{◌≡◌, ◌≢◌, ℕ, ◌≤◌, List, [], ◌∷◌, map, codes, decimal}
 use Rattle.std.specs.Borrow.{Bor}
 use Rattle.stn_top.specs.declared.command.TheConstants.{MAX_BUDGET}
+use Rattle.stn_top.specs.declared.command.PlanUse.{PlanUse}
+use Rattle.stn_top.specs.declared.command.PlanUse.TheVariants.{Simulate, Report}
 use Rattle.stn_top.specs.declared.command.Command as declared
 use Rattle.stn_top.specs.declared.command.Command.TheVariants as variants
 
 -- what a planner asks for
 pub data Request : Type 0 where
   Solving : (plant : List ℕ) (budget : ℕ) → Request
-  Simulating : (plant plan : List ℕ) → Request
+  Carrying : (usage : PlanUse) (plant plan : List ℕ) → Request
+  Upgrading : (plant : List ℕ) → Request
+
+-- the first word of a command that carries out a plan
+abbrev pub use_word : PlanUse → List ℕ
+use_word Simulate = codes "simulate"
+use_word Report = codes "report"
 
 -- the bytes of the words
 abbrev pub texts : List (Bor (List ℕ)) → List (List ℕ)
@@ -23,7 +31,8 @@ pub record IsBudget (word : List ℕ) (budget : ℕ) : Type 0 where
 -- the words say the request; no file has an empty name
 abbrev pub Says : List (List ℕ) → Request → Type 0
 Says words (Solving plant budget) = (word : List ℕ) × ((words ≡ codes "solve" ∷ plant ∷ word ∷ []) × (plant ≢ []) × IsBudget word budget)
-Says words (Simulating plant plan) = (words ≡ codes "simulate" ∷ plant ∷ plan ∷ []) × (plant ≢ []) × (plan ≢ [])
+Says words (Carrying usage plant plan) = (words ≡ use_word usage ∷ plant ∷ plan ∷ []) × (plant ≢ []) × (plan ≢ [])
+Says words (Upgrading plant) = (words ≡ codes "upgrade" ∷ plant ∷ []) × (plant ≢ [])
 
 -- the words have the form of no command
 abbrev pub HasNoForm : List (List ℕ) → Type 0
@@ -32,4 +41,5 @@ HasNoForm words = (request : Request) → ¬ Says words request
 -- what a command asks for
 abbrev pub meaning : declared.Command → Request
 meaning (variants.Solve plant budget) = Solving plant.now budget
-meaning (variants.Simulate plant plan) = Simulating plant.now plan.now
+meaning (variants.Carry usage plant plan) = Carrying usage plant.now plan.now
+meaning (variants.Upgrade plant) = Upgrading plant.now

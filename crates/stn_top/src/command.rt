@@ -1,19 +1,39 @@
 //! The words of a command.
-ghost use Rattle.std.specs.Prelude.{ℕ, List, MatchOption};
-ghost use Rattle.stn_top.specs.Words.{Says, HasNoForm, IsBudget, Solving, Simulating, texts, meaning};
+ghost use Rattle.std.specs.Prelude.{◌≡◌, ℕ, List, MatchOption};
+ghost use Rattle.stn_top.specs.Words.{Says, HasNoForm, IsBudget, Solving, Carrying, Upgrading, texts, meaning, use_word};
 
 use text_words::read_number;
 
 /// The greatest number of boxes that may be asked for.
 pub const MAX_BUDGET: u32 = 100_000;
 
+/// What is done with a plan.
+#[derive(Clone, Copy, Debug, PartialEq, Eq)]
+pub enum PlanUse {
+    /// Say what it earns, or what it breaks first.
+    Simulate,
+    /// Show it, or say what it breaks first.
+    Report,
+}
+
 /// What the words ask for.
 #[derive(Clone, Copy)]
 pub enum Command<'a> {
     /// `solve PLANT BUDGET`: plan, with at most this many boxes.
-    Solve { plant: &'a str, budget: u32 },
-    /// `simulate PLANT PLAN`: carry out a plan.
-    Simulate { plant: &'a str, plan: &'a str },
+    Solve {
+        plant: &'a str,
+        budget: u32,
+    },
+    /// `simulate PLANT PLAN` and `report PLANT PLAN`: carry out a plan.
+    Carry {
+        usage: PlanUse,
+        plant: &'a str,
+        plan: &'a str,
+    },
+    /// `upgrade PLANT`: print the plant as a file of version 2.
+    Upgrade {
+        plant: &'a str,
+    },
 }
 
 /// The command that the words say, if they have the form of one. It takes no memory.
@@ -23,7 +43,13 @@ pub fn command_of<'a>(words: &[&'a str]) -> Option<Command<'a>>
     if let Some(command) = solve_of(words) {
         return Some(command);
     }
-    simulate_of(words)
+    if let Some(command) = carry_of(words, "simulate", PlanUse::Simulate) {
+        return Some(command);
+    }
+    if let Some(command) = carry_of(words, "report", PlanUse::Report) {
+        return Some(command);
+    }
+    upgrade_of(words)
 }
 
 fn solve_of<'a>(words: &[&'a str]) -> Option<Command<'a>>
@@ -41,13 +67,27 @@ fn solve_of<'a>(words: &[&'a str]) -> Option<Command<'a>>
     }
 }
 
-fn simulate_of<'a>(words: &[&'a str]) -> Option<Command<'a>>
-    ensures { MatchOption result ((plant plan : List ℕ) → ¬ Says (texts words.now) (Simulating plant plan))
+// The command on a plan whose first word is this use's.
+fn carry_of<'a>(words: &[&'a str], word: &str, usage: PlanUse) -> Option<Command<'a>>
+    requires { word.now ≡ use_word usage }
+    ensures { MatchOption result ((plant plan : List ℕ) → ¬ Says (texts words.now) (Carrying usage plant plan))
         (λ command. Says (texts words.now) (meaning command)) }
 {
     match words {
-        [first, plant, plan] if *first == "simulate" && !plant.is_empty() && !plan.is_empty() => {
-            Some(Command::Simulate { plant, plan })
+        [first, plant, plan] if *first == word && !plant.is_empty() && !plan.is_empty() => {
+            Some(Command::Carry { usage, plant, plan })
+        }
+        _ => None,
+    }
+}
+
+fn upgrade_of<'a>(words: &[&'a str]) -> Option<Command<'a>>
+    ensures { MatchOption result ((plant : List ℕ) → ¬ Says (texts words.now) (Upgrading plant))
+        (λ command. Says (texts words.now) (meaning command)) }
+{
+    match words {
+        [first, plant] if *first == "upgrade" && !plant.is_empty() => {
+            Some(Command::Upgrade { plant })
         }
         _ => None,
     }

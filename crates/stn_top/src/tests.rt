@@ -433,7 +433,7 @@ type Simulated = (
     &'static str,
 );
 
-const SIMULATED: [Simulated; 18] = [
+const SIMULATED: [Simulated; 20] = [
     (FIVE, &[], FIVE_PLAN, 0, "feasible 854\n"),
     (WASH, &[], "0 U A 1\n2 U B 1\n", 1, "broken gap 1 2\n"),
     (WASH, &[], "0 U A 1\n1 U C 1\n2 U B 1\n", 0, "feasible 3\n"),
@@ -468,6 +468,8 @@ const SIMULATED: [Simulated; 18] = [
     (TINY, FLAT, "0 U make 3\n", 1, "broken stock-high prod 1\n"),
     (TINY, STEAM, "0 U make 3\n", 0, "feasible 36\n"),
     (TINY, STEAM, "0 U make 4\n", 1, "broken load steam 0\n"),
+    (TINY, LESS_STEAM, "0 U make 4\n", 0, "feasible 44\n"),
+    (TINY, LESS_STEAM, "1 U make 4\n", 1, "broken load steam 1\n"),
     (TINY, &[], "0 U make\n", 4, "refused plan 1 1\n"),
     (TINY, &[], "0 V make 1\n", 4, "refused plan 2 1\n"),
 ];
@@ -495,6 +497,20 @@ pub const STEAM: &[(&str, &str)] = &[
     ),
 ];
 
+// The same, with enough steam for four quanta in the first period alone.
+const LESS_STEAM: &[(&str, &str)] = &[
+    ("version = 1", "version = 2"),
+    ("max = 3", "max = 4"),
+    (
+        "[[task.input]]",
+        "draw = [{ utility = \"steam\", fixed = [2], each = [1] }]\n[[task.input]]",
+    ),
+    (
+        "[[unit]]",
+        "[[utility]]\nname = \"steam\"\nlimits = [6, 5]\n[[unit]]",
+    ),
+];
+
 #[test]
 fn plans_are_simulated(rt: HostRuntime) -> Result<(), Fail> {
     for (plant, edits, plan, status, text) in SIMULATED {
@@ -511,9 +527,77 @@ fn plans_are_simulated(rt: HostRuntime) -> Result<(), Fail> {
     Ok(())
 }
 
+// A plant, a plan, the status, and how the text begins and ends.
+type Reported = (&'static str, &'static str, u8, &'static str, &'static str);
+
+const REPORTED: [Reported; 4] = [
+    (
+        TINY,
+        "0 U make 3\n1 U make 3\n",
+        0,
+        "gantt\nU                               |01|01\ntask 01 make\nstock\nstate 01 feed\nstate 02 prod\n",
+        "   0               6               0\n   1               0               6\n   2               0              12\nload\n   0\n   1\nprofit 60\n",
+    ),
+    (
+        SEP,
+        "0 S sep 1\n1 V pack 1\n",
+        0,
+        "gantt\nS                               |01 01 ..\nV                                ..|02 ..\n",
+        "profit 9\n",
+    ),
+    (SEP, "0 S sep 1\n1 S sep 1\n", 1, "broken busy 1 2\n", ""),
+    (
+        FIVE,
+        FIVE_PLAN,
+        0,
+        "gantt\nheater                           ..|01 .. .. .. .. ..\nr1                              |02 02|03 03|04 .. ..\nr2                               .. .. .. .. .. .. ..\nstill                            .. .. .. .. ..|05 05\ntask 01 heat\n",
+        "   6               0\nprofit 854\n",
+    ),
+];
+
+#[test]
+fn plans_are_reported(rt: HostRuntime) -> Result<(), Fail> {
+    for (plant, plan, status, start, end) in REPORTED {
+        let (answered, out) = answer(rt.alloc(), plant, plan, &["report", "plant", "plan"])?;
+        assert_eq!(rt; answered, status);
+        assert!(rt; out.written().starts_with(start.as_bytes()));
+        assert!(rt; out.written().ends_with(end.as_bytes()));
+    }
+    Ok(())
+}
+
+// A plant, edits of it, a budget, and how the answer of planning begins, of the plant and of its upgraded text.
+type Upgraded = (
+    &'static str,
+    &'static [(&'static str, &'static str)],
+    &'static str,
+    &'static str,
+);
+
+const UPGRADED: [Upgraded; 4] = [
+    (TINY, &[], "31", "# optimal 60\n"),
+    (TINY, OUT_OF_USE, "7", "# optimal 36\n"),
+    (TINY, LESS_STEAM, "25", "# optimal 60\n"),
+    (TINT, &[], "31", "# optimal 6\n"),
+];
+
+#[test]
+fn plants_are_upgraded(rt: HostRuntime) -> Result<(), Fail> {
+    for (plant, edits, budget, start) in UPGRADED {
+        let plant = edited(rt.alloc(), plant, edits)?;
+        let (status, out) = answer(rt.alloc(), plant.as_str(), "", &["upgrade", "plant"])?;
+        assert_eq!(rt; status, 0);
+        let text = str::from_utf8(out.written()).ok().ok_or("text")?;
+        let (status, out) = answer(rt.alloc(), text, "", &["solve", "plant", budget])?;
+        assert_eq!(rt; status, 0);
+        assert!(rt; out.written().starts_with(start.as_bytes()));
+    }
+    Ok(())
+}
+
 #[test]
 fn words_are_refused(rt: HostRuntime) -> Result<(), Fail> {
-    let wrong: [&[&str]; 7] = [
+    let wrong: [&[&str]; 9] = [
         &["solve", "plant", "31", "plant"],
         &[],
         &["solve", "plant", "0"],
@@ -521,6 +605,8 @@ fn words_are_refused(rt: HostRuntime) -> Result<(), Fail> {
         &["solve", "plant", "100001"],
         &["solve", "", "31"],
         &["simulate", "plant", ""],
+        &["report", "plant"],
+        &["upgrade", "plant", "plant"],
     ];
     for words in wrong {
         let (status, out) = answer(rt.alloc(), TINY, "", words)?;

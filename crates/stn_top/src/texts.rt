@@ -1,6 +1,7 @@
 //! The texts of the answers.
-ghost use Rattle.std.specs.Prelude.{◌≡◌, ◌+◌, ◌<◌, ◌++◌, length, All, IfOk, IfSome, codes, decimal, string_bytes};
+ghost use Rattle.std.specs.Prelude.{◌≡◌, ◌+◌, ◌<◌, ◌^◌, ◌++◌, length, All, IfOk, IfSome, codes, decimal, string_bytes};
 ghost use Rattle.stn_model.specs.Plant.{state_at, utility_at};
+ghost use Rattle.stn_model.specs.Sound.{Sound};
 ghost use Rattle.std.specs.Fmt.{signed_decimal};
 ghost use Rattle.plan_text.specs.PlanLines.{plan_lines, IsNamed};
 ghost use Rattle.stn_top.specs.Texts.{
@@ -16,10 +17,15 @@ ghost use Rattle.stn_top.specs.Texts.{
   violation_text,
   verdict_text,
   verdict_status,
+  use_text,
+  IsInMoney,
+  IsMoney,
   IsOfPlant,
 };
 
+use crate::command::PlanUse;
 use crate::reply::Reply;
+use gantt_report::report;
 use plan_sim::Verdict;
 use plan_text::{PlanFault, put_plan};
 use plant_text::PlantFault;
@@ -51,12 +57,14 @@ pub fn refused_plant(alloc: Global, fault: &PlantFault) -> Result<Reply, AllocEr
 /// The answer that planning found.
 pub fn planned(alloc: Global, plant: &Plant, outcome: &Outcome) -> Result<Reply, AllocError>
     requires { IsNamedIn plant.now outcome.now.answer }
-    ensures { IfOk result (λ reply. (reply.status ≡ status_of outcome.now.answer)
+    ensures text { IfOk result (λ reply. (reply.status ≡ status_of outcome.now.answer)
         × (reply.text.items ≡ answer_text plant.now outcome.now.boxes outcome.now.answer)) }
+    ensures money { IfOk result (λ reply. IsInMoney outcome.now.answer) }
 {
     let boxes = outcome.boxes;
     match &outcome.answer {
         Answer::Optimal { plan, profit } => {
+            bounded(profit);
             let text = optimal_text(alloc, plant, boxes, plan, profit)?;
             Ok(Reply { status: 0, text })
         }
@@ -65,6 +73,8 @@ pub fn planned(alloc: Global, plant: &Plant, outcome: &Outcome) -> Result<Reply,
             Ok(Reply { status: 1, text })
         }
         Answer::BudgetSpent { plan, profit, cap } => {
+            bounded(profit);
+            bounded(cap);
             let text = match plan {
                 Some(plan) => spent_text(alloc, plant, boxes, plan, profit, cap)?,
                 None => unsettled_text(alloc, boxes, cap)?,
@@ -72,6 +82,13 @@ pub fn planned(alloc: Global, plant: &Plant, outcome: &Outcome) -> Result<Reply,
             Ok(Reply { status: 6, text })
         }
     }
+}
+
+// What an amount's type says of it.
+fn bounded(amount: &i128)
+    ensures { IsMoney amount.now }
+{
+    let _value = *amount;
 }
 
 fn optimal_text(
@@ -166,6 +183,32 @@ pub fn simulated(alloc: Global, plant: &Plant, verdict: &Verdict) -> Result<Repl
     match verdict {
         Verdict::Feasible { profit } => {
             let text = profit_text(alloc, profit)?;
+            Ok(Reply { status: 0, text })
+        }
+        Verdict::Broken(violation) => {
+            let text = violation_text(alloc, plant, violation)?;
+            Ok(Reply { status: 1, text })
+        }
+    }
+}
+
+/// The report of a plan that was simulated, or what it breaks first.
+pub fn reported(
+    alloc: Global,
+    plant: &Plant,
+    plan: &[Start],
+    verdict: &Verdict,
+) -> Result<Reply, AllocError>
+    requires sound { Sound plant.now }
+    requires short { length plan.now < 2 ^ 32 }
+    requires named { (v : Violation) → verdict.now ≡ Verdict.Broken v → IsOfPlant plant.now v }
+    ensures { IfOk result (λ reply. (reply.status ≡ verdict_status verdict.now)
+        × (reply.text.items ≡ use_text PlanUse.Report plant.now plan.now verdict.now)) }
+{
+    match verdict {
+        Verdict::Feasible { profit: _ } => {
+            let mut text = Vec::new(alloc);
+            report(alloc, plant, plan, &mut text)?;
             Ok(Reply { status: 0, text })
         }
         Verdict::Broken(violation) => {

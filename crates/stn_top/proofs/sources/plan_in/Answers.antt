@@ -1,4 +1,3 @@
-use Rattle.std.proofs.Common.{◌≡◌, Err}
 use Rattle.stn_top.proofs.ReplyLemmas.{plan-too_long}
 use Rattle.stn_top.proofs.sources.plan_in.Goals as goal
 

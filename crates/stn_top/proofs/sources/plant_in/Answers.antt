@@ -1,4 +1,3 @@
-use Rattle.std.proofs.Common.{◌≡◌, ap, Err}
 use Rattle.stn_top.proofs.ReplyLemmas.{read-too_long}
 use Rattle.stn_top.proofs.sources.plant_in.Goals as goal
 

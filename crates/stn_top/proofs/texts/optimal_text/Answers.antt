@@ -1,4 +1,4 @@
-use Rattle.std.proofs.Common.{◌≡◌, ◌∙◌}
+use Rattle.std.proofs.Common.{◌∙◌}
 use Rattle.stn_top.proofs.TextLemmas as lemmas
 use Rattle.stn_top.proofs.texts.optimal_text.Goals as goal
 

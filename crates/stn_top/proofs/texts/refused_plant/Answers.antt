@@ -1,4 +1,4 @@
-use Rattle.std.proofs.Common.{◌≡◌, refl, ◌∙◌}
+use Rattle.std.proofs.Common.{refl, ◌∙◌}
 use Rattle.stn_top.specs.Texts.{fault_text}
 use Rattle.stn_top.proofs.texts.refused_plant.Goals as goal
 

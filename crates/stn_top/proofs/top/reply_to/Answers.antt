@@ -10,8 +10,14 @@ returns-in-Some-Solve-clause-words g c =
     (λ reply not. not_refused (texts c.args.words.now) (meaning c.in-Some-Solve.field-0) reply.status c.in-Some-Solve.ensures not)
     c.solve_file.ensures.not_words
 
-pub returns-in-Some-Simulate-clause-words : goal.returns-in-Some-Simulate-clause-words
-returns-in-Some-Simulate-clause-words g c =
-    IfOk-follows (λ reply. reply.status ≡ 2 → ⊥) (λ reply. (reply.status ≡ 2) ↔ HasNoForm (texts c.args.words.now)) c.simulate_file.result
-    (λ reply not. not_refused (texts c.args.words.now) (meaning c.in-Some-Simulate.field-0) reply.status c.in-Some-Simulate.ensures not)
-    c.simulate_file.ensures.not_words
+pub returns-in-Some-Carry-clause-words : goal.returns-in-Some-Carry-clause-words
+returns-in-Some-Carry-clause-words g c =
+    IfOk-follows (λ reply. reply.status ≡ 2 → ⊥) (λ reply. (reply.status ≡ 2) ↔ HasNoForm (texts c.args.words.now)) c.carry_file.result
+    (λ reply not. not_refused (texts c.args.words.now) (meaning c.in-Some-Carry.field-0) reply.status c.in-Some-Carry.ensures not)
+    c.carry_file.ensures.not_words
+
+pub returns-in-Some-Upgrade-clause-words : goal.returns-in-Some-Upgrade-clause-words
+returns-in-Some-Upgrade-clause-words g c =
+    IfOk-follows (λ reply. reply.status ≡ 2 → ⊥) (λ reply. (reply.status ≡ 2) ↔ HasNoForm (texts c.args.words.now)) c.upgrade_file.result
+    (λ reply not. not_refused (texts c.args.words.now) (meaning c.in-Some-Upgrade.field-0) reply.status c.in-Some-Upgrade.ensures not)
+    c.upgrade_file.ensures.not_words

@@ -1,0 +1,287 @@
+-- The text of an answer, read as plan text, says the answer's plan.
+use Rattle.std.proofs.Common.{◌≡◌, ◌≢◌, ℕ, ℤ, pos, negsuc, suc, true, false, inl, inr, ◌+◌, ◌*◌, ◌%◌, ◌<◌, ◌≤◌, ◌^◌, List, [], ◌∷◌, ◌++◌, length, get_or, map, Option, Some, None, codes, decimal, sym, ap, ◌∙◌, refl, arith, append_assoc, length-append}
+use Rattle.std.specs.Prelude.{All, Ok, slice_index_or}
+use Rattle.std.specs.Fmt.{signed_decimal}
+use Rattle.std.specs.List.{flat_map, list_all}
+use Rattle.std.specs.Prelude.{not, ◌==◌}
+use Rattle.std.proofs.lemmas.List.Recursion.{and_at}
+use Rattle.std.proofs.lemmas.List.Sorted.{length_permutation}
+use Rattle.std.proofs.lemmas.Bool.{false≢true, cases_Bool}
+use Rattle.std.proofs.lemmas.Bool.Decides.{nat_tests}
+use Rattle.std.specs.Char.{is_ascii_alphabetic}
+use Rattle.std.specs.Prelude.{Bool, ◌&&◌, nat_le, IsTrue}
+use Rattle.std.proofs.lemmas.List.{get_or-map}
+use Rattle.stn_model.specs.Plant.{no_task}
+use Rattle.stn_model.specs.Sound.{is_name, is_name_byte}
+use Rattle.plan_text.specs.PlanLines.{IsNamed}
+use Rattle.std.proofs.lemmas.List.Elements.{All-append, All-cons}
+use Rattle.std.proofs.lemmas.Fmt.{decimal_by_steps_wide, length-decimal-le_wide}
+use Rattle.stn_model.specs.declared.plant.Plant.{Plant}
+use Rattle.stn_model.specs.declared.start.Start.{Start}
+use Rattle.stn_model.specs.declared.answer.Answer.{Answer}
+use Rattle.stn_model.specs.declared.answer.Answer.TheVariants.{Optimal, Infeasible, BudgetSpent}
+use Rattle.stn_model.specs.Sound.{Sound}
+use Rattle.stn_model.specs.Fits.{Fits}
+use Rattle.stn_model.specs.Feasible.{Feasible}
+use Rattle.stn_model.specs.declared.answer.Outcome.{Outcome}
+use Rattle.stn_model.specs.Answers.{IsAnswer, IsOutcome}
+use Rattle.stn_top.specs.declared.reply.Reply.{Reply}
+use Rattle.stn_top.specs.Replies.{Solved}
+use Rattle.std.specs.Prelude.{Result, Err, IfOk}
+use Rattle.time_grid.specs.Slots.{slots}
+use Rattle.time_grid.specs.PlanPoint.{plan_point, point_starts}
+use Rattle.time_grid.proofs.SlotList.{length-slots}
+use Rattle.time_grid.proofs.OnePlan.{starts-permutation, has_point-feasible, ends_later}
+use Rattle.time_grid.proofs.PlanPoints.{quanta_most}
+use Rattle.plan_text.specs.PlanLines.{plan_line, plan_lines, start_words, unit_names, task_names}
+use Rattle.plan_text.specs.PlanText.{plan_of_text}
+use Rattle.plan_text.specs.ReadsBack.{IsRemark, comment_lines, IsWritable, ReadsBack}
+use Rattle.plan_text.proofs.Again.{ReadsBack-lines}
+use Rattle.stn_top.specs.Texts.{answer_text, boxes_line, profit_word, status_of, printed_plan, IsMoney, IsInMoney}
+use Rattle.stn_top.proofs.Named.{named-Feasible}
+
+-- ---- numbers
+
+-- one byte that is no line feed
+one_byte : (byte : ℕ) → byte ≢ 10 → IsRemark (byte ∷ [])
+one_byte byte differs = All-cons (λ b. b ≢ 10) byte [] differs (λ k d within. absurd (omega arith))
+
+-- what is printed of a number has no line feed
+decimal-remark : (n : ℕ) → n < 10 ^ 64 → IsRemark (decimal n)
+decimal-remark n small =
+    decimal_by_steps_wide (λ m digits. IsRemark digits)
+    (λ m less. one_byte (48 + m) (λ same. omega arith))
+    (λ m digits least is. All-append (λ b. b ≢ 10) digits ((48 + m % 10) ∷ []) is (one_byte (48 + m % 10) (λ same. omega arith)))
+    n small
+
+-- what is printed of an amount of money has no line feed, and at most 40 bytes
+money-remark : (amount : ℤ) → IsMoney amount → IsRemark (signed_decimal amount) × (length (signed_decimal amount) ≤ 40)
+money-remark (pos n) small = (decimal-remark n (omega arith), (let l = length-decimal-le_wide 39 n (omega arith) (omega arith) (omega arith) in omega arith))
+money-remark (negsuc n) small = (
+  All-cons (λ b. b ≢ 10) 45 (decimal (suc n)) (λ same. omega arith) (decimal-remark (suc n) (omega arith)),
+  (let l = length-decimal-le_wide 39 (suc n) (omega arith) (omega arith) (omega arith) in omega arith),
+)
+
+-- ---- lines
+
+-- the part of a line that is a comment, before what follows
+remark_line : (first second rest : List ℕ) → ((35 ∷ (first ++ second)) ++ 10 ∷ []) ++ rest ≡ (35 ∷ first) ++ (second ++ (10 ∷ rest))
+remark_line first second rest = ap (λ (x : List ℕ). 35 ∷ x) (append_assoc (first ++ second) (10 ∷ []) rest ∙ append_assoc first second (10 ∷ rest))
+
+-- two comments and a text
+two_lines : (a b e f text : List ℕ) → comment_lines ((a ++ b) ∷ (e ++ f) ∷ []) ++ text ≡ (35 ∷ a) ++ (b ++ (10 ∷ ((35 ∷ e) ++ (f ++ (10 ∷ text)))))
+two_lines a b e f text = simp append_assoc
+
+-- the comment on the answer
+abbrev first_remark : Answer → List ℕ
+first_remark (Optimal plan earned) = codes " optimal " ++ signed_decimal earned
+first_remark Infeasible = codes " infeasible" ++ []
+first_remark (BudgetSpent plan earned bound) = codes " budget-spent " ++ (profit_word plan earned ++ (codes " " ++ signed_decimal bound))
+
+-- the two comments of an answer
+abbrev remarks : Answer → ℕ → List (List ℕ)
+remarks answer used = first_remark answer ∷ (codes " boxes " ++ decimal used) ∷ []
+
+-- the line of the boxes, before what follows
+boxes_then : (used : ℕ) (lines : List ℕ) → boxes_line used ++ lines ≡ codes "# boxes " ++ (decimal used ++ (10 ∷ lines))
+boxes_then used lines = append_assoc (codes "# boxes ") (decimal used ++ codes "\n") lines ∙ ap (λ (x : List ℕ). codes "# boxes " ++ x) (append_assoc (decimal used) (codes "\n") lines)
+
+-- the lines of an answer under a spent budget
+spent_lines : (word bound : List ℕ) (used : ℕ) (lines : List ℕ) → codes "# budget-spent " ++ (word ++ (codes " " ++ (bound ++ (codes "\n" ++ (boxes_line used ++ lines)))))
+    ≡ comment_lines ((codes " budget-spent " ++ (word ++ (codes " " ++ bound))) ∷ (codes " boxes " ++ decimal used) ∷ []) ++ lines
+spent_lines word bound used lines =
+    ap (λ (x : List ℕ). codes "# budget-spent " ++ (word ++ (codes " " ++ (bound ++ (10 ∷ x))))) (boxes_then used lines)
+    ∙ ap (λ (x : List ℕ). codes "# budget-spent " ++ x) (sym (append_assoc word (codes " " ++ bound) (10 ∷ (codes "# boxes " ++ (decimal used ++ (10 ∷ lines))))))
+    ∙ sym (two_lines (codes " budget-spent ") (word ++ (codes " " ++ bound)) (codes " boxes ") (decimal used) lines)
+
+-- the text of an answer is two comments and the lines of its plan
+answer-lines : (plant : Plant) (used : ℕ) (answer : Answer) → answer_text plant used answer ≡ comment_lines (remarks answer used) ++ plan_lines plant (printed_plan answer)
+unfolding answer_text plan_lines
+answer-lines plant used (Optimal plan earned) =
+    ap (λ (x : List ℕ). codes "# optimal " ++ (signed_decimal earned ++ (10 ∷ x))) (boxes_then used (plan_lines plant plan))
+    ∙ sym (two_lines (codes " optimal ") (signed_decimal earned) (codes " boxes ") (decimal used) (plan_lines plant plan))
+answer-lines plant used Infeasible = sym (two_lines (codes " infeasible") [] (codes " boxes ") (decimal used) [])
+answer-lines plant used (BudgetSpent None earned bound) = spent_lines (codes "-") (signed_decimal bound) used []
+answer-lines plant used (BudgetSpent (Some plan) earned bound) = spent_lines (signed_decimal earned) (signed_decimal bound) used (plan_lines plant plan)
+
+-- the comments have no line feed, and are short
+record AreRemarks (lines : List (List ℕ)) : Type 0 where
+  plain : All IsRemark lines
+  short : length (comment_lines lines) ≤ 300
+
+-- two remarks of at most 100 bytes
+both_remarks : (a b : List ℕ) → IsRemark a → IsRemark b → length a ≤ 100 → length b ≤ 100 → AreRemarks (a ∷ b ∷ [])
+both_remarks a b plain_a plain_b short_a short_b = record {
+  plain = All-cons IsRemark a (b ∷ []) plain_a (All-cons IsRemark b [] plain_b (λ k d within. absurd (omega arith)));
+  short =
+      let l = length-append ((35 ∷ a) ++ 10 ∷ []) (((35 ∷ b) ++ 10 ∷ []) ++ []) in
+      let m = length-append (35 ∷ a) (10 ∷ []) in
+      let n = length-append ((35 ∷ b) ++ 10 ∷ []) [] in
+      let o = length-append (35 ∷ b) (10 ∷ []) in
+      omega (arith, l, m, n, o);
+}
+
+-- a word without a line feed
+plain_word : (word : List ℕ) → list_all (λ b. not (b == 10)) word ≡ true → IsRemark word
+plain_word word is = λ k d within same.
+    let test : not (get_or word k d == 10) ≡ true = and_at (list_all (λ b. not (b == 10))) (λ b. not (b == 10)) refl (λ _ _. refl) word k d within is in
+    false≢true (ap (λ b. not (b == 10)) (sym same) ∙ test)
+
+-- a word followed by another remark
+after_word : (word rest : List ℕ) → IsRemark word → IsRemark rest → IsRemark (word ++ rest)
+after_word word rest plain_word plain_rest = All-append (λ b. b ≢ 10) word rest plain_word plain_rest
+
+-- the profit of a plan that may be there
+profit-remark : (plan : Option (List Start)) (earned : ℤ) → IsMoney earned → IsRemark (profit_word plan earned) × (length (profit_word plan earned) ≤ 40)
+profit-remark None earned small = (plain_word (codes "-") refl, omega arith)
+profit-remark (Some plan) earned small = money-remark earned small
+
+-- the comment on the answer
+first-remark : (answer : Answer) → IsInMoney answer → IsRemark (first_remark answer) × (length (first_remark answer) ≤ 100)
+first-remark (Optimal plan earned) small =
+    let amount = money-remark earned small in
+    let long = length-append (codes " optimal ") (signed_decimal earned) in
+    (after_word (codes " optimal ") (signed_decimal earned) (plain_word (codes " optimal ") refl) amount.0, omega (arith, long, amount.1))
+first-remark Infeasible small = (plain_word (codes " infeasible") refl, omega arith)
+first-remark (BudgetSpent plan earned bound) small =
+    let amount = profit-remark plan earned small.0 in
+    let most = money-remark bound small.1 in
+    let long = length-append (codes " budget-spent ") (profit_word plan earned ++ (codes " " ++ signed_decimal bound)) in
+    let later = length-append (profit_word plan earned) (codes " " ++ signed_decimal bound) in (
+      after_word (codes " budget-spent ") (profit_word plan earned ++ (codes " " ++ signed_decimal bound)) (plain_word (codes " budget-spent ") refl)
+          (after_word (profit_word plan earned) (codes " " ++ signed_decimal bound) amount.0 (after_word (codes " ") (signed_decimal bound) (plain_word (codes " ") refl) most.0)),
+      omega (arith, long, later, amount.1, most.1),
+    )
+
+-- the comments of an answer
+are_remarks : (answer : Answer) (used : ℕ) → IsInMoney answer → used ≤ 100000 → AreRemarks (remarks answer used)
+are_remarks answer used small few =
+    let first = first-remark answer small in
+    let digits = length-decimal-le_wide 6 used (omega arith) (omega arith) (omega arith) in
+    let long = length-append (codes " boxes ") (decimal used) in
+    both_remarks (first_remark answer) (codes " boxes " ++ decimal used) first.0
+    (after_word (codes " boxes ") (decimal used) (plain_word (codes " boxes ") refl) (decimal-remark used (omega arith))) first.1 (omega (arith, long, digits))
+
+-- ---- the plan
+
+-- the starts of a point are no more than its slots
+length-point_starts : (plant : Plant) (grid : List (ℕ × ℕ)) (values : List ℕ) → length (point_starts plant grid values) ≤ length grid
+length-point_starts plant [] values = omega arith
+length-point_starts plant (slot ∷ grid) [] = omega arith
+length-point_starts plant (slot ∷ grid) (value ∷ values) =
+    let more = length-point_starts plant grid values in
+    elim (cases_Bool (value == 0)) [ inl is ↦ rw is (omega (arith, more)) | inr is ↦ rw is (omega (arith, more)) ]
+
+-- a feasible plan has no more starts than a plant may have slots
+few-starts : (plant : Plant) (plan : List Start) → Sound plant → Feasible plant plan → length plan ≤ 512
+few-starts plant plan sound feasible =
+    let point = point_starts plant (slots plant) (plan_point plant plan) in
+    let same = length_permutation plan point (starts-permutation plant plan sound (has_point-feasible plant plan sound feasible)) in
+    let few = length-point_starts plant (slots plant) (plan_point plant plan) in
+    let all = length-slots plant in
+    let most = sound.counts.slots in
+    omega (arith, same, few, all, most)
+
+-- a start that fits has numbers of at most three digits
+record IsSmallStart (start : Start) : Type 0 where
+  period : start.period ≤ 336
+  quanta : start.quanta ≤ 255
+
+-- each start of a feasible plan is small and can be written
+small-start : (plant : Plant) (start : Start) → Sound plant → Fits plant start → IsSmallStart start
+small-start plant start sound fits =
+    let later = ends_later plant start sound fits in
+    let ends = fits.ends in
+    let most = sound.counts.periods in
+    record { period = omega (arith, later, ends, most.1); quanta = quanta_most plant start sound fits }
+
+writable : (plant : Plant) (plan : List Start) → Sound plant → Feasible plant plan → All (IsWritable plant) plan
+writable plant plan sound feasible k d within =
+    let named = named-Feasible plant plan sound feasible k d within in
+    let small = small-start plant (get_or plan k d) sound (feasible.fits k d within) in
+    record { named = named; period = omega (arith, small.period); quanta = omega (arith, small.quanta) }
+
+-- the last of two tests that hold
+last_test : (a b : Bool) → (a && b) ≡ true → b ≡ true
+last_test true b holds = holds
+last_test false b holds = absurd (false≢true holds)
+
+-- a name has at most 32 bytes
+short-name : (name : List ℕ) → is_name name ≡ true → length name ≤ 32
+short-name [] is = omega arith
+short-name (first ∷ others) is =
+    let most : nat_le (length (first ∷ others)) 32 ≡ true = last_test (is_ascii_alphabetic first && list_all is_name_byte (first ∷ others)) (nat_le (length (first ∷ others)) 32) is in
+    grind (arith, nat_tests)
+
+-- the name at a place among names
+short-at : {X : Type 0} (name_of : X → List ℕ) (xs : List X) (i : ℕ) (d : X) → i < length xs → All (λ x. IsTrue (is_name (name_of x))) xs → length (slice_index_or (map name_of xs) i []) ≤ 32
+short-at name_of xs i d within named = rw (get_or-map name_of xs i d [] within) (short-name (name_of (get_or xs i d)) (named i d within))
+
+-- the line of a start is short
+short-line : (plant : Plant) (start : Start) → Sound plant → IsNamed plant start → IsSmallStart start → length (plan_line plant start) ≤ 80
+unfolding plan_line start_words
+short-line plant start sound named small =
+    let unit = slice_index_or (unit_names plant) start.unit [] in
+    let task = slice_index_or (task_names plant) start.task [] in
+    let unit_short : length unit ≤ 32 = short-at (λ x. x.name) plant.units start.unit (record { name = [] }) named.unit sound.units in
+    let task_short : length task ≤ 32 = short-at (λ x. x.name) plant.tasks start.task no_task named.task (λ k d w. (sound.tasks k d w).name) in
+    let period = length-decimal-le_wide 3 start.period (omega arith) (omega (arith, small.period)) (omega (arith, small.period)) in
+    let quanta = length-decimal-le_wide 3 start.quanta (omega arith) (omega (arith, small.quanta)) (omega (arith, small.quanta)) in
+    let a = length-append (decimal start.period ++ (32 ∷ (unit ++ (32 ∷ (task ++ (32 ∷ decimal start.quanta)))))) (10 ∷ []) in
+    let b = length-append (decimal start.period) (32 ∷ (unit ++ (32 ∷ (task ++ (32 ∷ decimal start.quanta))))) in
+    let e = length-append unit (32 ∷ (task ++ (32 ∷ decimal start.quanta))) in
+    let f = length-append task (32 ∷ decimal start.quanta) in
+    omega (arith, unit_short, task_short, period, quanta, a, b, e, f)
+
+-- pieces of at most 80 bytes
+pieces-short : (f : Start → List ℕ) (xs : List Start) → All (λ x. length (f x) ≤ 80) xs → length (flat_map f xs) ≤ 80 * length xs
+pieces-short f [] short = omega arith
+pieces-short f (x ∷ xs) short =
+    let first : length (f x) ≤ 80 = short 0 x (omega arith) in
+    let others = pieces-short f xs (λ k d within. short (suc k) d (omega arith)) in
+    omega (arith, first, others, length-append (f x) (flat_map f xs))
+
+-- ---- the answer
+
+-- the lines of few starts that can be written in short lines, after short remarks, say the plan
+reads-lines : (plant : Plant) (plan : List Start) (lines : List (List ℕ)) → Sound plant → length plan ≤ 512 → All (IsWritable plant) plan → All (λ start. length (plan_line plant start) ≤ 80) plan → AreRemarks lines
+    → plan_of_text plant (comment_lines lines ++ plan_lines plant plan) ≡ Ok plan
+unfolding ReadsBack plan_lines
+reads-lines plant plan lines sound few can short are =
+    let long = pieces-short (plan_line plant) plan short in
+    ReadsBack-lines plant plan sound (omega (arith, few)) can lines are.plain (omega (arith, few, long, are.short, length-append (comment_lines lines) (flat_map (plan_line plant) plan)))
+
+-- the lines of a feasible plan
+reads-feasible : (plant : Plant) (plan : List Start) (lines : List (List ℕ)) → Sound plant → Feasible plant plan → AreRemarks lines → plan_of_text plant (comment_lines lines ++ plan_lines plant plan) ≡ Ok plan
+reads-feasible plant plan lines sound feasible are =
+    reads-lines plant plan lines sound (few-starts plant plan sound feasible) (writable plant plan sound feasible)
+    (λ k d within. short-line plant (get_or plan k d) sound (named-Feasible plant plan sound feasible k d within) (small-start plant (get_or plan k d) sound (feasible.fits k d within))) are
+
+-- no lines
+reads-nothing : (plant : Plant) (lines : List (List ℕ)) → Sound plant → AreRemarks lines → plan_of_text plant (comment_lines lines ++ plan_lines plant []) ≡ Ok []
+reads-nothing plant lines sound are = reads-lines plant [] lines sound (omega arith) (λ k d within. absurd (omega arith)) (λ k d within. absurd (omega arith)) are
+
+-- what the comments and lines of a right answer say
+reads-answer : (plant : Plant) (budget used : ℕ) (answer : Answer) (lines : List (List ℕ)) → Sound plant → IsAnswer plant budget used answer → AreRemarks lines → plan_of_text plant (comment_lines lines ++ plan_lines plant (printed_plan answer)) ≡ Ok (printed_plan answer)
+reads-answer plant budget used (Optimal plan earned) lines sound right are = reads-feasible plant plan lines sound right.0.feasible are
+reads-answer plant budget used Infeasible lines sound right are = reads-nothing plant lines sound are
+reads-answer plant budget used (BudgetSpent None earned bound) lines sound right are = reads-nothing plant lines sound are
+reads-answer plant budget used (BudgetSpent (Some plan) earned bound) lines sound right are = reads-feasible plant plan lines sound right.found.feasible are
+
+-- the text of a right answer says its plan
+pub reads-back : (plant : Plant) (budget used : ℕ) (answer : Answer) → Sound plant → IsAnswer plant budget used answer → IsInMoney answer → used ≤ 100000 → plan_of_text plant (answer_text plant used answer) ≡ Ok (printed_plan answer)
+reads-back plant budget used answer sound right small few =
+    ap (plan_of_text plant) (answer-lines plant used answer) ∙ reads-answer plant budget used answer (remarks answer used) sound right (are_remarks answer used small few)
+
+-- an outcome that is right and its text are an answer of `solve`
+pub solved : {E : Type 0} (plant : Plant) (budget : ℕ) (outcome : Outcome) (r : Result Reply E) → Sound plant → budget ≤ 100000 → IsOutcome plant budget outcome
+    → IfOk r (λ reply. (reply.status ≡ status_of outcome.answer) × (reply.text.items ≡ answer_text plant outcome.boxes outcome.answer)) → IfOk r (λ reply. IsInMoney outcome.answer)
+    → IfOk r (λ reply. Solved budget plant reply.status reply.text.items)
+solved plant budget outcome (Ok reply) sound most right is money = record {
+  outcome = outcome;
+  right = right;
+  status_is = is.0;
+  text_is = is.1;
+  reads_back = ap (plan_of_text plant) is.1 ∙ reads-back plant budget outcome.boxes outcome.answer sound right.answer money (omega (arith, right.within, most));
+}
+solved plant budget outcome (Err e) sound most right is money = tt
