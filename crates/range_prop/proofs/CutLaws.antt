@@ -60,10 +60,10 @@ cut_keeps row slot ds p lt normal' named lies kept =
     subst (λ (x : Domain). LiesIn (set ds slot x) p) (sym (cut_open row slot ds e)) (LiesIn-set ds p slot (kept_of (has_room row slot ds) (domain_at ds slot)) lt lies held))
     (cases_Bool (list_any is_bare ds))
 
-moved : (own c others limit room : ℤ) → own ≡ c → room ≡ limit -ℤ others → (own +ℤ others) ≤ℤ limit → c ≤ℤ room
+pub moved : (own c others limit room : ℤ) → own ≡ c → room ≡ limit -ℤ others → (own +ℤ others) ≤ℤ limit → c ≤ℤ room
 moved own c others limit room e q h = omega (arith, ints)
 
-moved_back : (own c others limit room : ℤ) → own ≡ c → room ≡ limit -ℤ others → c ≤ℤ room → (own +ℤ others) ≤ℤ limit
+pub moved_back : (own c others limit room : ℤ) → own ≡ c → room ≡ limit -ℤ others → c ≤ℤ room → (own +ℤ others) ≤ℤ limit
 moved_back own c others limit room e q h = omega (arith, ints)
 
 -- a row has room where the slot's own entry counts at most the limit less the least others

@@ -1,6 +1,7 @@
 //! Cuts: a row takes from a slot's domain the values for which it has no room, whatever the other slots are.
 //!
-//! A cut keeps each point of the area that keeps the row. `cut` makes one, `cut_all` all of them.
+//! A cut keeps each point of the area that keeps the row. `cut` makes one; after `cut_all` no cut of any row shrinks a domain, or
+//! some domain is empty.
 #![tactic(auto)]
 
 mod allowed;

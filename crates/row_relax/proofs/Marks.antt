@@ -1,5 +1,5 @@
 -- The views of an area, by its domains at each mark.
-use Rattle.std.proofs.Common.{◌≡◌, ℕ, ◌+◌, ◌-◌, ◌<◌, ◌≤◌, Bool, true, false, cond, List, [], ◌∷◌, length, map, get_or, set, take, refl, sym, ap, ◌∙◌, subst, ⊎_elim, arith, Some, None, Option}
+use Rattle.std.proofs.Common.{◌≡◌, ℕ, ◌-◌, ◌<◌, ◌≤◌, Bool, true, false, List, [], length, map, get_or, set, take, refl, sym, ap, ◌∙◌, subst, ⊎_elim, arith, Some}
 use Rattle.std.specs.List.{All}
 use Rattle.std.proofs.lemmas.Bool.{cases_lt}
 use Rattle.std.proofs.lemmas.List.{get_or-map, get_or_past, length-map, take-map}
@@ -8,7 +8,7 @@ use Rattle.row_kit.specs.declared.program.Program.{Program}
 use Rattle.row_kit.specs.Area.{present, with_domain}
 use Rattle.row_kit.specs.Domain.{IsNormal}
 use Rattle.row_kit.proofs.Marks.{present-with_domain, take-with_domain}
-use Rattle.proof_tree.specs.Views.{View, KeepsViews, MovesTo, present as shown}
+use Rattle.proof_tree.specs.Views.{KeepsViews, MovesTo, present as shown}
 use Rattle.row_relax.specs.Shown.{domains_of-view_of, fits_of}
 use Rattle.row_relax.specs.Steps.{shown_if}
 use Rattle.row_relax.specs.View.{Fits, domains_of, view_of}

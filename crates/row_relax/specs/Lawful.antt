@@ -1,7 +1,7 @@
 -- The test of lawful points.
-use Rattle.std.proofs.Common.{◌≡◌, ℕ, zero, suc, ◌+◌, ◌<◌, ◌≤◌, Bool, true, false, ◌&&◌, cond, eqb, leb, List, [], ◌∷◌, length, get_or, refl, sym, ap, ◌∙◌, subst, arith}
+use Rattle.std.proofs.Common.{◌≡◌, ℕ, zero, suc, ◌<◌, ◌≤◌, Bool, true, ◌&&◌, cond, eqb, leb, List, [], ◌∷◌, length, get_or, refl, arith}
 use Rattle.std.specs.Prelude.{int_le}
-use Rattle.std.specs.List.{All, list_all}
+use Rattle.std.specs.List.{list_all}
 use Rattle.std.proofs.lemmas.Bool.{and_parts}
 use Rattle.std.proofs.lemmas.Bool.Decides.{nat_tests}
 use Rattle.std.proofs.lemmas.List.Sums.{AllPass-from_list_all, list_all-from_AllPass}
@@ -10,7 +10,7 @@ use Rattle.row_kit.specs.declared.program.Program.{Program}
 use Rattle.row_kit.specs.declared.row.Row.{Row}
 use Rattle.row_kit.specs.Domain.{Holds, domain_at}
 use Rattle.row_kit.specs.Point.{IsLawful, LiesIn}
-use Rattle.row_kit.specs.Row.{IsKept, entries_sum}
+use Rattle.row_kit.specs.Row.{entries_sum}
 use Rattle.range_prop.proofs.Multiples.{le_true, true_le}
 use Rattle.row_relax.specs.Settle.{are_held, is_held, is_lawful}
 

@@ -1,6 +1,6 @@
 -- The rows of a program keep the laws of a relaxation.
-use Rattle.std.proofs.Common.{◌≡◌, ◌⊎◌, ℕ, ◌+◌, ◌<◌, ◌≤◌, Bool, true, false, ◌&&◌, cond, ltb, List, length, get_or, set, refl, sym, ap, ◌∙◌, subst, inl, inr, ⊎_elim, arith, Some, None, Option, ℤ, pos, ◌-ℤ◌, ◌≤ℤ◌}
-use Rattle.std.specs.List.{All, Any, list_any}
+use Rattle.std.proofs.Common.{◌≡◌, ℕ, ◌<◌, ◌≤◌, Bool, true, false, ◌&&◌, cond, ltb, List, length, get_or, set, refl, sym, ap, ◌∙◌, subst, inl, inr, ⊎_elim, arith, Some, None, ℤ, pos, ◌-ℤ◌, ◌≤ℤ◌}
+use Rattle.std.specs.List.{All}
 use Rattle.std.proofs.lemmas.Bool.{and_parts, cases_lt, eqb-true, ltb-true}
 use Rattle.std.proofs.lemmas.Int.{ints}
 use Rattle.std.proofs.lemmas.List.{length-set, get_or_default}
@@ -12,7 +12,6 @@ use Rattle.row_kit.specs.Change.{changeovers}
 use Rattle.row_kit.specs.Domain.{Holds, IsNormal, count_of, domain_at, no_values, over, shared, up_to}
 use Rattle.row_kit.specs.Point.{IsLawful, LiesIn, value_of, worth_of}
 use Rattle.row_kit.proofs.Marks.{LiesIn-set}
-use Rattle.range_prop.specs.declared.row_cut.RowCut.{RowCut}
 use Rattle.range_prop.specs.Cut.{cut_domain, cut_domains, is_bare, no_row, row_at}
 use Rattle.range_prop.proofs.CutLaws.{cut_keeps, cut_normal}
 use Rattle.range_prop.proofs.Least.{held_open}
@@ -24,7 +23,7 @@ use Rattle.proof_tree.specs.Relaxation.{IsSound}
 use Rattle.proof_tree.specs.Views.{View, Point}
 use Rattle.row_relax.specs.Settle.{are_single, is_lawful, only_point, settled}
 use Rattle.row_relax.specs.Steps.{kept_at, row_steps, shown_if}
-use Rattle.row_relax.specs.View.{Fits, IsIn, domains_of, view_of}
+use Rattle.row_relax.specs.View.{Fits, IsIn, domains_of}
 use Rattle.row_relax.specs.Lawful.{lawful_true, true_lawful}
 use Rattle.row_kit.proofs.Parts.{held_byte, over_holds, shared_holds, shared_normal, up_to_holds}
 use Rattle.dual_bound.proofs.Quotients.{cert_cap-holds}

@@ -1,3 +1,7 @@
+ghost use Rattle.std.specs.Prelude.{map};
+ghost use Rattle.proof_tree.specs.Views.{present};
+ghost use Rattle.row_relax.specs.View.{view_of, Fits};
+
 use crate::{RowPick, RowProof, Rows};
 use dual_bound::{Cert, Mult, cap};
 use proof_tree::{Capped, End, List as Items, Proof, Relaxation, cap_of};
@@ -64,14 +68,7 @@ fn chain(
     };
     let root = List::from_slice(alloc, &[slot, slot])?;
     let tags = List::from_slice(alloc, &[tag, tag])?;
-    Ok(Program::checked(
-        rows,
-        profit,
-        base,
-        root,
-        tags,
-        List::new(alloc),
-    ))
+    Ok(Program::checked(rows, profit, base, root, tags, List::new(alloc)))
 }
 
 // The program of a state that no task touches.
@@ -179,16 +176,24 @@ fn a_split_and_a_cut_prove_more(rt: HostRuntime) -> Result<(), Fail> {
     Ok(())
 }
 
-// What a point of two slots settles to.
-fn settled_at(alloc: Global, rows: &Rows, first: u8, second: u8) -> Result<Capped, AllocError> {
-    let mut area = rows.root_area(alloc)?;
-    for (slot, value) in [(0, first), (1, second)] {
-        if value == 0 {
-            rows.left(&mut area, &RowPick { slot, max: 0 });
-        } else {
-            rows.right(&mut area, &RowPick { slot, max: 0 });
-        }
+// Keeps 0 of a slot, or what is above it.
+fn keep_part(rows: &Rows, area: &mut Area, slot: u32, zero: bool)
+    requires { Fits rows.now.program (present (map view_of area.old)) }
+    ensures { Fits rows.now.program (present (map view_of area.new)) }
+{
+    let pick = RowPick { slot, max: 0 };
+    if zero {
+        rows.left(area, &pick);
+    } else {
+        rows.right(area, &pick);
     }
+}
+
+// What the point of two slots settles to that are 0 or not.
+fn settled_at(alloc: Global, rows: &Rows, first: bool, second: bool) -> Result<Capped, AllocError> {
+    let mut area = rows.root_area(alloc)?;
+    keep_part(rows, &mut area, 0, first);
+    keep_part(rows, &mut area, 1, second);
     Ok(rows.settle(&area))
 }
 
@@ -199,9 +204,9 @@ fn points_settle(rt: HostRuntime) -> Result<(), Fail> {
         program: program(alloc, Case::Odd)?.ok_or("bounds")?,
     };
     for (first, second, expected) in [
-        (0, 0, Capped::AtMost(10)),
-        (3, 0, Capped::AtMost(34)),
-        (3, 3, Capped::NoPoint),
+        (true, true, Capped::AtMost(10)),
+        (false, true, Capped::AtMost(34)),
+        (false, false, Capped::NoPoint),
     ] {
         assert_eq!(rt; settled_at(alloc, &rows, first, second)?, expected);
     }

@@ -1,5 +1,5 @@
 -- The slot's own entry and the room tell what the cut leaves.
-use Rattle.std.proofs.Common.{Bool, ◌≡◌, ◌∙◌, ℕ, ℤ, not, List, length, sym, ap, arith, ◌-ℤ◌, ◌+ℤ◌, ◌≤ℤ◌, to_z, of_z}
+use Rattle.std.proofs.Common.{Bool, ◌≡◌, ◌∙◌, ℕ, ℤ, not, List, length, sym, ap, arith, ◌-ℤ◌, to_z, of_z}
 use Rattle.std.specs.Prelude.{int_le}
 use Rattle.std.proofs.lemmas.Int.{ints}
 use Rattle.row_kit.specs.declared.domain.Domain.{Domain}
@@ -9,7 +9,7 @@ use Rattle.row_kit.specs.Domain.{domain_at}
 use Rattle.row_kit.specs.Row.{counted}
 use Rattle.row_kit.proofs.Ascending.{few_entries}
 use Rattle.range_prop.specs.Cut.{cut_domain, kept_of, least_others, own_counted}
-use Rattle.range_prop.proofs.CutLaws.{cut_is}
+use Rattle.range_prop.proofs.CutLaws.{cut_is, moved, moved_back}
 use Rattle.range_prop.proofs.cutting.cut_open.Goals as goal
 use mir.Syntax.{w128}
 
@@ -41,19 +41,13 @@ returns-clause-marks c =
     along c.keep_allowed.new.area (with_domain c.args.area.now c.args.slot kept) (with_domain c.args.area.now c.args.slot (cut_domain c.args.row.now c.args.slot (present c.args.area.now)))
     (rw c.own_entry-own.ensures.slot at c.keep_allowed.ensures.marks) (ap (with_domain c.args.area.now c.args.slot) (sym (left c)))
 
-moved : (own c others limit room : ℤ) → own ≡ c → room ≡ limit -ℤ others → c ≤ℤ room → (own +ℤ others) ≤ℤ limit
-moved own c others limit room e q h = omega (arith, ints)
-
-moved_back : (own c others limit room : ℤ) → own ≡ c → room ≡ limit -ℤ others → (own +ℤ others) ≤ℤ limit → c ≤ℤ room
-moved_back own c others limit room e q h = omega (arith, ints)
-
 pub returns-clause-values : goal.returns-clause-values
 returns-clause-values c = λ v.
     let values = rw c.own_entry-own.ensures.slot at c.keep_allowed.ensures.values v in
     let own = own_counted c.args.row.now.entries c.args.slot v in
     let others = least_others c.args.row.now.entries c.args.slot (present c.args.area.now) in (
-      λ h. ((values.0 h).0, moved own (counted c.own_entry-own.result v) others c.args.row.now.limit (room c) (own_is c v) (room_is c) (values.0 h).1),
-      λ h. values.1 (h.0, moved_back own (counted c.own_entry-own.result v) others c.args.row.now.limit (room c) (own_is c v) (room_is c) h.1),
+      λ h. ((values.0 h).0, moved_back own (counted c.own_entry-own.result v) others c.args.row.now.limit (room c) (own_is c v) (room_is c) (values.0 h).1),
+      λ h. values.1 (h.0, moved own (counted c.own_entry-own.result v) others c.args.row.now.limit (room c) (own_is c v) (room_is c) h.1),
     )
 
 told : (r a b : Bool) → r ≡ not a → a ≡ b → r ≡ not b

@@ -1,15 +1,14 @@
 -- The point of the area is its only one, and it is tested.
 use Rattle.std.proofs.lemmas.Int.{ints}
-use Rattle.std.proofs.Common.{to_z, of_z, ◌≡◌, ◌∙◌, ℕ, ℤ, Bool, true, false, cond, eqb, get_or, List, length, take, refl, sym, ap, subst, arith}
+use Rattle.std.proofs.Common.{to_z, of_z, ◌≡◌, ◌∙◌, ℕ, ℤ, Bool, true, false, cond, eqb, get_or, List, take, sym, ap, arith}
 use Rattle.std.proofs.lemmas.Bool.{cond-true, cond-false, eq-eqb, eqb-true}
-use Rattle.std.specs.List.{All, list_all}
+use Rattle.std.specs.List.{All}
 use Rattle.std.proofs.lemmas.List.Sums.{AllPass-from_list_all, list_all-from_AllPass}
 use Rattle.row_kit.specs.declared.domain.Domain.{Domain}
 use Rattle.row_kit.specs.declared.program.Program.{Program}
 use Rattle.row_kit.specs.Area.{present}
 use Rattle.row_kit.specs.Domain.{IsSingle, count_of}
 use Rattle.row_kit.specs.Point.{IsLawful, worth_of}
-use Rattle.proof_tree.specs.declared.capped.Capped.{Capped}
 use Rattle.proof_tree.specs.declared.capped.Capped.TheVariants.{AtMost, NoPoint, Bad}
 use Rattle.range_prop.proofs.Multiples.{same_test}
 use Rattle.row_relax.specs.Lawful.{lawful_true, true_lawful}

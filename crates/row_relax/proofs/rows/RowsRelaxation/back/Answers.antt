@@ -1,5 +1,5 @@
 -- The views of the marks that are left; the domains are normal by the area.
-use Rattle.std.proofs.Common.{◌≡◌, ◌∙◌, ◌+◌}
+use Rattle.std.proofs.Common.{◌∙◌, ◌+◌}
 use Rattle.row_relax.proofs.Marks.{fits_now, fits_slots, take-views}
 use Rattle.row_relax.proofs.rows.RowsRelaxation.back.Goals as goal
 

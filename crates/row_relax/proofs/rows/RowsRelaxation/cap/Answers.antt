@@ -1,5 +1,5 @@
 -- The domains of the view are those of the area.
-use Rattle.std.proofs.Common.{◌≡◌, ◌∙◌, List, ap, sym}
+use Rattle.std.proofs.Common.{◌∙◌, List, ap, sym}
 use Rattle.row_kit.specs.declared.domain.Domain.{Domain}
 use Rattle.dual_bound.specs.Cap.{cert_cap}
 use Rattle.row_relax.specs.Steps.{row_steps}

@@ -5,8 +5,8 @@ use Rattle.std.proofs.lemmas.Bool.{lt-ltb}
 use Rattle.std.proofs.lemmas.Bool.Decides.{nat_tests}
 use Rattle.std.proofs.lemmas.List.Elements.{All-set}
 use Rattle.row_kit.specs.declared.domain.Domain.{Domain}
-use Rattle.row_kit.specs.Area.{present, with_domain}
-use Rattle.row_kit.specs.Domain.{IsNormal, domain_at, no_values}
+use Rattle.row_kit.specs.Area.{present}
+use Rattle.row_kit.specs.Domain.{IsNormal, no_values}
 use Rattle.row_kit.proofs.Marks.{present-with_domain}
 use Rattle.range_prop.specs.Cut.{cut_domain, cut_domains, row_at}
 use Rattle.range_prop.proofs.CutLaws.{cut_normal}

@@ -1,5 +1,5 @@
 -- The domains of the view are those of the area.
-use Rattle.std.proofs.Common.{◌≡◌, ◌∙◌, List, ap, sym}
+use Rattle.std.proofs.Common.{◌∙◌, ap, sym}
 use Rattle.std.specs.List.{list_any}
 use Rattle.row_kit.specs.Area.{present}
 use Rattle.range_prop.specs.Cut.{is_bare}
