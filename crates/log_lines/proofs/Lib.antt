@@ -1,0 +1,7 @@
+pub mod Wide
+pub mod NumberTexts
+pub mod LineTexts
+pub mod SaidLines
+pub mod OneLine
+pub mod Sides
+pub mod FileParts

@@ -1,0 +1,6 @@
+use Rattle.std.proofs.Common.{◌≡◌, ◌++◌, ◌∷◌, take, flat_map}
+use Rattle.std.specs.Fmt.{signed_decimal}
+use Rattle.log_lines.proofs.print.put_signed.Given as goal
+
+abbrev pub invariant-loop-number : goal.invariant-loop-number
+invariant-loop-number l = l.text.items ≡ l.initial.text.items ++ flat_map (λ number. 32 ∷ signed_decimal number) (take l.number-index l.numbers)

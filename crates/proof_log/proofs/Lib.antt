@@ -1,0 +1,6 @@
+pub mod GrammarWalk
+pub mod Lines
+pub mod OneTree
+pub mod OneText
+pub mod Writing
+pub mod TreeLines
