@@ -1,10 +1,10 @@
 -- The bytes of a file up to a line feed, where the store may not tell it.
-use Rattle.std.proofs.Common.{◌≡◌, ◌≢◌, ℕ, zero, suc, ◌+◌, ◌-◌, ◌^◌, ◌<◌, ◌≤◌, All, Bool, true, false, eqb, List, [], ◌∷◌, ◌++◌, take, drop, length, length-take, get_or, set, Option, None, Some, MatchOption, IfSome, subst, sym, ap, ◌∙◌, refl, arith, append_assoc}
+use Rattle.std.proofs.Common.{◌≡◌, ◌≢◌, ℕ, suc, ◌+◌, ◌<◌, false, eqb, List, [], ◌∷◌, ◌++◌, take, drop, length, length-take, set, Option, None, Some, MatchOption, IfSome, subst, sym, ap, ◌∙◌, arith, append_assoc}
 use Rattle.std.proofs.Math.Seq.{take-suc-set}
 use Rattle.std.proofs.lemmas.Bool.Decides.{nat_tests}
 use Rattle.std.proofs.lemmas.List.Elements.{All-append, All-cons}
 use Rattle.stn_edge.specs.Files.{FileMap, file_of}
-use Rattle.log_lines.specs.Reader.{Held, GivesByte, HasNoFeed, IsAhead, EndsPart, line_length}
+use Rattle.log_lines.specs.Reader.{Held, GivesByte, HasNoFeed, IsAhead, line_length}
 
 -- the part was read of the file, and the bytes that are held follow it
 abbrev pub IsRead : Option FileMap → List ℕ → ℕ → Held → List ℕ → Type 0

@@ -3,5 +3,6 @@ pub mod NumberTexts
 pub mod LineTexts
 pub mod SaidLines
 pub mod OneLine
+pub mod LineBytes
 pub mod Sides
 pub mod FileParts

@@ -1,18 +1,15 @@
 -- The line that some bytes are, as a function of them.
-use Rattle.std.proofs.Common.{◌≡◌, ◌≢◌, ◌⊎◌, inl, inr, ℕ, ℤ, pos, negsuc, neg_ℤ, zero, suc, ◌+◌, ◌<◌, ◌≤◌, ◌^◌, ◌&&◌, nat_lt, nat_le, Bool, true, false, cond, eqb, All, List, [], ◌∷◌, ◌++◌, take, drop, length, get_or, map, decimal, bytes_eq, Option, Some, None, MatchOption, subst, sym, ap, ◌∙◌, refl, arith}
-use Rattle.std.specs.Prelude.{codes, find, unsigned_abs}
+use Rattle.std.proofs.Common.{◌≡◌, ◌≢◌, ℕ, ℤ, pos, negsuc, neg_ℤ, zero, suc, ◌<◌, ◌≤◌, ◌^◌, nat_lt, nat_le, Bool, true, false, cond, eqb, All, List, [], ◌∷◌, ◌++◌, length, get_or, map, decimal, bytes_eq, Option, Some, None, MatchOption, subst, sym, ap, ◌∙◌, refl, arith}
+use Rattle.std.specs.Prelude.{find, unsigned_abs}
 use Rattle.std.specs.Bool.{Decides}
 use Rattle.std.specs.Fmt.{signed_decimal}
 use Rattle.std.specs.List.{slice_split, list_all}
 use Rattle.std.specs.Option.{option_map}
-use Rattle.std.specs.Str.Parse.{digits_value}
 use Rattle.std.proofs.Math.Seq.{drop-append-add}
-use Rattle.std.proofs.lemmas.Bool.{false≢true}
 use Rattle.std.proofs.lemmas.Bool.Decides.{Decides-and, Decides-by_and, Decides-ltb, nat_tests}
 use Rattle.std.proofs.lemmas.Fmt.{decimal_is_IsNumeral_wide}
 use Rattle.std.proofs.lemmas.List.{append-nil}
 use Rattle.std.proofs.lemmas.List.Splits.{slice_split_at, slice_split_none}
-use Rattle.std.proofs.lemmas.List.Elements.{All-cons}
 use Rattle.std.proofs.lemmas.Str.Parse.{digit_at}
 use Rattle.std.proofs.lemmas.Slice.Eq.{bytes_eq-Decides}
 use Rattle.log_lines.specs.declared.form.Form.{Form}
@@ -20,8 +17,8 @@ use Rattle.log_lines.specs.declared.form.Form.TheVariants as form
 use Rattle.log_lines.specs.declared.form.TheConstants.{FORMS}
 use Rattle.log_lines.specs.declared.line.Line.{Line}
 use Rattle.log_lines.specs.declared.line.Line.TheVariants.{Header, Node, Cut, Found, Value, Empty, Point, Dual, Pending, Split, Mult, ClaimOptimal, ClaimInfeasible, ClaimBetween, ClaimBelow, End}
-use Rattle.log_lines.specs.Line.{IsShort, IsLine, IsInRange, form_name, line_form, line_name, line_numbers, line_text, number_text}
-use Rattle.log_lines.specs.Numbers.{IsRest, Fit}
+use Rattle.log_lines.specs.Line.{IsShort, IsLine, IsInRange, form_name, line_form, line_numbers, line_text, number_text}
+use Rattle.log_lines.specs.Numbers.{Fit}
 use Rattle.log_lines.specs.Reading.{form_named, form_signs}
 use Rattle.log_lines.specs.Said.{word_number, numbers_after, line_with, is_in_range, is_line, is_text, line_said}
 use Rattle.log_lines.proofs.NumberTexts.{IsWord-signed, IsRest-number_text, number_text_unique}

@@ -1,4 +1,4 @@
-use Rattle.std.proofs.Common.{arith, ◌≢◌, length-set}
+use Rattle.std.proofs.Common.{arith, length-set}
 use Rattle.log_lines.proofs.FileParts.{next_place, part_grows, no_feed_grows, read_more, part_long}
 use Rattle.log_lines.proofs.part.read_part.Goals as goal
 
