@@ -2,7 +2,6 @@ pub mod Wide
 pub mod NumberTexts
 pub mod LineTexts
 pub mod SaidLines
-pub mod OneLine
 pub mod LineBytes
 pub mod Sides
 pub mod FileParts

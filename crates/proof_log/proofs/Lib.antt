@@ -1,5 +1,6 @@
 pub mod GrammarWalk
 pub mod Lines
+pub mod NoDefect
 pub mod OneTree
 pub mod OneText
 pub mod Writing

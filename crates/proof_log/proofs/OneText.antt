@@ -14,7 +14,9 @@ use Rattle.row_relax.specs.declared.RowPick.{RowPick}
 use Rattle.log_lines.specs.declared.line.Line.{Line}
 use Rattle.log_lines.specs.declared.line.Line.TheVariants.{Value as ValueLine, ClaimOptimal, ClaimInfeasible, ClaimBetween, ClaimBelow, End as EndLine}
 use Rattle.log_lines.specs.Line.{IsLine, line_text}
-use Rattle.log_lines.proofs.OneLine.{line_text_unique, HasNoFeed-line, feed_unique}
+use Rattle.log_lines.specs.Reader.{HasNoFeed}
+use Rattle.log_lines.proofs.LineBytes.{HasNoFeed-line_text}
+use Rattle.log_lines.proofs.SaidLines.{one_line}
 use Rattle.proof_log.specs.declared.claim.Claim.{Claim}
 use Rattle.proof_log.specs.declared.claim.Claim.TheVariants.{Optimal, Infeasible, Between, Below}
 use Rattle.proof_log.specs.Log.{RowItem, RowTree, started, value_lines, mult_line, item_lines, claim_lines, log_lines, lines_text, log_text}
@@ -257,6 +259,20 @@ log_same slots v w s t c d rest over_s over_t same =
     let whole : tree_items s ++ [] ≡ tree_items t ++ [] = ap (λ (items : List RowItem). items ++ []) items.0 in
     record { version = version; tree = (tree_same s t [] [] whole).0; claim = claims.0; no_rest = sym none }
 
+-- two texts without line feeds, each before its line feed
+feed_unique : (a b c d : List ℕ) → HasNoFeed a → HasNoFeed c → a ++ (10 ∷ b) ≡ c ++ (10 ∷ d) → (a ≡ c) × (b ≡ d)
+feed_unique [] b [] d in_a in_c same = (refl, cc)
+feed_unique [] b (y ∷ c) d in_a in_c same =
+    let first : y ≡ 10 = cc in absurd (All-head (λ k. k ≢ 10) y c in_c first)
+feed_unique (x ∷ a) b [] d in_a in_c same =
+    let first : x ≡ 10 = cc in absurd (All-head (λ k. k ≢ 10) x a in_a first)
+feed_unique (x ∷ a) b (y ∷ c) d in_a in_c same =
+    let first : x ≡ y = cc in
+    let rest : a ++ (10 ∷ b) ≡ c ++ (10 ∷ d) = cc in
+    let others = feed_unique a b c d (All-tail (λ k. k ≢ 10) x a in_a) (All-tail (λ k. k ≢ 10) y c in_c) rest in
+    let tail : a ≡ c = others.0 in
+    (cc, others.1)
+
 -- the text of a line, its line feed, and what follows
 feed_after : (x : Line) (xs : List Line) (rest : List ℕ) → lines_text (x ∷ xs) ++ rest ≡ line_text x ++ (10 ∷ (lines_text xs ++ rest))
 unfolding lines_text
@@ -276,8 +292,8 @@ lines_same (x ∷ xs) (y ∷ ys) rest of_x of_y same =
     let texts : line_text x ++ (10 ∷ (lines_text xs ++ [])) ≡ line_text y ++ (10 ∷ (lines_text ys ++ rest)) = sym first_x ∙ append-nil (lines_text (x ∷ xs)) ∙ same ∙ first_y in
     let is_x = All-head IsLine x xs of_x in
     let is_y = All-head IsLine y ys of_y in
-    let parts = feed_unique (line_text x) (lines_text xs ++ []) (line_text y) (lines_text ys ++ rest) (HasNoFeed-line x is_x) (HasNoFeed-line y is_y) texts in
-    let head : x ≡ y = line_text_unique x y is_x is_y parts.0 in
+    let parts = feed_unique (line_text x) (lines_text xs ++ []) (line_text y) (lines_text ys ++ rest) (HasNoFeed-line_text x is_x) (HasNoFeed-line_text y is_y) texts in
+    let head : x ≡ y = one_line x y is_x is_y parts.0 in
     let others = lines_same xs ys rest (All-tail IsLine x xs of_x) (All-tail IsLine y ys of_y) (sym (append-nil (lines_text xs)) ∙ parts.1) in
     let tail : xs ≡ ys ++ others.0 = others.1 in
     (others.0, cc)

@@ -8,9 +8,11 @@ use Rattle.log_lines.specs.declared.line.Line.{Line}
 use Rattle.log_lines.specs.declared.grammar.Limits.{Limits}
 use Rattle.log_lines.specs.declared.grammar.Place.TheVariants.{Done}
 use Rattle.log_lines.specs.Grammar.{Standing, next, line_defect, new_standing}
+use Rattle.log_lines.specs.Line.{IsLine}
+use Rattle.log_lines.specs.TextDefect.{log_text_defect}
 use Rattle.proof_log.specs.declared.claim.Claim.{Claim}
 use Rattle.proof_log.specs.declared.claim.Claim.TheVariants.{Optimal, Infeasible, Between, Below}
-use Rattle.proof_log.specs.Log.{RowItem, RowTree, log_lines}
+use Rattle.proof_log.specs.Log.{RowItem, RowTree, log_lines, log_text}
 
 -- what is there, unless there is a defect
 abbrev pub unless : Option ℕ → Option Standing → Option Standing
@@ -45,3 +47,9 @@ abbrev pub LogsAreAccepted : Type 0
 LogsAreAccepted =
     (limits : Limits) (version : ℕ) (tree : RowTree) (claim : Claim) → All (IsFitItem limits version) (tree_items tree) → depth tree ≤ limits.depth + 1 → IsFitClaim limits claim
     → leads limits new_standing (log_lines version (tree_items tree) claim) ≡ Some (record { version = version; place = Done; sides = [] })
+
+-- the text of such a log has no defect, where its lines may be written
+abbrev pub LogsHaveNoDefect : Type 0
+LogsHaveNoDefect =
+    (limits : Limits) (version : ℕ) (tree : RowTree) (claim : Claim) → All (IsFitItem limits version) (tree_items tree) → depth tree ≤ limits.depth + 1 → IsFitClaim limits claim
+    → All IsLine (log_lines version (tree_items tree) claim) → log_text_defect limits (log_text version (tree_items tree) claim) ≡ None

@@ -15,7 +15,7 @@ mod parts;
 mod tests;
 mod writer;
 
-pub use accepting::{logs_are_accepted, logs_have_one_text};
+pub use accepting::{logs_are_accepted, logs_have_no_defect, logs_have_one_text};
 pub use claim::Claim;
 pub use claims::put_claim;
 pub use items::put_item;
