@@ -11,7 +11,7 @@ use Rattle.std.proofs.lemmas.List.{length-map, get_or_default}
 use Rattle.std.proofs.lemmas.List.Elements.{All-nil, All-cons}
 use Rattle.row_kit.specs.declared.row.Entry.{Entry}
 use Rattle.row_kit.specs.Bounds.{AreBounded}
-use Rattle.row_kit.proofs.Ascending.{no_entry, slot_at}
+pub use Rattle.row_kit.proofs.Ascending.{few_entries}
 use Rattle.dual_bound.specs.declared.cert.Mult.{Mult}
 use Rattle.dual_bound.specs.Line.{IsLight}
 use Rattle.dual_bound.specs.Total.{are_fit, IsFitMult}
@@ -31,26 +31,6 @@ product a x b m h k small = grind (arith, mul-le-mul_left a k, mul-le-mul_left m
 -- a factor of at most a bound times an entry's parts
 pub light : (factor bound most : ℕ) (e : Entry) → factor ≤ bound → bound * most ≤ 2 ^ 71 → unsigned_abs e.fixed ≤ most → unsigned_abs e.per ≤ most → IsLight factor e
 light factor bound most e h small f p = record { fixed = product factor (unsigned_abs e.fixed) bound most h f small; per = product factor (unsigned_abs e.per) bound most h p small }
-
--- slots that ascend are at least their places
-at_least : (es : List Entry) → IsStrictlyIncreasing (map (λ e. e.slot) es) → (k : ℕ) → k < length es → k ≤ (get_or es k no_entry).slot
-at_least es up zero lt = omega arith
-at_least es up (suc k) lt =
-    let before = at_least es up k (omega arith) in
-    let step = up k (omega (arith, length-map es (λ (e : Entry). e.slot))) in
-    let next : k + 1 ≡ suc k = omega arith in
-    omega (arith, before, step, slot_at es k (omega arith), slot_at es (suc k) lt, ap (λ (n : ℕ). get_or (map (λ (e : Entry). e.slot) es) n 0) next)
-
--- so there are no more entries than slots
-pub few_entries : (n most : ℕ) (es : List Entry) → AreBounded n most es → length es ≤ n
-few_entries n most es bounded =
-    ⊎_elim
-    (λ (some : 0 < length es).
-    let k = length es - 1 in
-    let lt : k < length es = omega arith in
-    omega (arith, at_least es bounded.ascending k lt, bounded.named k no_entry lt))
-    (λ (none : length es ≤ 0). omega arith)
-    (cases_lt 0 (length es))
 
 positive : (v : ℕ) → (v ≡ 0 → ⊥) → 0 < v
 positive v h = omega (arith, h)

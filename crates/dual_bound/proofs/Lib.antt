@@ -3,4 +3,5 @@ pub mod Exchange
 pub mod Fit
 pub mod Greatest
 pub mod LineSums
+pub mod Quotients
 pub mod Signed

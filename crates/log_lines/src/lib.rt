@@ -24,5 +24,9 @@ pub use print::put_line;
 pub use read::read_line;
 pub use reader::{LineEnd, LineReader};
 
+// A crate can name a step in a contract only if it is exported.
+#[doc(hidden)]
+pub use step::Step;
+
 #[cfg(test)]
 mod tests;

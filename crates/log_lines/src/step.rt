@@ -9,7 +9,7 @@ use crate::line::Line;
 
 /// What a line leads to.
 #[derive(Clone, Copy)]
-pub(crate) enum Step {
+pub enum Step {
     /// A log of this version has begun.
     Begins { version: u8 },
 

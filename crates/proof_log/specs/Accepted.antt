@@ -1,0 +1,55 @@
+-- That the lines of a log may come one after another.
+use Rattle.std.specs.Prelude.{◌≡◌, ℕ, ◌<◌, ◌≤◌, true, ⊤, List, [], ◌∷◌, length, Option, None, Some, option_and_then, ◌+◌}
+use Rattle.std.specs.List.{All}
+use Rattle.proof_tree.specs.declared.item.Item.TheVariants.{Node, Cut, Found, Empty, Dual, Point, Pending, Split}
+use Rattle.proof_tree.specs.Items.{tree_items, depth}
+use Rattle.dual_bound.specs.Total.{is_fit}
+use Rattle.log_lines.specs.declared.line.Line.{Line}
+use Rattle.log_lines.specs.declared.grammar.Limits.{Limits}
+use Rattle.log_lines.specs.declared.grammar.Place.TheVariants.{Done}
+use Rattle.log_lines.specs.Grammar.{Standing, next, line_defect, new_standing}
+use Rattle.log_lines.specs.Line.{IsLine}
+use Rattle.log_lines.specs.TextDefect.{log_text_defect}
+use Rattle.proof_log.specs.declared.claim.Claim.{Claim}
+use Rattle.proof_log.specs.declared.claim.Claim.TheVariants.{Optimal, Infeasible, Between, Below}
+use Rattle.proof_log.specs.Log.{RowItem, RowTree, log_lines, log_text}
+
+-- what is there, unless there is a defect
+abbrev pub unless : Option ℕ → Option Standing → Option Standing
+unless None later = later
+unless (Some kind) later = None
+
+-- where lines lead, one after another; None where one of them has a defect
+abbrev pub leads : Limits → Standing → List Line → Option Standing
+leads limits standing [] = Some standing
+leads limits standing (line ∷ lines) = option_and_then (λ later. leads limits later lines) (unless (line_defect limits standing line) (next standing line))
+
+-- an item that a log of this version may have: its rows and slots are there, its certificate is fit, and it is a point only from version 2 on
+abbrev pub IsFitItem : Limits → ℕ → RowItem → Type 0
+IsFitItem limits version Node = ⊤
+IsFitItem limits version (Cut cut) = (cut.row < limits.rows) × (cut.slot < limits.slots)
+IsFitItem limits version (Found found) = length found.point ≤ limits.slots
+IsFitItem limits version Empty = ⊤
+IsFitItem limits version (Dual cert) = is_fit limits.rows cert ≡ true
+IsFitItem limits version Point = version ≡ 2
+IsFitItem limits version (Pending cert) = is_fit limits.rows cert ≡ true
+IsFitItem limits version (Split pick cert) = (pick.slot < limits.slots) × (is_fit limits.rows cert ≡ true)
+
+-- a claim that a log may have: its slots are there
+abbrev pub IsFitClaim : Limits → Claim → Type 0
+IsFitClaim limits (Optimal profit point) = length point ≤ limits.slots
+IsFitClaim limits Infeasible = ⊤
+IsFitClaim limits (Between profit cap point) = length point ≤ limits.slots
+IsFitClaim limits (Below cap) = ⊤
+
+-- the lines of a log may come one after another to the last, where its items and its claim are fit and its proof is not too deep
+abbrev pub LogsAreAccepted : Type 0
+LogsAreAccepted =
+    (limits : Limits) (version : ℕ) (tree : RowTree) (claim : Claim) → All (IsFitItem limits version) (tree_items tree) → depth tree ≤ limits.depth + 1 → IsFitClaim limits claim
+    → leads limits new_standing (log_lines version (tree_items tree) claim) ≡ Some (record { version = version; place = Done; sides = [] })
+
+-- the text of such a log has no defect, where its lines may be written
+abbrev pub LogsHaveNoDefect : Type 0
+LogsHaveNoDefect =
+    (limits : Limits) (version : ℕ) (tree : RowTree) (claim : Claim) → All (IsFitItem limits version) (tree_items tree) → depth tree ≤ limits.depth + 1 → IsFitClaim limits claim
+    → All IsLine (log_lines version (tree_items tree) claim) → log_text_defect limits (log_text version (tree_items tree) claim) ≡ None

@@ -1,0 +1,4 @@
+pub mod Log
+pub mod Writer
+pub mod Accepted
+pub mod OneText

@@ -1,0 +1,13 @@
+pub mod Counts
+pub mod CutLaws
+pub mod Entries
+pub mod Kept
+pub mod Least
+pub mod Listed
+pub mod Looks
+pub mod Multiples
+pub mod Queues
+pub mod Rooms
+pub mod Rounds
+pub mod Sequences
+pub mod Trails

@@ -1,0 +1,13 @@
+//! Proofs over rows: the relaxation whose areas are those of `row_kit`, cut by `range_prop` and capped by `dual_bound`.
+//!
+//! `Rows` keeps the laws of `Relaxation`, so that the cap of each `RowProof` bounds the worth of every lawful point.
+#![tactic(auto)]
+
+mod pick;
+mod rows;
+mod settling;
+#[cfg(test)]
+mod tests;
+
+pub use pick::RowPick;
+pub use rows::{RowProof, Rows};

@@ -1,0 +1,108 @@
+ghost use Rattle.std.specs.Prelude.{◌≡◌, ◌∷◌, [], map, IfOk};
+ghost use Rattle.row_kit.specs.Point.{IsLawful, worth_of};
+ghost use Rattle.proof_tree.specs.Views.{present as shown_last};
+ghost use Rattle.row_relax.specs.View.{view_of, Fits, IsIn};
+ghost use Rattle.row_relax.specs.Steps.{row_steps};
+ghost use Rattle.row_relax.specs.Laws.{rows_sound};
+
+use crate::pick::RowPick;
+use crate::settling::settle;
+use dual_bound::{Cert, cap};
+use proof_tree::{Capped, Proof, Relaxation};
+use range_prop::{RowCut, cut};
+use row_kit::{Area, Found, Program};
+use std::alloc::{AllocError, Global};
+
+/// The rows of a program, as what a proof needs of the areas that it caps. An area fits where it has the program's slots.
+#[derive(Drop)]
+pub struct Rows {
+    pub program: Program,
+}
+
+impl Rows {
+    /// An area of the root. It fits.
+    pub fn root_area(&self, alloc: Global) -> Result<Area, AllocError>
+        ensures root { IfOk result (λ area. area ≡ self.now.program.root ∷ []) }
+        ensures fits { IfOk result (λ area. Fits self.now.program (shown_last (map view_of area))) }
+    {
+        let area = Area::new(alloc, &self.program)?;
+        Ok(area)
+    }
+}
+
+/// A proof over the rows of a program.
+pub type RowProof = Proof<RowCut, Cert, RowPick, Found>;
+
+impl Relaxation for Rows {
+    type Area = Area;
+
+    type Trim = RowCut;
+
+    type Cert = Cert;
+
+    type Pick = RowPick;
+
+    type Found = Found;
+
+    ghost views = { λ area. map view_of area };
+
+    ghost steps = { λ rows. row_steps rows.program };
+
+    ghost fits = { λ rows. Fits rows.program };
+
+    ghost is_point = { λ _. IsIn };
+
+    ghost is_lawful = { λ rows. IsLawful rows.program };
+
+    ghost worth = { λ rows. worth_of rows.program };
+
+    ghost sound = { λ rows. rows_sound rows.program };
+
+    fn cut(&self, area: &mut Area, trim: &RowCut) -> bool {
+        if trim.row as usize >= self.program.rows.len() {
+            return false;
+        }
+        if trim.slot >= area.slot_count() {
+            return false;
+        }
+        cut(&self.program, area, trim.row, trim.slot);
+        true
+    }
+
+    fn empty(&self, area: &Area) -> bool {
+        area.has_empty()
+    }
+
+    fn cap(&self, area: &Area, cert: &Cert) -> Capped {
+        cap(&self.program, area, cert)
+    }
+
+    fn settle(&self, area: &Area) -> Capped {
+        settle(&self.program, area)
+    }
+
+    fn left(&self, area: &mut Area, pick: &RowPick) -> bool {
+        if pick.slot >= area.slot_count() {
+            return false;
+        }
+        area.at_most(pick.slot, pick.max);
+        true
+    }
+
+    fn right(&self, area: &mut Area, pick: &RowPick) -> bool {
+        if pick.slot >= area.slot_count() {
+            return false;
+        }
+        area.above(pick.slot, pick.max);
+        true
+    }
+
+    fn mark(&self, area: &Area) -> u32 {
+        area.mark()
+    }
+
+    fn back(&self, area: &mut Area, mark: u32) {
+        area.back(mark);
+        let _slots = area.slot_count();
+    }
+}
