@@ -51,3 +51,14 @@ amounts_sum amount_of quantum parts items proper one are =
     let whole : ℕ = common_under parts in
     same_factor whole (sum_by amount_of items) quantum (common_under-positive parts proper)
     (amounts_scaled amount_of whole quantum parts items (divides whole parts (dvd_refl whole)) are ∙ ap (λ (x : ℕ). quantum * x) one)
+
+-- where the amounts sum to the quantum, the parts sum to one
+pub parts_sum : {X : Type 0} (amount_of : X → ℕ) (quantum : ℕ) (parts : List Fraction) (items : List X) → 0 < quantum → All IsProper parts → sum_by amount_of items ≡ quantum
+    → AllZip (λ (part : Fraction) (item : X). amount_of item * part.under ≡ quantum * part.over) parts items → SumsToOne parts
+unfolding SumsToOne
+parts_sum amount_of quantum parts items some proper total are =
+    let whole : ℕ = common_under parts in
+    let sum : ℕ = sum_by (λ (part : Fraction). part.over * (whole / part.under)) parts in
+    let scaled : sum_by amount_of items * whole ≡ quantum * sum = amounts_scaled amount_of whole quantum parts items (divides whole parts (dvd_refl whole)) are in
+    let all : sum_by amount_of items * whole ≡ quantum * whole = ap (λ (x : ℕ). x * whole) total in
+    same_factor quantum sum whole some (omega arith)

@@ -1,11 +1,11 @@
 -- What is written of a fraction, and what is read of it.
-use Rattle.std.proofs.Common.{◌≡◌, ◌≢◌, ℕ, ◌+◌, ◌<◌, ◌≤◌, ◌^◌, Bool, true, false, ◌&&◌, nat_le, eqb, if◌then◌else◌, Option, Some, None, MatchOption, option_and_then, List, ◌∷◌, ◌++◌, length, decimal, sym, ap, ◌∙◌, refl, arith}
+use Rattle.std.proofs.Common.{◌≡◌, ◌≢◌, ℕ, ◌+◌, ◌<◌, ◌≤◌, ◌^◌, Bool, true, false, ◌&&◌, nat_le, eqb, if◌then◌else◌, Option, Some, None, MatchOption, option_and_then, List, ◌∷◌, ◌++◌, length, decimal, le-leb, sym, ap, ◌∙◌, refl, arith}
 use Rattle.std.specs.List.{before_first, after_first}
 use Rattle.std.proofs.lemmas.Bool.Decides.{nat_tests}
 use Rattle.std.proofs.lemmas.Fmt.{decimal_injective, decimal_nonempty}
 use Rattle.text_words.specs.Numbers.{IsNumberBelow}
 use Rattle.text_words.proofs.Cuts.{cut_first, cut_rejoins, there-after}
-use Rattle.text_words.proofs.Printed.{number_below-printed, decimal-lacks}
+use Rattle.text_words.proofs.Printed.{number_below-printed, number_below-decimal, decimal-lacks}
 use Rattle.fraction.specs.declared.fraction_of.Fraction.{Fraction}
 use Rattle.fraction.specs.declared.fraction_of.TheConstants.{MAX_PART}
 use Rattle.fraction.specs.Fractions.{IsProper, fraction_text, fraction_in, proper}
@@ -54,3 +54,12 @@ pub IsWrittenAs-fraction_in : (text : List ℕ) (answer : Option Fraction) → a
 unfolding fraction_in
 IsWrittenAs-fraction_in text answer is =
     rw is (terms_written text _ _ (number_below-printed (MAX_PART + 1) _ (omega arith) _ refl) (number_below-printed (MAX_PART + 1) _ (omega arith) _ refl))
+
+-- what is written of a fraction is read as it
+pub fraction_in-text : (f : Fraction) → IsProper f → fraction_in (fraction_text f) ≡ Some f
+unfolding fraction_in
+fraction_in-text f is_proper =
+    let cut = cut_written f is_proper in
+    let over = number_below-decimal (MAX_PART + 1) f.over (omega arith) (omega (arith, is_proper.most, is_proper.small)) in
+    let under = number_below-decimal (MAX_PART + 1) f.under (omega arith) (omega (arith, is_proper.small)) in
+    rw (cut.0, cut.1, over, under, le-leb 1 f.over is_proper.some, le-leb f.over f.under is_proper.most) refl

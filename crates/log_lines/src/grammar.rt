@@ -130,6 +130,13 @@ impl Grammar {
         Ok(())
     }
 
+    /// What comes next.
+    pub fn place(&self) -> Place
+        ensures { result ≡ self.now.place }
+    {
+        self.place
+    }
+
     /// Whether the last line was taken.
     pub fn is_done(&self) -> bool
         ensures { IsTrue result ↔ (self.now.place ≡ place.Done) }

@@ -27,6 +27,9 @@ pub const TOO_MANY_MULTS: u8 = 8;
 /// A node below too many splits.
 pub const TOO_DEEP: u8 = 9;
 
+/// The least factor of a row.
+pub const LEAST_FACTOR: u128 = 1;
+
 /// The greatest factor of a row.
 pub const MOST_FACTOR: u128 = 1_099_511_627_776;
 

@@ -7,6 +7,7 @@ ghost use Rattle.log_lines.specs.Reading.{ReadsLine, IsNameCut};
 ghost use Rattle.log_lines.specs.Said.{line_said};
 
 use crate::form::{Form, form_of};
+use crate::kinds::LEAST_FACTOR;
 use crate::line::Line;
 use crate::numbers::{cut_word, four, natural, pair, signed, signed_pair, signed_three};
 
@@ -191,7 +192,7 @@ fn mult(rest: &[u8]) -> Option<Line>
 {
     match pair(rest) {
         Some((row, factor)) => {
-            if 1 <= factor {
+            if factor >= LEAST_FACTOR {
                 Some(Line::Mult { row, factor })
             } else {
                 None

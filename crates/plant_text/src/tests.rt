@@ -1,5 +1,6 @@
 //! Plant files that are read, and plant files that are refused.
 use super::*;
+use std::alloc::{AllocError, Global};
 use std::test::*;
 
 const TINY: &str =
@@ -7,6 +8,10 @@ const TINY: &str =
 
 const SECOND: &str =
     "version = 2\nperiods = 2\n[[state]]\nname = \"feed\"\ninitial = 12\nlimits = [0, 4, 5]\n[[unit]]\nname = \"U\"\n[[outage]]\nunit = \"U\"\nfrom = 0\nto = 1\n";
+
+/// Two products, each from a feed of its own, on one unit that is cleaned between them.
+const TINT: &str =
+    "version = 2\nperiods = 2\n[[state]]\nname = \"ra\"\ninitial = 1\n[[state]]\nname = \"rb\"\ninitial = 1\n[[state]]\nname = \"oa\"\nprice = 4\n[[state]]\nname = \"ob\"\nprice = 6\n[[unit]]\nname = \"U\"\n[[task]]\nname = \"A\"\nquantum = 1\ninput = [{ state = \"ra\", part = \"1/1\" }]\noutput = [{ state = \"oa\", part = \"1/1\", delay = 1 }]\n[[task]]\nname = \"B\"\nquantum = 1\ninput = [{ state = \"rb\", part = \"1/1\" }]\noutput = [{ state = \"ob\", part = \"1/1\", delay = 1 }]\n[[run]]\ntask = \"A\"\nunit = \"U\"\nmin = 1\nmax = 1\n[[run]]\ntask = \"B\"\nunit = \"U\"\nmin = 1\nmax = 1\n[[gap]]\nunit = \"U\"\nfrom = \"A\"\nto = \"B\"\nperiods = 0\ncost = 5\n[[gap]]\nunit = \"U\"\nfrom = \"B\"\nto = \"A\"\nperiods = 0\ncost = 6\n";
 
 /// A plant file with one change, and the fault that it has.
 struct Refusal {
@@ -18,7 +23,7 @@ struct Refusal {
     key: KeyName,
 }
 
-const REFUSALS: [Refusal; 19] = [
+const REFUSALS: [Refusal; 23] = [
     Refusal {
         file: TINY,
         old: "periods = 2",
@@ -247,6 +252,54 @@ const REFUSALS: [Refusal; 19] = [
         },
         key: KeyName::To,
     },
+    Refusal {
+        file: TINY,
+        old: "periods = 2",
+        new: "periods = 2\nperiods = 2",
+        kind: 2,
+        place: Place {
+            table: TableName::Top,
+            item: 0,
+            inner: 0,
+        },
+        key: KeyName::Whole,
+    },
+    Refusal {
+        file: "version = 1\nperiods = 2\n",
+        old: "periods = 2",
+        new: "periods = 2\nstate = 3",
+        kind: 6,
+        place: Place {
+            table: TableName::Top,
+            item: 0,
+            inner: 0,
+        },
+        key: KeyName::State,
+    },
+    Refusal {
+        file: TINY,
+        old: "part = \"1/1\"\n[[task.output]]",
+        new: "part = \"1/3\"\n[[task.input]]\nstate = \"feed\"\npart = \"2/3\"\n[[task.output]]",
+        kind: 13,
+        place: Place {
+            table: TableName::Input,
+            item: 1,
+            inner: 1,
+        },
+        key: KeyName::Part,
+    },
+    Refusal {
+        file: TINT,
+        old: "cost = 5",
+        new: "cost = 1000001",
+        kind: 7,
+        place: Place {
+            table: TableName::Gap,
+            item: 1,
+            inner: 0,
+        },
+        key: KeyName::Cost,
+    },
 ];
 
 #[test]
@@ -265,6 +318,64 @@ fn refusals(rt: HostRuntime) -> Result<(), Fail> {
             item: refusal.place.item,
             inner: refusal.place.inner,
             key: refusal.key,
+        };
+        assert_eq!(rt; found, Some(fault));
+    }
+    Ok(())
+}
+
+// A plant file of 41 states.
+fn many_states(alloc: Global) -> Result<String, AllocError> {
+    let mut text = String::from_str(alloc, "version = 1\nperiods = 2\n")?;
+    for number in 0..41u32 {
+        let item = format!(in alloc; "[[state]]\nname = \"s{number}\"\n")?;
+        text.push_str(item.as_str())?;
+    }
+    Ok(text)
+}
+
+// A plant file of five tasks on one unit, with the longest gap between each two of them.
+fn many_gaps(alloc: Global) -> Result<String, AllocError> {
+    let mut text = String::from_str(
+        alloc,
+        "version = 1\nperiods = 96\n[[state]]\nname = \"s\"\n[[unit]]\nname = \"U\"\n",
+    )?;
+    for task in 0..5u32 {
+        let item = format!(in alloc;
+            "[[task]]\nname = \"t{task}\"\nquantum = 1\ninput = [{{ state = \"s\", part = \"1/1\" }}]\noutput = [{{ state = \"s\", part = \"1/1\", delay = 1 }}]\n[[run]]\ntask = \"t{task}\"\nunit = \"U\"\nmin = 1\nmax = 1\n"
+        )?;
+        text.push_str(item.as_str())?;
+    }
+    for pair in 0..25u32 {
+        let from = pair / 5;
+        let to = pair % 5;
+        let item = format!(in alloc;
+            "[[gap]]\nunit = \"U\"\nfrom = \"t{from}\"\nto = \"t{to}\"\nperiods = 96\n"
+        )?;
+        text.push_str(item.as_str())?;
+    }
+    Ok(text)
+}
+
+#[test]
+fn too_many(rt: HostRuntime) -> Result<(), Fail> {
+    let states = many_states(rt.alloc())?;
+    let gaps = many_gaps(rt.alloc())?;
+    let texts = [
+        (states.as_str(), 14, TableName::Top, KeyName::State),
+        (gaps.as_str(), 19, TableName::Gap, KeyName::Whole),
+    ];
+    for (text, kind, table, key) in texts {
+        let found = match read_plant(rt.alloc(), text.as_bytes()) {
+            Err(PlantStop::Fault(fault)) => Some(fault),
+            _ => None,
+        };
+        let fault = PlantFault {
+            kind,
+            table,
+            item: 0,
+            inner: 0,
+            key,
         };
         assert_eq!(rt; found, Some(fault));
     }

@@ -17,7 +17,7 @@ use Rattle.time_grid.proofs.Reordered.{total-permutation}
 use Rattle.time_grid.proofs.OnePlan.{starts-permutation, has_point-feasible}
 use Rattle.point_listing.specs.Cap.{gain, greatest_below, slot_gain, listing_cap}
 use Rattle.point_listing.proofs.Linear.{profit-below}
-use Rattle.point_listing.proofs.Chosen.{quanta_in-choice}
+use Rattle.time_grid.proofs.PointPlan.{quanta_in-choice}
 
 le-true : (x y : ℤ) → int_le x y ≡ true → x ≤ℤ y
 le-true x y h = grind (arith, ints)

@@ -17,37 +17,9 @@ use Rattle.time_grid.proofs.Lists.{AllPairs-head, AllPairs-tail}
 use Rattle.time_grid.proofs.SlotList.{slots-are, product-slots}
 use Rattle.time_grid.proofs.Fitting.{fits-at}
 use Rattle.time_grid.proofs.PlanPoints.{share-from_in, same_slot}
-use Rattle.time_grid.proofs.OnePlan.{starts-permutation, has_point-feasible, quanta_in-cons, quanta_in-none}
+use Rattle.time_grid.proofs.OnePlan.{starts-permutation, has_point-feasible}
+use Rattle.time_grid.proofs.PointPlan.{quanta_in-choice}
 use Rattle.point_listing.specs.Numbered.{chosen, numbered, plan_numbered}
-
--- what a plan has in a slot is one of the slot's choices
-pub quanta_in-choice : (plant : Plant) (plan : List Start) (slot : ℕ × ℕ) → Sound plant → HasPoint plant plan → IsSlotOf plant slot → IsChoice plant slot (quanta_in plant plan slot)
-unfolding quanta_in
-quanta_in-choice plant [] slot sound has is = inl refl
-quanta_in-choice plant (a ∷ plan) slot sound has is =
-    let rest : HasPoint plant plan = record {
-      fits = All-tail (Fits plant) a plan has.fits;
-      apart = AllPairs-tail (λ b c. ¬ ShareSlot b c) a plan has.apart;
-    } in
-    let ih = quanta_in-choice plant plan slot sound rest is in
-    let fits : Fits plant a = All-head (Fits plant) a plan has.fits in
-    let at = fits-at plant a sound fits in
-    let more : quanta_in plant (a ∷ plan) slot ≡ quanta_of plant slot a + quanta_in plant plan slot = quanta_in-cons plant a plan slot in
-    elim (cases_Bool (is_in plant slot a)) [
-      | inl t ↦
-          let none : quanta_in plant plan slot ≡ 0 = quanta_in-none plant plan slot (λ k d l.
-          elim (cases_Bool (is_in plant slot (get_or plan k d))) [
-            | inl u ↦ absurd (AllPairs-head (λ b c. ¬ ShareSlot b c) a plan has.apart k d l (share-from_in plant slot a (get_or plan k d) t u))
-            | inr u ↦ u
-          ]) in
-          let same : (at.run, a.period) ≡ slot = same_slot plant (at.run, a.period) slot a sound at.slot is at.holds t in
-          let run : run_at plant at.run ≡ run_at plant slot.0 = ap (λ s. run_at plant s.0) same in
-          let all : quanta_in plant (a ∷ plan) slot ≡ a.quanta = more ∙ (rw (t, none) (omega arith)) in
-          inr (rw (all, ← run) (at.least, at.most))
-      | inr t ↦
-          let all : quanta_in plant (a ∷ plan) slot ≡ quanta_in plant plan slot = more ∙ (rw t (omega arith)) in
-          rw all ih
-    ]
 
 -- the choice of a value, and the value of that choice
 record Choice (plant : Plant) (slot : ℕ × ℕ) (value : ℕ) : Type 0 where

@@ -1,6 +1,5 @@
 pub mod Numbers
 pub mod Leads
-pub mod SmallProfit
 pub mod Gains
 pub mod Linear
 pub mod Chosen

@@ -4,3 +4,4 @@ pub mod Trees
 pub mod Views
 pub mod WalkLaw
 pub mod Walking
+pub mod WalkTree

@@ -23,7 +23,7 @@ impl Queue {
         ensures waits { IfOk result (λ queue. (row : ℕ) → row < count → waits queue.waiting.items row ≡ true) }
     {
         let mut queue = Queue {
-            rows: VecDeque::new(alloc),
+            rows: VecDeque::with_capacity(alloc, count)?,
             waiting: vec![in alloc; false; count]?,
         };
         for row in 0..count {

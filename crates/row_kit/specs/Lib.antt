@@ -4,3 +4,4 @@ pub mod Change
 pub mod Domain
 pub mod Point
 pub mod Row
+pub mod Table

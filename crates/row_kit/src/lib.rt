@@ -12,6 +12,7 @@ mod counts;
 mod domain;
 mod former;
 mod found;
+mod gather;
 mod limits;
 mod list;
 mod point;
@@ -28,6 +29,7 @@ pub use changeover::worth;
 #[doc(hidden)]
 pub use former::Former;
 pub use found::Found;
+pub use gather::entries_of;
 pub use limits::{
     MOST_BASE, MOST_CHANGE_COST, MOST_LIMIT, MOST_PROFIT_ENTRY, MOST_ROW_ENTRY, MOST_ROWS,
     MOST_SLOTS,

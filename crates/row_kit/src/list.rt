@@ -40,6 +40,13 @@ impl<T> List<T> {
         Ok(List { items })
     }
 
+    /// A list of the items of a vector, in the vector's own memory.
+    pub fn from_vec(items: Vec<T>) -> List<T>
+        ensures { result ≡ items.items }
+    {
+        List { items }
+    }
+
     /// The number of items.
     pub fn len(&self) -> usize
         ensures { result ≡ length self.now }

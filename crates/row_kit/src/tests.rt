@@ -1,5 +1,6 @@
 use crate::{
-    Area, Change, Domain, Entry, List, Program, Row, Tag, is_lawful, lies_in, value, worth,
+    Area, Change, Domain, Entry, List, Program, Row, Tag, entries_of, is_lawful, lies_in, value,
+    worth,
 };
 use std::alloc::{AllocError, Global};
 use std::test::Fail;
@@ -151,5 +152,23 @@ fn lists_grow(rt: HostRuntime) -> Result<(), Fail> {
     assert_eq!(rt; list.len(), 2);
     assert_eq!(rt; *list.get(1), 9);
     assert_eq!(rt; list.as_slice(), [4, 9].as_slice());
+    Ok(())
+}
+
+#[test]
+fn slots_without_parts_have_no_entry(rt: HostRuntime) -> Result<(), Fail> {
+    let parts = [(0, 0), (3, 0), (0, -2), (0, 0), (1, 1)];
+    let entries = entries_of(rt.alloc(), &parts)?;
+    let fixed = Entry {
+        slot: 1,
+        fixed: 3,
+        per: 0,
+    };
+    let both = Entry {
+        slot: 4,
+        fixed: 1,
+        per: 1,
+    };
+    assert_eq!(rt; entries.as_slice(), [fixed, entry(2, -2), both].as_slice());
     Ok(())
 }

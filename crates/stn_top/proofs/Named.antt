@@ -1,5 +1,5 @@
 -- A feasible plan names units and tasks of the plant.
-use Rattle.std.proofs.Common.{◌≡◌, ℕ, ℤ, List, Option, Some, None}
+use Rattle.std.proofs.Common.{ℕ, List, Some, None}
 use Rattle.std.specs.Prelude.{All}
 use Rattle.stn_model.specs.declared.plant.Plant.{Plant}
 use Rattle.stn_model.specs.declared.start.Start.{Start}

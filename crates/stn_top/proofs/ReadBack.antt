@@ -1,6 +1,6 @@
 -- The text of an answer, read as plan text, says the answer's plan.
-use Rattle.std.proofs.Common.{◌≡◌, ◌≢◌, ℕ, ℤ, pos, negsuc, suc, true, false, inl, inr, ◌⊎◌, ◌+◌, ◌*◌, ◌/◌, ◌%◌, ◌<◌, ◌≤◌, ◌^◌, List, [], ◌∷◌, ◌++◌, length, get_or, map, Option, Some, None, codes, decimal, sym, ap, ◌∙◌, refl, arith, append_assoc, length-append}
-use Rattle.std.specs.Prelude.{All, Ok, IsPermutation, unsigned_abs, slice_index_or}
+use Rattle.std.proofs.Common.{◌≡◌, ◌≢◌, ℕ, ℤ, pos, negsuc, suc, true, false, inl, inr, ◌+◌, ◌*◌, ◌%◌, ◌<◌, ◌≤◌, ◌^◌, List, [], ◌∷◌, ◌++◌, length, get_or, map, Option, Some, None, codes, decimal, sym, ap, ◌∙◌, refl, arith, append_assoc, length-append}
+use Rattle.std.specs.Prelude.{All, Ok, slice_index_or}
 use Rattle.std.specs.Fmt.{signed_decimal}
 use Rattle.std.specs.List.{flat_map, list_all}
 use Rattle.std.specs.Prelude.{not, ◌==◌}
@@ -14,7 +14,6 @@ use Rattle.std.proofs.lemmas.List.{get_or-map}
 use Rattle.stn_model.specs.Plant.{no_task}
 use Rattle.stn_model.specs.Sound.{is_name, is_name_byte}
 use Rattle.plan_text.specs.PlanLines.{IsNamed}
-use Rattle.std.proofs.lemmas.List.{append-nil}
 use Rattle.std.proofs.lemmas.List.Elements.{All-append, All-cons}
 use Rattle.std.proofs.lemmas.Fmt.{decimal_by_steps_wide, length-decimal-le_wide}
 use Rattle.stn_model.specs.declared.plant.Plant.{Plant}
@@ -38,7 +37,7 @@ use Rattle.plan_text.specs.PlanLines.{plan_line, plan_lines, start_words, unit_n
 use Rattle.plan_text.specs.PlanText.{plan_of_text}
 use Rattle.plan_text.specs.ReadsBack.{IsRemark, comment_lines, IsWritable, ReadsBack}
 use Rattle.plan_text.proofs.Again.{ReadsBack-lines}
-use Rattle.stn_top.specs.Texts.{answer_text, boxes_line, profit_word, found_lines, status_of, printed_plan, IsMoney, IsInMoney}
+use Rattle.stn_top.specs.Texts.{answer_text, boxes_line, profit_word, status_of, printed_plan, IsMoney, IsInMoney}
 use Rattle.stn_top.proofs.Named.{named-Feasible}
 
 -- ---- numbers

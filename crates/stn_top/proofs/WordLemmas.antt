@@ -6,7 +6,7 @@ use Rattle.std.proofs.Common.{◌≡◌, true, false, ◌∙◌, ap, ℕ, ◌<�
 use Rattle.std.specs.Prelude.{Option, Some, None, MatchOption}
 use Rattle.stn_top.specs.declared.command.Command.{Command}
 use Rattle.stn_top.specs.declared.command.PlanUse.TheVariants.{Simulate, Report}
-use Rattle.stn_top.specs.Words.{texts, Says, HasNoForm, Solving, Carrying, meaning}
+use Rattle.stn_top.specs.Words.{texts, Request, Says, HasNoForm, Solving, Carrying, Upgrading, meaning}
 
 -- three words are the list of their texts
 pub three_texts : (words : List (Bor (List ℕ))) (d : Bor (List ℕ)) → 3 ≤ length words → length words < 4 → texts words ≡ (get_or words 0 d).now ∷ (get_or words 1 d).now ∷ (get_or words 2 d).now ∷ []
@@ -15,6 +15,18 @@ three_texts (a ∷ []) d least most = absurd (omega arith)
 three_texts (a ∷ b ∷ []) d least most = absurd (omega arith)
 three_texts (a ∷ b ∷ e ∷ []) d least most = refl
 three_texts (a ∷ b ∷ e ∷ f ∷ rest) d least most = absurd (omega arith)
+
+-- two words are the list of their texts
+pub two_texts : (words : List (Bor (List ℕ))) (d : Bor (List ℕ)) → 2 ≤ length words → length words < 3 → texts words ≡ (get_or words 0 d).now ∷ (get_or words 1 d).now ∷ []
+two_texts [] d least most = absurd (omega arith)
+two_texts (a ∷ []) d least most = absurd (omega arith)
+two_texts (a ∷ b ∷ []) d least most = refl
+two_texts (a ∷ b ∷ e ∷ rest) d least most = absurd (omega arith)
+
+-- two words, of which the first is known
+pub two_words : (words : List (Bor (List ℕ))) (d : Bor (List ℕ)) (first : List ℕ) → 2 ≤ length words → length words < 3 → true ≡ pointwise nat_eq (get_or words 0 d).now first → texts words ≡ first ∷ (get_or words 1 d).now ∷ []
+two_words words d first least most same =
+    two_texts words d least most ∙ ap (λ (x : List ℕ). x ∷ (get_or words 1 d).now ∷ []) (same_text _ _ same)
 
 -- a text that is not empty is not the empty text
 pub not_empty : (text : List ℕ) → false ≡ (length text == 0) → text ≡ [] → ⊥
@@ -25,13 +37,18 @@ pub three_words : (words : List (Bor (List ℕ))) (d : Bor (List ℕ)) (first : 
 three_words words d first least most same =
     three_texts words d least most ∙ ap (λ (x : List ℕ). x ∷ (get_or words 1 d).now ∷ (get_or words 2 d).now ∷ []) (same_text _ _ same)
 
+-- the words say no request of two files with this first word
+abbrev NoFiles : List (List ℕ) → (List ℕ → List ℕ → Request) → Type 0
+NoFiles words request = (first second : List ℕ) → ¬ Says words (request first second)
+
 -- words that have none of the forms
-pub has_no_form : (words : List (List ℕ)) → ((plant : List ℕ) (budget : ℕ) → ¬ Says words (Solving plant budget)) → ((plant plan : List ℕ) → ¬ Says words (Carrying Simulate plant plan)) → ((plant plan : List ℕ) → ¬ Says words (Carrying Report plant plan)) → HasNoForm words
-has_no_form words solve simulate report (Solving plant budget) = solve plant budget
-has_no_form words solve simulate report (Carrying Simulate plant plan) = simulate plant plan
-has_no_form words solve simulate report (Carrying Report plant plan) = report plant plan
+pub has_no_form : (words : List (List ℕ)) → ((plant : List ℕ) (budget : ℕ) → ¬ Says words (Solving plant budget)) → NoFiles words (Carrying Simulate) → NoFiles words (Carrying Report) → ((plant : List ℕ) → ¬ Says words (Upgrading plant)) → HasNoForm words
+has_no_form words solve simulate report upgrade (Solving plant budget) = solve plant budget
+has_no_form words solve simulate report upgrade (Carrying Simulate plant plan) = simulate plant plan
+has_no_form words solve simulate report upgrade (Carrying Report plant plan) = report plant plan
+has_no_form words solve simulate report upgrade (Upgrading plant) = upgrade plant
 
 -- the last form decides
-pub last_form : (words : List (List ℕ)) (command : Option Command) → ((plant : List ℕ) (budget : ℕ) → ¬ Says words (Solving plant budget)) → ((plant plan : List ℕ) → ¬ Says words (Carrying Simulate plant plan)) → MatchOption command ((plant plan : List ℕ) → ¬ Says words (Carrying Report plant plan)) (λ c. Says words (meaning c)) → MatchOption command (HasNoForm words) (λ c. Says words (meaning c))
-last_form words None solve simulate report = has_no_form words solve simulate report
-last_form words (Some command) solve simulate report = report
+pub last_form : (words : List (List ℕ)) (command : Option Command) → ((plant : List ℕ) (budget : ℕ) → ¬ Says words (Solving plant budget)) → NoFiles words (Carrying Simulate) → NoFiles words (Carrying Report) → MatchOption command ((plant : List ℕ) → ¬ Says words (Upgrading plant)) (λ c. Says words (meaning c)) → MatchOption command (HasNoForm words) (λ c. Says words (meaning c))
+last_form words None solve simulate report upgrade = has_no_form words solve simulate report upgrade
+last_form words (Some command) solve simulate report upgrade = upgrade

@@ -1,5 +1,5 @@
 -- The texts of the answers.
-use Rattle.std.specs.Prelude.{◌≡◌, ◌<◌, ◌≤◌, ◌+◌, ◌^◌, ℕ, ℤ, unsigned_abs, length, List, [], ◌∷◌, ◌++◌, All, codes, decimal, Option, Some, None, IfSome}
+use Rattle.std.specs.Prelude.{◌<◌, ◌≤◌, ◌+◌, ◌^◌, ℕ, ℤ, unsigned_abs, length, List, [], ◌++◌, All, codes, decimal, Option, Some, None, IfSome}
 use Rattle.std.specs.Fmt.{signed_decimal}
 use Rattle.stn_model.specs.declared.plant.Plant.{Plant}
 use Rattle.stn_model.specs.declared.start.Start.{Start}

@@ -11,6 +11,7 @@ use Rattle.stn_top.specs.declared.command.Command.TheVariants as variants
 pub data Request : Type 0 where
   Solving : (plant : List ℕ) (budget : ℕ) → Request
   Carrying : (usage : PlanUse) (plant plan : List ℕ) → Request
+  Upgrading : (plant : List ℕ) → Request
 
 -- the first word of a command that carries out a plan
 abbrev pub use_word : PlanUse → List ℕ
@@ -31,6 +32,7 @@ pub record IsBudget (word : List ℕ) (budget : ℕ) : Type 0 where
 abbrev pub Says : List (List ℕ) → Request → Type 0
 Says words (Solving plant budget) = (word : List ℕ) × ((words ≡ codes "solve" ∷ plant ∷ word ∷ []) × (plant ≢ []) × IsBudget word budget)
 Says words (Carrying usage plant plan) = (words ≡ use_word usage ∷ plant ∷ plan ∷ []) × (plant ≢ []) × (plan ≢ [])
+Says words (Upgrading plant) = (words ≡ codes "upgrade" ∷ plant ∷ []) × (plant ≢ [])
 
 -- the words have the form of no command
 abbrev pub HasNoForm : List (List ℕ) → Type 0
@@ -40,3 +42,4 @@ HasNoForm words = (request : Request) → ¬ Says words request
 abbrev pub meaning : declared.Command → Request
 meaning (variants.Solve plant budget) = Solving plant.now budget
 meaning (variants.Carry usage plant plan) = Carrying usage plant.now plan.now
+meaning (variants.Upgrade plant) = Upgrading plant.now

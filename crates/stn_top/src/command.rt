@@ -1,6 +1,6 @@
 //! The words of a command.
 ghost use Rattle.std.specs.Prelude.{◌≡◌, ℕ, List, MatchOption};
-ghost use Rattle.stn_top.specs.Words.{Says, HasNoForm, IsBudget, Solving, Carrying, texts, meaning, use_word};
+ghost use Rattle.stn_top.specs.Words.{Says, HasNoForm, IsBudget, Solving, Carrying, Upgrading, texts, meaning, use_word};
 
 use text_words::read_number;
 
@@ -30,6 +30,10 @@ pub enum Command<'a> {
         plant: &'a str,
         plan: &'a str,
     },
+    /// `upgrade PLANT`: print the plant as a file of version 2.
+    Upgrade {
+        plant: &'a str,
+    },
 }
 
 /// The command that the words say, if they have the form of one. It takes no memory.
@@ -42,7 +46,10 @@ pub fn command_of<'a>(words: &[&'a str]) -> Option<Command<'a>>
     if let Some(command) = carry_of(words, "simulate", PlanUse::Simulate) {
         return Some(command);
     }
-    carry_of(words, "report", PlanUse::Report)
+    if let Some(command) = carry_of(words, "report", PlanUse::Report) {
+        return Some(command);
+    }
+    upgrade_of(words)
 }
 
 fn solve_of<'a>(words: &[&'a str]) -> Option<Command<'a>>
@@ -69,6 +76,18 @@ fn carry_of<'a>(words: &[&'a str], word: &str, usage: PlanUse) -> Option<Command
     match words {
         [first, plant, plan] if *first == word && !plant.is_empty() && !plan.is_empty() => {
             Some(Command::Carry { usage, plant, plan })
+        }
+        _ => None,
+    }
+}
+
+fn upgrade_of<'a>(words: &[&'a str]) -> Option<Command<'a>>
+    ensures { MatchOption result ((plant : List ℕ) → ¬ Says (texts words.now) (Upgrading plant))
+        (λ command. Says (texts words.now) (meaning command)) }
+{
+    match words {
+        [first, plant] if *first == "upgrade" && !plant.is_empty() => {
+            Some(Command::Upgrade { plant })
         }
         _ => None,
     }

@@ -5,6 +5,8 @@
 #![tactic(auto)]
 
 pub mod command;
+#[cfg(test)]
+mod program_tests;
 pub mod reply;
 pub mod sources;
 #[cfg(test)]

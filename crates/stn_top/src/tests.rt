@@ -7,7 +7,7 @@ use std::alloc::{AllocError, Global};
 use std::test::Fail;
 use stn_edge::{FixedShelf, FixedSink, MemShelf, MemSink};
 
-const TINY: &str = r#"version = 1
+pub const TINY: &str = r#"version = 1
 periods = 2
 [[state]]
 name = "feed"
@@ -55,7 +55,7 @@ amount = 5
 "#;
 
 // Three tasks on one unit, with cleaning of two periods from A to B.
-const WASH: &str = r#"version = 1
+pub const WASH: &str = r#"version = 1
 periods = 3
 [[state]]
 name = "raw"
@@ -145,7 +145,7 @@ max = 1
 "#;
 
 // Two tasks on one unit, whose changeovers cost 5 each way.
-const TINT: &str = r#"version = 2
+pub const TINT: &str = r#"version = 2
 periods = 2
 state = [
     { name = "ra", initial = 1 },
@@ -297,7 +297,7 @@ fn with(alloc: Global, text: &str, old: &str, new: &str) -> Result<String, Alloc
 }
 
 // The text with several places replaced, one after the other.
-fn edited(alloc: Global, text: &str, edits: &[(&str, &str)]) -> Result<String, AllocError> {
+pub fn edited(alloc: Global, text: &str, edits: &[(&str, &str)]) -> Result<String, AllocError> {
     let mut edited = String::from_str(alloc, text)?;
     for (old, new) in edits {
         edited = with(alloc, edited.as_str(), old, new)?;
@@ -433,7 +433,7 @@ type Simulated = (
     &'static str,
 );
 
-const SIMULATED: [Simulated; 18] = [
+const SIMULATED: [Simulated; 20] = [
     (FIVE, &[], FIVE_PLAN, 0, "feasible 854\n"),
     (WASH, &[], "0 U A 1\n2 U B 1\n", 1, "broken gap 1 2\n"),
     (WASH, &[], "0 U A 1\n1 U C 1\n2 U B 1\n", 0, "feasible 3\n"),
@@ -468,6 +468,8 @@ const SIMULATED: [Simulated; 18] = [
     (TINY, FLAT, "0 U make 3\n", 1, "broken stock-high prod 1\n"),
     (TINY, STEAM, "0 U make 3\n", 0, "feasible 36\n"),
     (TINY, STEAM, "0 U make 4\n", 1, "broken load steam 0\n"),
+    (TINY, LESS_STEAM, "0 U make 4\n", 0, "feasible 44\n"),
+    (TINY, LESS_STEAM, "1 U make 4\n", 1, "broken load steam 1\n"),
     (TINY, &[], "0 U make\n", 4, "refused plan 1 1\n"),
     (TINY, &[], "0 V make 1\n", 4, "refused plan 2 1\n"),
 ];
@@ -483,7 +485,7 @@ const FLAT: &[(&str, &str)] = &[
 ];
 
 // Tiny with a utility of which three quanta draw all.
-const STEAM: &[(&str, &str)] = &[
+pub const STEAM: &[(&str, &str)] = &[
     ("max = 3", "max = 4"),
     (
         "[[task.input]]",
@@ -492,6 +494,20 @@ const STEAM: &[(&str, &str)] = &[
     (
         "[[unit]]",
         "[[utility]]\nname = \"steam\"\nlimit = 5\n[[unit]]",
+    ),
+];
+
+// The same, with enough steam for four quanta in the first period alone.
+const LESS_STEAM: &[(&str, &str)] = &[
+    ("version = 1", "version = 2"),
+    ("max = 3", "max = 4"),
+    (
+        "[[task.input]]",
+        "draw = [{ utility = \"steam\", fixed = [2], each = [1] }]\n[[task.input]]",
+    ),
+    (
+        "[[unit]]",
+        "[[utility]]\nname = \"steam\"\nlimits = [6, 5]\n[[unit]]",
     ),
 ];
 
@@ -550,9 +566,38 @@ fn plans_are_reported(rt: HostRuntime) -> Result<(), Fail> {
     Ok(())
 }
 
+// A plant, edits of it, a budget, and how the answer of planning begins, of the plant and of its upgraded text.
+type Upgraded = (
+    &'static str,
+    &'static [(&'static str, &'static str)],
+    &'static str,
+    &'static str,
+);
+
+const UPGRADED: [Upgraded; 4] = [
+    (TINY, &[], "31", "# optimal 60\n"),
+    (TINY, OUT_OF_USE, "7", "# optimal 36\n"),
+    (TINY, LESS_STEAM, "25", "# optimal 60\n"),
+    (TINT, &[], "31", "# optimal 6\n"),
+];
+
+#[test]
+fn plants_are_upgraded(rt: HostRuntime) -> Result<(), Fail> {
+    for (plant, edits, budget, start) in UPGRADED {
+        let plant = edited(rt.alloc(), plant, edits)?;
+        let (status, out) = answer(rt.alloc(), plant.as_str(), "", &["upgrade", "plant"])?;
+        assert_eq!(rt; status, 0);
+        let text = str::from_utf8(out.written()).ok().ok_or("text")?;
+        let (status, out) = answer(rt.alloc(), text, "", &["solve", "plant", budget])?;
+        assert_eq!(rt; status, 0);
+        assert!(rt; out.written().starts_with(start.as_bytes()));
+    }
+    Ok(())
+}
+
 #[test]
 fn words_are_refused(rt: HostRuntime) -> Result<(), Fail> {
-    let wrong: [&[&str]; 8] = [
+    let wrong: [&[&str]; 9] = [
         &["solve", "plant", "31", "plant"],
         &[],
         &["solve", "plant", "0"],
@@ -561,6 +606,7 @@ fn words_are_refused(rt: HostRuntime) -> Result<(), Fail> {
         &["solve", "", "31"],
         &["simulate", "plant", ""],
         &["report", "plant"],
+        &["upgrade", "plant", "plant"],
     ];
     for words in wrong {
         let (status, out) = answer(rt.alloc(), TINY, "", words)?;

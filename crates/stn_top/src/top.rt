@@ -4,14 +4,15 @@ ghost use Rattle.stn_edge.specs.Count.{Rose};
 ghost use Rattle.stn_edge.specs.Files.{file_of};
 ghost use Rattle.stn_model.specs.Sound.{Sound};
 ghost use Rattle.plan_text.specs.PlanText.{plan_of_text};
-ghost use Rattle.stn_top.specs.Words.{HasNoForm, texts, Solving, Carrying};
-ghost use Rattle.stn_top.specs.Replies.{IsReply, AnswersTo, Answered, IsCutOff, MayReadAll, Solved, Carried, OnPlan};
+ghost use Rattle.stn_top.specs.Words.{HasNoForm, texts, Solving, Carrying, Upgrading};
+ghost use Rattle.stn_top.specs.Replies.{IsReply, AnswersTo, Answered, IsCutOff, MayReadAll, Solved, Carried, Upgraded, OnPlan};
 
 use crate::command::{Command, PlanUse, command_of};
 use crate::reply::{Reply, Stopped};
 use crate::sources::{plan_in, plant_in};
 use crate::texts::{planned, refused_plan, refused_plant, refused_words, reported, simulated};
 use plan_sim::simulate;
+use plant_make::put_plant;
 use point_listing::solve;
 use std::alloc::{AllocError, Global};
 use stn_edge::{Shelf, Sink, Stop};
@@ -23,9 +24,10 @@ use stn_model::{Plant, Start};
 /// |---|---|
 /// | `solve PLANT BUDGET` | plans, with at most BUDGET boxes |
 /// | `simulate PLANT PLAN` | carries out the plan, and says what it earns or what it breaks first |
+/// | `upgrade PLANT` | prints the plant as a plant file of version 2 |
 /// | `report PLANT PLAN` | carries out the plan, and shows it or says what it breaks first |
 ///
-/// Statuses: 0 optimal, feasible or reported; 1 no plan is feasible, or the plan is not; 2 the words have no
+/// Statuses: 0 optimal, feasible, reported or upgraded; 1 no plan is feasible, or the plan is not; 2 the words have no
 /// form; 3 the plant file has a fault; 4 the plan file has one; 6 the budget was spent; 7 a file could not be read; 8 the answer could not be put; 9 no memory.
 /// The answer is put at once, after all work. No file changes.
 pub fn run<F: Shelf, K: Sink>(alloc: Global, words: &[&str], files: &mut F, out: &mut K) -> u8
@@ -68,6 +70,7 @@ fn reply_to<F: Shelf>(alloc: Global, words: &[&str], files: &mut F) -> Result<Re
 {
     match command_of(words) {
         Some(Command::Solve { plant, budget }) => solve_file(alloc, files, plant, budget),
+        Some(Command::Upgrade { plant }) => upgrade_file(alloc, files, plant),
         Some(Command::Carry { usage, plant, plan }) => carry_file(alloc, files, usage, plant, plan),
         None => Ok(refused_words(alloc)?),
     }
@@ -107,6 +110,34 @@ fn solve_plant(alloc: Global, plant: &Plant, budget: u32) -> Result<Reply, Alloc
 {
     let outcome = solve(alloc, plant, budget)?;
     planned(alloc, plant, &outcome)
+}
+
+// The answer of printing the plant in a file.
+fn upgrade_file<F: Shelf>(alloc: Global, files: &mut F, name: &str) -> Result<Reply, Stopped>
+    requires { IsTrue (F.may_read files.old name.now) }
+    ensures answer { IfOk result (λ reply. IfSome (F.files files.old)
+        (λ m. AnswersTo m (Upgrading name.now) reply.status reply.text.items)) }
+    ensures not_words { IfOk result (λ reply. reply.status ≡ 2 → ⊥) }
+    ensures small { IfOk result (λ reply. reply.status < 7) }
+    ensures fault { result ≡ Err Stopped.ReadFault → Rose (F.read_faults files.old) (F.read_faults files.new) }
+    ensures same { F.files files.new ≡ F.files files.old }
+{
+    match plant_in(alloc, files, name)? {
+        Ok(plant) => Ok(upgrade_plant(alloc, &plant)?),
+        Err(fault) => Ok(refused_plant(alloc, &fault)?),
+    }
+}
+
+// The answer of printing a plant.
+fn upgrade_plant(alloc: Global, plant: &Plant) -> Result<Reply, AllocError>
+    requires { Sound plant.now }
+    ensures answer { IfOk result (λ reply. Upgraded plant.now reply.status reply.text.items) }
+    ensures not_words { IfOk result (λ reply. reply.status ≡ 2 → ⊥) }
+    ensures small { IfOk result (λ reply. reply.status < 7) }
+{
+    let mut text = Vec::new(alloc);
+    put_plant(alloc, plant, &mut text)?;
+    Ok(Reply { status: 0, text })
 }
 
 // The answer of carrying out the plan in a file on the plant in another.

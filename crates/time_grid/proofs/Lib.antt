@@ -6,3 +6,4 @@ pub mod PointStarts
 pub mod Reordered
 pub mod OnePlan
 pub mod PointPlan
+pub mod PointSums

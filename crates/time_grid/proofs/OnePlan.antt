@@ -61,7 +61,8 @@ one_more plant f g a (slot ∷ grid) (suc k) d l pos is free put rest =
           rw (head, ne_eqb (f slot) 0 e) (IsPermutation-trans (a ∷ b ∷ ps) (b ∷ a ∷ ps) (b ∷ qs) (IsPermutation-middle (a ∷ []) b ps) (IsPermutation-cons b (a ∷ ps) qs ih))
     ]
 
-sum_by-zero : {X : Type 0} (f : X → ℕ) (xs : List X) → All (λ x. f x ≡ 0) xs → sum_by f xs ≡ 0
+-- a sum of zeros
+pub sum_by-zero : {X : Type 0} (f : X → ℕ) (xs : List X) → All (λ x. f x ≡ 0) xs → sum_by f xs ≡ 0
 sum_by-zero f [] h = refl
 sum_by-zero f (x ∷ xs) h = let a = sum_by-cons f x xs in let b = All-head (λ y. f y ≡ 0) x xs h in let c = sum_by-zero f xs (All-tail (λ y. f y ≡ 0) x xs h) in omega (arith, a, b, c)
 

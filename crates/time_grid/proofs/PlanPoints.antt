@@ -151,7 +151,7 @@ has_point-push plant plan a place sound has fits is free = record {
 }
 
 -- where a sum is not 0, an item is not
-some_item : {X : Type 0} (f : X → ℕ) (xs : List X) → 0 < sum_by f xs → (k : ℕ) × ((k < length xs) × ((d : X) → 0 < f (get_or xs k d)))
+pub some_item : {X : Type 0} (f : X → ℕ) (xs : List X) → 0 < sum_by f xs → (k : ℕ) × ((k < length xs) × ((d : X) → 0 < f (get_or xs k d)))
 some_item f [] h = absurd (omega arith)
 some_item f (x ∷ xs) h =
     elim (cases_lt 0 (f x)) [

@@ -1,5 +1,5 @@
 -- The plan of a point has that point.
-use Rattle.std.proofs.Common.{◌≡◌, ◌≢◌, ℕ, ◌<◌, ◌≤◌, true, false, Option, Some, IsSomeAnd, List, [], ◌∷◌, length, get_or, map, slice_get, IsPermutation, sym, refl, ap, ap₂, ◌∙◌, subst, arith, inl, inr}
+use Rattle.std.proofs.Common.{◌≡◌, ◌≢◌, ℕ, ◌+◌, ◌<◌, ◌≤◌, true, false, Option, Some, IsSomeAnd, List, [], ◌∷◌, length, get_or, map, slice_get, IsPermutation, sym, refl, ap, ap₂, ◌∙◌, subst, arith, inl, inr}
 use Rattle.std.specs.List.{All, AllPairs, AllZip, position_or_len}
 use Rattle.std.proofs.lemmas.List.Elements.{All-nil, All-cons, All-head, All-tail}
 use Rattle.std.proofs.lemmas.List.Kept.{AllPairs-cons}
@@ -18,16 +18,18 @@ use Rattle.stn_model.specs.Sound.{Sound}
 use Rattle.time_grid.specs.Slots.{no_run, run_at, slots, IsSlotOf, Earlier}
 use Rattle.time_grid.specs.PlanPoint.{ShareSlot, is_in, quanta_of, quanta_in, HasPoint, plan_point, point_starts, start_in, IsPlanOf, IsChoice, IsPoint}
 use Rattle.time_grid.proofs.Lists.{AllPairs-head, AllPairs-tail, AllPairs-nil}
+use Rattle.time_grid.proofs.Fitting.{fits-at}
 use Rattle.time_grid.proofs.SlotList.{slots-are, slots-rise}
-use Rattle.time_grid.proofs.PlanPoints.{in-from_share, same_slot, same_run}
+use Rattle.time_grid.proofs.PlanPoints.{share-from_in, in-from_share, same_slot, same_run}
 use Rattle.time_grid.proofs.Reordered.{AllPairs-permutation}
 use Rattle.time_grid.proofs.OnePlan.{quanta_in-cons, quanta_in-none, map-agree}
 
-in_own : (plant : Plant) (slot : ℕ × ℕ) (value : ℕ) → is_in plant slot (start_in plant slot value) ≡ true
+-- the start of a slot is in it
+pub in_own : (plant : Plant) (slot : ℕ × ℕ) (value : ℕ) → is_in plant slot (start_in plant slot value) ≡ true
 in_own plant slot value = and_from _ _ (eq-eqb slot.1 slot.1 refl) (and_from _ _ (eq-eqb (run_at plant slot.0).task _ refl) (eq-eqb (run_at plant slot.0).unit _ refl))
 
 -- the run of a task on a unit is found at its number
-found_run : (plant : Plant) (run : ℕ) → Sound plant → run < length plant.runs → run_on plant (run_at plant run).task (run_at plant run).unit ≡ Some (run_at plant run)
+pub found_run : (plant : Plant) (run : ℕ) → Sound plant → run < length plant.runs → run_on plant (run_at plant run).task (run_at plant run).unit ≡ Some (run_at plant run)
 unfolding run_on
 found_run plant run sound l =
     let p = is_of (run_at plant run).task (run_at plant run).unit in
@@ -147,11 +149,56 @@ pub plan_point-permutation : (plant : Plant) (P Q : List Start) → IsPermutatio
 unfolding plan_point quanta_in
 plan_point-permutation plant P Q same = map-same (quanta_in plant P) (quanta_in plant Q) (λ slot. sym (sum_by-IsPermutation (quanta_of plant slot) P Q same)) (slots plant)
 
+-- the starts of a point have that point
+pub starts-of_point : (plant : Plant) (point : List ℕ) → Sound plant → IsPoint plant point →
+    HasPoint plant (point_starts plant (slots plant) point) × (plan_point plant (point_starts plant (slots plant) point) ≡ point)
+unfolding plan_point
+starts-of_point plant point sound choices =
+    let own = point-of_starts plant (slots plant) point sound (slots-are plant) (slots-rise plant) choices in (own.has, own.values_are)
+
 -- the plan of a point has that point
 pub point-of_plan : (plant : Plant) (point : List ℕ) (plan : List Start) → Sound plant → IsPoint plant point → IsPlanOf plant point plan → HasPoint plant plan × (plan_point plant plan ≡ point)
-unfolding plan_point
 point-of_plan plant point plan sound choices is =
-    let own = point-of_starts plant (slots plant) point sound (slots-are plant) (slots-rise plant) choices in (
-      has_point-permutation plant (point_starts plant (slots plant) point) plan is.starts own.has,
-      sym (plan_point-permutation plant (point_starts plant (slots plant) point) plan is.starts) ∙ own.values_are,
+    let own = starts-of_point plant point sound choices in (
+      has_point-permutation plant (point_starts plant (slots plant) point) plan is.starts own.0,
+      sym (plan_point-permutation plant (point_starts plant (slots plant) point) plan is.starts) ∙ own.1,
     )
+
+-- what a plan has in a slot is one of the slot's choices
+pub quanta_in-choice : (plant : Plant) (plan : List Start) (slot : ℕ × ℕ) → Sound plant → HasPoint plant plan → IsSlotOf plant slot → IsChoice plant slot (quanta_in plant plan slot)
+unfolding quanta_in
+quanta_in-choice plant [] slot sound has is = inl refl
+quanta_in-choice plant (a ∷ plan) slot sound has is =
+    let rest : HasPoint plant plan = record {
+      fits = All-tail (Fits plant) a plan has.fits;
+      apart = AllPairs-tail (λ b c. ¬ ShareSlot b c) a plan has.apart;
+    } in
+    let ih = quanta_in-choice plant plan slot sound rest is in
+    let fits : Fits plant a = All-head (Fits plant) a plan has.fits in
+    let at = fits-at plant a sound fits in
+    let more : quanta_in plant (a ∷ plan) slot ≡ quanta_of plant slot a + quanta_in plant plan slot = quanta_in-cons plant a plan slot in
+    elim (cases_Bool (is_in plant slot a)) [
+      | inl t ↦
+          let none : quanta_in plant plan slot ≡ 0 = quanta_in-none plant plan slot (λ k d l.
+          elim (cases_Bool (is_in plant slot (get_or plan k d))) [
+            | inl u ↦ absurd (AllPairs-head (λ b c. ¬ ShareSlot b c) a plan has.apart k d l (share-from_in plant slot a (get_or plan k d) t u))
+            | inr u ↦ u
+          ]) in
+          let same : (at.run, a.period) ≡ slot = same_slot plant (at.run, a.period) slot a sound at.slot is at.holds t in
+          let run : run_at plant at.run ≡ run_at plant slot.0 = ap (λ s. run_at plant s.0) same in
+          let all : quanta_in plant (a ∷ plan) slot ≡ a.quanta = more ∙ (rw (t, none) (omega arith)) in
+          inr (rw (all, ← run) (at.least, at.most))
+      | inr t ↦
+          let all : quanta_in plant (a ∷ plan) slot ≡ quanta_in plant plan slot = more ∙ (rw t (omega arith)) in
+          rw all ih
+    ]
+
+all_zip-map : {X Y : Type 0} (R : X → Y → Type 0) (f : X → Y) (xs : List X) → All (λ x. R x (f x)) xs → AllZip R xs (map f xs)
+all_zip-map R f [] h = tt
+all_zip-map R f (x ∷ xs) h = (All-head (λ z. R z (f z)) x xs h, all_zip-map R f xs (All-tail (λ z. R z (f z)) x xs h))
+
+-- the point of a plan is a point of the plant
+pub plan_point-is : (plant : Plant) (plan : List Start) → Sound plant → HasPoint plant plan → IsPoint plant (plan_point plant plan)
+unfolding plan_point
+plan_point-is plant plan sound has =
+    all_zip-map (IsChoice plant) (quanta_in plant plan) (slots plant) (λ k d l. quanta_in-choice plant plan (get_or (slots plant) k d) sound has (slots-are plant k d l))

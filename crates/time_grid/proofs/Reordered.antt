@@ -145,7 +145,7 @@ sum_by-agree : {X : Type 0} (f g : X → ℕ) → ((x : X) → f x ≡ g x) → 
 sum_by-agree f g e [] = refl
 sum_by-agree f g e (x ∷ xs) = simp sum_by-cons (omega (arith, e x, sum_by-agree f g e xs))
 
-change_costs-permutation : (plant : Plant) (P Q : List Start) → IsPermutation P Q → change_costs plant P ≡ change_costs plant Q
+pub change_costs-permutation : (plant : Plant) (P Q : List Start) → IsPermutation P Q → change_costs plant P ≡ change_costs plant Q
 unfolding change_costs changeover
 change_costs-permutation plant P Q same =
     let each : (a : Start) → sum_by (changeover plant P a) P ≡ sum_by (changeover plant Q a) Q =

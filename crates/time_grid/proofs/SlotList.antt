@@ -1,17 +1,18 @@
 -- The slots of a plant: which they are, in which order, and how many.
-use Rattle.std.proofs.Common.{◌≡◌, ℕ, zero, suc, ◌+◌, ◌*◌, ◌<◌, Bool, cond, if◌then◌else◌, List, [], ◌∷◌, ◌++◌, length, get_or, map, filter, sum_by, count_by, sym, refl, ap, ◌∙◌, inl, inr, ap₂, arith, one-mul, mul_assoc, mul-one, add-one, append-nil}
+use Rattle.std.proofs.Common.{◌≡◌, ℕ, zero, suc, ◌+◌, ◌*◌, ◌<◌, ◌≤◌, Bool, cond, if◌then◌else◌, List, [], ◌∷◌, ◌++◌, length, get_or, map, filter, sum_by, count_by, sym, refl, ap, ◌∙◌, subst, inl, inr, ap₂, arith, one-mul, mul_assoc, mul-one, add-one, append-nil}
 use Rattle.std.specs.List.{All, AllPairs, Contains, flat_map, range_with_len}
 use Rattle.std.proofs.lemmas.List.{length-map, map-append}
 use Rattle.std.proofs.lemmas.List.Elements.{All-map, All-filter, filter-append, filter_passes}
 use Rattle.std.proofs.lemmas.List.Kept.{AllPairs-filter}
 use Rattle.std.proofs.lemmas.List.Concat.{length-flat_map, flat_map-append}
-use Rattle.std.proofs.lemmas.List.Sums.{sum_by-cons, sum_by_push, length-filter}
-use Rattle.std.proofs.lemmas.Bool.{cases_Bool}
+use Rattle.std.proofs.lemmas.List.Sums.{sum_by-cons, sum_by-append, sum_by_push, length-filter}
+use Rattle.std.proofs.lemmas.Bool.{cases_Bool, cond-true, cond-false}
 use Rattle.stn_model.specs.declared.plant.Plant.{Plant}
 use Rattle.stn_model.specs.declared.plant.Run.{Run}
-use Rattle.stn_model.specs.Sums.{count_below, product_by, product_below}
+use Rattle.stn_model.specs.Sums.{sum_below, count_below, product_by, product_below}
+use Rattle.stn_model.specs.Sound.{Sound}
 use Rattle.stn_model.specs.Points.{has_slot, choices, points, slots_of, slot_count}
-use Rattle.time_grid.specs.Slots.{no_run, run_at, run_slots, slots_before, slots, slot_choices, IsSlotOf, Earlier}
+use Rattle.time_grid.specs.Slots.{no_run, run_at, run_slots, slots_before, slots, IsGrid, slot_choices, IsSlotOf, Earlier}
 use Rattle.time_grid.proofs.Lists.{map-range_get_or, All-below, range-more, All-flat_map, Contains-map, Contains-filter, Contains-range, Contains-flat_map, AllPairs-map, AllPairs-range, AllPairs-flat_map}
 
 run_slots-are : (plant : Plant) (run : ℕ) → run < length plant.runs → All (IsSlotOf plant) (run_slots plant run)
@@ -32,6 +33,13 @@ unfolding slots
 slots-are plant =
     All-flat_map (IsSlotOf plant) (run_slots plant) (range_with_len 0 (length plant.runs))
     (λ k d m. run_slots-are plant (get_or (range_with_len 0 (length plant.runs)) k d) (All-below (length plant.runs) k d m))
+
+-- a slot of the plant's grid is one
+pub grid-are : (plant : Plant) (grid : List (ℕ × ℕ)) (place : ℕ) (slot : ℕ × ℕ) → IsGrid plant grid → place < length grid → slot ≡ get_or grid place slot → IsSlotOf plant slot
+grid-are plant grid place slot e l is =
+    let at : slot ≡ get_or (slots plant) place slot = is ∙ ap (λ g. get_or g place slot) e in
+    let within : place < length (slots plant) = omega (arith, l, ap length e) in
+    subst (IsSlotOf plant) (sym at) (slots-are plant place slot within)
 
 -- every slot is among them
 pub Contains-slots : (plant : Plant) (slot : ℕ × ℕ) → IsSlotOf plant slot → Contains (slots plant) slot
@@ -55,11 +63,11 @@ slots-rise plant =
     (λ j e n. inl l)))
     (range_with_len 0 (length plant.runs)) (AllPairs-range 0 (length plant.runs))
 
-sum_by-map : {X Y : Type 0} (f : Y → ℕ) (g : X → Y) (xs : List X) → sum_by f (map g xs) ≡ sum_by (λ x. f (g x)) xs
+pub sum_by-map : {X Y : Type 0} (f : Y → ℕ) (g : X → Y) (xs : List X) → sum_by f (map g xs) ≡ sum_by (λ x. f (g x)) xs
 sum_by-map f g [] = refl
 sum_by-map f g (x ∷ xs) = simp sum_by-cons (ap (λ n. f (g x) + n) (sum_by-map f g xs))
 
-sum_by-same : {X : Type 0} (f g : X → ℕ) → ((x : X) → f x ≡ g x) → (xs : List X) → sum_by f xs ≡ sum_by g xs
+pub sum_by-same : {X : Type 0} (f g : X → ℕ) → ((x : X) → f x ≡ g x) → (xs : List X) → sum_by f xs ≡ sum_by g xs
 sum_by-same f g e [] = refl
 sum_by-same f g e (x ∷ xs) = simp sum_by-cons (omega (arith, e x, sum_by-same f g e xs))
 
@@ -85,6 +93,10 @@ length-slots plant =
     ∙ sum_by-same (λ run. length (run_slots plant run)) (λ run. slots_of plant (run_at plant run)) (length-run_slots plant) range
     ∙ sym (sum_by-map (slots_of plant) (run_at plant) range)
     ∙ ap (sum_by (slots_of plant)) (map-range_get_or plant.runs no_run)
+
+-- a sound plant has few slots
+pub few-slots : (plant : Plant) → Sound plant → length (slots plant) ≤ 512
+few-slots plant sound = omega (arith, length-slots plant, sound.counts.slots)
 
 pub product_by-append : {X : Type 0} (f : X → ℕ) (xs ys : List X) → product_by f (xs ++ ys) ≡ product_by f xs * product_by f ys
 product_by-append f [] ys = sym (one-mul (product_by f ys))
@@ -153,3 +165,45 @@ pub runs_before-more : (plant : Plant) (n : ℕ) → flat_map (run_slots plant) 
 runs_before-more plant n =
     rw add-one (ap (flat_map (run_slots plant)) (range-more n) ∙ flat_map-append (run_slots plant) (range_with_len 0 n) (n ∷ [])
     ∙ ap (λ xs. flat_map (run_slots plant) (range_with_len 0 n) ++ xs) (append-nil (run_slots plant n)))
+
+sum_by-flat_map : {X Y : Type 0} (f : Y → ℕ) (g : X → List Y) (xs : List X) → sum_by f (flat_map g xs) ≡ sum_by (λ x. sum_by f (g x)) xs
+sum_by-flat_map f g [] = refl
+sum_by-flat_map f g (x ∷ xs) = simp (sum_by-append, sum_by-cons) (ap (λ n. sum_by f (g x) + n) (sum_by-flat_map f g xs))
+
+-- a sum over those that pass is one of a function that is 0 at the others
+pub sum_by-filter : {X : Type 0} (p : X → Bool) (f : X → ℕ) (xs : List X) → sum_by f (filter p xs) ≡ sum_by (λ x. if p x then f x else 0) xs
+sum_by-filter p f [] = refl
+sum_by-filter p f (x ∷ xs) =
+    let more = sum_by-cons (λ y. if p y then f y else 0) x xs in
+    let ih = sum_by-filter p f xs in
+    elim (cases_Bool (p x)) [
+      | inl t ↦
+          let here = cond-true {A = ℕ} (p x) (f x) 0 t in
+          let kept = ap (sum_by f) (cond-true (p x) (x ∷ filter p xs) (filter p xs) t) in
+          kept ∙ (let own = sum_by-cons f x (filter p xs) in omega (arith, here, more, ih, own))
+      | inr t ↦
+          let here = cond-false {A = ℕ} (p x) (f x) 0 t in
+          ap (sum_by f) (cond-false (p x) (x ∷ filter p xs) (filter p xs) t) ∙ (omega (arith, here, more, ih))
+    ]
+
+sum-below : (f : ℕ → ℕ) (n : ℕ) → sum_by f (range_with_len 0 n) ≡ sum_below f n
+sum-below f zero = refl
+sum-below f (suc n) = ap (sum_by f) (range-more n) ∙ sum_by_push f (range_with_len 0 n) n ∙ ap (λ k. k + f n) (sum-below f n)
+
+-- a sum over the slots, run by run and period by period
+pub sum-slots : (plant : Plant) (f : Run → ℕ → ℕ) →
+    sum_by (λ slot. f (run_at plant slot.0) slot.1) (slots plant) ≡ sum_by (λ run. sum_below (λ period. if has_slot plant run period then f run period else 0) plant.periods) plant.runs
+unfolding slots slots_before
+sum-slots plant f =
+    let range = range_with_len 0 (length plant.runs) in
+    let at : ℕ × ℕ → ℕ = λ slot. f (run_at plant slot.0) slot.1 in
+    let each : Run → ℕ = λ run. sum_below (λ period. if has_slot plant run period then f run period else 0) plant.periods in
+    let one : (run : ℕ) → sum_by at (run_slots plant run) ≡ each (run_at plant run) =
+    λ run. let p = has_slot plant (run_at plant run) in
+    sum_by-map at (λ period. (run, period)) (filter p (range_with_len 0 plant.periods))
+    ∙ sum_by-filter p (λ period. f (run_at plant run) period) (range_with_len 0 plant.periods)
+    ∙ sum-below (λ period. if p period then f (run_at plant run) period else 0) plant.periods in
+    sum_by-flat_map at (run_slots plant) range
+    ∙ sum_by-same (λ run. sum_by at (run_slots plant run)) (λ run. each (run_at plant run)) one range
+    ∙ sym (sum_by-map each (run_at plant) range)
+    ∙ ap (sum_by each) (map-range_get_or plant.runs no_run)

@@ -10,20 +10,19 @@ use Rattle.time_grid.specs.Slots.{slots, IsSlotOf}
 use Rattle.time_grid.proofs.SlotList.{slots-are, length-slots}
 use Rattle.point_listing.specs.Cap.{slot_gain, listing_cap}
 use Rattle.point_listing.proofs.Numbers.{slot_is}
-use Rattle.point_listing.proofs.SmallProfit.{idle-small}
-use Rattle.point_listing.proofs.Gains.{kept}
+use Rattle.point_listing.proofs.Gains.{kept, idle-below}
 use Rattle.point_listing.proofs.cap.cap_of.Goals as goal
 use Rattle.point_listing.proofs.cap.cap_of.Goals.{After-profit_of-idle}
 
 idle_is : (c : After-profit_of-idle) → to_z w128 (of_z w128 c.profit_of-idle.result) ≡ profit c.args.plant.now []
-idle_is c = kept c.profit_of-idle.result (rw c.profit_of-idle.ensures (idle-small c.args.plant.now c.requires.sound)) ∙ c.profit_of-idle.ensures
+idle_is c = kept c.profit_of-idle.result (rw c.profit_of-idle.ensures (idle-below c.args.plant.now c.requires.sound)) ∙ c.profit_of-idle.ensures
 
 pub loop-slot-init : goal.loop-slot-init
 loop-slot-init c =
     let k = (goal.at.loop-slot-init c).After-profit_of-idle in
     record {
       value = omega (arith, ints);
-      small = rw (idle_is k) (idle-small c.args.plant.now c.requires.sound);
+      small = rw (idle_is k) (idle-below c.args.plant.now c.requires.sound);
     }
 
 pub greatest_gain-cap-requires-clause-slot : goal.greatest_gain-cap-requires-clause-slot

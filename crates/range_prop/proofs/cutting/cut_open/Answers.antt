@@ -1,5 +1,5 @@
 -- The slot's own entry and the room tell what the cut leaves.
-use Rattle.std.proofs.Common.{Bool, ◌≡◌, ◌∙◌, ℕ, ℤ, not, List, length, sym, ap, arith, ◌-ℤ◌, ◌+ℤ◌, ◌≤ℤ◌, to_z, of_z}
+use Rattle.std.proofs.Common.{Bool, ◌≡◌, ◌∙◌, ℕ, ℤ, not, List, length, sym, ap, arith, ◌-ℤ◌, to_z, of_z}
 use Rattle.std.specs.Prelude.{int_le}
 use Rattle.std.proofs.lemmas.Int.{ints}
 use Rattle.row_kit.specs.declared.domain.Domain.{Domain}

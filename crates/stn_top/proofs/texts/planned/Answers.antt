@@ -1,4 +1,4 @@
-use Rattle.std.proofs.Common.{◌≡◌, ◌∙◌, refl}
+use Rattle.std.proofs.Common.{◌∙◌, refl}
 use Rattle.stn_top.proofs.TextLemmas as lemmas
 use Rattle.stn_top.proofs.texts.planned.Goals as goal
 use Rattle.stn_top.proofs.texts.planned.Goals.{in-Some+in_ok-text-in-Some, in-None+in_ok-text-in-None}

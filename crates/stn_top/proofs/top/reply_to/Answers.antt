@@ -15,3 +15,9 @@ returns-in-Some-Carry-clause-words g c =
     IfOk-follows (λ reply. reply.status ≡ 2 → ⊥) (λ reply. (reply.status ≡ 2) ↔ HasNoForm (texts c.args.words.now)) c.carry_file.result
     (λ reply not. not_refused (texts c.args.words.now) (meaning c.in-Some-Carry.field-0) reply.status c.in-Some-Carry.ensures not)
     c.carry_file.ensures.not_words
+
+pub returns-in-Some-Upgrade-clause-words : goal.returns-in-Some-Upgrade-clause-words
+returns-in-Some-Upgrade-clause-words g c =
+    IfOk-follows (λ reply. reply.status ≡ 2 → ⊥) (λ reply. (reply.status ≡ 2) ↔ HasNoForm (texts c.args.words.now)) c.upgrade_file.result
+    (λ reply not. not_refused (texts c.args.words.now) (meaning c.in-Some-Upgrade.field-0) reply.status c.in-Some-Upgrade.ensures not)
+    c.upgrade_file.ensures.not_words

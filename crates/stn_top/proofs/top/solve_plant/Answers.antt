@@ -1,4 +1,3 @@
-use Rattle.std.proofs.Common.{◌≡◌}
 use Rattle.stn_top.proofs.Named.{named-IsAnswer}
 use Rattle.stn_top.proofs.ReadBack.{solved}
 use Rattle.stn_top.proofs.top.solve_plant.Goals as goal

@@ -48,7 +48,8 @@ below-small f m (suc n) h =
     let b = below-small f m n (λ k l. h k (omega arith)) in
     omega (arith, ints, a, b)
 
-times-small : (x y : ℤ) (m n : ℕ) → unsigned_abs x ≤ m → unsigned_abs y ≤ n → unsigned_abs (x *ℤ y) ≤ m * n
+-- a product of two small numbers
+pub times-small : (x y : ℤ) (m n : ℕ) → unsigned_abs x ≤ m → unsigned_abs y ≤ n → unsigned_abs (x *ℤ y) ≤ m * n
 times-small x y m n a b = rw (unsigned_abs-mul x y) (mul-le-mul a b)
 
 module _ (plant : Plant) (sound : Sound plant) (plan : List Start) (one : length plan ≤ 1) (small : All (SmallStart plant) plan) where
@@ -109,7 +110,7 @@ module _ (plant : Plant) (sound : Sound plant) (plan : List Start) (one : length
   unfolding load
   load-small utility period = let h = sum-small (drawn plant utility period) (2 ^ 31) 1 plan one (drawn-small utility period) in omega (arith, h)
 
-  worth-small : unsigned_abs (end_value plant plan) ≤ 2 ^ 70
+  worth-small : unsigned_abs (end_value plant plan) ≤ 11000000000000000000
   unfolding end_value
   worth-small =
       let h = below-small (λ state. (state_at plant state).price *ℤ stock plant plan state plant.periods) (1000000 * 2 ^ 38) (length plant.states)
@@ -117,7 +118,7 @@ module _ (plant : Plant) (sound : Sound plant) (plan : List Start) (one : length
       let n : length plant.states * (1000000 * 2 ^ 38) ≤ 40 * (1000000 * 2 ^ 38) = mul-le-mul sound.counts.states (le_refl _) in
       omega (arith, h, n)
 
-  holding-small : unsigned_abs (holding_cost plant plan) ≤ 2 ^ 75
+  holding-small : unsigned_abs (holding_cost plant plan) ≤ 3700000000000000000000
   unfolding holding_cost
   holding-small =
       let inner : (state : ℕ) → state < length plant.states → unsigned_abs (total_below (λ time. (state_at plant state).holding *ℤ stock plant plan state time) plant.periods) ≤ 336 * (1000000 * 2 ^ 38) =
@@ -130,7 +131,7 @@ module _ (plant : Plant) (sound : Sound plant) (plan : List Start) (one : length
       let n : length plant.states * (336 * (1000000 * 2 ^ 38)) ≤ 40 * (336 * (1000000 * 2 ^ 38)) = mul-le-mul sound.counts.states (le_refl _) in
       omega (arith, h, n)
 
-  utility-small : unsigned_abs (utility_cost plant plan) ≤ 2 ^ 70
+  utility-small : unsigned_abs (utility_cost plant plan) ≤ 6000000000000000000
   unfolding utility_cost
   utility-small =
       let inner : (utility : ℕ) → utility < length plant.utilities → unsigned_abs (total_below (λ period. (utility_at plant utility).rate *ℤ pos (load plant plan utility period)) plant.periods) ≤ 336 * (1000000 * 2 ^ 31) =
@@ -172,7 +173,7 @@ unfolding change_costs changeover is_next
 change_costs-one plant start = rw (le-ltb start.period start.period (omega arith), eq-eqb start.unit start.unit refl) (omega arith)
 
 -- the profit of the empty plan
-pub idle-small : (plant : Plant) → Sound plant → unsigned_abs (profit plant []) ≤ 2 ^ 80
+pub idle-small : (plant : Plant) → Sound plant → unsigned_abs (profit plant []) ≤ 10000000000000000000000
 unfolding profit
 idle-small plant sound =
     let small = All-nil (SmallStart plant) in
@@ -188,7 +189,7 @@ idle-small plant sound =
     )
 
 -- the profit of a plan of one start
-pub single-small : (plant : Plant) (start : Start) → Sound plant → SmallStart plant start → unsigned_abs (profit plant (start ∷ [])) ≤ 2 ^ 80
+pub single-small : (plant : Plant) (start : Start) → Sound plant → SmallStart plant start → unsigned_abs (profit plant (start ∷ [])) ≤ 10000000000000000000000
 unfolding profit
 single-small plant start sound is =
     let small = All-cons (SmallStart plant) start [] is (All-nil (SmallStart plant)) in

@@ -1,0 +1,7 @@
+use Rattle.std.proofs.Common.{◌≡◌, ◌++◌}
+use Rattle.row_kit.specs.Table.{rows_below}
+use Rattle.balance_rows.specs.StockRows.{low_row}
+use Rattle.balance_rows.proofs.rows.push_low.Given as goal
+
+abbrev pub invariant-loop-time : goal.invariant-loop-time
+invariant-loop-time l = l.rows.items ≡ l.initial.rows.items ++ rows_below (low_row l.plant l.state) l.time

@@ -1,0 +1,2 @@
+pub mod StockRows
+pub mod Summands

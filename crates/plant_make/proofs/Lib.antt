@@ -1,0 +1,15 @@
+pub mod Members
+pub mod Names
+pub mod Parts
+pub mod Tables
+pub mod Passing
+pub mod KeyByKey
+pub mod Lists
+pub mod Limits
+pub mod Reading
+pub mod TaskReading
+pub mod PlantReading
+pub mod Depths
+pub mod Texts
+pub mod Counts
+pub mod MadeSound

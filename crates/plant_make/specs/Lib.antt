@@ -1,0 +1,5 @@
+pub mod Entries
+pub mod Numbers
+pub mod Printed
+pub mod Meaning
+pub mod Made

@@ -1,0 +1,20 @@
+//! Makes plants, and prints any plant as a plant file.
+//!
+//! What `put_plant` appends is a text that means the plant, and that `read_plant` reads as the plant.
+#![tactic(auto)]
+
+mod chains;
+mod items;
+mod made;
+mod numbers;
+mod print;
+mod rows;
+mod table;
+mod tasks;
+mod values;
+
+pub use made::make;
+pub use print::put_plant;
+
+#[cfg(test)]
+mod tests;

@@ -1,0 +1,2 @@
+pub mod ProfitParts
+pub mod PlantProgram

@@ -1,0 +1,7 @@
+pub mod Growing
+pub mod Counts
+pub mod Nearness
+pub mod PointRows
+pub mod BusyRows
+pub mod GapRows
+pub mod RowCounts

@@ -1,0 +1,25 @@
+-- While a batch runs it draws what its task's draws say, and nothing else.
+use Rattle.std.proofs.Common.{◌≡◌, ◌-◌, true, false, sum_by, sym, ap, ◌∙◌}
+use Rattle.std.proofs.lemmas.Bool.{cond-true, cond-false}
+use Rattle.stn_model.specs.Plant.{task_at}
+use Rattle.time_grid.specs.Slots.{run_at}
+use Rattle.stn_model.specs.Load.{drawn_in, drawn}
+use Rattle.utility_rows.specs.LoadRows.{is_running, fixed_drawn}
+use Rattle.utility_rows.proofs.draws.fixed_drawn.Goals as goal
+
+pub returns-then-is_running-clause-value : goal.returns-then-is_running-clause-value
+unfolding fixed_drawn drawn
+returns-then-is_running-clause-value c =
+    let plant = c.args.plant.now in
+    let running : is_running plant c.args.period c.args.slot ≡ true = sym c.is_running.ensures ∙ c.if-is_running.true in
+    let summand = drawn_in c.args.utility 0 (c.args.period - c.args.slot.1) in
+    c.fixed_of.ensures.value ∙ ap (sum_by summand) (c.as_slice.ensures ∙ ap (λ task. task.draws) c.task_of.ensures)
+    ∙ sym (cond-true (is_running plant c.args.period c.args.slot) (sum_by summand (task_at plant (run_at plant c.args.slot.0).task).draws) 0 running)
+
+pub returns-else-is_running-clause-value : goal.returns-else-is_running-clause-value
+unfolding fixed_drawn drawn
+returns-else-is_running-clause-value c =
+    let plant = c.args.plant.now in
+    let idle : is_running plant c.args.period c.args.slot ≡ false = sym c.is_running.ensures ∙ c.if-is_running.false in
+    let summand = drawn_in c.args.utility 0 (c.args.period - c.args.slot.1) in
+    sym (cond-false (is_running plant c.args.period c.args.slot) (sum_by summand (task_at plant (run_at plant c.args.slot.0).task).draws) 0 idle)
