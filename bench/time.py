@@ -46,6 +46,35 @@ def largest():
     return "\n".join(lines) + "\n"
 
 
+def most_entries():
+    """A plant of 336 periods, 40 states with limits, and 512 slots, all of them early: rows with many entries."""
+    lines = ["version = 2", "periods = 336"]
+    for s in range(40):
+        lines += ["[[state]]", f'name = "s{s}"', "initial = 1000000", "limit = 1000000000", "price = 1", "holding = 1"]
+    lines += ["[[utility]]", 'name = "steam"', "limit = 1000000", "rate = 1"]
+    for u in range(24):
+        lines += ["[[unit]]", f'name = "u{u}"']
+    for t in range(40):
+        lines += ["[[task]]", f'name = "t{t}"', "quantum = 8"]
+        for i in range(8):
+            lines += ["[[task.input]]", f'state = "s{(t * 8 + i) % 40}"', 'part = "1/8"']
+        for i in range(8):
+            lines += ["[[task.output]]", f'state = "s{(t * 8 + i + 11) % 40}"', 'part = "1/8"', "delay = 1"]
+        lines += ["[[task.draw]]", 'utility = "steam"', "fixed = [1]", "each = [1]"]
+    for r in range(64):
+        lines += ["[[run]]", f'task = "t{r % 40}"', f'unit = "u{(r // 40 * 13 + r) % 24}"', "min = 1", "max = 255"]
+    for u in range(24):
+        lines += ["[[outage]]", f'unit = "u{u}"', "from = 8", "to = 336"]
+    for u, a, b in ((u, a, b) for u in range(24) for a in range(40) for b in range(4)):
+        lines += ["[[gap]]", f'unit = "u{u}"', f'from = "t{a}"', f'to = "t{b}"', "periods = 2"]
+    return "\n".join(lines) + "\n"
+
+
+def cuts(size):
+    """A log of Tiny with this many bytes of cuts, none of which takes anything away."""
+    return "stn-log 2\nnode\n" + "cut 0 0\n" * (size // 8) + "dual 1 0\nclaim optimal 60 2\nvalue 0 3\nvalue 1 3\nend\n"
+
+
 def plan(starts):
     """A start in each of the 512 slots, and then the last one again and again."""
     slots = [(period, unit) for period in range(64) for unit in range(8)]
@@ -60,11 +89,15 @@ def main():
     for name, budget in [("tiny", 31), ("paint", 20000), ("juice", 40000), ("soap", 11000)]:
         runs.append(["solve", os.path.join(top, "examples", name + ".toml"), str(budget)])
     with tempfile.TemporaryDirectory() as folder:
-        plant, full, late = (os.path.join(folder, n) for n in ("largest.toml", "full.plan", "late.plan"))
-        for path, text in [(plant, largest()), (full, plan(512)), (late, plan(2048))]:
+        names = ("largest.toml", "full.plan", "late.plan", "entries.toml", "no.log", "cuts.log")
+        plant, full, late, entries, no_log, cut_log = (os.path.join(folder, n) for n in names)
+        texts = [largest(), plan(512), plan(2048), most_entries(), "no log\n", cuts(64 << 20)]
+        for path, text in zip((plant, full, late, entries, no_log, cut_log), texts):
             with open(path, "w") as out:
                 out.write(text)
         runs += [["simulate", plant, full], ["simulate", plant, late]]
+        # The check makes the plant's program before it reads the log.
+        runs += [["check", entries, no_log], ["check", os.path.join(top, "examples", "tiny.toml"), cut_log]]
         runs += [["solve", p, "1000"] for p in sys.argv[1:]]
         print(f"{'seconds':>8} {'MiB':>7} status  words: first line")
         for words in runs:

@@ -12,11 +12,13 @@ use Rattle.stn_model.specs.declared.start.Start.{Start}
 use Rattle.plan_text.specs.declared.fault.PlanFault.{PlanFault}
 use Rattle.plan_text.specs.PlanText.{plan_of_text}
 use Rattle.plant_make.specs.Meaning.{Puts}
+use Rattle.log_check.specs.declared.verdict.LogVerdict.{LogVerdict}
+use Rattle.plant_check.specs.Claims.{IsChecked}
 use Rattle.plan_sim.specs.declared.verdict.Verdict.{Verdict}
 use Rattle.plan_sim.specs.Verdicts.{IsVerdict}
 use Rattle.stn_top.specs.declared.command.PlanUse.{PlanUse}
-use Rattle.stn_top.specs.Words.{Request, Solving, Carrying, Upgrading, Says, HasNoForm}
-use Rattle.stn_top.specs.Texts.{words_text, fault_text, answer_text, status_of, printed_plan, plan_fault_text, use_text, verdict_status}
+use Rattle.stn_top.specs.Words.{Request, Solving, Carrying, Checking, Upgrading, Says, HasNoForm}
+use Rattle.stn_top.specs.Texts.{words_text, fault_text, answer_text, status_of, printed_plan, plan_fault_text, use_text, verdict_status, checked_text, checked_status}
 
 -- the answer of `solve`: a right outcome of planning within the budget, with its status and its text,
 -- which, read as plan text, says the plan of the outcome
@@ -46,6 +48,13 @@ abbrev pub OnPlan : Result (List Start) PlanFault → (List Start → ℕ → Li
 OnPlan read Answers status text =
     MatchResult read (λ plan. Answers plan status text) (λ fault. (status ≡ 4) × (text ≡ plan_fault_text fault))
 
+-- the answer of `check`: the right verdict on the log, with its status and its text
+pub record Checked (plant : Plant) (log : List ℕ) (status : ℕ) (text : List ℕ) : Type 0 where
+  pub verdict : LogVerdict
+  pub right : IsChecked plant log verdict
+  pub status_is : status ≡ checked_status verdict
+  pub text_is : text ≡ checked_text verdict
+
 -- the answer of `upgrade`: a text that means the plant, and is read as it where it is not too long for a plant file
 pub record Upgraded (plant : Plant) (status : ℕ) (text : List ℕ) : Type 0 where
   pub status_is : status ≡ 0
@@ -56,6 +65,7 @@ abbrev pub AnswersTo : FileMap → Request → ℕ → List ℕ → Type 0
 AnswersTo files (Solving plant budget) status text = OnPlant (reading (file_of files plant)) (Solved budget) status text
 AnswersTo files (Carrying usage plant plan) status text =
     OnPlant (reading (file_of files plant)) (λ p. OnPlan (plan_of_text p (file_of files plan)) (Carried usage p)) status text
+AnswersTo files (Checking plant log) status text = OnPlant (reading (file_of files plant)) (λ p. Checked p (file_of files log)) status text
 AnswersTo files (Upgrading plant) status text = OnPlant (reading (file_of files plant)) Upgraded status text
 
 -- words of no form are refused with status 2; else the request that they say is answered
@@ -67,6 +77,7 @@ IsReply words files status text =
 abbrev pub MayRead : (List ℕ → Bool) → Request → Type 0
 MayRead may_read (Solving plant budget) = IsTrue (may_read plant)
 MayRead may_read (Carrying usage plant plan) = IsTrue (may_read plant) × IsTrue (may_read plan)
+MayRead may_read (Checking plant log) = IsTrue (may_read plant) × IsTrue (may_read log)
 MayRead may_read (Upgrading plant) = IsTrue (may_read plant)
 
 -- whatever the words say, its files may be read

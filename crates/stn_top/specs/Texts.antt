@@ -15,6 +15,10 @@ use Rattle.plan_sim.specs.declared.verdict.Verdict.TheVariants.{Feasible, Broken
 use Rattle.plant_text.specs.declared.fault.PlantFault.{PlantFault}
 use Rattle.plant_text.specs.Words.{table_word, key_word}
 use Rattle.gantt_report.specs.Report.{report_text}
+use Rattle.proof_log.specs.declared.claim.Claim.{Claim}
+use Rattle.proof_log.specs.declared.claim.Claim.TheVariants as claim
+use Rattle.log_check.specs.declared.verdict.LogVerdict.{LogVerdict}
+use Rattle.log_check.specs.declared.verdict.LogVerdict.TheVariants.{Yes, No}
 use Rattle.stn_top.specs.declared.command.PlanUse.{PlanUse}
 use Rattle.stn_top.specs.declared.command.PlanUse.TheVariants.{Simulate, Report}
 
@@ -110,6 +114,23 @@ abbrev pub use_text : PlanUse → Plant → List Start → Verdict → List ℕ
 use_text Simulate plant plan verdict = verdict_text plant verdict
 use_text Report plant plan (Feasible earned) = report_text plant plan
 use_text Report plant plan (Broken violation) = violation_text plant violation
+
+-- the line on a valid log: its claim
+unfoldable pub claim_text : Claim → List ℕ
+claim_text (claim.Optimal earned point) = codes "yes optimal " ++ (signed_decimal earned ++ codes "\n")
+claim_text claim.Infeasible = codes "yes infeasible\n"
+claim_text (claim.Between earned most point) = codes "yes between " ++ (signed_decimal earned ++ (codes " " ++ (signed_decimal most ++ codes "\n")))
+claim_text (claim.Below most) = codes "yes below " ++ (signed_decimal most ++ codes "\n")
+
+-- the line on a log: the claim of a valid one, or the line and the kind of the first defect
+unfoldable pub checked_text : LogVerdict → List ℕ
+checked_text (Yes claim) = claim_text claim
+checked_text (No defect) = codes "no " ++ (decimal defect.line ++ (codes " " ++ (decimal defect.kind ++ codes "\n")))
+
+-- the exit status of a check
+abbrev pub checked_status : LogVerdict → ℕ
+checked_status (Yes claim) = 0
+checked_status (No defect) = 1
 
 -- the exit status of a verdict
 abbrev pub verdict_status : Verdict → ℕ

@@ -12,6 +12,7 @@ pub data Request : Type 0 where
   Solving : (plant : List ℕ) (budget : ℕ) → Request
   Carrying : (usage : PlanUse) (plant plan : List ℕ) → Request
   Upgrading : (plant : List ℕ) → Request
+  Checking : (plant log : List ℕ) → Request
 
 -- the first word of a command that carries out a plan
 abbrev pub use_word : PlanUse → List ℕ
@@ -32,6 +33,7 @@ pub record IsBudget (word : List ℕ) (budget : ℕ) : Type 0 where
 abbrev pub Says : List (List ℕ) → Request → Type 0
 Says words (Solving plant budget) = (word : List ℕ) × ((words ≡ codes "solve" ∷ plant ∷ word ∷ []) × (plant ≢ []) × IsBudget word budget)
 Says words (Carrying usage plant plan) = (words ≡ use_word usage ∷ plant ∷ plan ∷ []) × (plant ≢ []) × (plan ≢ [])
+Says words (Checking plant log) = (words ≡ codes "check" ∷ plant ∷ log ∷ []) × (plant ≢ []) × (log ≢ [])
 Says words (Upgrading plant) = (words ≡ codes "upgrade" ∷ plant ∷ []) × (plant ≢ [])
 
 -- the words have the form of no command
@@ -42,4 +44,5 @@ HasNoForm words = (request : Request) → ¬ Says words request
 abbrev pub meaning : declared.Command → Request
 meaning (variants.Solve plant budget) = Solving plant.now budget
 meaning (variants.Carry usage plant plan) = Carrying usage plant.now plan.now
+meaning (variants.Check plant log) = Checking plant.now log.now
 meaning (variants.Upgrade plant) = Upgrading plant.now

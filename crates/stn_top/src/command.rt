@@ -1,6 +1,6 @@
 //! The words of a command.
 ghost use Rattle.std.specs.Prelude.{◌≡◌, ℕ, List, MatchOption};
-ghost use Rattle.stn_top.specs.Words.{Says, HasNoForm, IsBudget, Solving, Carrying, Upgrading, texts, meaning, use_word};
+ghost use Rattle.stn_top.specs.Words.{Says, HasNoForm, IsBudget, Solving, Carrying, Checking, Upgrading, texts, meaning, use_word};
 
 use text_words::read_number;
 
@@ -30,6 +30,11 @@ pub enum Command<'a> {
         plant: &'a str,
         plan: &'a str,
     },
+    /// `check PLANT LOG`: check a proof log.
+    Check {
+        plant: &'a str,
+        log: &'a str,
+    },
     /// `upgrade PLANT`: print the plant as a file of version 2.
     Upgrade {
         plant: &'a str,
@@ -47,6 +52,9 @@ pub fn command_of<'a>(words: &[&'a str]) -> Option<Command<'a>>
         return Some(command);
     }
     if let Some(command) = carry_of(words, "report", PlanUse::Report) {
+        return Some(command);
+    }
+    if let Some(command) = check_of(words) {
         return Some(command);
     }
     upgrade_of(words)
@@ -76,6 +84,18 @@ fn carry_of<'a>(words: &[&'a str], word: &str, usage: PlanUse) -> Option<Command
     match words {
         [first, plant, plan] if *first == word && !plant.is_empty() && !plan.is_empty() => {
             Some(Command::Carry { usage, plant, plan })
+        }
+        _ => None,
+    }
+}
+
+fn check_of<'a>(words: &[&'a str]) -> Option<Command<'a>>
+    ensures { MatchOption result ((plant log : List ℕ) → ¬ Says (texts words.now) (Checking plant log))
+        (λ command. Says (texts words.now) (meaning command)) }
+{
+    match words {
+        [first, plant, log] if *first == "check" && !plant.is_empty() && !log.is_empty() => {
+            Some(Command::Check { plant, log })
         }
         _ => None,
     }

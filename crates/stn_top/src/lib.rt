@@ -4,6 +4,8 @@
 //! and puts its whole answer at once.
 #![tactic(auto)]
 
+#[cfg(test)]
+mod check_tests;
 pub mod command;
 #[cfg(test)]
 mod program_tests;

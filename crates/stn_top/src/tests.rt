@@ -35,7 +35,7 @@ min = 1
 max = 3
 "#;
 
-const GOLD: &str = r#"version = 1
+pub const GOLD: &str = r#"version = 1
 periods = 1
 [[state]]
 name = "gold"
@@ -306,7 +306,7 @@ pub fn edited(alloc: Global, text: &str, edits: &[(&str, &str)]) -> Result<Strin
 }
 
 // The status and the text of a run over a plant file and a plan file.
-fn answer(
+pub fn answer(
     alloc: Global,
     plant: &str,
     plan: &str,
@@ -394,9 +394,9 @@ const SOLVED: [Solved; 11] = [
 ];
 
 // Tiny whose batches are three quanta, with feed for one of them.
-const ODD: &[(&str, &str)] = &[("initial = 12", "initial = 10"), ("min = 1", "min = 3")];
+pub const ODD: &[(&str, &str)] = &[("initial = 12", "initial = 10"), ("min = 1", "min = 3")];
 
-const DUE: &str = "[[delivery]]\nstate = \"prod\"\ntime = 0\namount = 1\n[[unit]]";
+pub const DUE: &str = "[[delivery]]\nstate = \"prod\"\ntime = 0\namount = 1\n[[unit]]";
 
 // Tint with a changeover cost from A to B alone.
 const ONE_WAY: &[(&str, &str)] = &[
@@ -750,7 +750,7 @@ fn slots_are_limited(rt: HostRuntime) -> Result<(), Fail> {
 }
 
 // The text so many times.
-fn repeated(alloc: Global, line: &str, times: u32) -> Result<String, AllocError> {
+pub fn repeated(alloc: Global, line: &str, times: u32) -> Result<String, AllocError> {
     let mut text = String::new(alloc);
     for _ in 0..times {
         text.push_str(line)?;

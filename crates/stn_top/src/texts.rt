@@ -18,6 +18,9 @@ ghost use Rattle.stn_top.specs.Texts.{
   verdict_text,
   verdict_status,
   use_text,
+  claim_text,
+  checked_text,
+  checked_status,
   IsInMoney,
   IsMoney,
   IsOfPlant,
@@ -26,9 +29,11 @@ ghost use Rattle.stn_top.specs.Texts.{
 use crate::command::PlanUse;
 use crate::reply::Reply;
 use gantt_report::report;
+use log_check::LogVerdict;
 use plan_sim::Verdict;
 use plan_text::{PlanFault, put_plan};
 use plant_text::PlantFault;
+use proof_log::{Claim, Defect};
 use std::alloc::{AllocError, Global};
 use stn_model::{Answer, List, Outcome, Plant, Start, Violation};
 
@@ -182,7 +187,7 @@ pub fn simulated(alloc: Global, plant: &Plant, verdict: &Verdict) -> Result<Repl
 {
     match verdict {
         Verdict::Feasible { profit } => {
-            let text = profit_text(alloc, profit)?;
+            let text = amount_line(alloc, "feasible ", profit)?;
             Ok(Reply { status: 0, text })
         }
         Verdict::Broken(violation) => {
@@ -218,11 +223,62 @@ pub fn reported(
     }
 }
 
-fn profit_text(alloc: Global, profit: &i128) -> Result<Vec<u8>, AllocError>
-    ensures { IfOk result (λ text. text.items ≡ codes "feasible " ++ (signed_decimal profit.now ++ codes "\n")) }
+/// The answer that a check of a log found.
+#[tactic(auto, unfolding(crate::specs::Texts::checked_text))]
+pub fn checked(alloc: Global, verdict: &LogVerdict) -> Result<Reply, AllocError>
+    ensures { IfOk result (λ reply. (reply.status ≡ checked_status verdict.now)
+        × (reply.text.items ≡ checked_text verdict.now)) }
 {
-    let line = format!(in alloc; "feasible {profit}\n")?;
+    match verdict {
+        LogVerdict::Yes(claim) => {
+            let text = claim_text(alloc, claim)?;
+            Ok(Reply { status: 0, text })
+        }
+        LogVerdict::No(defect) => {
+            let text = defect_text(alloc, defect)?;
+            Ok(Reply { status: 1, text })
+        }
+    }
+}
+
+#[tactic(auto, unfolding(crate::specs::Texts::claim_text))]
+fn claim_text(alloc: Global, claim: &Claim) -> Result<Vec<u8>, AllocError>
+    ensures { IfOk result (λ text. text.items ≡ claim_text claim.now) }
+{
+    match claim {
+        Claim::Optimal { profit, point: _ } => amount_line(alloc, "yes optimal ", profit),
+        Claim::Infeasible => Vec::from_slice(alloc, "yes infeasible\n".as_bytes()),
+        Claim::Between {
+            profit,
+            cap,
+            point: _,
+        } => between_text(alloc, profit, cap),
+        Claim::Below { cap } => amount_line(alloc, "yes below ", cap),
+    }
+}
+
+// A line that says an amount of money.
+fn amount_line(alloc: Global, what: &str, amount: &i128) -> Result<Vec<u8>, AllocError>
+    ensures { IfOk result (λ text. text.items ≡ what.now ++ (signed_decimal amount.now ++ codes "\n")) }
+{
+    let line = format!(in alloc; "{what}{amount}\n")?;
     Vec::from_slice(alloc, line.as_bytes())
+}
+
+fn between_text(alloc: Global, profit: &i128, cap: &i128) -> Result<Vec<u8>, AllocError>
+    ensures { IfOk result (λ text. text.items ≡ codes "yes between " ++ (signed_decimal profit.now ++ (codes " " ++ (signed_decimal cap.now ++ codes "\n")))) }
+{
+    let line = format!(in alloc; "yes between {profit} {cap}\n")?;
+    Vec::from_slice(alloc, line.as_bytes())
+}
+
+fn defect_text(alloc: Global, defect: &Defect) -> Result<Vec<u8>, AllocError>
+    ensures { IfOk result (λ text. text.items ≡ codes "no " ++ (decimal defect.now.line ++ (codes " " ++ (decimal defect.now.kind ++ codes "\n")))) }
+{
+    let line = defect.line;
+    let kind = defect.kind;
+    let text = format!(in alloc; "no {line} {kind}\n")?;
+    Vec::from_slice(alloc, text.as_bytes())
 }
 
 #[tactic(auto, unfolding(crate::specs::Texts::violation_text))]

@@ -4,14 +4,18 @@ ghost use Rattle.stn_edge.specs.Count.{Rose};
 ghost use Rattle.stn_edge.specs.Files.{file_of};
 ghost use Rattle.stn_model.specs.Sound.{Sound};
 ghost use Rattle.plan_text.specs.PlanText.{plan_of_text};
-ghost use Rattle.stn_top.specs.Words.{HasNoForm, texts, Solving, Carrying, Upgrading};
-ghost use Rattle.stn_top.specs.Replies.{IsReply, AnswersTo, Answered, IsCutOff, MayReadAll, Solved, Carried, Upgraded, OnPlan};
+ghost use Rattle.stn_top.specs.Words.{HasNoForm, texts, Solving, Carrying, Checking, Upgrading};
+ghost use Rattle.stn_top.specs.Replies.{IsReply, AnswersTo, Answered, IsCutOff, MayReadAll, Solved, Carried, Checked, Upgraded, OnPlan};
 
 use crate::command::{Command, PlanUse, command_of};
 use crate::reply::{Reply, Stopped};
 use crate::sources::{plan_in, plant_in};
-use crate::texts::{planned, refused_plan, refused_plant, refused_words, reported, simulated};
+use crate::texts::{
+    checked, planned, refused_plan, refused_plant, refused_words, reported, simulated,
+};
+use log_check::CheckStop;
 use plan_sim::simulate;
+use plant_check::check_stream;
 use plant_make::put_plant;
 use point_listing::solve;
 use std::alloc::{AllocError, Global};
@@ -24,10 +28,11 @@ use stn_model::{Plant, Start};
 /// |---|---|
 /// | `solve PLANT BUDGET` | plans, with at most BUDGET boxes |
 /// | `simulate PLANT PLAN` | carries out the plan, and says what it earns or what it breaks first |
+/// | `check PLANT LOG` | checks a proof log, and says its claim or its first defect |
 /// | `upgrade PLANT` | prints the plant as a plant file of version 2 |
 /// | `report PLANT PLAN` | carries out the plan, and shows it or says what it breaks first |
 ///
-/// Statuses: 0 optimal, feasible, reported or upgraded; 1 no plan is feasible, or the plan is not; 2 the words have no
+/// Statuses: 0 optimal, feasible, reported, upgraded or valid; 1 no plan is feasible, the plan is not, or the log is not valid; 2 the words have no
 /// form; 3 the plant file has a fault; 4 the plan file has one; 6 the budget was spent; 7 a file could not be read; 8 the answer could not be put; 9 no memory.
 /// The answer is put at once, after all work. No file changes.
 pub fn run<F: Shelf, K: Sink>(alloc: Global, words: &[&str], files: &mut F, out: &mut K) -> u8
@@ -70,6 +75,7 @@ fn reply_to<F: Shelf>(alloc: Global, words: &[&str], files: &mut F) -> Result<Re
 {
     match command_of(words) {
         Some(Command::Solve { plant, budget }) => solve_file(alloc, files, plant, budget),
+        Some(Command::Check { plant, log }) => check_file(alloc, files, plant, log),
         Some(Command::Upgrade { plant }) => upgrade_file(alloc, files, plant),
         Some(Command::Carry { usage, plant, plan }) => carry_file(alloc, files, usage, plant, plan),
         None => Ok(refused_words(alloc)?),
@@ -110,6 +116,51 @@ fn solve_plant(alloc: Global, plant: &Plant, budget: u32) -> Result<Reply, Alloc
 {
     let outcome = solve(alloc, plant, budget)?;
     planned(alloc, plant, &outcome)
+}
+
+// The answer of checking the log in a file against the plant in another.
+fn check_file<F: Shelf>(
+    alloc: Global,
+    files: &mut F,
+    plant: &str,
+    log: &str,
+) -> Result<Reply, Stopped>
+    requires plant_readable { IsTrue (F.may_read files.old plant.now) }
+    requires log_readable { IsTrue (F.may_read files.old log.now) }
+    ensures answer { IfOk result (λ reply. IfSome (F.files files.old)
+        (λ m. AnswersTo m (Checking plant.now log.now) reply.status reply.text.items)) }
+    ensures not_words { IfOk result (λ reply. reply.status ≡ 2 → ⊥) }
+    ensures small { IfOk result (λ reply. reply.status < 7) }
+    ensures fault { result ≡ Err Stopped.ReadFault → Rose (F.read_faults files.old) (F.read_faults files.new) }
+    ensures same { F.files files.new ≡ F.files files.old }
+{
+    match plant_in(alloc, files, plant)? {
+        Ok(plant) => check_on(alloc, files, &plant, log),
+        Err(fault) => Ok(refused_plant(alloc, &fault)?),
+    }
+}
+
+// The answer of checking the log in a file against a plant.
+fn check_on<F: Shelf>(
+    alloc: Global,
+    files: &mut F,
+    plant: &Plant,
+    name: &str,
+) -> Result<Reply, Stopped>
+    requires readable { IsTrue (F.may_read files.old name.now) }
+    requires sound { Sound plant.now }
+    ensures answer { IfOk result (λ reply. IfSome (F.files files.old)
+        (λ m. Checked plant.now (file_of m name.now) reply.status reply.text.items)) }
+    ensures not_words { IfOk result (λ reply. reply.status ≡ 2 → ⊥) }
+    ensures small { IfOk result (λ reply. reply.status < 7) }
+    ensures fault { result ≡ Err Stopped.ReadFault → Rose (F.read_faults files.old) (F.read_faults files.new) }
+    ensures same { F.files files.new ≡ F.files files.old }
+{
+    match check_stream(alloc, plant, files, name) {
+        Ok(verdict) => Ok(checked(alloc, &verdict)?),
+        Err(CheckStop::Fault) => Err(Stopped::ReadFault),
+        Err(CheckStop::Memory) => Err(Stopped::Memory),
+    }
 }
 
 // The answer of printing the plant in a file.

@@ -21,3 +21,9 @@ returns-in-Some-Upgrade-clause-words g c =
     IfOk-follows (λ reply. reply.status ≡ 2 → ⊥) (λ reply. (reply.status ≡ 2) ↔ HasNoForm (texts c.args.words.now)) c.upgrade_file.result
     (λ reply not. not_refused (texts c.args.words.now) (meaning c.in-Some-Upgrade.field-0) reply.status c.in-Some-Upgrade.ensures not)
     c.upgrade_file.ensures.not_words
+
+pub returns-in-Some-Check-clause-words : goal.returns-in-Some-Check-clause-words
+returns-in-Some-Check-clause-words g c =
+    IfOk-follows (λ reply. reply.status ≡ 2 → ⊥) (λ reply. (reply.status ≡ 2) ↔ HasNoForm (texts c.args.words.now)) c.check_file.result
+    (λ reply not. not_refused (texts c.args.words.now) (meaning c.in-Some-Check.field-0) reply.status c.in-Some-Check.ensures not)
+    c.check_file.ensures.not_words

@@ -1,0 +1,301 @@
+-- Where a line leads agrees with what it makes of a group, and where an item leads with where the walk stands.
+use Rattle.std.proofs.Common.{◌≡◌, ⊎_elim, ℕ, ◌+◌, ◌-◌, ◌==◌, nat_le, nat_lt, ◌<◌, ◌≤◌, Bool, true, false, List, [], ◌∷◌, ◌++◌, length, Option, Some, None, is_some, IsTrue, if◌then◌else◌, refl, ap, sym, subst, arith}
+use Rattle.std.specs.Prelude.{◌^◌}
+use Rattle.std.proofs.lemmas.Bool.Decides.{nat_tests}
+use Rattle.proof_tree.specs.declared.capped.Capped.{Capped}
+use Rattle.proof_tree.specs.declared.capped.Capped.TheVariants.{AtMost, NoPoint, Bad}
+use Rattle.proof_tree.specs.declared.item.Item.TheVariants.{Node, Cut, Found as FoundItem, Empty, Dual as DualItem, Point, Pending as PendingItem, Split as SplitItem}
+use Rattle.proof_tree.specs.declared.walk.Expected.{Expected}
+use Rattle.proof_tree.specs.declared.walk.Expected.TheVariants.{Node as ExpectNode, Inside as ExpectInside, End as ExpectEnd}
+use Rattle.proof_tree.specs.Cap.{greater}
+use Rattle.proof_tree.specs.Tree.{no_point, leaf_cap}
+use Rattle.proof_tree.specs.Views.{View}
+use Rattle.proof_tree.specs.Walk.{Opened, Stage, going, ended, may_come, going_to, close, close_split, part_ended, taken, step}
+use Rattle.row_relax.specs.declared.pick.RowPick.{RowPick}
+use Rattle.dual_bound.specs.declared.cert.Mult.{Mult}
+use Rattle.proof_log.specs.Log.{RowItem}
+use Rattle.log_lines.specs.declared.line.Line.{Line}
+use Rattle.log_lines.specs.declared.line.Line.TheVariants.{Header, Node as NodeLine, Cut as CutLine, Found as FoundLine, Value as ValueLine, Empty as EmptyLine, Point as PointLine, Dual as DualLine, Pending as PendingLine, Split as SplitLine, Mult as MultLine, ClaimOptimal, ClaimInfeasible, ClaimBetween, ClaimBelow, End as EndLine}
+use Rattle.log_lines.specs.declared.grammar.Limits.{Limits}
+use Rattle.log_lines.specs.declared.grammar.Place.{Place}
+use Rattle.log_lines.specs.declared.grammar.Place.TheVariants.{Header as AtHeader, Node as AtNode, Inside, Ending, Values as AtValues, Mults as AtMults, Claim as AtClaim, End, Done}
+use Rattle.log_lines.specs.declared.step.Step.{Step}
+use Rattle.log_lines.specs.declared.step.Step.TheVariants.{At, Opens, Ends}
+use Rattle.log_lines.specs.Line.{IsInRange}
+use Rattle.std.proofs.lemmas.Grind.{common_steps}
+use Rattle.std.proofs.lemmas.List.{length-replicate}
+use Rattle.log_lines.specs.Grammar.{Standing, after_part, part_place, values_step, mults_step, follows, ending_step, inside_step, claim_step, step_of, after_step, first_kind, over_at}
+use Rattle.log_check.specs.declared.group.ValueHead.{ValueHead}
+use Rattle.log_check.specs.declared.group.ValueHead.TheVariants.{Found, Optimal, Between}
+use Rattle.log_check.specs.declared.group.MultHead.{MultHead}
+use Rattle.log_check.specs.declared.group.MultHead.TheVariants.{Dual, Pending, Split}
+use Rattle.log_check.specs.declared.group.Group.{Group}
+use Rattle.log_check.specs.declared.group.Group.TheVariants.{Nothing, Values, Mults}
+use Rattle.log_check.specs.declared.group.Grown.TheVariants.{More, Whole}
+use Rattle.log_check.specs.Agree.{is_claim, is_split, IsHeadIn, GroupAgrees, ItemAt, item_step, StaysAt, GrownAgrees, least_after, PlaceExpects, IsPastProof, lefts, StageAgrees, IsBody}
+use Rattle.log_check.specs.Gathering.{padded, value_piece, mult_piece, grown_values, grown_mults, begun, followed, MayBegin, MayValue, MayMult, MayFollow}
+use Rattle.log_check.specs.Meaning.{RowSteps}
+
+-- a test that finds nothing has not held
+passed : (test : Bool) (kind : ℕ) (tests : List (Bool × ℕ)) → first_kind ((test, kind) ∷ tests) ≡ None → (test ≡ false) × (first_kind tests ≡ None)
+passed true kind tests is = cc
+passed false kind tests is = (refl, is)
+
+some_same : (a b : Step) → Some a ≡ Some b → a ≡ b
+some_same a b is = cc
+
+where_true : (test : Bool) (next step : Step) → ◌≡◌ {A = Option Step} (if test then Some next else None) (Some step) → (test ≡ true) × (next ≡ step)
+where_true true next step is = (refl, some_same next step is)
+where_true false next step is = cc
+
+not_at_least : (a b : ℕ) → nat_le a b ≡ false → b < a
+not_at_least a b is = grind (arith, nat_tests)
+
+not_below : (a b : ℕ) → nat_lt a b ≡ false → b ≤ a
+not_below a b is = grind (arith, nat_tests)
+
+below : (a b : ℕ) → nat_lt a b ≡ true → a < b
+below a b is = grind (arith, nat_tests)
+
+follows-least : (above : Option ℕ) (number : ℕ) → follows above number ≡ true → least_after above ≤ number
+follows-least None number is = omega arith
+follows-least (Some last) number is = let h : last < number = below last number is in omega arith
+
+not_zero : (a : ℕ) → (a == 0) ≡ false → 0 < a
+not_zero a is = grind (arith, nat_tests)
+
+-- a group of values agrees with what is left of it
+values_agree : (limits : Limits) (slots : ℕ) (place : Place) (head : ValueHead) (left : ℕ) (above : Option ℕ) (claim : Bool) (point : List ℕ) → is_claim head ≡ claim → length point ≡ least_after above → ((n : ℕ) (m : Option ℕ) → StaysAt place (AtValues n m claim)) → GrownAgrees limits place (Whole (value_piece head (padded slots point))) (At (if claim then End else Ending)) → GrownAgrees limits place (grown_values slots head left point) (values_step left above claim)
+values_agree limits slots place head left above claim point is_head long stays whole = at (left == 0) refl
+  where
+    at : (none : Bool) → (left == 0) ≡ none → GrownAgrees limits place (if none then Whole (value_piece head (padded slots point)) else More (Values head left point)) (At (if none then (if claim then End else Ending) else AtValues left above claim))
+    at true is = whole
+    at false is = ((not_zero left is, refl, long, is_head), stays left above)
+
+-- and so does one of multipliers
+mults_agree : (limits : Limits) (place : Place) (head : MultHead) (left : ℕ) (above : Option ℕ) (split : Bool) (mults : List Mult) → is_split head ≡ split → IsHeadIn limits head → ((n : ℕ) (m : Option ℕ) → StaysAt place (AtMults n m split)) → GrownAgrees limits place (Whole (mult_piece head mults)) (if split then Opens else Ends) → GrownAgrees limits place (grown_mults head left mults) (mults_step left above split)
+mults_agree limits place head left above split mults is_head inside stays whole = at (left == 0) refl
+  where
+    at : (none : Bool) → (left == 0) ≡ none → GrownAgrees limits place (if none then Whole (mult_piece head mults) else More (Mults head left mults)) (if none then (if split then Opens else Ends) else At (AtMults left above split))
+    at true is = whole
+    at false is = ((not_zero left is, refl, is_head, inside), stays left above)
+
+-- a line that may come begins a group or is whole, and agrees with where it leads
+abbrev Begins_at : Limits → ℕ → Place → Line → Step → Type 0
+Begins_at limits slots place line step = MayBegin line × GrownAgrees limits place (begun slots line) step
+
+module _ (limits : Limits) (slots : ℕ) (few_rows : limits.rows < 2 ^ 32) (few_slots : limits.slots < 2 ^ 32) where
+  -- a certificate keeps its limits, and leads to its multipliers
+  cert_agrees : (place : Place) (head : MultHead) (scale count : ℕ) (split : Bool) (step : Step) → is_split head ≡ split → IsHeadIn limits head → ((n : ℕ) (m : Option ℕ) → StaysAt place (AtMults n m split)) → GrownAgrees limits place (Whole (mult_piece head [])) (if split then Opens else Ends) → mults_step count None split ≡ step → first_kind ((nat_lt 1048576 scale, 7) ∷ (nat_lt 50000 count, 8) ∷ []) ≡ None → (scale < 2 ^ 32) × GrownAgrees limits place (grown_mults head count []) step
+  cert_agrees place head scale count split step is_head inside stays whole is tests =
+      let first = passed (nat_lt 1048576 scale) 7 ((nat_lt 50000 count, 8) ∷ []) tests in
+      let small : scale ≤ 1048576 = not_below 1048576 scale first.0 in
+      (omega arith, subst (GrownAgrees limits place (grown_mults head count [])) is (mults_agree limits place head count None split [] is_head inside stays whole))
+
+  module _ (place : Place) (empty : ItemAt limits place Empty) (duals : (cert : _) → ItemAt limits place (DualItem cert)) (point : ItemAt limits place Point) (pendings : (cert : _) → ItemAt limits place (PendingItem cert)) (splits : (pick : RowPick) (cert : _) → pick.slot < limits.slots → ItemAt limits place (SplitItem pick cert)) (stays : (n : ℕ) (m : Option ℕ) (split : Bool) → StaysAt place (AtMults n m split)) where
+    ending_begins : (version opened : ℕ) (line : Line) (step : Step) → ending_step version line ≡ Some step → over_at limits opened line ≡ None → Begins_at limits slots place line step
+    ending_begins version opened EmptyLine step is tests = (tt, (empty, sym (some_same Ends step is)))
+    ending_begins version opened PointLine step is tests =
+        let test = where_true (version == 2) Ends step is in
+        (tt, (point, sym test.1))
+    ending_begins version opened (DualLine scale count) step is tests = cert_agrees place (Dual scale) scale count false step refl tt (λ n m. stays n m false) (duals (record { scale = scale; mults = [] }), refl) (some_same (mults_step count None false) step is) tests
+    ending_begins version opened (PendingLine scale count) step is tests = cert_agrees place (Pending scale) scale count false step refl tt (λ n m. stays n m false) (pendings (record { scale = scale; mults = [] }), refl) (some_same (mults_step count None false) step is) tests
+    ending_begins version opened (SplitLine slot max scale count) step is tests =
+        let test = passed (nat_le limits.slots slot) 5 ((nat_lt 1048576 scale, 7) ∷ (nat_lt 50000 count, 8) ∷ []) tests in
+        let inside : slot < limits.slots = not_at_least limits.slots slot test.0 in
+        let pick : RowPick = record { slot = slot; max = max } in
+        let rest = cert_agrees place (Split pick scale) scale count true step refl inside (λ n m. stays n m true) (splits pick (record { scale = scale; mults = [] }) inside, refl) (some_same (mults_step count None true) step is) test.1 in
+        ((omega arith, rest.0), rest.1)
+    ending_begins version opened _ step is tests = cc
+
+  inside_begins : (version opened : ℕ) (line : Line) (step : Step) → inside_step version line ≡ Some step → over_at limits opened line ≡ None → Begins_at limits slots Inside line step
+  inside_begins version opened (CutLine row slot) step is tests =
+      let first = passed (nat_le limits.rows row) 4 ((nat_le limits.slots slot, 5) ∷ []) tests in
+      let second = passed (nat_le limits.slots slot) 5 [] first.1 in
+      let row_in : row < limits.rows = not_at_least limits.rows row first.0 in
+      let slot_in : slot < limits.slots = not_at_least limits.slots slot second.0 in
+      ((omega arith, omega arith), ((row_in, slot_in), sym (some_same (At Inside) step is)))
+  inside_begins version opened (FoundLine value count) step is tests =
+      (tt, subst (GrownAgrees limits Inside (grown_values slots (Found value) count [])) (some_same (values_step count None false) step is) (values_agree limits slots Inside (Found value) count None false [] refl refl (λ n m. refl) (tt, refl)))
+  inside_begins version opened line step is tests = ending_begins Inside tt (λ cert. tt) tt (λ cert. tt) (λ pick cert inside. inside) (λ n m split. tt) version opened line step is tests
+
+  claim_begins : (line : Line) (step : Step) → claim_step line ≡ Some step → Begins_at limits slots AtClaim line step
+  claim_begins (ClaimOptimal profit count) step is =
+      (tt, subst (GrownAgrees limits AtClaim (grown_values slots (Optimal profit) count [])) (some_same (values_step count None true) step is) (values_agree limits slots AtClaim (Optimal profit) count None true [] refl refl (λ n m. refl) (tt, refl)))
+  claim_begins ClaimInfeasible step is = (tt, (tt, sym (some_same (At End) step is)))
+  claim_begins (ClaimBetween profit most count) step is =
+      (tt, subst (GrownAgrees limits AtClaim (grown_values slots (Between profit most) count [])) (some_same (values_step count None true) step is) (values_agree limits slots AtClaim (Between profit most) count None true [] refl refl (λ n m. refl) (tt, refl)))
+  claim_begins (ClaimBelow most) step is = (tt, (tt, sym (some_same (At End) step is)))
+  claim_begins _ step is = cc
+
+  node_begins : (version : ℕ) (line : Line) (step : Step) → step_of version AtNode line ≡ Some step → Begins_at limits slots AtNode line step
+  node_begins version NodeLine step is = (tt, (tt, sym (some_same (At Inside) step is)))
+  node_begins version _ step is = cc
+
+  values_follow : (left remaining slot quanta opened : ℕ) (above : Option ℕ) (claim : Bool) (head : ValueHead) (point : List ℕ) (step : Step) → 0 < quanta → 0 < left → remaining ≡ left → length point ≡ least_after above → is_claim head ≡ claim → slots ≡ limits.slots
+      → ◌≡◌ {A = Option Step} (if follows above slot then Some (values_step (left - 1) (Some slot) claim) else None) (Some step) → over_at limits opened (ValueLine slot quanta) ≡ None
+      → MayValue slots remaining point (ValueLine slot quanta) × GrownAgrees limits (AtValues left above claim) (grown_values slots head (remaining - 1) (padded slot point ++ quanta ∷ [])) step
+  values_follow left remaining slot quanta opened above claim head point step some more same long is_head all is tests =
+      let first = where_true (follows above slot) (values_step (left - 1) (Some slot) claim) step is in
+      let second = passed (nat_le limits.slots slot) 5 [] tests in
+      let least : least_after above ≤ slot = follows-least above slot first.0 in
+      let inside : slot < limits.slots = not_at_least limits.slots slot second.0 in
+      let later = padded slot point ++ quanta ∷ [] in
+      let grown : length later ≡ slot + 1 = grind (arith, common_steps, length-replicate) in
+      let agree = values_agree limits slots (AtValues left above claim) head (left - 1) (Some slot) claim later is_head grown (λ n m. refl) (whole head is_head) in
+      ((omega arith, (omega arith), (omega arith), some), rw same (subst (GrownAgrees limits (AtValues left above claim) (grown_values slots head (left - 1) later)) first.1 agree))
+    where
+      whole : (head : ValueHead) → is_claim head ≡ claim → GrownAgrees limits (AtValues left above claim) (Whole (value_piece head (padded slots (padded slot point ++ quanta ∷ [])))) (At (if claim then End else Ending))
+      whole (Found value) is = (sym is, rw (← is) refl)
+      whole (Optimal profit) is = (sym is, rw (← is) refl)
+      whole (Between profit most) is = (sym is, rw (← is) refl)
+
+  mults_follow : (left remaining row factor opened : ℕ) (above : Option ℕ) (split : Bool) (head : MultHead) (mults : List Mult) (step : Step) → 0 < left → remaining ≡ left → is_split head ≡ split → IsHeadIn limits head
+      → ◌≡◌ {A = Option Step} (if follows above row then Some (mults_step (left - 1) (Some row) split) else None) (Some step) → over_at limits opened (MultLine row factor) ≡ None
+      → MayMult remaining (MultLine row factor) × GrownAgrees limits (AtMults left above split) (grown_mults head (remaining - 1) (mults ++ (record { row = row; factor = factor }) ∷ [])) step
+  mults_follow left remaining row factor opened above split head mults step more same is_head inside is tests =
+      let first = where_true (follows above row) (mults_step (left - 1) (Some row) split) step is in
+      let second = passed (nat_le limits.rows row) 4 ((nat_lt 1099511627776 factor, 6) ∷ []) tests in
+      let third = passed (nat_lt 1099511627776 factor) 6 [] second.1 in
+      let row_in : row < limits.rows = not_at_least limits.rows row second.0 in
+      let small : factor ≤ 1099511627776 = not_below 1099511627776 factor third.0 in
+      let later = mults ++ (record { row = row; factor = factor }) ∷ [] in
+      let agree = mults_agree limits (AtMults left above split) head (left - 1) (Some row) split later is_head inside (λ n m. tt) (whole head is_head inside) in
+      ((omega arith, (omega arith), (omega arith)), rw same (subst (GrownAgrees limits (AtMults left above split) (grown_mults head (left - 1) later)) first.1 agree))
+    where
+      whole : (head : MultHead) → is_split head ≡ split → IsHeadIn limits head → GrownAgrees limits (AtMults left above split) (Whole (mult_piece head (mults ++ (record { row = row; factor = factor }) ∷ []))) (if split then Opens else Ends)
+      whole (Dual scale) is inside = (tt, rw (← is) refl)
+      whole (Pending scale) is inside = (tt, rw (← is) refl)
+      whole (Split pick scale) is inside = (inside, rw (← is) refl)
+
+  -- a line that may come, other than the header and the end, may follow the group, and what it makes of it agrees with where it leads
+  Follows : Place → Group → Line → Step → Type 0
+  Follows place group line step = MayFollow slots group line × GrownAgrees limits place (followed slots group line) step
+
+  values_lines : (version left remaining opened : ℕ) (above : Option ℕ) (claim : Bool) (head : ValueHead) (point : List ℕ) (line : Line) (step : Step) → IsInRange line → slots ≡ limits.slots → 0 < left → remaining ≡ left → length point ≡ least_after above → is_claim head ≡ claim → step_of version (AtValues left above claim) line ≡ Some step → over_at limits opened line ≡ None → Follows (AtValues left above claim) (Values head remaining point) line step
+  unfolding Follows
+  values_lines version left remaining opened above claim head point (ValueLine slot quanta) step range all more same long is_head is tests = values_follow left remaining slot quanta opened above claim head point step range.0 more same long is_head all is tests
+  values_lines version left remaining opened above claim head point _ step range all more same long is_head is tests = cc
+
+  mults_lines : (version left remaining opened : ℕ) (above : Option ℕ) (split : Bool) (head : MultHead) (mults : List Mult) (line : Line) (step : Step) → 0 < left → remaining ≡ left → is_split head ≡ split → IsHeadIn limits head → step_of version (AtMults left above split) line ≡ Some step → over_at limits opened line ≡ None → Follows (AtMults left above split) (Mults head remaining mults) line step
+  unfolding Follows
+  mults_lines version left remaining opened above split head mults (MultLine row factor) step more same is_head inside is tests = mults_follow left remaining row factor opened above split head mults step more same is_head inside is tests
+  mults_lines version left remaining opened above split head mults _ step more same is_head inside is tests = cc
+
+  header_only : (version : ℕ) (line : Line) (step : Step) → step_of version AtHeader line ≡ Some step → IsBody line → ⊥
+  header_only version (Header own) step is body = body
+  header_only version _ step is body = cc
+
+  end_only : (version : ℕ) (line : Line) (step : Step) → step_of version End line ≡ Some step → IsBody line → ⊥
+  end_only version EndLine step is body = body
+  end_only version _ step is body = cc
+
+  -- by places and groups
+  pub line_follows : (version opened : ℕ) (place : Place) (group : Group) (line : Line) (step : Step) → slots ≡ limits.slots → IsInRange line → IsBody line → GroupAgrees limits place group → step_of version place line ≡ Some step → over_at limits opened line ≡ None → MayFollow slots group line × GrownAgrees limits place (followed slots group line) step
+  unfolding Follows
+  line_follows version opened AtHeader Nothing line step all range body agree is tests = absurd (header_only version line step is body)
+  line_follows version opened AtNode Nothing line step all range body agree is tests = node_begins version line step is
+  line_follows version opened Inside Nothing line step all range body agree is tests = inside_begins version opened line step is tests
+  line_follows version opened Ending Nothing line step all range body agree is tests = ending_begins Ending tt (λ cert. tt) tt (λ cert. tt) (λ pick cert inside. inside) (λ n m split. tt) version opened line step is tests
+  line_follows version opened (AtValues left above claim) (Values head remaining point) line step all range body agree is tests = values_lines version left remaining opened above claim head point line step range all agree.0 agree.1 agree.2 agree.3 is tests
+  line_follows version opened (AtMults left above split) (Mults head remaining mults) line step all range body agree is tests = mults_lines version left remaining opened above split head mults line step agree.0 agree.1 agree.2 agree.3 is tests
+  line_follows version opened AtClaim Nothing line step all range body agree is tests = claim_begins line step is
+  line_follows version opened End Nothing line step all range body agree is tests = absurd (end_only version line step is body)
+  line_follows version opened Done Nothing line step all range body agree is tests = cc
+  line_follows version opened _ _ line step all range body agree is tests = absurd agree
+
+-- an item that the lines may make whole may come where the walk stands
+pub item_comes : (limits : Limits) (place : Place) (expected : Expected) (item : RowItem) → ItemAt limits place item → PlaceExpects place expected → IsTrue (may_come expected item)
+item_comes limits AtNode expected Node at is = rw is refl
+item_comes limits Inside expected (Cut cut) at is = rw is refl
+item_comes limits Inside expected (FoundItem found) at is = rw is refl
+item_comes limits Inside expected Empty at is = rw is refl
+item_comes limits Inside expected (DualItem cert) at is = rw is refl
+item_comes limits Inside expected Point at is = rw is refl
+item_comes limits Inside expected (PendingItem cert) at is = rw is refl
+item_comes limits Inside expected (SplitItem pick cert) at is = rw is refl
+item_comes limits Ending expected Empty at is = rw is refl
+item_comes limits Ending expected (DualItem cert) at is = rw is refl
+item_comes limits Ending expected Point at is = rw is refl
+item_comes limits Ending expected (PendingItem cert) at is = rw is refl
+item_comes limits Ending expected (SplitItem pick cert) at is = rw is refl
+item_comes limits (AtValues left above claim) expected (FoundItem found) at is = rw is.1 refl
+item_comes limits (AtMults left above split) expected (DualItem cert) at is = ⊎_elim (λ e. rw e refl) (λ e. rw e refl) is
+item_comes limits (AtMults left above split) expected (PendingItem cert) at is = ⊎_elim (λ e. rw e refl) (λ e. rw e refl) is
+item_comes limits (AtMults left above split) expected (SplitItem pick cert) at is = ⊎_elim (λ e. rw e refl) (λ e. rw e refl) is
+item_comes limits _ expected _ at is = absurd at
+
+same_stage : (a b : Stage RowPick) → going a ≡ going b → a ≡ b
+same_stage a b is = cc
+
+-- a stage that a walk goes to
+going_agrees : (expected : Expected) (splits : List (Opened RowPick)) (next : Option View) (stage : Stage RowPick) (standing : Standing) → going_to expected splits next ≡ going stage → PlaceExpects standing.place expected → lefts splits ≡ standing.sides → StageAgrees standing stage
+going_agrees expected splits None stage standing is expects same = cc
+going_agrees expected splits (Some v) stage standing is expects same =
+    subst (StageAgrees standing) (same_stage (record { expected = expected; splits = splits; view = v }) stage is) (record { expects = expects; splits = same })
+
+-- after a node that has ended
+abbrev after_node : ℕ → List Bool → Standing
+after_node version sides = record { version = version; place = part_place (after_part sides); sides = after_part sides }
+
+module _ (s : RowSteps) where
+  -- where a part ends the walk agrees with where a node's end leads
+  close_agrees : (version : ℕ) (splits : List (Opened RowPick)) (proof_cap : Capped) (stage : Stage RowPick) → close s splits proof_cap ≡ going stage → StageAgrees (after_node version (lefts splits)) stage
+  close_agrees version [] proof_cap stage = λ is. cc
+  close_agrees version (split ∷ splits) proof_cap stage = at split.left (λ c. close_agrees version splits c stage)
+    where
+      at : (left : Option Capped) → ((c : Capped) → close s splits c ≡ going stage → StageAgrees (after_node version (lefts splits)) stage) → close_split s split splits proof_cap left (close s splits) ≡ going stage → StageAgrees (after_node version (is_some left ∷ lefts splits)) stage
+      at None rest is = going_agrees ExpectNode (record split { left = Some proof_cap } ∷ splits) (s.right split.view split.pick) stage (after_node version (false ∷ lefts splits)) is refl refl
+      at (Some first) rest is = rest (greater first proof_cap) is
+
+  close_ends : (version : ℕ) (splits : List (Opened RowPick)) (proof_cap end_cap : Capped) → close s splits proof_cap ≡ ended end_cap → (after_node version (lefts splits)).place ≡ AtClaim
+  close_ends version [] proof_cap end_cap = λ is. refl
+  close_ends version (split ∷ splits) proof_cap end_cap = at split.left (λ c. close_ends version splits c end_cap)
+    where
+      goes : (next : Option View) → going_to ExpectNode (record split { left = Some proof_cap } ∷ splits) next ≡ ended end_cap → ⊥
+      goes None is = cc
+      goes (Some v) is = cc
+
+      at : (left : Option Capped) → ((c : Capped) → close s splits c ≡ ended end_cap → (after_node version (lefts splits)).place ≡ AtClaim) → close_split s split splits proof_cap left (close s splits) ≡ ended end_cap → (after_node version (is_some left ∷ lefts splits)).place ≡ AtClaim
+      at None rest is = absurd (goes (s.right split.view split.pick) is)
+      at (Some first) rest is = rest (greater first proof_cap) is
+
+  part_agrees : (version : ℕ) (splits : List (Opened RowPick)) (proof_cap : Capped) (stage : Stage RowPick) → part_ended s splits proof_cap ≡ going stage → StageAgrees (after_node version (lefts splits)) stage
+  part_agrees version splits Bad stage is = cc
+  part_agrees version splits NoPoint stage is = close_agrees version splits NoPoint stage is
+  part_agrees version splits (AtMost n) stage is = close_agrees version splits (AtMost n) stage is
+
+  part_ends : (version : ℕ) (splits : List (Opened RowPick)) (proof_cap end_cap : Capped) → part_ended s splits proof_cap ≡ ended end_cap → (after_node version (lefts splits)).place ≡ AtClaim
+  part_ends version splits Bad end_cap is = cc
+  part_ends version splits NoPoint end_cap is = close_ends version splits NoPoint end_cap is
+  part_ends version splits (AtMost n) end_cap is = close_ends version splits (AtMost n) end_cap is
+
+  -- where an item leads the walk agrees with where it leads the lines
+  pub item_agrees : (standing : Standing) (splits : List (Opened RowPick)) (v : View) (item : RowItem) (stage : Stage RowPick) → lefts splits ≡ standing.sides → taken s splits v item ≡ going stage → StageAgrees (after_step standing (item_step item)) stage
+  item_agrees standing splits v Node stage same is = going_agrees ExpectInside splits (Some v) stage (after_step standing (At Inside)) is refl same
+  item_agrees standing splits v (Cut cut) stage same is = going_agrees ExpectInside splits (s.cut v cut) stage (after_step standing (At Inside)) is refl same
+  item_agrees standing splits v (FoundItem found) stage same is = going_agrees ExpectEnd splits (Some v) stage (after_step standing (At Ending)) is refl same
+  item_agrees standing splits v Empty stage same is = subst (λ l. StageAgrees (after_node standing.version l) stage) same (part_agrees standing.version splits (leaf_cap s v no_point) stage is)
+  item_agrees standing splits v (DualItem cert) stage same is = subst (λ l. StageAgrees (after_node standing.version l) stage) same (part_agrees standing.version splits (s.cap v cert) stage is)
+  item_agrees standing splits v Point stage same is = subst (λ l. StageAgrees (after_node standing.version l) stage) same (part_agrees standing.version splits (s.settle v) stage is)
+  item_agrees standing splits v (PendingItem cert) stage same is = subst (λ l. StageAgrees (after_node standing.version l) stage) same (part_agrees standing.version splits (s.cap v cert) stage is)
+  item_agrees standing splits v (SplitItem pick cert) stage same is =
+      going_agrees ExpectNode (record { view = v; pick = pick; left = None } ∷ splits) (s.left v pick) stage (after_step standing Opens) is refl (ap (λ l. false ∷ l) same)
+
+  leads_not_end : (expected : Expected) (splits : List (Opened RowPick)) (next : Option View) (end_cap : Capped) → going_to expected splits next ≡ ended end_cap → ⊥
+  leads_not_end expected splits None end_cap is = cc
+  leads_not_end expected splits (Some v) end_cap is = cc
+
+  past_claim : (place : Place) → place ≡ AtClaim → IsPastProof place
+  past_claim place is = rw is tt
+
+  -- where an item ends the proof, the claim comes
+  pub item_ends : (standing : Standing) (splits : List (Opened RowPick)) (v : View) (item : RowItem) (end_cap : Capped) → lefts splits ≡ standing.sides → taken s splits v item ≡ ended end_cap → IsPastProof (after_step standing (item_step item)).place
+  item_ends standing splits v Node end_cap same is = absurd (leads_not_end ExpectInside splits (Some v) end_cap is)
+  item_ends standing splits v (Cut cut) end_cap same is = absurd (leads_not_end ExpectInside splits (s.cut v cut) end_cap is)
+  item_ends standing splits v (FoundItem found) end_cap same is = absurd (leads_not_end ExpectEnd splits (Some v) end_cap is)
+  item_ends standing splits v Empty end_cap same is = past_claim (after_node standing.version standing.sides).place (subst (λ l. (after_node standing.version l).place ≡ AtClaim) same (part_ends standing.version splits (leaf_cap s v no_point) end_cap is))
+  item_ends standing splits v (DualItem cert) end_cap same is = past_claim (after_node standing.version standing.sides).place (subst (λ l. (after_node standing.version l).place ≡ AtClaim) same (part_ends standing.version splits (s.cap v cert) end_cap is))
+  item_ends standing splits v Point end_cap same is = past_claim (after_node standing.version standing.sides).place (subst (λ l. (after_node standing.version l).place ≡ AtClaim) same (part_ends standing.version splits (s.settle v) end_cap is))
+  item_ends standing splits v (PendingItem cert) end_cap same is = past_claim (after_node standing.version standing.sides).place (subst (λ l. (after_node standing.version l).place ≡ AtClaim) same (part_ends standing.version splits (s.cap v cert) end_cap is))
+  item_ends standing splits v (SplitItem pick cert) end_cap same is = absurd (leads_not_end ExpectNode (record { view = v; pick = pick; left = None } ∷ splits) (s.left v pick) end_cap is)

@@ -1,0 +1,9 @@
+pub mod Advancing
+pub mod Agreeing
+pub mod Groups
+pub mod Items
+pub mod Judging
+pub mod Reading
+pub mod Texts
+pub mod There
+pub mod ValueLines

@@ -1,0 +1,89 @@
+-- Where a check stands after some items.
+use Rattle.std.specs.Prelude.{◌≡◌, ◌≢◌, ⊤, IsTrue, ℕ, false, List, None}
+use Rattle.row_kit.specs.declared.area.Area.{Area}
+use Rattle.row_kit.specs.declared.found.Found.{Found}
+use Rattle.row_kit.specs.declared.program.Program.{Program}
+use Rattle.range_prop.specs.declared.row_cut.RowCut.{RowCut}
+use Rattle.dual_bound.specs.declared.cert.Cert.{Cert}
+use Rattle.proof_tree.specs.declared.item.Item.TheVariants.{Node, Cut, Found as FoundItem, Empty, Dual, Point, Pending, Split}
+use Rattle.proof_tree.specs.declared.walk.Walk.{Walk}
+use Rattle.proof_tree.specs.declared.walk.Took.{Took}
+use Rattle.proof_tree.specs.declared.walk.Took.TheVariants.{More, Done, Bad as TookBad}
+use Rattle.proof_tree.specs.Views.{View}
+use Rattle.proof_tree.specs.Walk.{going, ended, walked, start, may_come, step, stage_of, Stands}
+use Rattle.row_relax.specs.declared.pick.RowPick.{RowPick}
+use Rattle.row_relax.specs.declared.rows.Rows.{Rows}
+use Rattle.proof_log.specs.Log.{RowItem}
+use Rattle.log_check.specs.declared.course.Course.{Course}
+use Rattle.log_check.specs.declared.course.Course.TheVariants.{Going, Ended, Faulty}
+use Rattle.log_check.specs.Meaning.{RowSteps, IsWorth, HaveNone, IsProved, IsItemDefect}
+
+-- a walk over a proof of rows
+abbrev pub RowWalk : Type 0
+RowWalk = Walk Rows Area RowCut Cert RowPick Found
+
+-- where a check stands after these items: its walk goes on without a defect, or has ended with a cap, or an item has the first defect
+abbrev pub StandsAt : RowSteps → Program → View → List RowItem → Course → RowWalk → List View → Type 0
+StandsAt s program root items Going walk views =
+    HaveNone s program (start root) items × (walked s (start root) items ≡ going (stage_of walk views))
+StandsAt s program root items (Ended proof_cap) walk views = IsProved s program root items proof_cap
+StandsAt s program root items (Faulty defect) walk views = IsItemDefect s program root items defect
+
+-- a check's walk stands in an area with these views as long as it goes on
+abbrev pub IsReady : RowSteps → Course → RowWalk → List View → Type 0
+IsReady s Going walk views = Stands s walk views
+IsReady s (Ended proof_cap) walk views = ⊤
+IsReady s (Faulty defect) walk views = ⊤
+
+-- a cut and a split name something that is there
+abbrev pub IsNamed : RowSteps → View → RowItem → Type 0
+IsNamed s v Node = ⊤
+IsNamed s v (Cut cut) = s.cut v cut ≢ None
+IsNamed s v (FoundItem found) = ⊤
+IsNamed s v Empty = ⊤
+IsNamed s v (Dual cert) = ⊤
+IsNamed s v Point = ⊤
+IsNamed s v (Pending cert) = ⊤
+IsNamed s v (Split pick cert) = s.left v pick ≢ None
+
+-- an item may be taken: while the walk goes on it is one that may come and names what is there, and none may come after the end
+abbrev pub MayTake : RowSteps → Course → RowWalk → View → RowItem → Type 0
+MayTake s Going walk v item = IsTrue (may_come walk.expected item) × IsNamed s v item
+MayTake s (Ended proof_cap) walk v item = ⊥
+MayTake s (Faulty defect) walk v item = ⊤
+
+-- what was tested before a walk takes an item: a found point is lawful and has its worth, and under a certificate no domain is empty
+abbrev pub IsTested : RowSteps → Program → View → RowItem → Type 0
+IsTested s program v Node = ⊤
+IsTested s program v (Cut cut) = ⊤
+IsTested s program v (FoundItem found) = IsWorth program found.value found.point
+IsTested s program v Empty = ⊤
+IsTested s program v (Dual cert) = s.empty v ≡ false
+IsTested s program v Point = ⊤
+IsTested s program v (Pending cert) = s.empty v ≡ false
+IsTested s program v (Split pick cert) = ⊤
+
+-- the kind of the defect of an end that gives no cap
+abbrev pub end_kind : RowItem → ℕ
+end_kind Node = 0
+end_kind (Cut cut) = 0
+end_kind (FoundItem found) = 0
+end_kind Empty = 10
+end_kind (Dual cert) = 12
+end_kind Point = 18
+end_kind (Pending cert) = 12
+end_kind (Split pick cert) = 0
+
+-- where a check stands after what an item led to; the item begins at the line, and its defect would be of this kind
+abbrev pub course_of : Took → ℕ → ℕ → Course
+course_of More line kind = Going
+course_of (Done proof_cap) line kind = Ended proof_cap
+course_of TookBad line kind = Faulty (record { line = line; kind = kind })
+
+-- where an item leads a check: its walk makes a step, or a defect is found or stays; none is taken after the end
+abbrev pub Leads : RowSteps → Course → RowWalk → List View → RowItem → Course → RowWalk → List View → Type 0
+Leads s Going walk views item Going new later = step s (stage_of walk views) item ≡ going (stage_of new later)
+Leads s Going walk views item (Ended proof_cap) new later = step s (stage_of walk views) item ≡ ended proof_cap
+Leads s Going walk views item (Faulty defect) new later = ⊤
+Leads s (Ended proof_cap) walk views item course new later = ⊥
+Leads s (Faulty defect) walk views item course new later = course ≡ Faulty defect

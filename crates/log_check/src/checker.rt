@@ -1,0 +1,140 @@
+//! The check of a proof's items, one at a time.
+ghost use Rattle.std.specs.Prelude.{map, ◌≡◌, ℕ, List as Items, [], ◌∷◌, ◌++◌, MatchOption, None, IfOk, OnOk};
+ghost use Rattle.proof_tree.specs.Views.{View, present};
+ghost use Rattle.row_relax.specs.Steps.{row_steps};
+ghost use Rattle.row_relax.specs.View.{Fits, view_of};
+ghost use Rattle.proof_tree.specs.Walk.{Stands};
+ghost use Rattle.proof_log.specs.Log.{RowItem};
+ghost use Rattle.log_check.specs.Meaning.{ItemDefect, line_after};
+ghost use Rattle.log_check.specs.Course.{StandsAt, IsReady, Leads, MayTake, IsTested, end_kind, course_of};
+
+use crate::course::Course;
+use crate::points::point_defect;
+use proof_log::Defect;
+use proof_tree::{Expected, Item, Relaxation, Took, Walk};
+use row_kit::{Area, Program};
+use row_relax::Rows;
+use std::alloc::{AllocError, Global};
+
+/// Takes the items of a proof and keeps the first meaning defect.
+pub struct Checker {
+    pub(crate) area: Area,
+    pub(crate) walk: Walk<Rows>,
+    pub(crate) course: Course,
+}
+
+impl Drop for Checker {
+    fn drop(self) {
+        let Checker {
+            area: _,
+            walk: _,
+            course: _,
+        } = self;
+    }
+}
+
+/// The defect of an item that shows before the walk takes it: that of a found point, or an empty domain under a certificate.
+fn defect_before(rows: &Rows, area: &Area, item: &Item<Rows>) -> Option<u8>
+    requires { Fits rows.now.program (present (map view_of area.now)) }
+    ensures { MatchOption result
+        (IsTested (row_steps rows.now.program) rows.now.program (present (map view_of area.now)) item.now)
+        (λ kind. ItemDefect (row_steps rows.now.program) rows.now.program (present (map view_of area.now)) item.now kind) }
+{
+    match item {
+        Item::Found(found) => point_defect(&rows.program, &found.value, found.point.as_slice()),
+        Item::Dual(_) | Item::Pending(_) => { if rows.empty(area) { Some(11) } else { None } }
+        Item::Node | Item::Cut(_) | Item::Empty | Item::Point | Item::Split(_, _) => None,
+    }
+}
+
+/// The kind of the defect of an end that gives no cap.
+fn end_kind(item: &Item<Rows>) -> u8
+    ensures { result ≡ end_kind item.now }
+{
+    match item {
+        Item::Empty => 10,
+        Item::Dual(_) | Item::Pending(_) => 12,
+        Item::Point => 18,
+        Item::Node | Item::Cut(_) | Item::Found(_) | Item::Split(_, _) => 0,
+    }
+}
+
+/// Where a check stands after what an item led to.
+fn course_of(took: Took, line: u64, kind: u8) -> Course
+    ensures { result ≡ course_of took line kind }
+{
+    match took {
+        Took::More => Course::Going,
+        Took::Done(cap) => Course::Ended(cap),
+        Took::Bad => Course::Faulty(Defect { line, kind }),
+    }
+}
+
+impl Checker {
+    /// A check that has taken nothing, over the rows' root.
+    pub fn new(alloc: Global, rows: &Rows) -> Result<Checker, AllocError>
+        ensures fits { IfOk result (λ checker. Fits rows.now.program (present (map view_of checker.area))) }
+        ensures area { IfOk result (λ checker. checker.area ≡ rows.now.program.root ∷ []) }
+        ensures course { IfOk result (λ checker. checker.course ≡ Course.Going) }
+        ensures first { IfOk result (λ checker. checker.walk.first ≡ None) }
+        ensures splits { IfOk result (λ checker. checker.walk.splits ≡ []) }
+        ensures expected { IfOk result (λ checker. checker.walk.expected ≡ Expected.Node) }
+    {
+        let area = rows.root_area(alloc)?;
+        Ok(Checker {
+            area,
+            walk: Walk::new(alloc),
+            course: Course::Going,
+        })
+    }
+
+    /// Where the check stands.
+    pub fn course(&self) -> Course
+        ensures { result ≡ self.now.course }
+    {
+        self.course
+    }
+
+    /// Takes an item that begins at this line. While the check goes on, it has to be one that may come and names what is there.
+    /// After a defect it changes nothing.
+    pub fn take(&mut self, rows: &Rows, line: u64, item: &Item<Rows>) -> Result<(), AllocError>
+        requires fits { Fits rows.now.program (present (map view_of self.old.area)) }
+        requires ready { IsReady (row_steps rows.now.program) self.old.course self.old.walk (map view_of self.old.area) }
+        requires may { MayTake (row_steps rows.now.program) self.old.course self.old.walk (present (map view_of self.old.area)) item.now }
+        ensures fits { Fits rows.now.program (present (map view_of self.new.area)) }
+        ensures ready { OnOk result (IsReady (row_steps rows.now.program) self.new.course self.new.walk (map view_of self.new.area)) }
+        ensures leads { OnOk result (Leads (row_steps rows.now.program) self.old.course self.old.walk (map view_of self.old.area) item.now
+            self.new.course self.new.walk (map view_of self.new.area)) }
+        ensures stands { OnOk result ((root : View) (items : Items RowItem) → line ≡ line_after items
+            → StandsAt (row_steps rows.now.program) rows.now.program root items self.old.course self.old.walk (map view_of self.old.area)
+            → StandsAt (row_steps rows.now.program) rows.now.program root (items ++ item.now ∷ []) self.new.course self.new.walk (map view_of self.new.area)) }
+    {
+        match self.course {
+            Course::Going => self.advance(rows, line, item),
+            Course::Ended(_) => Ok(()),
+            Course::Faulty(_) => Ok(()),
+        }
+    }
+
+    // Takes an item that may come, before any defect.
+    fn advance(&mut self, rows: &Rows, line: u64, item: &Item<Rows>) -> Result<(), AllocError>
+        requires fits { Fits rows.now.program (present (map view_of self.old.area)) }
+        requires ready { Stands (row_steps rows.now.program) self.old.walk (map view_of self.old.area) }
+        requires may { MayTake (row_steps rows.now.program) Course.Going self.old.walk (present (map view_of self.old.area)) item.now }
+        ensures fits { Fits rows.now.program (present (map view_of self.new.area)) }
+        ensures ready { OnOk result (IsReady (row_steps rows.now.program) self.new.course self.new.walk (map view_of self.new.area)) }
+        ensures leads { OnOk result (Leads (row_steps rows.now.program) Course.Going self.old.walk (map view_of self.old.area) item.now
+            self.new.course self.new.walk (map view_of self.new.area)) }
+        ensures stands { OnOk result ((root : View) (items : Items RowItem) → line ≡ line_after items
+            → StandsAt (row_steps rows.now.program) rows.now.program root items Course.Going self.old.walk (map view_of self.old.area)
+            → StandsAt (row_steps rows.now.program) rows.now.program root (items ++ item.now ∷ []) self.new.course self.new.walk (map view_of self.new.area)) }
+    {
+        if let Some(kind) = defect_before(rows, &self.area, item) {
+            self.course = Course::Faulty(Defect { line, kind });
+            return Ok(());
+        }
+        let took = self.walk.take(rows, &mut self.area, item)?;
+        self.course = course_of(took, line, end_kind(item));
+        Ok(())
+    }
+}

@@ -1,0 +1,41 @@
+//! What the checker of logs answers.
+ghost use Rattle.std.specs.Prelude.{◌≡◌};
+ghost use Rattle.log_check.specs.declared.verdict.CheckStop.TheVariants.{Fault as CheckFault, Memory as CheckMemory};
+
+use proof_log::{Claim, Defect};
+use std::alloc::AllocError;
+use stn_edge::Failed;
+
+/// Whether a log is valid.
+#[derive(Drop)]
+pub enum LogVerdict {
+    /// The log is valid, and what its claim says holds.
+    Yes(Claim),
+    /// The first defect of the log.
+    No(Defect),
+}
+
+/// Why a log was not checked.
+#[derive(Clone, Copy, PartialEq, Eq, Debug)]
+pub enum CheckStop {
+    /// A read failed: the count of read faults rose.
+    Fault,
+    /// No memory was found.
+    Memory,
+}
+
+impl From<Failed> for CheckStop {
+    ghost from_gives = { λ _ stop. stop ≡ CheckFault };
+
+    fn from(_failed: Failed) -> CheckStop {
+        CheckStop::Fault
+    }
+}
+
+impl From<AllocError> for CheckStop {
+    ghost from_gives = { λ _ stop. stop ≡ CheckMemory };
+
+    fn from(_error: AllocError) -> CheckStop {
+        CheckStop::Memory
+    }
+}
