@@ -1,5 +1,5 @@
 //! The constraint programs of worked plants, against rows that were worked out by hand.
-use crate::tests::{STEAM, TINT, TINY, WASH, edited};
+use crate::tests::{SEP, STEAM, TINT, TINY, WASH, edited};
 use plant_text::read_plant;
 use row_kit::{Entry, Program};
 use row_set::program_of;
@@ -29,8 +29,9 @@ const ROWS: [(&str, &[(&str, &str)], usize, i128, &[(u32, i64, i64)]); 11] = [
 ];
 
 // A plant, and how many rows its program has, its base, how many changes, and the profit entries.
-const PROGRAMS: [(&str, usize, i128, usize, &[(u32, i64, i64)]); 2] = [
+const PROGRAMS: [(&str, usize, i128, usize, &[(u32, i64, i64)]); 3] = [
     (TINY, 8, 12, 0, &[(0, 0, 8), (1, 0, 8)]),
+    (SEP, 22, 0, 0, &[(2, 0, 9), (3, 0, 9), (4, 0, 9)]),
     (
         TINT,
         14,

@@ -103,7 +103,7 @@ periods = 2
 "#;
 
 // A separation whose two outputs come after one and two periods.
-const SEP: &str = r#"version = 1
+pub const SEP: &str = r#"version = 1
 periods = 3
 [[state]]
 name = "mix"
