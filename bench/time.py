@@ -25,49 +25,57 @@ def timed(words):
     return os.read(reader, 4096).decode().split("\t")
 
 
+def tables(table, prefix, count, *keys):
+    """So many tables of one kind, named by number, each with these keys."""
+    return [line for n in range(count) for line in (f"[[{table}]]", f'name = "{prefix}{n}"', *keys)]
+
+
+def task(number, side, later):
+    """A task that takes from so many states and gives to as many others, in equal parts, and draws steam."""
+    lines = ["[[task]]", f'name = "t{number}"', f"quantum = {2 * side}"]
+    for i in range(side):
+        lines += ["[[task.input]]", f'state = "s{(number * side + i) % 40}"', f'part = "1/{side}"']
+    for i in range(side):
+        state = (number * side + i + later) % 40
+        lines += ["[[task.output]]", f'state = "s{state}"', f'part = "1/{side}"', "delay = 1"]
+    return lines + ["[[task.draw]]", 'utility = "steam"', "fixed = [1]", "each = [1]"]
+
+
+def run(number, unit):
+    """The run of a task on a unit, in batches of any size."""
+    return ["[[run]]", f'task = "t{number}"', f'unit = "u{unit}"', "min = 1", "max = 255", "cost = 1"]
+
+
+def gap(unit, first, second, periods):
+    """A cleaning gap of a unit between two tasks."""
+    tasks = [f'from = "t{first}"', f'to = "t{second}"']
+    return ["[[gap]]", f'unit = "u{unit}"', *tasks, f"periods = {periods}"]
+
+
+def text(*parts):
+    return "\n".join(line for part in parts for line in part) + "\n"
+
+
+STEAM = ["[[utility]]", 'name = "steam"', "limit = 1000000", "rate = 1"]
+
+
 def largest():
     """A plant of 512 slots, 40 states and 4,032 gaps, in a file of some 220 KiB."""
-    lines = ["version = 1", "periods = 64"]
-    for s in range(40):
-        lines += ["[[state]]", f'name = "s{s}"', "initial = 1000000", "price = 1", "holding = 1"]
-    lines += ["[[utility]]", 'name = "steam"', "limit = 1000000", "rate = 1"]
-    for u in range(8):
-        lines += ["[[unit]]", f'name = "u{u}"']
-    for t in range(8):
-        lines += ["[[task]]", f'name = "t{t}"', "quantum = 10"]
-        for i in range(5):
-            lines += ["[[task.input]]", f'state = "s{t * 5 + i}"', 'part = "1/5"']
-        for i in range(5):
-            lines += ["[[task.output]]", f'state = "s{(t * 5 + i + 1) % 40}"', 'part = "1/5"', "delay = 1"]
-        lines += ["[[task.draw]]", 'utility = "steam"', "fixed = [1]", "each = [1]"]
-        lines += ["[[run]]", f'task = "t{t}"', f'unit = "u{t}"', "min = 1", "max = 255", "cost = 1"]
-    for u, a, b in ((u, a, b) for u in range(8) for a in range(8) for b in range(8) if a != b):
-        lines += ["[[gap]]", f'unit = "u{u}"', f'from = "t{a}"', f'to = "t{b}"', "periods = 1"] * 9
-    return "\n".join(lines) + "\n"
+    states = tables("state", "s", 40, "initial = 1000000", "price = 1", "holding = 1")
+    works = [line for t in range(8) for line in task(t, 5, 1) + run(t, t)]
+    gaps = [gap(u, a, b, 1) * 9 for u in range(8) for a in range(8) for b in range(8) if a != b]
+    return text(["version = 1", "periods = 64"], states, STEAM, tables("unit", "u", 8), works, *gaps)
 
 
 def most_entries():
     """A plant of 336 periods, 40 states with limits, and 512 slots, all of them early: rows with many entries."""
-    lines = ["version = 2", "periods = 336"]
-    for s in range(40):
-        lines += ["[[state]]", f'name = "s{s}"', "initial = 1000000", "limit = 1000000000", "price = 1", "holding = 1"]
-    lines += ["[[utility]]", 'name = "steam"', "limit = 1000000", "rate = 1"]
-    for u in range(24):
-        lines += ["[[unit]]", f'name = "u{u}"']
-    for t in range(40):
-        lines += ["[[task]]", f'name = "t{t}"', "quantum = 8"]
-        for i in range(8):
-            lines += ["[[task.input]]", f'state = "s{(t * 8 + i) % 40}"', 'part = "1/8"']
-        for i in range(8):
-            lines += ["[[task.output]]", f'state = "s{(t * 8 + i + 11) % 40}"', 'part = "1/8"', "delay = 1"]
-        lines += ["[[task.draw]]", 'utility = "steam"', "fixed = [1]", "each = [1]"]
-    for r in range(64):
-        lines += ["[[run]]", f'task = "t{r % 40}"', f'unit = "u{(r // 40 * 13 + r) % 24}"', "min = 1", "max = 255"]
-    for u in range(24):
-        lines += ["[[outage]]", f'unit = "u{u}"', "from = 8", "to = 336"]
-    for u, a, b in ((u, a, b) for u in range(24) for a in range(40) for b in range(4)):
-        lines += ["[[gap]]", f'unit = "u{u}"', f'from = "t{a}"', f'to = "t{b}"', "periods = 2"]
-    return "\n".join(lines) + "\n"
+    states = tables("state", "s", 40, "initial = 1000000", "limit = 1000000000", "price = 1", "holding = 1")
+    tasks = [line for t in range(40) for line in task(t, 8, 11)]
+    runs = [line for r in range(64) for line in run(r % 40, (r // 40 * 13 + r) % 24)]
+    outages = [line for u in range(24) for line in ("[[outage]]", f'unit = "u{u}"', "from = 8", "to = 336")]
+    gaps = [gap(u, a, b, 2) for u in range(24) for a in range(40) for b in range(4)]
+    head = ["version = 2", "periods = 336"]
+    return text(head, states, STEAM, tables("unit", "u", 24), tasks, runs, outages, *gaps)
 
 
 def cuts(size):
@@ -92,9 +100,9 @@ def main():
         names = ("largest.toml", "full.plan", "late.plan", "entries.toml", "no.log", "cuts.log")
         plant, full, late, entries, no_log, cut_log = (os.path.join(folder, n) for n in names)
         texts = [largest(), plan(512), plan(2048), most_entries(), "no log\n", cuts(64 << 20)]
-        for path, text in zip((plant, full, late, entries, no_log, cut_log), texts):
+        for path, content in zip((plant, full, late, entries, no_log, cut_log), texts):
             with open(path, "w") as out:
-                out.write(text)
+                out.write(content)
         runs += [["simulate", plant, full], ["simulate", plant, late]]
         # The check makes the plant's program before it reads the log.
         runs += [["check", entries, no_log], ["check", os.path.join(top, "examples", "tiny.toml"), cut_log]]
