@@ -35,7 +35,8 @@ use Rattle.log_check.specs.declared.group.Grown.TheVariants.{More, Whole}
 use Rattle.log_check.specs.declared.progress.Progress.{Progress}
 use Rattle.log_check.specs.Agree.{GroupAgrees, ItemAt, item_step, ClaimAt, StaysAt, GrownAgrees, PlaceExpects, IsPastProof, CourseAgrees, ClaimAgrees, IsBody}
 use Rattle.log_check.specs.Course.{RowWalk, StandsAt, IsReady, IsNamed, MayTake, Leads}
-use Rattle.log_check.specs.Gathering.{IsOver, group_lines, piece_lines, IsPieceOver, followed, MayFollow, HasLines}
+use Rattle.proof_log.specs.OneText.{IsOver}
+use Rattle.log_check.specs.Gathering.{group_lines, piece_lines, IsPieceOver, followed, MayFollow, HasLines}
 use Rattle.log_check.specs.Meaning.{RowSteps, line_after}
 use Rattle.log_check.specs.Progress.{begun_at, tail_lines, lines_at, IsFresh, BeganAt, IsAt, IsSteady, Followed}
 use Rattle.log_check.proofs.Agreeing.{line_follows, item_comes, item_agrees, item_ends}

@@ -40,7 +40,7 @@ use Rattle.log_check.specs.declared.verdict.LogVerdict.{LogVerdict}
 use Rattle.log_check.specs.declared.verdict.LogVerdict.TheVariants.{Yes, No}
 use Rattle.log_check.specs.Agree.{CourseAgrees, ClaimAgrees, StageAgrees, PlaceExpects}
 use Rattle.log_check.specs.Course.{RowWalk, StandsAt}
-use Rattle.log_check.specs.Gathering.{IsOver, IsClaimOver}
+use Rattle.proof_log.specs.OneText.{IsOver, IsClaimOver}
 use Rattle.log_check.specs.Meaning.{RowSteps, IsWorth, NoneAbove, Holds, PointDefect, CappedDefect, ClaimDefect, IsSoundClaim, IsAbove, AllowsPoint, IsProved, line_after}
 use Rattle.log_check.specs.Progress.{lines_at, BeganAt, IsAt}
 use Rattle.log_check.specs.Verdict.{IsLog, HasMeaning, IsMeant, YesHolds, JudgedAs}

@@ -2,9 +2,9 @@
 use Rattle.std.specs.Prelude.{◌≡◌, ◌+◌, ◌-◌, ◌==◌, ◌<◌, ◌≤◌, ◌^◌, ⊤, ℕ, List, [], ◌∷◌, ◌++◌, map, length, replicate, if◌then◌else◌}
 use Rattle.dual_bound.specs.declared.cert.Mult.{Mult}
 use Rattle.proof_tree.specs.declared.item.Item.TheVariants.{Node, Cut, Found as FoundItem, Empty, Dual as DualItem, Point, Pending as PendingItem, Split as SplitItem}
-use Rattle.proof_log.specs.declared.claim.Claim.{Claim}
 use Rattle.proof_log.specs.declared.claim.Claim.TheVariants.{Optimal as OptimalClaim, Infeasible, Between as BetweenClaim, Below}
-use Rattle.proof_log.specs.Log.{RowItem, started, value_lines, mult_line, item_lines, claim_lines}
+use Rattle.proof_log.specs.OneText.{IsOver, IsClaimOver}
+use Rattle.proof_log.specs.Log.{started, value_lines, mult_line, item_lines, claim_lines}
 use Rattle.log_lines.specs.declared.line.Line.{Line}
 use Rattle.log_lines.specs.declared.line.Line.TheVariants.{Header, Node as NodeLine, Cut as CutLine, Found as FoundLine, Value as ValueLine, Empty as EmptyLine, Point as PointLine, Dual as DualLine, Pending as PendingLine, Split as SplitLine, Mult as MultLine, ClaimOptimal, ClaimInfeasible, ClaimBetween, ClaimBelow, End as EndLine}
 use Rattle.log_check.specs.declared.group.ValueHead.{ValueHead}
@@ -17,24 +17,6 @@ use Rattle.log_check.specs.declared.group.Piece.{Piece}
 use Rattle.log_check.specs.declared.group.Piece.TheVariants.{Item, Claim as ClaimPiece}
 use Rattle.log_check.specs.declared.group.Grown.{Grown}
 use Rattle.log_check.specs.declared.group.Grown.TheVariants.{More, Whole}
-
--- a found point has a value for each of this many slots
-abbrev pub IsOver : ℕ → RowItem → Type 0
-IsOver slots Node = ⊤
-IsOver slots (Cut cut) = ⊤
-IsOver slots (FoundItem found) = length found.point ≡ slots
-IsOver slots Empty = ⊤
-IsOver slots (DualItem cert) = ⊤
-IsOver slots Point = ⊤
-IsOver slots (PendingItem cert) = ⊤
-IsOver slots (SplitItem pick cert) = ⊤
-
--- a claim's point has a value for each of this many slots
-abbrev pub IsClaimOver : ℕ → Claim → Type 0
-IsClaimOver slots (OptimalClaim profit point) = length point ≡ slots
-IsClaimOver slots Infeasible = ⊤
-IsClaimOver slots (BetweenClaim profit most point) = length point ≡ slots
-IsClaimOver slots (Below most) = ⊤
 
 -- the line before this many value lines
 abbrev pub value_head_line : ValueHead → ℕ → Line
@@ -147,6 +129,13 @@ MayBegin ClaimInfeasible = ⊤
 MayBegin (ClaimBetween profit most count) = ⊤
 MayBegin (ClaimBelow most) = ⊤
 MayBegin EndLine = ⊥
+
+-- a line begins an item with a certificate
+abbrev pub HasCert : Line → Type 0
+HasCert (DualLine scale count) = ⊤
+HasCert (PendingLine scale count) = ⊤
+HasCert (SplitLine slot max scale count) = ⊤
+HasCert _ = ⊥
 
 -- a line may follow in a group of values: it is a value of a later slot
 abbrev pub MayValue : ℕ → ℕ → List ℕ → Line → Type 0

@@ -15,7 +15,8 @@ use Rattle.log_check.specs.declared.group.Group.TheVariants.{Nothing, Values, Mu
 use Rattle.log_check.specs.declared.progress.Progress.{Progress}
 use Rattle.log_check.specs.Agree.{GroupAgrees, CourseAgrees, ClaimAgrees}
 use Rattle.log_check.specs.Course.{StandsAt, IsReady}
-use Rattle.log_check.specs.Gathering.{IsOver, IsClaimOver, group_lines}
+use Rattle.proof_log.specs.OneText.{IsOver, IsClaimOver}
+use Rattle.log_check.specs.Gathering.{group_lines}
 use Rattle.log_check.specs.Meaning.{RowSteps, line_after}
 
 -- the line at which the group began that a line follows

@@ -12,7 +12,7 @@ use Rattle.log_lines.specs.declared.grammar.Limits.{Limits}
 use Rattle.log_lines.specs.TextDefect.{log_text_defect}
 use Rattle.log_check.specs.declared.verdict.LogVerdict.{LogVerdict}
 use Rattle.log_check.specs.declared.verdict.LogVerdict.TheVariants.{Yes, No}
-use Rattle.log_check.specs.Gathering.{IsOver, IsClaimOver}
+use Rattle.proof_log.specs.OneText.{IsOver, IsClaimOver}
 use Rattle.log_check.specs.Meaning.{ClaimDefect, IsSoundClaim, IsMeaning, IsProved, Holds}
 
 -- the bytes are the text of a log whose points have a value for each slot

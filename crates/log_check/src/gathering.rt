@@ -1,6 +1,6 @@
 //! The gathering of lines into items and a claim.
-ghost use Rattle.std.specs.Prelude.{◌≡◌, ◌≤◌, length, OnOk, IfOk};
-ghost use Rattle.log_check.specs.Gathering.{padded, value_piece, mult_piece, grown_values, grown_mults, begun, valued, multed, followed, MayBegin, MayValue, MayMult, MayFollow};
+ghost use Rattle.std.specs.Prelude.{ℕ, [], ◌≡◌, ◌≤◌, length, OnOk, IfOk};
+ghost use Rattle.log_check.specs.Gathering.{HasCert, padded, value_piece, mult_piece, grown_values, grown_mults, begun, valued, multed, followed, MayBegin, MayValue, MayMult, MayFollow};
 
 use crate::group::{Group, Grown, MultHead, Piece, ValueHead};
 use dual_bound::{Cert, Mult};
@@ -80,45 +80,56 @@ fn begin(alloc: Global, slots: usize, line: Line) -> Result<Grown, AllocError>
 {
     match line {
         Line::Node => Ok(Grown::Whole(Piece::Item(Item::Node))),
-        Line::Cut { row, slot } => {
-            let cut = RowCut {
-                row: row as u32,
-                slot: slot as u32,
-            };
-            Ok(Grown::Whole(Piece::Item(Item::Cut(cut))))
-        }
+        Line::Cut { row, slot } => Ok(Grown::Whole(Piece::Item(Item::Cut(RowCut {
+            row: row as u32,
+            slot: slot as u32,
+        })))),
         Line::Empty => Ok(Grown::Whole(Piece::Item(Item::Empty))),
         Line::Point => Ok(Grown::Whole(Piece::Item(Item::Point))),
         Line::ClaimInfeasible => Ok(Grown::Whole(Piece::Claim(Claim::Infeasible))),
         Line::ClaimBelow { cap } => Ok(Grown::Whole(Piece::Claim(Claim::Below { cap }))),
-        Line::Found { value, count } => {
-            grow_values(slots, ValueHead::Found { value }, count, List::new(alloc))
-        }
-        Line::ClaimOptimal { profit, count } => {
-            grow_values(
-                slots,
-                ValueHead::Optimal { profit },
-                count,
-                List::new(alloc),
-            )
-        }
-        Line::ClaimBetween { profit, cap, count } => grow_values(
+        Line::Found { value, count } => begin_values(
+            alloc,
             slots,
-            ValueHead::Between { profit, cap },
+            ValueHead::Found { value },
             count,
-            List::new(alloc),
         ),
+        Line::ClaimOptimal { profit, count } => {
+            begin_values(alloc, slots, ValueHead::Optimal { profit }, count)
+        }
+        Line::ClaimBetween { profit, cap, count } => {
+            begin_values(alloc, slots, ValueHead::Between { profit, cap }, count)
+        }
+        _ => Ok(begin_mults(alloc, line)),
+    }
+}
+
+/// A head of which so many values have to come.
+fn begin_values(
+    alloc: Global,
+    slots: usize,
+    head: ValueHead,
+    count: u128,
+) -> Result<Grown, AllocError>
+    ensures { IfOk result (λ grown. grown ≡ grown_values slots head count []) }
+{
+    grow_values(slots, head, count, List::new(alloc))
+}
+
+/// The first line of an item with a certificate.
+fn begin_mults(alloc: Global, line: Line) -> Grown
+    requires may { MayBegin line }
+    requires certified { HasCert line }
+    ensures { (slots : ℕ) → result ≡ begun slots line }
+{
+    match line {
         Line::Dual { scale, count } => {
-            let head = MultHead::Dual {
-                scale: scale as u32,
-            };
-            Ok(grow_mults(head, count, List::new(alloc)))
+            let scale = scale as u32;
+            grow_mults(MultHead::Dual { scale }, count, List::new(alloc))
         }
         Line::Pending { scale, count } => {
-            let head = MultHead::Pending {
-                scale: scale as u32,
-            };
-            Ok(grow_mults(head, count, List::new(alloc)))
+            let scale = scale as u32;
+            grow_mults(MultHead::Pending { scale }, count, List::new(alloc))
         }
         Line::Split {
             slot,
@@ -126,19 +137,14 @@ fn begin(alloc: Global, slots: usize, line: Line) -> Result<Grown, AllocError>
             scale,
             count,
         } => {
-            let head = MultHead::Split {
-                pick: RowPick {
-                    slot: slot as u32,
-                    max,
-                },
-                scale: scale as u32,
+            let pick = RowPick {
+                slot: slot as u32,
+                max,
             };
-            Ok(grow_mults(head, count, List::new(alloc)))
+            let scale = scale as u32;
+            grow_mults(MultHead::Split { pick, scale }, count, List::new(alloc))
         }
-        Line::Header { version: _ } => unreachable!(),
-        Line::Value { slot: _, quanta: _ } => unreachable!(),
-        Line::Mult { row: _, factor: _ } => unreachable!(),
-        Line::End => unreachable!(),
+        _ => unreachable!(),
     }
 }
 
