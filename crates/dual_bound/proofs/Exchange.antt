@@ -10,11 +10,11 @@ use Rattle.row_kit.specs.declared.row.Entry.{Entry}
 use Rattle.row_kit.specs.declared.row.Row.{Row}
 use Rattle.row_kit.specs.Domain.{Holds, domain_at, values_of}
 use Rattle.row_kit.specs.Point.{value_of}
-use Rattle.row_kit.specs.Row.{counted, entries_sum, IsKept}
+use Rattle.row_kit.specs.Row.{IsKept, counted, entries_sum, entry_at, row_at}
 use Rattle.row_kit.proofs.Domains.{values-from_Holds}
 use Rattle.dual_bound.specs.declared.cert.Cert.{Cert}
 use Rattle.dual_bound.specs.declared.cert.Mult.{Mult}
-use Rattle.dual_bound.specs.Total.{entry_at, row_at, rows_at, limits_sum, gain, greatest, slots_total, total_of, BoundsScaled}
+use Rattle.dual_bound.specs.Total.{rows_at, limits_sum, gain, greatest, slots_total, total_of, BoundsScaled}
 use Rattle.dual_bound.proofs.Signed.{mul_add, mul_le}
 use Rattle.dual_bound.proofs.Greatest.{greatest_bound}
 

@@ -8,11 +8,10 @@ use Rattle.std.proofs.lemmas.Int.{ints}
 use Rattle.std.proofs.Math.IntN.{*ℤ-zero, zero-*ℤ, +ℤ_idl, pos-*ℤ-pos, negsuc-*ℤ-pos}
 use Rattle.std.proofs.Math.Nat.{mul-le-mul_left}
 use Rattle.row_kit.specs.declared.row.Entry.{Entry}
-use Rattle.row_kit.specs.Row.{counted}
+use Rattle.row_kit.specs.Row.{counted, entry_at}
 use Rattle.row_kit.proofs.Ascending.{no_entry}
 use Rattle.dual_bound.specs.declared.line.Line.{Line}
 use Rattle.dual_bound.specs.Line.{line_at, slot_line, IsWithin}
-use Rattle.dual_bound.specs.Total.{entry_at}
 use Rattle.dual_bound.proofs.Signed.{mul_add, mul_assoc, add_mul, neg_mul}
 
 four_sum : (x a b y c d z e f : ℤ) → x ≡ a +ℤ b → y ≡ c +ℤ d → z ≡ e +ℤ f → a ≡ c +ℤ e → b ≡ d +ℤ f → x ≡ y +ℤ z

@@ -13,15 +13,6 @@ use Rattle.dual_bound.specs.declared.cert.Cert.{Cert}
 use Rattle.dual_bound.specs.declared.cert.Mult.{Mult}
 use Rattle.dual_bound.specs.declared.limits.TheConstants.{MOST_FACTOR, MOST_SCALE, MOST_MULTS}
 
--- what entries count for a slot at a value
-abbrev pub entry_at : List Entry → ℕ → ℕ → ℤ
-entry_at [] slot value = pos 0
-entry_at (entry ∷ entries) slot value = (if entry.slot == slot then counted entry value else pos 0) +ℤ entry_at entries slot value
-
--- the row of a number, and a row with nothing in it where there is none
-abbrev pub row_at : List Row → ℕ → Row
-row_at rows number = slice_index_or rows number (record { entries = []; limit = pos 0 })
-
 -- what the rows with factors count for a slot at a value: the sum of factor times entry
 abbrev pub rows_at : List Row → List Mult → ℕ → ℕ → ℤ
 rows_at rows [] slot value = pos 0

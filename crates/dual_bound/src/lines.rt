@@ -1,7 +1,8 @@
 ghost use Rattle.std.specs.Prelude.{◌≡◌, ℕ, ◌+◌, ◌*◌, ◌≤◌, ◌<◌, ◌^◌, length, pos, neg_ℤ, ◌+ℤ◌, ◌*ℤ◌};
 ghost use Rattle.std.specs.List.{All};
+ghost use Rattle.row_kit.specs.Row.{entry_at};
 ghost use Rattle.dual_bound.specs.Line.{line_at, slot_line, IsLight, IsWithin};
-ghost use Rattle.dual_bound.specs.Total.{entry_at, rows_at, IsFitMult};
+ghost use Rattle.dual_bound.specs.Total.{rows_at, IsFitMult};
 ghost use Rattle.row_kit.specs.Bounds.{IsBoundedRow};
 
 use crate::cert::Mult;

@@ -1,10 +1,11 @@
 -- What the limits allow to be named is there.
 use Rattle.std.proofs.Common.{◌≡◌, ◌≢◌, ℕ, ◌<◌, nat_lt, Bool, true, false, ◌&&◌, List, length, None, arith}
 use Rattle.std.proofs.lemmas.Bool.Decides.{nat_tests}
+use Rattle.row_kit.specs.Row.{row_at}
 use Rattle.row_kit.specs.declared.domain.Domain.{Domain}
 use Rattle.row_kit.specs.declared.program.Program.{Program}
 use Rattle.row_kit.specs.Domain.{up_to}
-use Rattle.range_prop.specs.Cut.{cut_domains, row_at}
+use Rattle.range_prop.specs.Cut.{cut_domains}
 use Rattle.proof_tree.specs.Views.{View}
 use Rattle.row_relax.specs.Steps.{row_steps, shown_if, kept_at}
 use Rattle.row_relax.specs.View.{Fits, domains_of}

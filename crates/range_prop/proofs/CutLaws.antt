@@ -11,9 +11,9 @@ use Rattle.row_kit.specs.declared.row.Entry.{Entry}
 use Rattle.row_kit.specs.declared.row.Row.{Row}
 use Rattle.row_kit.specs.Domain.{Holds, IsBare, IsNormal, count_of, domain_at, no_values}
 use Rattle.row_kit.specs.Point.{LiesIn}
-use Rattle.row_kit.specs.Row.{IsKept, counted, entries_sum}
+use Rattle.row_kit.specs.Row.{IsKept, counted, entries_sum, entry_at}
 use Rattle.row_kit.proofs.Marks.{LiesIn-set}
-use Rattle.range_prop.specs.Cut.{cut_domain, shrinks, has_room, is_bare, kept_of, least_others, own_counted}
+use Rattle.range_prop.specs.Cut.{cut_domain, shrinks, has_room, is_bare, kept_of, least_others}
 use Rattle.range_prop.proofs.Entries.{row_at_least}
 use Rattle.range_prop.proofs.Kept.{kept_fewer, kept_holds, kept_normal, kept_same, kept_within}
 use Rattle.range_prop.proofs.Multiples.{le_true, true_le, same_test}
@@ -54,8 +54,8 @@ cut_keeps row slot ds p lt normal' named lies kept =
     let same : set ds slot (cut_domain row slot ds) ≡ ds = ap (set ds slot) (cut_bare row slot ds e) ∙ set-get_or ds slot no_values in
     subst (λ (x : List Domain). LiesIn x p) (sym same) lies)
     (λ (e : list_any is_bare ds ≡ false).
-    let room = le_le (own_counted row.entries slot (get_or p slot 0) +ℤ least_others row.entries slot ds) (entries_sum row.entries p) row.limit (row_at_least row.entries slot ds p named lies) kept in
-    let pass = le_true (own_counted row.entries slot (get_or p slot 0) +ℤ least_others row.entries slot ds) row.limit room in
+    let room = le_le (entry_at row.entries slot (get_or p slot 0) +ℤ least_others row.entries slot ds) (entries_sum row.entries p) row.limit (row_at_least row.entries slot ds p named lies) kept in
+    let pass = le_true (entry_at row.entries slot (get_or p slot 0) +ℤ least_others row.entries slot ds) row.limit room in
     let held = kept_holds (has_room row slot ds) (domain_at ds slot) (get_or p slot 0) normal'.positive (lies.held slot lt) pass in
     subst (λ (x : Domain). LiesIn (set ds slot x) p) (sym (cut_open row slot ds e)) (LiesIn-set ds p slot (kept_of (has_room row slot ds) (domain_at ds slot)) lt lies held))
     (cases_Bool (list_any is_bare ds))
@@ -67,15 +67,15 @@ pub moved_back : (own c others limit room : ℤ) → own ≡ c → room ≡ limi
 moved_back own c others limit room e q h = omega (arith, ints)
 
 -- a row has room where the slot's own entry counts at most the limit less the least others
-pub has_room_is : (row : Row) (slot : ℕ) (ds : List Domain) (own : Entry) (room : ℤ) (v : ℕ) → own_counted row.entries slot v ≡ counted own v → room ≡ row.limit -ℤ least_others row.entries slot ds → has_room row slot ds v ≡ int_le (counted own v) room
+pub has_room_is : (row : Row) (slot : ℕ) (ds : List Domain) (own : Entry) (room : ℤ) (v : ℕ) → entry_at row.entries slot v ≡ counted own v → room ≡ row.limit -ℤ least_others row.entries slot ds → has_room row slot ds v ≡ int_le (counted own v) room
 has_room_is row slot ds own room v e q =
     let others = least_others row.entries slot ds in
     same_test (has_room row slot ds v) (int_le (counted own v) room)
-    (λ h. le_true (counted own v) room (moved (own_counted row.entries slot v) (counted own v) others row.limit room e q (true_le (own_counted row.entries slot v +ℤ others) row.limit h)))
-    (λ h. le_true (own_counted row.entries slot v +ℤ others) row.limit (moved_back (own_counted row.entries slot v) (counted own v) others row.limit room e q (true_le (counted own v) room h)))
+    (λ h. le_true (counted own v) room (moved (entry_at row.entries slot v) (counted own v) others row.limit room e q (true_le (entry_at row.entries slot v +ℤ others) row.limit h)))
+    (λ h. le_true (entry_at row.entries slot v +ℤ others) row.limit (moved_back (entry_at row.entries slot v) (counted own v) others row.limit room e q (true_le (counted own v) room h)))
 
 -- what a cut leaves, by the slot's own entry and the room
-pub cut_is : (row : Row) (slot : ℕ) (ds : List Domain) (own : Entry) (room : ℤ) → list_any is_bare ds ≡ false → ((v : ℕ) → own_counted row.entries slot v ≡ counted own v) → room ≡ row.limit -ℤ least_others row.entries slot ds → cut_domain row slot ds ≡ kept_of (λ v. int_le (counted own v) room) (domain_at ds slot)
+pub cut_is : (row : Row) (slot : ℕ) (ds : List Domain) (own : Entry) (room : ℤ) → list_any is_bare ds ≡ false → ((v : ℕ) → entry_at row.entries slot v ≡ counted own v) → room ≡ row.limit -ℤ least_others row.entries slot ds → cut_domain row slot ds ≡ kept_of (λ v. int_le (counted own v) room) (domain_at ds slot)
 cut_is row slot ds own room e own_is q =
     cut_open row slot ds e ∙ kept_same (has_room row slot ds) (λ v. int_le (counted own v) room) (domain_at ds slot) (λ v. has_room_is row slot ds own room v (own_is v) q)
 

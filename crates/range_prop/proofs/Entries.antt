@@ -10,10 +10,10 @@ use Rattle.row_kit.specs.declared.domain.Domain.{Domain}
 use Rattle.row_kit.specs.declared.row.Entry.{Entry}
 use Rattle.row_kit.specs.Domain.{domain_at, no_values, values_of}
 use Rattle.row_kit.specs.Point.{LiesIn}
-use Rattle.row_kit.specs.Row.{counted, entries_sum}
+use Rattle.row_kit.specs.Row.{counted, entries_sum, entry_at}
 use Rattle.row_kit.proofs.Ascending.{no_entry, other_slots}
 use Rattle.row_kit.proofs.Domains.{values-from_Holds}
-use Rattle.range_prop.specs.Cut.{least, least_counted, least_others, least_sum, own_counted}
+use Rattle.range_prop.specs.Cut.{least, least_counted, least_others, least_sum}
 use Rattle.range_prop.proofs.Least.{least_bound}
 
 -- no entry is the slot's
@@ -23,7 +23,7 @@ IsWithout es slot = (j : ℕ) → j < length es → (get_or es j no_entry).slot 
 tail_without : (e : Entry) (es : List Entry) (slot : ℕ) → IsWithout (e ∷ es) slot → IsWithout es slot
 tail_without e es slot without j lt = without (suc j) (omega arith)
 
-pub own_without : (es : List Entry) (slot v : ℕ) → IsWithout es slot → own_counted es slot v ≡ pos 0
+pub own_without : (es : List Entry) (slot v : ℕ) → IsWithout es slot → entry_at es slot v ≡ pos 0
 own_without [] slot v without = refl
 own_without (e ∷ es) slot v without =
     let other = cond-false (eqb e.slot slot) (counted e v) (pos 0) (ne_eqb e.slot slot (without 0 (omega arith))) in
@@ -46,7 +46,7 @@ alone es up k lt j in_j apart = other_slots es up j k in_j lt apart
 next_apart : (j k : ℕ) → (j ≡ k → ⊥) → suc j ≡ suc k → ⊥
 next_apart j k apart e = omega (arith, apart, e)
 
-pub own_alone : (es : List Entry) (k v : ℕ) → k < length es → IsAlone es k → own_counted es (get_or es k no_entry).slot v ≡ counted (get_or es k no_entry) v
+pub own_alone : (es : List Entry) (k v : ℕ) → k < length es → IsAlone es k → entry_at es (get_or es k no_entry).slot v ≡ counted (get_or es k no_entry) v
 own_alone [] k v lt only = absurd (omega arith)
 own_alone (e ∷ es) zero v lt only =
     let own = cond-true (eqb e.slot e.slot) (counted e v) (pos 0) (eq-eqb e.slot e.slot refl) in
@@ -67,7 +67,7 @@ others_alone (e ∷ es) (suc k) ds lt only =
     omega (arith, ints, other, others_alone es k ds (omega arith) (λ j h apart. only (suc j) (omega arith) (next_apart j k apart)))
 
 -- what a row sums to at a point is at least its own entry plus the least others
-pub row_at_least : (es : List Entry) (slot : ℕ) (ds : List Domain) (p : List ℕ) → All (λ e. e.slot < length ds) es → LiesIn ds p → (own_counted es slot (get_or p slot 0) +ℤ least_others es slot ds) ≤ℤ entries_sum es p
+pub row_at_least : (es : List Entry) (slot : ℕ) (ds : List Domain) (p : List ℕ) → All (λ e. e.slot < length ds) es → LiesIn ds p → (entry_at es slot (get_or p slot 0) +ℤ least_others es slot ds) ≤ℤ entries_sum es p
 row_at_least [] slot ds p named lies = omega (arith, ints)
 row_at_least (e ∷ es) slot ds p named lies =
     let rest = row_at_least es slot ds p (All-tail (λ x. x.slot < length ds) e es named) lies in

@@ -7,7 +7,7 @@ use Rattle.std.proofs.lemmas.List.Elements.{Contains-append_left, Contains-get_o
 use Rattle.row_kit.specs.declared.row.Entry.{Entry}
 use Rattle.row_kit.specs.declared.row.Row.{Row}
 use Rattle.row_kit.proofs.Ascending.{no_entry, slot_at}
-use Rattle.range_prop.specs.Cut.{row_at}
+use Rattle.row_kit.specs.Row.{row_at}
 use Rattle.range_prop.specs.Index.{AreListed, HasEntry, list_of}
 use Rattle.range_prop.proofs.Entries.{IsWithout}
 

@@ -13,11 +13,11 @@ use Rattle.row_kit.specs.declared.row.Entry.{Entry}
 use Rattle.row_kit.specs.declared.row.Row.{Row}
 use Rattle.row_kit.specs.Area.{is_same, present, with_domain}
 use Rattle.row_kit.specs.Domain.{Holds, IsBare, IsNormal, IsOpen, count_of, domain_at, no_values}
-use Rattle.row_kit.specs.Row.{counted}
+use Rattle.row_kit.specs.Row.{counted, entry_at, row_at}
 use Rattle.row_kit.proofs.Ascending.{no_entry}
 use Rattle.row_kit.proofs.Histories.{is_same_true}
 use Rattle.range_prop.specs.declared.row_cut.RowCut.{RowCut}
-use Rattle.range_prop.specs.Cut.{cut_domain, has_room, is_bare, kept_of, least_counted, least_others, least_sum, own_counted, row_at, shrinks}
+use Rattle.range_prop.specs.Cut.{cut_domain, has_room, is_bare, kept_of, least_counted, least_others, least_sum, shrinks}
 use Rattle.range_prop.specs.Cuts.{HasCut, IsMade, after_cut}
 use Rattle.range_prop.proofs.CutLaws.{cut_is, cut_normal, cut_open}
 use Rattle.range_prop.proofs.Entries.{alone, least_counted-set, others_alone, own_alone}
@@ -53,7 +53,7 @@ module _ (rows : List Row) (number : ℕ) (es : List Entry) (entries_are : es �
   led h up lt is =
       let only = alone es up i lt in
       let room = room_of slack (row_at rows number).limit (least_sum es (present old)) (least_sum es (present marks)) (least_others es e.slot (present marks)) (least_counted (present marks) e) is h.sum (others_alone es i (present marks) lt only) in
-      cut_is (row_at rows number) e.slot (present marks) e (slack +ℤ least_counted (present marks) e) (open_none (present marks) h.open') (λ v. ap (λ (xs : List Entry). own_counted xs e.slot v) (sym entries_are) ∙ own_alone es i v lt only)
+      cut_is (row_at rows number) e.slot (present marks) e (slack +ℤ least_counted (present marks) e) (open_none (present marks) h.open') (λ v. ap (λ (xs : List Entry). entry_at xs e.slot v) (sym entries_are) ∙ own_alone es i v lt only)
       (room ∙ ap (λ (xs : List Entry). (row_at rows number).limit -ℤ least_others xs e.slot (present marks)) entries_are)
 
   -- the look goes on, whatever has been listed
@@ -142,7 +142,7 @@ above limit sum own h k = omega (arith, ints)
 pub cut_to_none : (row : Row) (slot : ℕ) (ds : List Domain) → All IsOpen ds → IsNormal (domain_at ds slot) → row.limit <ℤ least_sum row.entries ds → count_of (cut_domain row slot ds) ≡ 0
 cut_to_none row slot ds open' normal' more =
     ap count_of (cut_open row slot ds (open_none ds open'))
-    ∙ kept_none (has_room row slot ds) (domain_at ds slot) normal' (λ v held. le_false (own_counted row.entries slot v +ℤ least_others row.entries slot ds) row.limit (above row.limit (least_sum row.entries ds) (own_counted row.entries slot v +ℤ least_others row.entries slot ds) more (sum_below row.entries slot v ds held)))
+    ∙ kept_none (has_room row slot ds) (domain_at ds slot) normal' (λ v held. le_false (entry_at row.entries slot v +ℤ least_others row.entries slot ds) row.limit (above row.limit (least_sum row.entries ds) (entry_at row.entries slot v +ℤ least_others row.entries slot ds) more (sum_below row.entries slot v ds held)))
 
 -- and so it shrinks the domain
 pub shrinks_to_none : (row : Row) (slot : ℕ) (ds : List Domain) → IsOpen (domain_at ds slot) → count_of (cut_domain row slot ds) ≡ 0 → shrinks row slot ds ≡ true

@@ -10,9 +10,9 @@ use Rattle.row_kit.specs.declared.row.Entry.{Entry}
 use Rattle.row_kit.specs.declared.row.Row.{Row}
 use Rattle.row_kit.specs.Area.{is_same}
 use Rattle.row_kit.specs.Domain.{Holds, IsNormal, domain_at, no_values}
-use Rattle.row_kit.specs.Row.{counted}
+use Rattle.row_kit.specs.Row.{counted, entry_at}
 use Rattle.row_kit.proofs.Ascending.{no_entry}
-use Rattle.range_prop.specs.Cut.{cut_domain, has_room, is_bare, least_counted, least_others, least_sum, own_counted}
+use Rattle.range_prop.specs.Cut.{cut_domain, has_room, is_bare, least_counted, least_others, least_sum}
 use Rattle.range_prop.specs.Cuts.{HasRoom, IsStill}
 use Rattle.range_prop.proofs.CutLaws.{cut_bare, cut_open}
 use Rattle.range_prop.proofs.Entries.{IsWithout, alone, least_others-own, least_others-without, others_alone, others_without, own_alone, own_without}
@@ -29,7 +29,7 @@ HasRoom-still row ds normal' room slot lt =
     ⊎_elim
     (λ (e : list_any is_bare ds ≡ true). same (cut_bare row slot ds e))
     (λ (e : list_any is_bare ds ≡ false).
-    same (cut_open row slot ds e ∙ kept_all (has_room row slot ds) d (normal' slot no_values lt) (λ v held. le_true (own_counted row.entries slot v +ℤ least_others row.entries slot ds) row.limit (room slot v lt held))))
+    same (cut_open row slot ds e ∙ kept_all (has_room row slot ds) d (normal' slot no_values lt) (λ v held. le_true (entry_at row.entries slot v +ℤ least_others row.entries slot ds) row.limit (room slot v lt held))))
     (cases_Bool (list_any is_bare ds))
 
 -- a slot has an entry, or it has none
@@ -67,9 +67,9 @@ HasRoom-near row ds slack up is some near slot v lt held =
     let e = get_or es k no_entry in
     let only = alone es up k found.1 in
     let here = subst (λ (n : ℕ). Holds (domain_at ds n) v) (sym found.2) held in
-    let room = at_own (own_counted es e.slot v) (counted e v) (least_others es e.slot ds) (least_sum es ds) row.limit slack (least_counted ds e) (own_alone es k v found.1 only) (others_alone es k ds found.1 only) is (near k found.1 v here) in
-    subst (λ (n : ℕ). (own_counted es n v +ℤ least_others es n ds) ≤ℤ row.limit) found.2 room)
-    (λ (without : IsWithout es slot). at_none (own_counted es slot v) (least_others es slot ds) (least_sum es ds) row.limit slack (own_without es slot v without) (others_without es slot ds without) is some)
+    let room = at_own (entry_at es e.slot v) (counted e v) (least_others es e.slot ds) (least_sum es ds) row.limit slack (least_counted ds e) (own_alone es k v found.1 only) (others_alone es k ds found.1 only) is (near k found.1 v here) in
+    subst (λ (n : ℕ). (entry_at es n v +ℤ least_others es n ds) ≤ℤ row.limit) found.2 room)
+    (λ (without : IsWithout es slot). at_none (entry_at es slot v) (least_others es slot ds) (least_sum es ds) row.limit slack (own_without es slot v without) (others_without es slot ds without) is some)
     (find_entry es slot)
 
 -- a row keeps its room where a slot that it doesn't name loses values
@@ -83,7 +83,7 @@ HasRoom-without row ds slot d in' without within many room other v lt held =
     subst (λ (n : ℕ). Holds (domain_at ds n) v) (sym here) (within v at))
     (λ (apart : other ≡ slot → ⊥). subst (λ (x : Domain). Holds x v) (get_or-set_other ds slot other d no_values apart) held)
     (cases_eq other slot) in
-    subst (λ (x : ℤ). (own_counted es other v +ℤ x) ≤ℤ row.limit) (sym (least_others-without es slot other ds d without)) (room other v (omega (arith, lt, many)) was)
+    subst (λ (x : ℤ). (entry_at es other v +ℤ x) ≤ℤ row.limit) (sym (least_others-without es slot other ds d without)) (room other v (omega (arith, lt, many)) was)
 
 -- what the entries sum to at least stays where an entry's least stays
 pub least_sum-same : (es : List Entry) (k : ℕ) (ds : List Domain) (d : Domain) → IsStrictlyIncreasing (map (λ e. e.slot) es) → k < length es → least_counted (set ds (get_or es k no_entry).slot d) (get_or es k no_entry) ≡ least_counted ds (get_or es k no_entry) → least_sum es (set ds (get_or es k no_entry).slot d) ≡ least_sum es ds
@@ -93,7 +93,7 @@ least_sum-same es k ds d up lt same =
     omega (arith, ints, others_alone es k ds lt only, others_alone es k (set ds e.slot d) lt only, least_others-own es e.slot ds d, same)
 
 -- a row that sums to more than its limit has no room for any value
-pub sum_below : (es : List Entry) (slot v : ℕ) (ds : List Domain) → Holds (domain_at ds slot) v → least_sum es ds ≤ℤ (own_counted es slot v +ℤ least_others es slot ds)
+pub sum_below : (es : List Entry) (slot v : ℕ) (ds : List Domain) → Holds (domain_at ds slot) v → least_sum es ds ≤ℤ (entry_at es slot v +ℤ least_others es slot ds)
 sum_below [] slot v ds held = omega (arith, ints)
 sum_below (e ∷ es) slot v ds held =
     let rest = sum_below es slot v ds held in

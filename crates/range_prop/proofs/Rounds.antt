@@ -5,12 +5,13 @@ use Rattle.std.proofs.lemmas.Bool.{cases_eq, false≢true}
 use Rattle.std.proofs.lemmas.List.{drop_at, length-append, length-set, nil_from_length, take_all}
 use Rattle.std.proofs.lemmas.List.Elements.{All-cons, All-head, All-nil, All-set, All-tail}
 use Rattle.std.proofs.lemmas.List.Sums.{count_by-le-length}
+use Rattle.row_kit.specs.Row.{row_at}
 use Rattle.row_kit.specs.declared.domain.Domain.{Domain}
 use Rattle.row_kit.specs.declared.row.Row.{Row}
 use Rattle.row_kit.specs.Area.{present}
 use Rattle.row_kit.specs.Domain.{IsNormal, count_of, no_values}
 use Rattle.range_prop.specs.declared.row_cut.RowCut.{RowCut}
-use Rattle.range_prop.specs.Cut.{cut_domain, row_at}
+use Rattle.range_prop.specs.Cut.{cut_domain}
 use Rattle.range_prop.specs.Cuts.{AreMade, HasCut, HasRoom, after_cut, after_cuts}
 use Rattle.range_prop.specs.Index.{IsIndex, list_of}
 use Rattle.range_prop.specs.Queue.{AreAwake, AreQuiet, waits}

@@ -9,10 +9,10 @@ use Rattle.row_kit.specs.declared.row.Row.{Row}
 use Rattle.row_kit.specs.Area.{present}
 use Rattle.row_kit.specs.Domain.{IsNormal, count_of, no_values}
 use Rattle.row_kit.specs.Point.{LiesIn}
-use Rattle.row_kit.specs.Row.{IsKept}
+use Rattle.row_kit.specs.Row.{IsKept, no_row, row_at}
 use Rattle.row_kit.proofs.Marks.{present-with_domain, take-with_domain}
 use Rattle.range_prop.specs.declared.row_cut.RowCut.{RowCut}
-use Rattle.range_prop.specs.Cut.{cut_domain, no_row, row_at}
+use Rattle.range_prop.specs.Cut.{cut_domain}
 use Rattle.range_prop.specs.Cuts.{AreMade, HasCut, IsMade, after_cut, after_cuts}
 use Rattle.range_prop.proofs.CutLaws.{cut_fewer, cut_keeps, cut_normal}
 

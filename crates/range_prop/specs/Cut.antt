@@ -24,11 +24,6 @@ abbrev pub least_sum : List Entry → List Domain → ℤ
 least_sum [] domains = pos 0
 least_sum (entry ∷ entries) domains = least_counted domains entry +ℤ least_sum entries domains
 
--- what a slot's own entry counts at a value; a slot without an entry counts 0
-abbrev pub own_counted : List Entry → ℕ → ℕ → ℤ
-own_counted [] slot value = pos 0
-own_counted (entry ∷ entries) slot value = (if entry.slot == slot then counted entry value else pos 0) +ℤ own_counted entries slot value
-
 -- the sum over all other slots of the least entry over their domains
 abbrev pub least_others : List Entry → ℕ → List Domain → ℤ
 least_others [] slot domains = pos 0
@@ -36,7 +31,7 @@ least_others (entry ∷ entries) slot domains = (if entry.slot == slot then pos 
 
 -- a row has room for a value of a slot: its own entry plus the sum over all other slots of the least entry is at most the limit
 abbrev pub has_room : Row → ℕ → List Domain → ℕ → Bool
-has_room row slot domains value = int_le (own_counted row.entries slot value +ℤ least_others row.entries slot domains) row.limit
+has_room row slot domains value = int_le (entry_at row.entries slot value +ℤ least_others row.entries slot domains) row.limit
 
 -- what a test leaves of a domain: 0 where it passes, and the values from the first to the last of 1 or more that pass
 unfoldable pub kept_of : (ℕ → Bool) → Domain → Domain
@@ -65,11 +60,3 @@ shrinks row slot domains = not (is_same (domain_at domains slot) (cut_domain row
 pub record IsLight (entry : Entry) : Type 0 where
   pub fixed : unsigned_abs entry.fixed ≤ MOST_ROW_ENTRY
   pub per : unsigned_abs entry.per ≤ MOST_ROW_ENTRY
-
--- a row with nothing in it, for a number that no row has
-abbrev pub no_row : Row
-no_row = record { entries = []; limit = pos 0 }
-
--- the row of a number
-abbrev pub row_at : List Row → ℕ → Row
-row_at rows number = slice_index_or rows number no_row

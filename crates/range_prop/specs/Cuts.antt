@@ -1,12 +1,13 @@
 -- Cuts made one after another, and when no more are to be made.
 use Rattle.std.specs.Prelude.{◌≡◌, ℕ, ◌<◌, ◌⊎◌, true, false, List, [], ◌∷◌, ◌++◌, length, ◌+ℤ◌, ◌≤ℤ◌, ⊤}
 use Rattle.std.specs.List.{All, Any}
+use Rattle.row_kit.specs.Row.{entry_at, row_at}
 use Rattle.row_kit.specs.declared.domain.Domain.{Domain}
 use Rattle.row_kit.specs.declared.row.Row.{Row}
 use Rattle.row_kit.specs.Area.{present, with_domain}
 use Rattle.row_kit.specs.Domain.{domain_at, Holds, IsBare}
 use Rattle.range_prop.specs.declared.row_cut.RowCut.{RowCut}
-use Rattle.range_prop.specs.Cut.{cut_domain, least_others, own_counted, row_at, shrinks}
+use Rattle.range_prop.specs.Cut.{cut_domain, least_others, shrinks}
 
 -- the marks after a cut
 abbrev pub after_cut : List Row → RowCut → List (List Domain) → List (List Domain)
@@ -46,4 +47,4 @@ AreDone rows domains = Any IsBare domains ⊎ All (IsStill domains) rows
 -- a row has room for each value of each slot
 abbrev pub HasRoom : List Domain → Row → Type 0
 HasRoom domains row = (slot value : ℕ) → slot < length domains → Holds (domain_at domains slot) value
-    → (own_counted row.entries slot value +ℤ least_others row.entries slot domains) ≤ℤ row.limit
+    → (entry_at row.entries slot value +ℤ least_others row.entries slot domains) ≤ℤ row.limit

@@ -3,7 +3,7 @@ use Rattle.std.specs.Prelude.{ℕ, ◌<◌, ◌↔◌, List, [], length, map, sl
 use Rattle.std.specs.List.{Contains}
 use Rattle.row_kit.specs.declared.row.Entry.{Entry}
 use Rattle.row_kit.specs.declared.row.Row.{Row}
-use Rattle.range_prop.specs.Cut.{row_at}
+use Rattle.row_kit.specs.Row.{row_at}
 
 -- the slots of entries contain a slot
 abbrev pub HasEntry : List Entry → ℕ → Type 0

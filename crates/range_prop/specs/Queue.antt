@@ -3,7 +3,7 @@ use Rattle.std.specs.Prelude.{◌≡◌, ◌≢◌, ◌<◌, length, ℕ, Bool, 
 use Rattle.std.specs.List.{All}
 use Rattle.row_kit.specs.declared.domain.Domain.{Domain}
 use Rattle.row_kit.specs.declared.row.Row.{Row}
-use Rattle.range_prop.specs.Cut.{row_at}
+use Rattle.row_kit.specs.Row.{row_at}
 use Rattle.range_prop.specs.Cuts.{HasRoom}
 
 -- a row waits

@@ -4,8 +4,8 @@ ghost use Rattle.row_kit.specs.Area.{present, with_domain};
 ghost use Rattle.row_kit.specs.Bounds.{IsBoundedRow};
 ghost use Rattle.row_kit.specs.Domain.{count_of, domain_at, Holds, IsBare, IsNormal};
 ghost use Rattle.row_kit.specs.Point.{LiesIn};
-ghost use Rattle.row_kit.specs.Row.{IsKept};
-ghost use Rattle.range_prop.specs.Cut.{cut_domain, is_bare, least_others, own_counted, row_at, shrinks};
+ghost use Rattle.row_kit.specs.Row.{IsKept, entry_at, row_at};
+ghost use Rattle.range_prop.specs.Cut.{cut_domain, is_bare, least_others, shrinks};
 
 use crate::narrow::keep_allowed;
 use crate::sums::{least_others, own_entry};
@@ -20,7 +20,7 @@ pub fn cut(program: &Program, area: &mut Area, row: u32, slot: u32) -> bool
     requires slots { length (present area.old) ≡ length program.now.root }
     ensures marks { area.new ≡ with_domain area.old slot (cut_domain (row_at program.now.rows row) slot (present area.old)) }
     ensures values { let cutter = row_at program.now.rows row in ¬ Any IsBare (present area.old) → (v : ℕ) → Holds (domain_at (present area.new) slot) v
-        ↔ (Holds (domain_at (present area.old) slot) v × ((own_counted cutter.entries slot v +ℤ least_others cutter.entries slot (present area.old)) ≤ℤ cutter.limit)) }
+        ↔ (Holds (domain_at (present area.old) slot) v × ((entry_at cutter.entries slot v +ℤ least_others cutter.entries slot (present area.old)) ≤ℤ cutter.limit)) }
     ensures bare { Any IsBare (present area.old) → area.new ≡ area.old }
     ensures shrank { result ≡ shrinks (row_at program.now.rows row) slot (present area.old) }
     ensures fewer { IsTrue result → sum_by count_of (present area.new) < sum_by count_of (present area.old) }
@@ -43,7 +43,7 @@ fn cut_open(area: &mut Area, row: &Row, slot: u32) -> bool
     requires open_ { list_any is_bare (present area.old) ≡ false }
     ensures marks { area.new ≡ with_domain area.old slot (cut_domain row.now slot (present area.old)) }
     ensures values { (v : ℕ) → Holds (domain_at (present area.new) slot) v
-        ↔ (Holds (domain_at (present area.old) slot) v × ((own_counted row.now.entries slot v +ℤ least_others row.now.entries slot (present area.old)) ≤ℤ row.now.limit)) }
+        ↔ (Holds (domain_at (present area.old) slot) v × ((entry_at row.now.entries slot v +ℤ least_others row.now.entries slot (present area.old)) ≤ℤ row.now.limit)) }
     ensures shrank { result ≡ shrinks row.now slot (present area.old) }
     ensures fewer { IsTrue result → sum_by count_of (present area.new) < sum_by count_of (present area.old) }
     ensures slots { length (present area.new) ≡ length (present area.old) }

@@ -1,8 +1,9 @@
 ghost use Rattle.std.specs.Prelude.{◌≡◌, ◌+◌, ◌-◌, ◌<◌, ◌≤◌, ◌^◌, ◌⊎◌, OnOk, length, take, pos, ◌-ℤ◌, ◌≤ℤ◌, unsigned_abs};
 ghost use Rattle.std.specs.List.{All, Any};
+ghost use Rattle.row_kit.specs.Row.{row_at};
 ghost use Rattle.row_kit.specs.Area.{present};
 ghost use Rattle.row_kit.specs.Domain.{IsBare, IsOpen};
-ghost use Rattle.range_prop.specs.Cut.{least_sum, row_at};
+ghost use Rattle.range_prop.specs.Cut.{least_sum};
 ghost use Rattle.range_prop.specs.Cuts.{HasCut, HasRoom};
 
 use crate::cutting::cut;

@@ -2,8 +2,8 @@ ghost use Rattle.std.specs.Prelude.{◌≡◌, ℕ, ◌*◌, ◌<◌, ◌≤◌,
 ghost use Rattle.std.specs.List.{All};
 ghost use Rattle.std.specs.List.Sorted.{IsStrictlyIncreasing};
 ghost use Rattle.row_kit.specs.Area.{present};
-ghost use Rattle.row_kit.specs.Row.{counted};
-ghost use Rattle.range_prop.specs.Cut.{least_counted, least_others, least_sum, own_counted, IsLight};
+ghost use Rattle.row_kit.specs.Row.{counted, entry_at};
+ghost use Rattle.range_prop.specs.Cut.{least_counted, least_others, least_sum, IsLight};
 
 use crate::spread::spread_of;
 use row_kit::{Area, Entry};
@@ -68,7 +68,7 @@ pub fn own_entry(entries: &[Entry], slot: u32) -> Entry
     requires light { All IsLight entries.now }
     ensures slot { result.slot ≡ slot }
     ensures light { IsLight result }
-    ensures value { (v : ℕ) → own_counted entries.now slot v ≡ counted result v }
+    ensures value { (v : ℕ) → entry_at entries.now slot v ≡ counted result v }
 {
     for entry in entries {
         if entry.slot == slot {

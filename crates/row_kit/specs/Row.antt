@@ -1,5 +1,5 @@
 -- What entries count, and when a row is kept.
-use Rattle.std.specs.Prelude.{ℕ, ◌+◌, ◌==◌, Bool, ◌&&◌, if◌then◌else◌, List, [], ◌∷◌, ℤ, pos, ◌+ℤ◌, ◌*ℤ◌, ◌≤ℤ◌, slice_index}
+use Rattle.std.specs.Prelude.{ℕ, ◌+◌, ◌==◌, Bool, ◌&&◌, if◌then◌else◌, List, [], ◌∷◌, ℤ, pos, ◌+ℤ◌, ◌*ℤ◌, ◌≤ℤ◌, slice_index, slice_index_or}
 use Rattle.std.specs.Ordering.{int_eq}
 use Rattle.row_kit.specs.declared.row.Entry.{Entry}
 use Rattle.row_kit.specs.declared.row.Row.{Row}
@@ -8,10 +8,23 @@ use Rattle.row_kit.specs.declared.row.Row.{Row}
 abbrev pub counted : Entry → ℕ → ℤ
 counted entry value = if value == 0 then pos 0 else (entry.fixed +ℤ (entry.per *ℤ pos value))
 
+-- what the entry of a slot counts at a value; a slot without an entry counts nothing
+abbrev pub entry_at : List Entry → ℕ → ℕ → ℤ
+entry_at [] slot value = pos 0
+entry_at (entry ∷ entries) slot value = (if entry.slot == slot then counted entry value else pos 0) +ℤ entry_at entries slot value
+
 -- what entries sum to at a point
 abbrev pub entries_sum : List Entry → List ℕ → ℤ
 entries_sum [] point = pos 0
 entries_sum (entry ∷ entries) point = counted entry (slice_index point entry.slot) +ℤ entries_sum entries point
+
+-- a row with nothing in it, for a number that no row has
+abbrev pub no_row : Row
+no_row = record { entries = []; limit = pos 0 }
+
+-- the row of a number
+abbrev pub row_at : List Row → ℕ → Row
+row_at rows number = slice_index_or rows number no_row
 
 -- a row is kept at a point where its entries sum to at most its limit
 abbrev pub IsKept : List ℕ → Row → Type 0

@@ -6,13 +6,14 @@ use Rattle.std.proofs.lemmas.Int.{ints}
 use Rattle.std.proofs.lemmas.List.{length-set, get_or_default}
 use Rattle.std.proofs.lemmas.List.Elements.{All-set}
 use Rattle.std.proofs.lemmas.List.Folds.{Any-from_list_any}
+use Rattle.row_kit.specs.Row.{no_row, row_at}
 use Rattle.row_kit.specs.declared.domain.Domain.{Domain}
 use Rattle.row_kit.specs.declared.program.Program.{Program}
 use Rattle.row_kit.specs.Change.{changeovers}
 use Rattle.row_kit.specs.Domain.{Holds, IsNormal, count_of, domain_at, no_values, over, shared, up_to}
 use Rattle.row_kit.specs.Point.{IsLawful, LiesIn, value_of, worth_of}
 use Rattle.row_kit.proofs.Marks.{LiesIn-set}
-use Rattle.range_prop.specs.Cut.{cut_domain, cut_domains, is_bare, no_row, row_at}
+use Rattle.range_prop.specs.Cut.{cut_domain, cut_domains, is_bare}
 use Rattle.range_prop.proofs.CutLaws.{cut_keeps, cut_normal}
 use Rattle.range_prop.proofs.Least.{held_open}
 use Rattle.dual_bound.specs.Cap.{CapHolds, cert_cap}

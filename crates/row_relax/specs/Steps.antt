@@ -1,11 +1,12 @@
 -- What the calls answer on a view, and the view that they lead to.
 use Rattle.std.specs.Prelude.{ℕ, nat_lt, Bool, ◌&&◌, if◌then◌else◌, List, length, Option, Some, None, slice_set}
 use Rattle.std.specs.List.{list_any}
+use Rattle.row_kit.specs.Row.{row_at}
 use Rattle.row_kit.specs.declared.domain.Domain.{Domain}
 use Rattle.row_kit.specs.declared.program.Program.{Program}
 use Rattle.row_kit.specs.Domain.{domain_at, over, shared, up_to}
 use Rattle.range_prop.specs.declared.row_cut.RowCut.{RowCut}
-use Rattle.range_prop.specs.Cut.{cut_domains, is_bare, row_at}
+use Rattle.range_prop.specs.Cut.{cut_domains, is_bare}
 use Rattle.dual_bound.specs.declared.cert.Cert.{Cert}
 use Rattle.dual_bound.specs.Cap.{cert_cap}
 use Rattle.proof_tree.specs.Relaxation.{Steps}

@@ -1,7 +1,8 @@
 //! What a plant is and what a plan for it means: the records of a plant, its limits, and in
 //! `specs/` the definitions that every other crate of the product is proved against.
 //!
-//! `gap_of`, `change_cost`, `fits`) are answered exactly as the definitions say, with no memory.
+//! The questions that only read a plant (`run_of`, `duration`, `end`, `is_open`, `gap_of`, `change_cost`, `fits`) are
+//! answered exactly as the definitions say, with no memory.
 #![tactic(auto)]
 
 pub mod answer;

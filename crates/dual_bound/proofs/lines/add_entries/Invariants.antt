@@ -2,7 +2,7 @@
 use Rattle.std.proofs.Common.{◌≡◌, ℕ, ◌+◌, ◌*◌, ◌^◌, ◌<◌, length, drop, pos, ◌+ℤ◌, ◌*ℤ◌}
 use Rattle.std.specs.List.{All}
 use Rattle.dual_bound.specs.Line.{line_at, slot_line, IsWithin}
-use Rattle.dual_bound.specs.Total.{entry_at}
+use Rattle.row_kit.specs.Row.{entry_at}
 use Rattle.dual_bound.proofs.lines.add_entries.Given as goal
 
 abbrev pub invariant-loop-entry : goal.invariant-loop-entry

@@ -2,10 +2,11 @@
 use Rattle.std.proofs.Common.{◌≡◌, ◌∙◌, ◌+◌, ◌*◌, ◌^◌, ◌<◌, ℕ, List, [], length, get_or, drop, ap, subst, pos, ◌+ℤ◌, ◌*ℤ◌, arith}
 use Rattle.std.specs.List.{All}
 use Rattle.std.proofs.lemmas.List.{get_or_read, at_drop_more}
+use Rattle.row_kit.specs.Row.{entry_at, row_at}
 use Rattle.row_kit.specs.declared.row.Row.{Row}
 use Rattle.dual_bound.specs.declared.cert.Mult.{Mult}
 use Rattle.dual_bound.specs.Line.{line_at, slot_line, IsWithin}
-use Rattle.dual_bound.specs.Total.{entry_at, row_at, rows_at}
+use Rattle.dual_bound.specs.Total.{rows_at}
 use Rattle.dual_bound.proofs.LineSums.{row_moved}
 use Rattle.dual_bound.proofs.lines.add_rows.Goals as goal
 

@@ -1,13 +1,14 @@
 -- The lines count what slots gain: scale times profit, less the rows.
 use Rattle.std.proofs.Common.{◌≡◌, ◌∙◌, ◌+◌, ◌*◌, ◌^◌, ◌<◌, ◌≤◌, ℕ, ℤ, List, length, ap, pos, ◌+ℤ◌, ◌*ℤ◌, to_z, of_z, arith}
 use Rattle.std.proofs.lemmas.Int.{ints}
+use Rattle.row_kit.specs.Row.{entry_at}
 use Rattle.row_kit.specs.declared.row.Entry.{Entry}
 use Rattle.row_kit.specs.declared.row.Row.{Row}
 use Rattle.row_kit.specs.Area.{present}
 use Rattle.dual_bound.specs.declared.cert.Mult.{Mult}
 use Rattle.dual_bound.specs.declared.line.Line.{Line}
 use Rattle.dual_bound.specs.Line.{line_at, slot_line}
-use Rattle.dual_bound.specs.Total.{entry_at, rows_at, gain}
+use Rattle.dual_bound.specs.Total.{rows_at, gain}
 use Rattle.dual_bound.proofs.Fit.{few_entries}
 use Rattle.dual_bound.proofs.Greatest.{slots_total_same}
 use Rattle.dual_bound.proofs.LineSums.{all_within_le, combined, none_at}

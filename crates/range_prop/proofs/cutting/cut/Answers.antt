@@ -1,6 +1,7 @@
 -- Where some domain is empty the slot keeps the domain that it has; else the row at the number is the one that cuts.
 use Rattle.std.proofs.Common.{◌≡◌, ◌∙◌, ◌<◌, ℕ, get_or, set, not, List, length, sym, ap, subst}
 use Rattle.std.proofs.lemmas.List.{get_or_read}
+use Rattle.row_kit.specs.Row.{no_row, row_at}
 use Rattle.row_kit.specs.declared.domain.Domain.{Domain}
 use Rattle.row_kit.specs.declared.row.Entry.{Entry}
 use Rattle.row_kit.specs.declared.row.Row.{Row}
@@ -8,7 +9,7 @@ use Rattle.row_kit.specs.Area.{is_same, present, with_domain}
 use Rattle.row_kit.specs.Domain.{domain_at, no_values}
 use Rattle.row_kit.specs.Point.{LiesIn}
 use Rattle.row_kit.proofs.Marks.{present-with_domain}
-use Rattle.range_prop.specs.Cut.{cut_domain, no_row, row_at}
+use Rattle.range_prop.specs.Cut.{cut_domain}
 use Rattle.range_prop.proofs.CutLaws.{bare_decides, cut_bare, cut_keeps}
 use Rattle.range_prop.proofs.Trails.{is_same_refl, with_domain_same}
 use Rattle.range_prop.proofs.cutting.cut.Goals as goal

@@ -6,9 +6,9 @@ use Rattle.row_kit.specs.declared.domain.Domain.{Domain}
 use Rattle.row_kit.specs.declared.row.Entry.{Entry}
 use Rattle.row_kit.specs.Area.{is_same, present, with_domain}
 use Rattle.row_kit.specs.Domain.{domain_at}
-use Rattle.row_kit.specs.Row.{counted}
+use Rattle.row_kit.specs.Row.{counted, entry_at}
 use Rattle.row_kit.proofs.Ascending.{few_entries}
-use Rattle.range_prop.specs.Cut.{cut_domain, kept_of, least_others, own_counted}
+use Rattle.range_prop.specs.Cut.{cut_domain, kept_of, least_others}
 use Rattle.range_prop.proofs.CutLaws.{cut_is, moved, moved_back}
 use Rattle.range_prop.proofs.cutting.cut_open.Goals as goal
 use mir.Syntax.{w128}
@@ -18,8 +18,8 @@ least_others-requires-clause-few c =
     omega (arith, ap length c.as_slice-entries.ensures, few_entries (length (present c.args.area.now)) 10000000 c.args.row.now.entries c.requires.bounded.entries, c.requires.few)
 
 -- what the slot's own entry counts, and the room
-own_is : (c : goal.After-keep_allowed) → (v : ℕ) → own_counted c.args.row.now.entries c.args.slot v ≡ counted c.own_entry-own.result v
-own_is c v = ap (λ (es : List Entry). own_counted es c.args.slot v) (sym c.as_slice-entries.ensures) ∙ c.own_entry-own.ensures.value v
+own_is : (c : goal.After-keep_allowed) → (v : ℕ) → entry_at c.args.row.now.entries c.args.slot v ≡ counted c.own_entry-own.result v
+own_is c v = ap (λ (es : List Entry). entry_at es c.args.slot v) (sym c.as_slice-entries.ensures) ∙ c.own_entry-own.ensures.value v
 
 abbrev room : goal.After-keep_allowed → ℤ
 room c = to_z w128 (of_z w128 (to_z w128 (of_z w128 c.args.row.now.limit) -ℤ to_z w128 (of_z w128 c.least_others.result)))
@@ -44,7 +44,7 @@ returns-clause-marks c =
 pub returns-clause-values : goal.returns-clause-values
 returns-clause-values c = λ v.
     let values = rw c.own_entry-own.ensures.slot at c.keep_allowed.ensures.values v in
-    let own = own_counted c.args.row.now.entries c.args.slot v in
+    let own = entry_at c.args.row.now.entries c.args.slot v in
     let others = least_others c.args.row.now.entries c.args.slot (present c.args.area.now) in (
       λ h. ((values.0 h).0, moved_back own (counted c.own_entry-own.result v) others c.args.row.now.limit (room c) (own_is c v) (room_is c) (values.0 h).1),
       λ h. values.1 (h.0, moved own (counted c.own_entry-own.result v) others c.args.row.now.limit (room c) (own_is c v) (room_is c) h.1),

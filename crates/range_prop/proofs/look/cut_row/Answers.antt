@@ -3,6 +3,7 @@ use Rattle.std.proofs.Common.{◌≡◌, ◌∙◌, ℤ, List, length, take, ap,
 use Rattle.std.proofs.lemmas.Int.{ints}
 use Rattle.std.proofs.lemmas.List.{get_or_read}
 use Rattle.std.specs.List.{Any}
+use Rattle.row_kit.specs.Row.{no_row, row_at}
 use Rattle.row_kit.specs.Domain.{IsBare}
 use Rattle.range_prop.specs.Cuts.{HasCut}
 use Rattle.row_kit.specs.declared.row.Entry.{Entry}
@@ -10,7 +11,7 @@ use Rattle.row_kit.specs.declared.row.Row.{Row}
 use Rattle.row_kit.specs.Area.{present}
 use Rattle.row_kit.proofs.Ascending.{few_entries}
 use Rattle.row_kit.proofs.Marks.{take-with_domain}
-use Rattle.range_prop.specs.Cut.{cut_domain, least_sum, no_row, row_at}
+use Rattle.range_prop.specs.Cut.{cut_domain, least_sum}
 use Rattle.range_prop.proofs.Looks.{look_none}
 use Rattle.range_prop.proofs.look.cut_row.Goals as goal
 

@@ -8,7 +8,7 @@ use Rattle.row_kit.specs.declared.row.Row.{Row}
 use Rattle.row_kit.specs.Area.{present}
 use Rattle.row_kit.specs.Domain.{IsBare, IsOpen}
 use Rattle.range_prop.specs.declared.row_cut.RowCut.{RowCut}
-use Rattle.range_prop.specs.Cut.{row_at}
+use Rattle.row_kit.specs.Row.{row_at}
 use Rattle.range_prop.specs.Cuts.{HasCut, HasRoom}
 use Rattle.range_prop.specs.Queue.{AreAwake}
 use Rattle.range_prop.specs.Index.{list_of}

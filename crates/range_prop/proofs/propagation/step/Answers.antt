@@ -3,7 +3,7 @@ use Rattle.std.proofs.Common.{get_or, inr, subst}
 use Rattle.std.proofs.lemmas.List.{get_or_default}
 use Rattle.row_kit.specs.declared.row.Row.{Row}
 use Rattle.row_kit.specs.Area.{present}
-use Rattle.range_prop.specs.Cut.{no_row}
+use Rattle.row_kit.specs.Row.{no_row}
 use Rattle.range_prop.specs.Cuts.{HasRoom}
 use Rattle.range_prop.proofs.Rooms.{HasRoom-still}
 use Rattle.range_prop.proofs.propagation.step.Goals as goal

@@ -2,9 +2,8 @@
 use Rattle.std.proofs.Common.{◌≡◌, ◌∙◌, ℕ, zero, suc, refl, pos, ap, sym, get_or, arith}
 use Rattle.std.proofs.lemmas.Int.{ints}
 use Rattle.std.proofs.Math.IntN.{zero-*ℤ}
-use Rattle.row_kit.specs.Row.{counted}
+use Rattle.row_kit.specs.Row.{counted, entry_at}
 use Rattle.row_kit.proofs.Ascending.{no_entry}
-use Rattle.range_prop.specs.Cut.{own_counted}
 use Rattle.range_prop.proofs.Counts.{counted_above}
 use Rattle.range_prop.proofs.Entries.{alone, own_alone, own_without}
 use Rattle.range_prop.proofs.sums.own_entry.Goals as goal
@@ -19,7 +18,7 @@ returns-then-entry-slot-clause-value c = λ v.
     let es = c.args.entries.now in
     let k = c.loop-entry.entry-index in
     let here : (get_or es k no_entry).slot ≡ c.args.slot = c.if-entry-slot.true in
-    ap (λ (s : ℕ). own_counted es s v) (sym here) ∙ own_alone es k v c.loop-entry-test.true (alone es c.requires.ascending k c.loop-entry-test.true)
+    ap (λ (s : ℕ). entry_at es s v) (sym here) ∙ own_alone es k v c.loop-entry-test.true (alone es c.requires.ascending k c.loop-entry-test.true)
 
 pub returns-clause-value : goal.returns-clause-value
 returns-clause-value c = λ v.

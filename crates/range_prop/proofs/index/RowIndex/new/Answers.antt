@@ -4,7 +4,7 @@ use Rattle.std.specs.List.{Contains}
 use Rattle.std.proofs.lemmas.List.{get_or_read}
 use Rattle.row_kit.specs.declared.row.Entry.{Entry}
 use Rattle.row_kit.specs.declared.row.Row.{Row}
-use Rattle.range_prop.specs.Cut.{no_row, row_at}
+use Rattle.row_kit.specs.Row.{no_row, row_at}
 use Rattle.range_prop.specs.Index.{AreListed, HasEntry, list_of}
 use Rattle.range_prop.proofs.Listed.{rows_more}
 use Rattle.range_prop.proofs.index.RowIndex.new.Goals as goal

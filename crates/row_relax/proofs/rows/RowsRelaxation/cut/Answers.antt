@@ -4,11 +4,12 @@ use Rattle.std.specs.List.{All}
 use Rattle.std.proofs.lemmas.Bool.{lt-ltb}
 use Rattle.std.proofs.lemmas.Bool.Decides.{nat_tests}
 use Rattle.std.proofs.lemmas.List.Elements.{All-set}
+use Rattle.row_kit.specs.Row.{row_at}
 use Rattle.row_kit.specs.declared.domain.Domain.{Domain}
 use Rattle.row_kit.specs.Area.{present}
 use Rattle.row_kit.specs.Domain.{IsNormal, no_values}
 use Rattle.row_kit.proofs.Marks.{present-with_domain}
-use Rattle.range_prop.specs.Cut.{cut_domain, cut_domains, row_at}
+use Rattle.range_prop.specs.Cut.{cut_domain, cut_domains}
 use Rattle.range_prop.proofs.CutLaws.{cut_normal}
 use Rattle.proof_tree.specs.Views.{MovesTo}
 use Rattle.row_relax.specs.Steps.{row_steps, shown_if}
