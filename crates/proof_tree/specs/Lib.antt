@@ -7,3 +7,5 @@ pub mod Taker
 pub mod Tree
 pub mod Views
 pub mod Walk
+pub mod Form
+pub mod Built

@@ -5,6 +5,7 @@
 //! the tree's items, one at a time. Where a cap is answered, no lawful point of the area is worth more.
 #![tactic(auto)]
 
+mod builder;
 mod capped;
 mod capping;
 mod item;
@@ -17,6 +18,7 @@ mod taker;
 mod tests;
 mod walk;
 
+pub use builder::{Built, TreeBuilder};
 pub use capped::Capped;
 pub use capping::{cap_law, cap_of};
 pub use item::Item;
