@@ -1,19 +1,16 @@
 -- The greatest whole number that is not above a quotient, and caps by it.
-use Rattle.std.proofs.Common.{◌≡◌, ℕ, zero, suc, ◌+◌, ◌*◌, ◌/◌, ◌<◌, ◌≤◌, Bool, true, false, ◌&&◌, cond, eqb, leb, List, length, refl, sym, ap, ◌∙◌, subst, arith, Some, None, ℤ, pos, negsuc, neg_ℤ, ◌+ℤ◌, ◌*ℤ◌, ◌≤ℤ◌, ◌<ℤ◌}
+use Rattle.std.proofs.Common.{◌≡◌, ℕ, suc, ◌+◌, ◌*◌, ◌/◌, ◌<◌, Bool, true, false, ◌&&◌, cond, eqb, leb, List, length, refl, ap, subst, arith, Some, None, ℤ, pos, negsuc, neg_ℤ, ◌+ℤ◌, ◌*ℤ◌, ◌≤ℤ◌, ◌<ℤ◌}
 use Rattle.std.specs.Prelude.{int_lt}
 use Rattle.std.specs.Int.{int_div_euclid}
-use Rattle.std.specs.List.{All, list_all}
-use Rattle.std.proofs.lemmas.Bool.{and_parts, eqb-true}
+use Rattle.std.proofs.lemmas.Bool.{and_parts}
 use Rattle.std.proofs.lemmas.Bool.Decides.{nat_tests}
 use Rattle.std.proofs.lemmas.Int.{ints}
 use Rattle.std.proofs.Math.IntN.{pos-*ℤ-pos}
 use Rattle.std.proofs.Math.Nat.{mul-div-le, div-lt_iff_lt-mul, mul_comm}
 use Rattle.row_kit.specs.declared.domain.Domain.{Domain}
 use Rattle.row_kit.specs.declared.program.Program.{Program}
-use Rattle.proof_tree.specs.declared.capped.Capped.{Capped}
 use Rattle.proof_tree.specs.declared.capped.Capped.TheVariants.{AtMost, NoPoint, Bad}
 use Rattle.dual_bound.specs.declared.cert.Cert.{Cert}
-use Rattle.dual_bound.specs.declared.cert.Mult.{Mult}
 use Rattle.dual_bound.specs.Cap.{CapHolds, IsFloor, cert_cap, scaled_cap}
 use Rattle.dual_bound.specs.Total.{are_fit, has_total, is_fit, total_of}
 use Rattle.dual_bound.proofs.Caps.{cap_holds}

@@ -1,14 +1,13 @@
 -- The total of a certificate over an area, and what it says of the lawful points.
-use Rattle.std.specs.Prelude.{ℕ, ◌+◌, ◌<◌, ◌≤◌, ◌==◌, nat_le, nat_lt, Bool, true, ◌&&◌, if◌then◌else◌, List, [], ◌∷◌, length, map, Option, Some, None, ℤ, pos, ◌+ℤ◌, ◌-ℤ◌, ◌*ℤ◌, ◌≤ℤ◌, slice_index_or, fold}
+use Rattle.std.specs.Prelude.{ℕ, ◌+◌, ◌<◌, ◌≤◌, nat_le, nat_lt, Bool, true, ◌&&◌, if◌then◌else◌, List, [], ◌∷◌, length, map, Option, Some, None, ℤ, pos, ◌+ℤ◌, ◌-ℤ◌, ◌*ℤ◌, ◌≤ℤ◌, fold}
 use Rattle.std.specs.Int.{int_max}
 use Rattle.std.specs.List.{All, list_all}
 use Rattle.row_kit.specs.declared.domain.Domain.{Domain}
 use Rattle.row_kit.specs.declared.program.Program.{Program}
-use Rattle.row_kit.specs.declared.row.Entry.{Entry}
 use Rattle.row_kit.specs.declared.row.Row.{Row}
 use Rattle.row_kit.specs.Domain.{count_of, values_of}
 use Rattle.row_kit.specs.Point.{LiesIn, value_of}
-use Rattle.row_kit.specs.Row.{counted, IsKept}
+use Rattle.row_kit.specs.Row.{entry_at, row_at, IsKept}
 use Rattle.dual_bound.specs.declared.cert.Cert.{Cert}
 use Rattle.dual_bound.specs.declared.cert.Mult.{Mult}
 use Rattle.dual_bound.specs.declared.limits.TheConstants.{MOST_FACTOR, MOST_SCALE, MOST_MULTS}

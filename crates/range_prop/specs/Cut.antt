@@ -8,7 +8,7 @@ use Rattle.row_kit.specs.declared.row.Row.{Row}
 use Rattle.row_kit.specs.declared.limits.TheConstants.{MOST_ROW_ENTRY}
 use Rattle.row_kit.specs.Area.{is_same}
 use Rattle.row_kit.specs.Domain.{count_of, domain_at, values_of}
-use Rattle.row_kit.specs.Row.{counted}
+use Rattle.row_kit.specs.Row.{counted, entry_at}
 
 -- the least of a function over values
 abbrev pub least : (ℕ → ℤ) → List ℕ → ℤ
