@@ -26,21 +26,21 @@ use Rattle.std.specs.Option.{option_map}
 use Rattle.log_lines.specs.Grammar.{Standing, after_part, part_place, step_of, after_step, over, next, line_defect}
 use Rattle.log_check.specs.declared.course.Course.{Course}
 use Rattle.log_check.specs.declared.course.Course.TheVariants.{Going, Ended, Faulty}
-use Rattle.log_check.specs.declared.group.Group.{Group}
-use Rattle.log_check.specs.declared.group.Group.TheVariants.{Nothing, Values, Mults}
-use Rattle.log_check.specs.declared.group.Piece.{Piece}
-use Rattle.log_check.specs.declared.group.Piece.TheVariants.{Item, Claim as ClaimPiece}
-use Rattle.log_check.specs.declared.group.Grown.{Grown}
-use Rattle.log_check.specs.declared.group.Grown.TheVariants.{More, Whole}
+use Rattle.proof_log.specs.declared.group.Group.{Group}
+use Rattle.proof_log.specs.declared.group.Group.TheVariants.{Nothing, Values, Mults}
+use Rattle.proof_log.specs.declared.group.Piece.{Piece}
+use Rattle.proof_log.specs.declared.group.Piece.TheVariants.{Item, Claim as ClaimPiece}
+use Rattle.proof_log.specs.declared.group.Grown.{Grown}
+use Rattle.proof_log.specs.declared.group.Grown.TheVariants.{More, Whole}
 use Rattle.log_check.specs.declared.progress.Progress.{Progress}
-use Rattle.log_check.specs.Agree.{GroupAgrees, ItemAt, item_step, ClaimAt, StaysAt, GrownAgrees, PlaceExpects, IsPastProof, CourseAgrees, ClaimAgrees, IsBody}
+use Rattle.proof_log.specs.Agree.{GroupAgrees, ItemAt, item_step, ClaimAt, StaysAt, GrownAgrees, PlaceExpects, IsPastProof, CourseAgrees, ClaimAgrees, IsBody}
 use Rattle.log_check.specs.Course.{RowWalk, StandsAt, IsReady, IsNamed, MayTake, Leads}
 use Rattle.proof_log.specs.OneText.{IsOver}
-use Rattle.log_check.specs.Gathering.{group_lines, piece_lines, IsPieceOver, followed, MayFollow, HasLines}
+use Rattle.proof_log.specs.Gathering.{group_lines, piece_lines, IsPieceOver, followed, MayFollow, HasLines}
 use Rattle.log_check.specs.Meaning.{RowSteps, line_after}
 use Rattle.log_check.specs.Progress.{begun_at, tail_lines, lines_at, IsFresh, BeganAt, IsAt, IsSteady, Followed}
-use Rattle.log_check.proofs.Agreeing.{line_follows, item_comes, item_agrees, item_ends}
-use Rattle.log_check.proofs.Groups.{followed-lines}
+use Rattle.proof_log.proofs.Agreeing.{line_follows, item_comes, item_agrees, item_ends}
+use Rattle.proof_log.proofs.Groups.{followed-lines}
 
 -- a line that may come makes a step
 pub next_steps : (standing later : Standing) (line : Line) → next standing line ≡ Some later → (taken_step : Step) × (step_of standing.version standing.place line ≡ Some taken_step) × (after_step standing taken_step ≡ later)

@@ -19,8 +19,8 @@ use Rattle.proof_tree.proofs.WalkLaw.{walked-whole}
 use Rattle.proof_tree.proofs.WalkTree.{walked-bounds, walked-is_tree}
 use Rattle.row_relax.specs.declared.pick.RowPick.{RowPick}
 use Rattle.row_kit.specs.Domain.{IsNormal}
-use Rattle.log_check.specs.declared.group.Group.{Group}
-use Rattle.log_check.specs.declared.group.Group.TheVariants.{Nothing, Values, Mults}
+use Rattle.proof_log.specs.declared.group.Group.{Group}
+use Rattle.proof_log.specs.declared.group.Group.TheVariants.{Nothing, Values, Mults}
 use Rattle.row_relax.specs.declared.rows.Rows.{Rows}
 use Rattle.row_relax.specs.Laws.{rows_sound}
 use Rattle.row_relax.specs.Shown.{domains_of-view_of, fits_of}
@@ -38,7 +38,7 @@ use Rattle.log_check.specs.declared.course.Course.TheVariants.{Going, Ended, Fau
 use Rattle.log_check.specs.declared.progress.Progress.{Progress}
 use Rattle.log_check.specs.declared.verdict.LogVerdict.{LogVerdict}
 use Rattle.log_check.specs.declared.verdict.LogVerdict.TheVariants.{Yes, No}
-use Rattle.log_check.specs.Agree.{CourseAgrees, ClaimAgrees, StageAgrees, PlaceExpects}
+use Rattle.proof_log.specs.Agree.{CourseAgrees, ClaimAgrees, StageAgrees, PlaceExpects}
 use Rattle.log_check.specs.Course.{RowWalk, StandsAt}
 use Rattle.proof_log.specs.OneText.{IsOver, IsClaimOver}
 use Rattle.log_check.specs.Meaning.{RowSteps, IsWorth, NoneAbove, Holds, PointDefect, CappedDefect, ClaimDefect, IsSoundClaim, IsAbove, AllowsPoint, IsProved, line_after}

@@ -16,7 +16,7 @@ use Rattle.log_check.specs.declared.checking.Step.TheVariants.{On, Bad, Over}
 use Rattle.log_check.specs.declared.verdict.LogVerdict.{LogVerdict}
 use Rattle.log_check.specs.declared.verdict.LogVerdict.TheVariants.{No}
 use Rattle.log_check.specs.Step.{IsPartOf, IsStepped}
-use Rattle.log_check.specs.Text.{EndsAs, rest_defect}
+use Rattle.proof_log.specs.Text.{EndsAs, rest_defect}
 use Rattle.log_check.specs.Verdict.{IsMeant, IsJudged, IsVerdict, limits_of}
 
 -- the file is the text of the lines and what stands from a place on

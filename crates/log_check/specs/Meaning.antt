@@ -70,10 +70,6 @@ HaveNone s program outcome [] = ⊤
 HaveNone s program outcome (item ∷ items) =
     ((kind : ℕ) → ¬ HasDefect s program outcome item kind) × HaveNone s program (after s outcome item) items
 
--- the number of the line after the header and the lines of these items
-abbrev pub line_after : List RowItem → ℕ
-line_after items = 2 + sum_by (λ item. length (item_lines item)) items
-
 -- the first item with a defect begins at the line, and has the defect
 pub record IsItemDefect (s : RowSteps) (program : Program) (root : View) (items : List RowItem) (defect : Defect) : Type 0 where
   pub before : List RowItem

@@ -10,13 +10,13 @@ use Rattle.log_lines.specs.declared.line.Line.TheVariants.{Header, End}
 use Rattle.log_lines.specs.declared.grammar.Place.{Place}
 use Rattle.log_lines.specs.declared.grammar.Place.TheVariants.{Header as AtHeader, Done}
 use Rattle.log_lines.specs.Grammar.{Standing}
-use Rattle.log_check.specs.declared.group.Group.{Group}
-use Rattle.log_check.specs.declared.group.Group.TheVariants.{Nothing, Values, Mults}
+use Rattle.proof_log.specs.declared.group.Group.{Group}
+use Rattle.proof_log.specs.declared.group.Group.TheVariants.{Nothing, Values, Mults}
 use Rattle.log_check.specs.declared.progress.Progress.{Progress}
-use Rattle.log_check.specs.Agree.{GroupAgrees, CourseAgrees, ClaimAgrees}
+use Rattle.proof_log.specs.Agree.{GroupAgrees, CourseAgrees, ClaimAgrees}
 use Rattle.log_check.specs.Course.{StandsAt, IsReady}
 use Rattle.proof_log.specs.OneText.{IsOver, IsClaimOver}
-use Rattle.log_check.specs.Gathering.{group_lines}
+use Rattle.proof_log.specs.Gathering.{group_lines}
 use Rattle.log_check.specs.Meaning.{RowSteps, line_after}
 
 -- the line at which the group began that a line follows

@@ -15,7 +15,7 @@ use Rattle.log_check.specs.declared.checking.Step.TheVariants.{On, Bad, Over}
 use Rattle.log_check.specs.declared.progress.Progress.{Progress}
 use Rattle.log_check.specs.Meaning.{RowSteps}
 use Rattle.log_check.specs.Progress.{IsSteady, Followed}
-use Rattle.log_check.specs.Text.{rest_defect, EndsAs}
+use Rattle.proof_log.specs.Text.{rest_defect, EndsAs}
 
 -- the bytes of a line as a reader gives them
 abbrev pub IsPartOf : List ℕ → LineEnd → Type 0

@@ -7,7 +7,7 @@ ghost use Rattle.log_lines.specs.declared.line.Line.{Line as AnyLine};
 ghost use Rattle.log_lines.specs.Line.{IsLine};
 ghost use Rattle.log_lines.specs.TextDefect.{is_done};
 ghost use Rattle.log_lines.specs.Grammar.{Standing, next, over, line_defect, new_standing};
-ghost use Rattle.log_check.specs.Agree.{IsBody};
+ghost use Rattle.proof_log.specs.Agree.{IsBody};
 ghost use Rattle.proof_log.specs.Log.{lines_text};
 ghost use Rattle.log_check.specs.Verdict.{IsMeant, YesHolds, JudgedAs, limits_of};
 ghost use Rattle.log_check.specs.Progress.{IsAt, IsSteady, Followed, begun_at};

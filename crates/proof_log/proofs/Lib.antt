@@ -6,3 +6,7 @@ pub mod WrittenLines
 pub mod OneText
 pub mod Writing
 pub mod TreeLines
+pub mod Groups
+pub mod ValueLines
+pub mod Agreeing
+pub mod Texts

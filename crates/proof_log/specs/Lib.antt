@@ -2,3 +2,8 @@ pub mod Log
 pub mod Writer
 pub mod Accepted
 pub mod OneText
+pub mod Gathering
+pub mod Agree
+pub mod Text
+pub mod Gathered
+pub mod LogReading

@@ -1,5 +1,6 @@
 -- The lines in which a proof and its claim are written, and the text that they are.
 use Rattle.std.specs.Prelude.{ℕ, ◌+◌, ◌==◌, if◌then◌else◌, List, [], ◌∷◌, ◌++◌, map, length, flat_map, count_by, not, drop, None}
+use Rattle.std.specs.List.{sum_by}
 use Rattle.row_kit.specs.declared.area.Area.{Area}
 use Rattle.row_kit.specs.declared.found.Found.{Found}
 use Rattle.range_prop.specs.declared.row_cut.RowCut.{RowCut}
@@ -72,6 +73,10 @@ claim_lines (Below cap) = ClaimBelow cap ∷ []
 -- the lines of a log: its version, those of the items of its proof, its claim, and an end
 unfoldable pub log_lines : ℕ → List RowItem → Claim → List Line
 log_lines version items claim = Header version ∷ (flat_map item_lines items ++ (claim_lines claim ++ EndLine ∷ []))
+
+-- the number of the line after the header and the lines of these items
+abbrev pub line_after : List RowItem → ℕ
+line_after items = 2 + sum_by (λ item. length (item_lines item)) items
 
 -- the text of lines: each ends with a line feed (10)
 unfoldable pub lines_text : List Line → List ℕ

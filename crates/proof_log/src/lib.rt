@@ -6,13 +6,18 @@
 
 mod claim;
 mod claims;
+mod gatherer;
+mod gathering;
+mod group;
 mod items;
 mod laws;
 mod log;
+mod log_reader;
 mod nodes;
 mod parts;
 #[cfg(test)]
 mod tests;
+mod whole;
 mod writer;
 
 pub use claim::Claim;
@@ -20,5 +25,13 @@ pub use claims::put_claim;
 pub use items::put_item;
 pub use laws::{logs_are_accepted, logs_have_no_defect, logs_have_one_text, logs_may_be_written};
 pub use log::{Defect, Log};
+pub use log_reader::{LogPart, LogReader};
 pub use nodes::put_proof;
+pub use whole::put_log;
 pub use writer::LogWriter;
+
+// A crate can name these in a contract only if they are exported.
+#[doc(hidden)]
+pub use gatherer::{Gathered, Gatherer};
+#[doc(hidden)]
+pub use group::{Group, Grown, MultHead, Piece, ValueHead};

@@ -3,8 +3,8 @@ use Rattle.std.proofs.Common.{◌≡◌, Some, true, false, sym, ◌∙◌, subs
 use Rattle.log_lines.specs.Grammar.{next}
 use Rattle.log_lines.specs.TextDefect.{is_done}
 use Rattle.log_check.specs.Step.{IsPartOf}
-use Rattle.log_check.specs.Text.{EndsAs}
-use Rattle.log_check.proofs.Texts.{nothing_done, nothing_cut, cut_done, cut_end, long_done, long_end, done_whole, no_line, bad_line, good_line}
+use Rattle.proof_log.specs.Text.{EndsAs}
+use Rattle.proof_log.proofs.Texts.{nothing_done, nothing_cut, cut_done, cut_end, long_done, long_end, done_whole, no_line, bad_line, good_line}
 use Rattle.log_check.proofs.checking.advance.Goals as goal
 
 pub returns-then-done-clause-text : goal.returns-then-done-clause-text

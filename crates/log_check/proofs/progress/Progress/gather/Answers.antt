@@ -3,9 +3,9 @@ use Rattle.std.proofs.Common.{◌≡◌, map, sym, ap, ◌∙◌}
 use Rattle.proof_tree.specs.Views.{present}
 use Rattle.row_relax.specs.Steps.{row_steps}
 use Rattle.row_relax.specs.View.{view_of}
-use Rattle.log_check.specs.declared.group.Piece.TheVariants.{Item, Claim}
-use Rattle.log_check.specs.declared.group.Grown.TheVariants.{More, Whole}
-use Rattle.log_check.specs.Gathering.{followed}
+use Rattle.proof_log.specs.declared.group.Piece.TheVariants.{Item, Claim}
+use Rattle.proof_log.specs.declared.group.Grown.TheVariants.{More, Whole}
+use Rattle.proof_log.specs.Gathering.{followed}
 use Rattle.log_check.proofs.Advancing.{more_steady, more_followed, item_may, item_steady, item_followed, claim_steady, claim_followed}
 use Rattle.log_check.proofs.There.{there_of}
 use Rattle.log_check.proofs.progress.Progress.gather.Goals as goal

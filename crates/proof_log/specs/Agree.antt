@@ -1,10 +1,9 @@
--- How a group and a check stand where the lines so far stand.
+-- How a group and the items stand where the lines so far stand.
 use Rattle.std.specs.Prelude.{◌≡◌, ◌⊎◌, ◌+◌, ◌<◌, ⊤, ℕ, Bool, true, false, List, map, length, Option, Some, None, is_some}
 use Rattle.proof_tree.specs.declared.item.Item.TheVariants.{Node, Cut, Found as FoundItem, Empty, Dual as DualItem, Point, Pending as PendingItem, Split as SplitItem}
 use Rattle.proof_tree.specs.declared.walk.Expected.{Expected}
 use Rattle.proof_tree.specs.declared.walk.Expected.TheVariants.{Node as ExpectNode, Inside as ExpectInside, End as ExpectEnd}
-use Rattle.proof_tree.specs.Views.{View}
-use Rattle.proof_tree.specs.Walk.{Opened, Stage, stage_of}
+use Rattle.proof_tree.specs.Walk.{Opened, Stage, Outcome, going, ended, undefined, misplaced}
 use Rattle.row_relax.specs.declared.pick.RowPick.{RowPick}
 use Rattle.proof_log.specs.declared.claim.Claim.{Claim}
 use Rattle.proof_log.specs.Log.{RowItem}
@@ -16,18 +15,15 @@ use Rattle.log_lines.specs.declared.grammar.Place.TheVariants.{Header, Node as A
 use Rattle.log_lines.specs.declared.step.Step.{Step}
 use Rattle.log_lines.specs.declared.step.Step.TheVariants.{At, Opens, Ends}
 use Rattle.log_lines.specs.Grammar.{Standing}
-use Rattle.log_check.specs.declared.course.Course.{Course}
-use Rattle.log_check.specs.declared.course.Course.TheVariants.{Going, Ended, Faulty}
-use Rattle.log_check.specs.declared.group.ValueHead.{ValueHead}
-use Rattle.log_check.specs.declared.group.ValueHead.TheVariants.{Found, Optimal, Between}
-use Rattle.log_check.specs.declared.group.MultHead.{MultHead}
-use Rattle.log_check.specs.declared.group.MultHead.TheVariants.{Dual, Pending, Split}
-use Rattle.log_check.specs.declared.group.Group.{Group}
-use Rattle.log_check.specs.declared.group.Group.TheVariants.{Nothing, Values, Mults}
-use Rattle.log_check.specs.declared.group.Piece.TheVariants.{Item, Claim as ClaimPiece}
-use Rattle.log_check.specs.declared.group.Grown.{Grown}
-use Rattle.log_check.specs.declared.group.Grown.TheVariants.{More, Whole}
-use Rattle.log_check.specs.Course.{RowWalk}
+use Rattle.proof_log.specs.declared.group.ValueHead.{ValueHead}
+use Rattle.proof_log.specs.declared.group.ValueHead.TheVariants.{Found, Optimal, Between}
+use Rattle.proof_log.specs.declared.group.MultHead.{MultHead}
+use Rattle.proof_log.specs.declared.group.MultHead.TheVariants.{Dual, Pending, Split}
+use Rattle.proof_log.specs.declared.group.Group.{Group}
+use Rattle.proof_log.specs.declared.group.Group.TheVariants.{Nothing, Values, Mults}
+use Rattle.proof_log.specs.declared.group.Piece.TheVariants.{Item, Claim as ClaimPiece}
+use Rattle.proof_log.specs.declared.group.Grown.{Grown}
+use Rattle.proof_log.specs.declared.group.Grown.TheVariants.{More, Whole}
 
 -- whether values belong to a claim
 abbrev pub is_claim : ValueHead → Bool
@@ -151,12 +147,6 @@ pub record StageAgrees (standing : Standing) (stage : Stage RowPick) : Type 0 wh
   pub expects : PlaceExpects standing.place stage.expected
   pub splits : lefts stage.splits ≡ standing.sides
 
--- a check stands where the lines do; after a defect it does not matter where they stand
-abbrev pub CourseAgrees : Standing → Course → RowWalk → List View → Type 0
-CourseAgrees standing Going walk views = StageAgrees standing (stage_of walk views)
-CourseAgrees standing (Ended proof_cap) walk views = IsPastProof standing.place
-CourseAgrees standing (Faulty defect) walk views = ⊤
-
 -- a claim has been made whole where the end line may come, and after it
 abbrev pub ClaimAgrees : Place → Option Claim → Type 0
 ClaimAgrees End (Some claim) = ⊤
@@ -165,6 +155,13 @@ ClaimAgrees Done (Some claim) = ⊤
 ClaimAgrees Done None = ⊥
 ClaimAgrees _ (Some claim) = ⊥
 ClaimAgrees _ None = ⊤
+
+-- the items stand where the lines do: more have to come, or they are whole and the claim comes
+abbrev pub FormAgrees : Standing → Outcome RowPick → Type 0
+FormAgrees standing (going stage) = StageAgrees standing stage
+FormAgrees standing (ended proof_cap) = IsPastProof standing.place
+FormAgrees standing undefined = ⊥
+FormAgrees standing misplaced = ⊥
 
 -- a line is neither the header nor the end line
 abbrev pub IsBody : Line → Type 0

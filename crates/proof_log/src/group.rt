@@ -1,6 +1,6 @@
 //! What is gathered of an item or of a claim while its lines come.
+use crate::claim::Claim;
 use dual_bound::Mult;
-use proof_log::Claim;
 use proof_tree::Item;
 use row_kit::List;
 use row_relax::{RowPick, Rows};

@@ -25,16 +25,18 @@ use Rattle.log_lines.specs.Line.{IsInRange}
 use Rattle.std.proofs.lemmas.Grind.{common_steps}
 use Rattle.std.proofs.lemmas.List.{length-replicate}
 use Rattle.log_lines.specs.Grammar.{Standing, after_part, part_place, values_step, mults_step, follows, ending_step, inside_step, claim_step, step_of, after_step, first_kind, over_at}
-use Rattle.log_check.specs.declared.group.ValueHead.{ValueHead}
-use Rattle.log_check.specs.declared.group.ValueHead.TheVariants.{Found, Optimal, Between}
-use Rattle.log_check.specs.declared.group.MultHead.{MultHead}
-use Rattle.log_check.specs.declared.group.MultHead.TheVariants.{Dual, Pending, Split}
-use Rattle.log_check.specs.declared.group.Group.{Group}
-use Rattle.log_check.specs.declared.group.Group.TheVariants.{Nothing, Values, Mults}
-use Rattle.log_check.specs.declared.group.Grown.TheVariants.{More, Whole}
-use Rattle.log_check.specs.Agree.{is_claim, is_split, IsHeadIn, GroupAgrees, ItemAt, item_step, StaysAt, GrownAgrees, least_after, PlaceExpects, IsPastProof, lefts, StageAgrees, IsBody}
-use Rattle.log_check.specs.Gathering.{padded, value_piece, mult_piece, grown_values, grown_mults, begun, followed, MayBegin, MayValue, MayMult, MayFollow}
-use Rattle.log_check.specs.Meaning.{RowSteps}
+use Rattle.proof_log.specs.declared.group.ValueHead.{ValueHead}
+use Rattle.proof_log.specs.declared.group.ValueHead.TheVariants.{Found, Optimal, Between}
+use Rattle.proof_log.specs.declared.group.MultHead.{MultHead}
+use Rattle.proof_log.specs.declared.group.MultHead.TheVariants.{Dual, Pending, Split}
+use Rattle.proof_log.specs.declared.group.Group.{Group}
+use Rattle.proof_log.specs.declared.group.Group.TheVariants.{Nothing, Values, Mults}
+use Rattle.proof_log.specs.declared.group.Grown.TheVariants.{More, Whole}
+use Rattle.proof_log.specs.Agree.{is_claim, is_split, IsHeadIn, GroupAgrees, ItemAt, item_step, StaysAt, GrownAgrees, least_after, PlaceExpects, IsPastProof, lefts, StageAgrees, IsBody}
+use Rattle.proof_log.specs.Gathering.{padded, value_piece, mult_piece, grown_values, grown_mults, begun, followed, MayBegin, MayValue, MayMult, MayFollow}
+use Rattle.proof_tree.specs.Relaxation.{Steps}
+use Rattle.range_prop.specs.declared.row_cut.RowCut.{RowCut}
+use Rattle.dual_bound.specs.declared.cert.Cert.{Cert}
 
 -- a test that finds nothing has not held
 passed : (test : Bool) (kind : ℕ) (tests : List (Bool × ℕ)) → first_kind ((test, kind) ∷ tests) ≡ None → (test ≡ false) × (first_kind tests ≡ None)
@@ -238,7 +240,7 @@ going_agrees expected splits (Some v) stage standing is expects same =
 abbrev after_node : ℕ → List Bool → Standing
 after_node version sides = record { version = version; place = part_place (after_part sides); sides = after_part sides }
 
-module _ (s : RowSteps) where
+module _ (s : Steps RowCut Cert RowPick) where
   -- where a part ends the walk agrees with where a node's end leads
   close_agrees : (version : ℕ) (splits : List (Opened RowPick)) (proof_cap : Capped) (stage : Stage RowPick) → close s splits proof_cap ≡ going stage → StageAgrees (after_node version (lefts splits)) stage
   close_agrees version [] proof_cap stage = λ is. cc

@@ -7,16 +7,16 @@ use Rattle.proof_log.specs.OneText.{IsOver, IsClaimOver}
 use Rattle.proof_log.specs.Log.{started, value_lines, mult_line, item_lines, claim_lines}
 use Rattle.log_lines.specs.declared.line.Line.{Line}
 use Rattle.log_lines.specs.declared.line.Line.TheVariants.{Header, Node as NodeLine, Cut as CutLine, Found as FoundLine, Value as ValueLine, Empty as EmptyLine, Point as PointLine, Dual as DualLine, Pending as PendingLine, Split as SplitLine, Mult as MultLine, ClaimOptimal, ClaimInfeasible, ClaimBetween, ClaimBelow, End as EndLine}
-use Rattle.log_check.specs.declared.group.ValueHead.{ValueHead}
-use Rattle.log_check.specs.declared.group.ValueHead.TheVariants.{Found, Optimal, Between}
-use Rattle.log_check.specs.declared.group.MultHead.{MultHead}
-use Rattle.log_check.specs.declared.group.MultHead.TheVariants.{Dual, Pending, Split}
-use Rattle.log_check.specs.declared.group.Group.{Group}
-use Rattle.log_check.specs.declared.group.Group.TheVariants.{Nothing, Values, Mults}
-use Rattle.log_check.specs.declared.group.Piece.{Piece}
-use Rattle.log_check.specs.declared.group.Piece.TheVariants.{Item, Claim as ClaimPiece}
-use Rattle.log_check.specs.declared.group.Grown.{Grown}
-use Rattle.log_check.specs.declared.group.Grown.TheVariants.{More, Whole}
+use Rattle.proof_log.specs.declared.group.ValueHead.{ValueHead}
+use Rattle.proof_log.specs.declared.group.ValueHead.TheVariants.{Found, Optimal, Between}
+use Rattle.proof_log.specs.declared.group.MultHead.{MultHead}
+use Rattle.proof_log.specs.declared.group.MultHead.TheVariants.{Dual, Pending, Split}
+use Rattle.proof_log.specs.declared.group.Group.{Group}
+use Rattle.proof_log.specs.declared.group.Group.TheVariants.{Nothing, Values, Mults}
+use Rattle.proof_log.specs.declared.group.Piece.{Piece}
+use Rattle.proof_log.specs.declared.group.Piece.TheVariants.{Item, Claim as ClaimPiece}
+use Rattle.proof_log.specs.declared.group.Grown.{Grown}
+use Rattle.proof_log.specs.declared.group.Grown.TheVariants.{More, Whole}
 
 -- the line before this many value lines
 abbrev pub value_head_line : ValueHead → ℕ → Line

@@ -7,15 +7,15 @@ use Rattle.dual_bound.specs.declared.cert.Mult.{Mult}
 use Rattle.log_lines.specs.declared.line.Line.{Line}
 use Rattle.log_lines.specs.declared.line.Line.TheVariants.{Header, Node as NodeLine, Cut as CutLine, Found as FoundLine, Value as ValueLine, Empty as EmptyLine, Point as PointLine, Dual as DualLine, Pending as PendingLine, Split as SplitLine, Mult as MultLine, ClaimOptimal, ClaimInfeasible, ClaimBetween, ClaimBelow, End as EndLine}
 use Rattle.proof_log.specs.Log.{started, value_lines, mult_line, item_lines, claim_lines}
-use Rattle.log_check.specs.declared.group.ValueHead.{ValueHead}
-use Rattle.log_check.specs.declared.group.ValueHead.TheVariants.{Found, Optimal, Between}
-use Rattle.log_check.specs.declared.group.MultHead.{MultHead}
-use Rattle.log_check.specs.declared.group.MultHead.TheVariants.{Dual, Pending, Split}
-use Rattle.log_check.specs.declared.group.Group.{Group}
-use Rattle.log_check.specs.declared.group.Group.TheVariants.{Nothing, Values, Mults}
-use Rattle.log_check.specs.declared.group.Grown.TheVariants.{More, Whole}
-use Rattle.log_check.specs.Gathering.{HasLines, IsPieceOver, value_head_line, mult_head_line, piece_lines, group_lines, padded, value_piece, mult_piece, grown_values, grown_mults, begun, valued, multed, followed, MayBegin, MayValue, MayMult, MayFollow}
-use Rattle.log_check.proofs.ValueLines.{value_lines-padded, started-padded, value_lines-more, started-more}
+use Rattle.proof_log.specs.declared.group.ValueHead.{ValueHead}
+use Rattle.proof_log.specs.declared.group.ValueHead.TheVariants.{Found, Optimal, Between}
+use Rattle.proof_log.specs.declared.group.MultHead.{MultHead}
+use Rattle.proof_log.specs.declared.group.MultHead.TheVariants.{Dual, Pending, Split}
+use Rattle.proof_log.specs.declared.group.Group.{Group}
+use Rattle.proof_log.specs.declared.group.Group.TheVariants.{Nothing, Values, Mults}
+use Rattle.proof_log.specs.declared.group.Grown.TheVariants.{More, Whole}
+use Rattle.proof_log.specs.Gathering.{HasLines, IsPieceOver, value_head_line, mult_head_line, piece_lines, group_lines, padded, value_piece, mult_piece, grown_values, grown_mults, begun, valued, multed, followed, MayBegin, MayValue, MayMult, MayFollow}
+use Rattle.proof_log.proofs.ValueLines.{value_lines-padded, started-padded, value_lines-more, started-more}
 
 value_piece-lines : (head : ValueHead) (point : List ℕ) → piece_lines (value_piece head point) ≡ value_head_line head (started point) ∷ value_lines 0 point
 unfolding item_lines claim_lines
@@ -128,5 +128,3 @@ followed-lines slots Nothing line may = begun-lines slots line may
 followed-lines slots (Values head left point) line may = valued-lines slots head left point line may
 followed-lines slots (Mults head left mults) line may = multed-lines slots head left mults line may
 
-pub zz : (n : ℕ) → n ≡ n
-zz n = refl

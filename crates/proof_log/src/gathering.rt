@@ -1,11 +1,11 @@
 //! The gathering of lines into items and a claim.
 ghost use Rattle.std.specs.Prelude.{ℕ, [], ◌≡◌, ◌≤◌, length, OnOk, IfOk};
-ghost use Rattle.log_check.specs.Gathering.{HasCert, padded, value_piece, mult_piece, grown_values, grown_mults, begun, valued, multed, followed, MayBegin, MayValue, MayMult, MayFollow};
+ghost use Rattle.proof_log.specs.Gathering.{HasCert, padded, value_piece, mult_piece, grown_values, grown_mults, begun, valued, multed, followed, MayBegin, MayValue, MayMult, MayFollow};
 
+use crate::claim::Claim;
 use crate::group::{Group, Grown, MultHead, Piece, ValueHead};
 use dual_bound::{Cert, Mult};
 use log_lines::Line;
-use proof_log::Claim;
 use proof_tree::Item;
 use range_prop::RowCut;
 use row_kit::{Found, List};

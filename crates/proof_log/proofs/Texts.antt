@@ -15,7 +15,7 @@ use Rattle.log_lines.specs.Grammar.{Standing, next, line_defect}
 use Rattle.log_lines.specs.Reader.{HasNoFeed, line_length}
 use Rattle.log_lines.specs.Said.{line_said}
 use Rattle.log_lines.specs.TextDefect.{is_done, part_defect, after_bytes, text_defect}
-use Rattle.log_check.specs.Text.{rest_defect}
+use Rattle.proof_log.specs.Text.{rest_defect}
 
 feed : ℕ → Bool
 feed byte = byte == 10

@@ -1,5 +1,5 @@
 use Rattle.std.proofs.Common.{◌≡◌, ◌-◌, ◌++◌, length, replicate}
-use Rattle.log_check.proofs.gathering.pad.Given as goal
+use Rattle.proof_log.proofs.gathering.pad.Given as goal
 
 -- so many zeroes have been put to the end
 abbrev pub invariant-loop : goal.invariant-loop
