@@ -9,4 +9,5 @@ pub mod TreeLines
 pub mod Groups
 pub mod ValueLines
 pub mod Agreeing
+pub mod Gathers
 pub mod Texts
