@@ -55,6 +55,7 @@ All-next P xs x all is = All-append P xs (x ∷ []) all (All-cons P x [] is (λ 
 counted : (lines : List Line) (line : Line) → length lines + 1 ≡ length (lines ++ line ∷ [])
 counted lines line = grind (arith, common_steps)
 
+-- between the header and the claim the lines are the header and those of the items and the group, and no claim is made
 middle_lines : (version : ℕ) (place : Place) (items : List RowItem) (group : Group) → IsMiddle place → lines_at version place items group None ≡ HeaderLine version ∷ (flat_map item_lines items ++ group_lines group)
 middle_lines version AtNode items group middle = refl
 middle_lines version Inside items group middle = refl

@@ -21,14 +21,14 @@ use Rattle.proof_log.specs.Log.{RowItem, item_lines, claim_lines, line_after}
 use Rattle.proof_log.specs.OneText.{IsOver, IsClaimOver}
 
 -- the end line, where it has come
-abbrev pub end_lines : Place → List Line
-end_lines Done = End ∷ []
-end_lines _ = []
+abbrev pub end_lines_at : Place → List Line
+end_lines_at Done = End ∷ []
+end_lines_at _ = []
 
 -- the lines after those of the items: those of the open group, or those of the claim and the end line where it has come
 abbrev pub tail_lines : Group → Option Claim → Place → List Line
 tail_lines group None place = group_lines group
-tail_lines group (Some claim) place = claim_lines claim ++ end_lines place
+tail_lines group (Some claim) place = claim_lines claim ++ end_lines_at place
 
 -- the lines of a log so far
 abbrev pub lines_at : ℕ → Place → List RowItem → Group → Option Claim → List Line
