@@ -17,7 +17,7 @@ use Rattle.proof_tree.specs.Items.{leaf_item, tree_items}
 use Rattle.proof_tree.specs.Tree.{Leaf, Tree, leaf, split as two_parts, tree_of}
 use Rattle.proof_tree.specs.Walk.{Opened, Stage, Outcome, going, may_come, part_ended, walked, start}
 use Rattle.proof_tree.proofs.Forms.{any_steps-cap, tree_whole, going-may, whole-not_going}
-use Rattle.proof_tree.proofs.WalkLaw.{walked-append, walked-tree}
+use Rattle.proof_tree.proofs.WalkLaw.{stage_at, walked-append, walked-tree}
 
 -- which items may come in a node that has begun
 abbrev pub inside : {F : Type 0} → Option F → Expected
@@ -37,40 +37,36 @@ held_split split = record { view = []; pick = split.pick; left = option_map (λ 
 abbrev pub held_stage : {U C P F : Type 0} → List (SplitNode U C P F) → Option (BegunNode U F) → Stage P
 held_stage splits begun = record { expected = next_of begun; splits = map held_split splits; view = [] }
 
--- the stage where these items may come, with these splits open
-abbrev stage_at : {P : Type 0} → Expected → List (Opened P) → Outcome P
-stage_at expected splits = going (record { expected = expected; splits = splits; view = [] })
-
 module _ (R A U C P F : Type 0) where
   -- what items lead to under any steps
   abbrev led : Outcome P → List (Item R A U C P F) → Outcome P
   led outcome items = walked any_steps outcome items
 
-  led-cuts : (outer : List (Opened P)) (cuts : List U) → led (stage_at Inside outer) (map Cut cuts) ≡ stage_at Inside outer
+  led-cuts : (outer : List (Opened P)) (cuts : List U) → led (stage_at Inside outer []) (map Cut cuts) ≡ stage_at Inside outer []
   led-cuts outer [] = refl
   led-cuts outer (u ∷ us) = led-cuts outer us
 
-  led-begun : (outer : List (Opened P)) (node : BegunNode U F) → led (stage_at ExpectNode outer) (begun_items node) ≡ stage_at (inside node.found) outer
+  led-begun : (outer : List (Opened P)) (node : BegunNode U F) → led (stage_at ExpectNode outer []) (begun_items node) ≡ stage_at (inside node.found) outer []
   led-begun outer node =
-      walked-append R A F any_steps (stage_at Inside outer) (map Cut node.cuts) (map Found (option_to_list node.found))
+      walked-append R A F any_steps (stage_at Inside outer []) (map Cut node.cuts) (map Found (option_to_list node.found))
       ∙ (ap (λ o. led o (map Found (option_to_list node.found))) (led-cuts outer node.cuts) ∙ at node.found)
     where
-      at : (found : Option F) → led (stage_at Inside outer) (map Found (option_to_list found)) ≡ stage_at (inside found) outer
+      at : (found : Option F) → led (stage_at Inside outer []) (map Found (option_to_list found)) ≡ stage_at (inside found) outer []
       at None = refl
       at (Some f) = refl
 
-  led-left : (outer : List (Opened P)) (pick : P) (left : Option (Proof U C P F)) → led (stage_at ExpectNode (record { view = []; pick = pick; left = None } ∷ outer)) (items_if proof_items left) ≡ stage_at ExpectNode (record { view = []; pick = pick; left = option_map (λ proof. NoPoint) left } ∷ outer)
+  led-left : (outer : List (Opened P)) (pick : P) (left : Option (Proof U C P F)) → led (stage_at ExpectNode (record { view = []; pick = pick; left = None } ∷ outer) []) (items_if proof_items left) ≡ stage_at ExpectNode (record { view = []; pick = pick; left = option_map (λ proof. NoPoint) left } ∷ outer) []
   led-left outer pick None = refl
   led-left outer pick (Some proof) =
       walked-tree R A F any_steps (tree_of proof) (record { view = []; pick = pick; left = None } ∷ outer) []
       ∙ ap (part_ended (any_steps {U = U} {C = C}) (record { view = []; pick = pick; left = None } ∷ outer)) (any_steps-cap U C P [] (tree_of proof))
 
-  led-split : (outer : List (Opened P)) (split : SplitNode U C P F) → led (stage_at ExpectNode outer) (split_items split) ≡ stage_at ExpectNode (held_split split ∷ outer)
+  led-split : (outer : List (Opened P)) (split : SplitNode U C P F) → led (stage_at ExpectNode outer []) (split_items split) ≡ stage_at ExpectNode (held_split split ∷ outer) []
   led-split outer split =
-      walked-append R A F any_steps (stage_at ExpectNode outer) (begun_items split.node) (Split split.pick split.cert ∷ items_if proof_items split.left)
+      walked-append R A F any_steps (stage_at ExpectNode outer []) (begun_items split.node) (Split split.pick split.cert ∷ items_if proof_items split.left)
       ∙ (ap (λ o. led o (Split split.pick split.cert ∷ items_if proof_items split.left)) (led-begun outer split.node) ∙ at split.node.found)
     where
-      at : (found : Option F) → led (stage_at (inside found) outer) (Split split.pick split.cert ∷ items_if proof_items split.left) ≡ stage_at ExpectNode (held_split split ∷ outer)
+      at : (found : Option F) → led (stage_at (inside found) outer []) (Split split.pick split.cert ∷ items_if proof_items split.left) ≡ stage_at ExpectNode (held_split split ∷ outer) []
       at None = led-left outer split.pick split.left
       at (Some f) = led-left outer split.pick split.left
 
@@ -85,7 +81,7 @@ module _ (R A U C P F : Type 0) where
       walked-append R A F any_steps (start []) (splits_items splits) (items_if begun_items begun)
       ∙ (ap (λ o. led o (items_if begun_items begun)) (led-splits splits) ∙ at begun)
     where
-      at : (node : Option (BegunNode U F)) → led (stage_at ExpectNode (map held_split splits)) (items_if begun_items node) ≡ going (held_stage splits node)
+      at : (node : Option (BegunNode U F)) → led (stage_at ExpectNode (map held_split splits) []) (items_if begun_items node) ≡ going (held_stage splits node)
       at None = refl
       at (Some node) = led-begun (map held_split splits) node
 
@@ -172,23 +168,27 @@ module _ (R A : Type 0) {U C P F : Type 0} where
       ap (λ last. splits_items splits ++ (begun_items node ++ last ∷ [])) (sym is)
       ∙ sym (append_assoc (splits_items splits) (begun_items node) (item ∷ []))
 
-  -- the items of a split are those of its node and of its parts
-  split-parts : (node : BegunNode U F) (pick : P) (cert : C) (a b : Tree U C P F) → tree_items {R = R} {A = A} (two_parts node.cuts node.found pick cert a b) ≡ (begun_items node ++ Split pick cert ∷ tree_items a) ++ tree_items b
-  split-parts node pick cert a b =
-      ap (λ xs. Node ∷ xs) (sym (append_assoc (map Cut node.cuts) (map Found (option_to_list node.found)) (Split pick cert ∷ (tree_items a ++ tree_items b))))
-      ∙ sym (append_assoc (begun_items node) (Split pick cert ∷ tree_items a) (tree_items b))
+  -- the innermost split, closed by its right part, leaves the items as they are
+  pub items-closed : (all splits : List (SplitNode U C P F)) (split : SplitNode U C P F) (left right proof : Proof U C P F) → all ≡ split ∷ splits → split.left ≡ Some left → tree_of proof ≡ two_parts split.node.cuts split.node.found split.pick split.cert (tree_of left) (tree_of right)
+      → splits_items {R = R} {A = A} splits ++ proof_items proof ≡ splits_items all ++ proof_items right
+  items-closed all splits split left right proof here ended whole =
+      let parts : List (Item R A U C P F) = Split split.pick split.cert ∷ proof_items left in
+      ap (λ tree. splits_items splits ++ tree_items tree) whole
+      ∙ ap (λ xs. splits_items splits ++ Node ∷ xs) (sym (append_assoc (map Cut split.node.cuts) (map Found (option_to_list split.node.found)) (parts ++ proof_items right)))
+      ∙ ap (λ xs. splits_items splits ++ xs) (sym (append_assoc (begun_items split.node) parts (proof_items right)))
+      ∙ sym (append_assoc (splits_items splits) (begun_items split.node ++ parts) (proof_items right))
+      ∙ ap (λ other. (splits_items splits ++ (begun_items split.node ++ Split split.pick split.cert ∷ items_if proof_items other)) ++ proof_items right) (sym ended)
+      ∙ ap (λ others. splits_items others ++ proof_items right) (sym here)
 
-  -- a split that is closed by its right part leaves the items as they are
-  pub splits_items-closed : (splits : List (SplitNode U C P F)) (node : BegunNode U F) (pick : P) (cert : C) (a b : Tree U C P F) → splits_items splits ++ tree_items {R = R} {A = A} (two_parts node.cuts node.found pick cert a b) ≡ (splits_items splits ++ (begun_items node ++ Split pick cert ∷ tree_items a)) ++ tree_items b
-  splits_items-closed splits node pick cert a b =
-      ap (λ xs. splits_items splits ++ xs) (split-parts node pick cert a b)
-      ∙ sym (append_assoc (splits_items splits) (begun_items node ++ Split pick cert ∷ tree_items a) (tree_items b))
-
-  -- the items of a left part that has ended come after the split
-  pub splits_items-left : (splits : List (SplitNode U C P F)) (node : BegunNode U F) (pick : P) (cert : C) (later : List (Item R A U C P F)) → splits_items splits ++ (begun_items node ++ Split pick cert ∷ later) ≡ (splits_items splits ++ (begun_items node ++ Split pick cert ∷ [])) ++ later
-  splits_items-left splits node pick cert later =
-      ap (λ xs. splits_items splits ++ xs) (sym (append_assoc (begun_items node) (Split pick cert ∷ []) later))
-      ∙ sym (append_assoc (splits_items splits) (begun_items node ++ Split pick cert ∷ []) later)
+  -- and so does the innermost split that keeps its left part
+  pub items-left : (all splits : List (SplitNode U C P F)) (split : SplitNode U C P F) (proof : Proof U C P F) → all ≡ split ∷ splits → split.left ≡ None
+      → splits_items {R = R} {A = A} (record split { left = Some proof } ∷ splits) ≡ splits_items all ++ proof_items proof
+  items-left all splits split proof here none =
+      let last : List (Item R A U C P F) = Split split.pick split.cert ∷ [] in
+      ap (λ xs. splits_items splits ++ xs) (sym (append_assoc (begun_items split.node) last (proof_items proof)))
+      ∙ sym (append_assoc (splits_items splits) (begun_items split.node ++ last) (proof_items proof))
+      ∙ ap (λ other. (splits_items splits ++ (begun_items split.node ++ Split split.pick split.cert ∷ items_if proof_items other)) ++ proof_items proof) (sym none)
+      ∙ ap (λ others. splits_items others ++ proof_items proof) (sym here)
 
 -- the items of a proof that was built are whole
 pub built-whole : {R A U C P F : Type 0} (items : List (Item R A U C P F)) (proof : Proof U C P F) → IsBuilt items (Whole proof) → AreWhole items

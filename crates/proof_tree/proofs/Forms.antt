@@ -19,7 +19,7 @@ use Rattle.proof_tree.proofs.WalkTree.{walked-is_tree}
 
 module _ (U C P : Type 0) where
   -- under any steps each cut leads on, and each tree has the cap of no point
-  pub any_steps-cuts : (v : View) (cuts : List U) → after_cuts (any_steps {U = U} {C = C} {P = P}) v cuts ≡ Some v
+  any_steps-cuts : (v : View) (cuts : List U) → after_cuts (any_steps {U = U} {C = C} {P = P}) v cuts ≡ Some v
   any_steps-cuts v [] = refl
   any_steps-cuts v (u ∷ us) = any_steps-cuts v us
 

@@ -336,6 +336,8 @@ fn builds(rt: HostRuntime) -> Result<(), Fail> {
     let tree = parted(alloc, 7, dual(alloc, 9), right)?;
     assert_eq!(rt; proof.cuts.len(), 1);
     assert_eq!(rt; proof.found, Some(3));
-    assert_eq!(rt; cap_over_all(proof), cap_over_all(tree));
+    let cap = cap_over_all(proof);
+    assert_eq!(rt; cap, Capped::AtMost(255));
+    assert_eq!(rt; cap, cap_over_all(tree));
     Ok(())
 }
