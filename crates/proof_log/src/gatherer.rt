@@ -61,7 +61,8 @@ impl Gatherer {
     /// Takes the next line of a log.
     pub(crate) fn take(&mut self, alloc: Global, line: Line) -> Result<Gathered, AllocError>
         requires line { IsLine line }
-        requires gathered { (lines : Items AnyLine) × (items : Items RowItem) × (claim : _) × HasGathered lines items claim self.old }
+        requires gathered { (lines : Items AnyLine) × (items : Items RowItem) × (claim : _)
+            × HasGathered lines items claim self.old }
         ensures limits { self.new.limits ≡ self.old.limits }
         ensures moves { IfOk result (λ gathered. MovesAs self.old.limits self.old.grammar line self.new.grammar gathered) }
         ensures made { IfOk result (λ gathered. (lines : Items AnyLine) (items : Items RowItem) (claim : _)
@@ -83,7 +84,8 @@ impl Gatherer {
     // Takes a line that the grammar has taken. The header and the end line make nothing.
     fn go_on(&mut self, alloc: Global, line: Line) -> Result<Gathered, AllocError>
         requires room { self.old.number + 1 < 2 ^ 64 }
-        requires comes { (before : Standing) × (lines : Items AnyLine) × (items : Items RowItem) × (claim : _) × LineComes before lines items claim line self.old }
+        requires comes { (before : Standing) × (lines : Items AnyLine) × (items : Items RowItem) × (claim : _)
+            × LineComes before lines items claim line self.old }
         ensures limits { self.new.limits ≡ self.old.limits }
         ensures grammar { self.new.grammar ≡ self.old.grammar }
         ensures good { IfOk result IsGood }
@@ -100,7 +102,8 @@ impl Gatherer {
     fn gather(&mut self, alloc: Global, line: Line) -> Result<Gathered, AllocError>
         requires body { IsBody line }
         requires room { self.old.number + 1 < 2 ^ 64 }
-        requires comes { (before : Standing) × (lines : Items AnyLine) × (items : Items RowItem) × (claim : _) × LineComes before lines items claim line self.old }
+        requires comes { (before : Standing) × (lines : Items AnyLine) × (items : Items RowItem) × (claim : _)
+            × LineComes before lines items claim line self.old }
         ensures limits { self.new.limits ≡ self.old.limits }
         ensures grammar { self.new.grammar ≡ self.old.grammar }
         ensures good { IfOk result IsGood }
@@ -124,7 +127,7 @@ impl Gatherer {
         }
     }
 
-    // What a line makes of the open group, which is then let go.
+    // What a line makes of the open group. After it none is open.
     fn grow(&mut self, alloc: Global, line: Line) -> Result<Grown, AllocError>
         requires { MayFollow self.old.limits.slots self.old.group line }
         ensures same { self.new ≡ record self.old { group = Group.Nothing } }
