@@ -79,7 +79,8 @@ impl<R: Relaxation> TreeBuilder<R> {
         }
     }
 
-    /// Takes the next item of the proof. After want of memory what was built is gone.
+    /// Takes the next item of the proof. After the last one the answer is the whole proof, and after any
+    /// other a builder that takes the next. After want of memory what was built is gone.
     pub fn take(self, item: Item<R>) -> Result<Built<R>, AllocError>
         requires { (items : Items (Item R R.Area R.Trim R.Cert R.Pick R.Found)) × HasBuilt items self × MayComeAfter items item }
         ensures { IfOk result (λ built. (items : Items (Item R R.Area R.Trim R.Cert R.Pick R.Found))
@@ -136,19 +137,16 @@ fn take_inside<R: Relaxation>(
         Item::Dual(cert) => close(alloc, splits, node.ended(End::Dual(cert))),
         Item::Point => close(alloc, splits, node.ended(End::Point)),
         Item::Pending(cert) => close(alloc, splits, node.ended(End::Pending(cert))),
-        Item::Split(pick, cert) => {
-            let left = None;
-            begin_part(
-                alloc,
-                splits,
-                SplitNode {
-                    node,
-                    pick,
-                    cert,
-                    left,
-                },
-            )
-        }
+        Item::Split(pick, cert) => begin_part(
+            alloc,
+            splits,
+            SplitNode {
+                node,
+                pick,
+                cert,
+                left: None,
+            },
+        ),
     }
 }
 
