@@ -1,15 +1,15 @@
 -- Lines: one entry more, the opposite, and bounds on their parts.
-use Rattle.std.proofs.Common.{◌≡◌, ℕ, zero, suc, ◌+◌, ◌<◌, ◌≤◌, false, eqb, List, length, get_or, set, drop, replicate, refl, sym, ap, ◌∙◌, ⊎_elim, arith, ℤ, pos, negsuc, neg_ℤ, ◌+ℤ◌, ◌-ℤ◌, ◌*ℤ◌, ◌≤ℤ◌}
+use Rattle.std.proofs.Common.{◌≡◌, ℕ, zero, suc, ◌+◌, ◌<◌, ◌≤◌, eqb, List, length, get_or, set, drop, replicate, refl, sym, ap, ◌∙◌, ⊎_elim, arith, ℤ, pos, neg_ℤ, ◌+ℤ◌, ◌-ℤ◌, ◌*ℤ◌}
 use Rattle.std.specs.List.{All}
 use Rattle.std.proofs.lemmas.Bool.{cond-true, cond-false, eq-eqb, ne_eqb, cases_eq, cases_lt}
 use Rattle.std.proofs.lemmas.List.{at_drop_more, get_or-set_same, get_or-set_other, get_or-replicate, get_or_past, length-replicate}
 use Rattle.std.proofs.lemmas.List.Elements.{All-set, All-weaker, All-replicate}
 use Rattle.std.proofs.lemmas.Int.{ints}
-use Rattle.std.proofs.Math.IntN.{*ℤ-zero, zero-*ℤ, +ℤ_idl, pos-*ℤ-pos, negsuc-*ℤ-pos}
-use Rattle.std.proofs.Math.Nat.{mul-le-mul_left}
+use Rattle.std.proofs.Math.IntN.{*ℤ-zero, +ℤ_idl}
 use Rattle.row_kit.specs.declared.row.Entry.{Entry}
 use Rattle.row_kit.specs.Row.{counted, entry_at}
 use Rattle.row_kit.proofs.Ascending.{no_entry}
+use Rattle.row_kit.proofs.Values.{part_above}
 use Rattle.dual_bound.specs.declared.line.Line.{Line}
 use Rattle.dual_bound.specs.Line.{line_at, slot_line, IsWithin}
 use Rattle.dual_bound.proofs.Signed.{mul_add, mul_assoc, add_mul, neg_mul}
@@ -23,15 +23,6 @@ two_minus x a b y c d p q r s = omega (arith, ints)
 moved : (n r o l c x e : ℤ) → n ≡ r → r ≡ o +ℤ c → o ≡ l → e ≡ c +ℤ x → n +ℤ x ≡ l +ℤ e
 moved n r o l c x e p q s t = omega (arith, ints)
 
-not_zero : (v : ℕ) → eqb (suc v) 0 ≡ false
-not_zero v = ne_eqb (suc v) 0 (λ e. absurd (omega arith))
-
-pub at_above : (line : Line) (v : ℕ) → line_at line (suc v) ≡ line.fixed +ℤ (line.per *ℤ pos (suc v))
-at_above line v = cond-false (eqb (suc v) 0) (pos 0) (line.fixed +ℤ (line.per *ℤ pos (suc v))) (not_zero v)
-
-counted_above : (entry : Entry) (v : ℕ) → counted entry (suc v) ≡ entry.fixed +ℤ (entry.per *ℤ pos (suc v))
-counted_above entry v = cond-false (eqb (suc v) 0) (pos 0) (entry.fixed +ℤ (entry.per *ℤ pos (suc v))) (not_zero v)
-
 -- the parts of a line with a factor times an entry besides are the sums of the parts
 pub line_plus : (line sum : Line) (entry : Entry) (n : ℕ) → sum.fixed ≡ line.fixed +ℤ (pos n *ℤ entry.fixed) → sum.per ≡ line.per +ℤ (pos n *ℤ entry.per) → (v : ℕ) → line_at sum v ≡ line_at line v +ℤ (pos n *ℤ counted entry v)
 line_plus line sum entry n ef ep zero = omega (arith, ints, *ℤ-zero (pos n))
@@ -39,16 +30,16 @@ line_plus line sum entry n ef ep (suc v) =
     let p : sum.per *ℤ pos (suc v) ≡ (line.per *ℤ pos (suc v)) +ℤ (pos n *ℤ (entry.per *ℤ pos (suc v))) =
     ap (λ x. x *ℤ pos (suc v)) ep ∙ add_mul line.per (pos n *ℤ entry.per) (suc v) ∙ ap (λ x. (line.per *ℤ pos (suc v)) +ℤ x) (sym (mul_assoc n (suc v) entry.per)) in
     let q : pos n *ℤ counted entry (suc v) ≡ (pos n *ℤ entry.fixed) +ℤ (pos n *ℤ (entry.per *ℤ pos (suc v))) =
-    ap (λ x. pos n *ℤ x) (counted_above entry v) ∙ mul_add n entry.fixed (entry.per *ℤ pos (suc v)) in
+    ap (λ x. pos n *ℤ x) (part_above entry.fixed entry.per (suc v) (omega arith)) ∙ mul_add n entry.fixed (entry.per *ℤ pos (suc v)) in
     four_sum (line_at sum (suc v)) sum.fixed (sum.per *ℤ pos (suc v)) (line_at line (suc v)) line.fixed (line.per *ℤ pos (suc v)) (pos n *ℤ counted entry (suc v)) (pos n *ℤ entry.fixed) (pos n *ℤ (entry.per *ℤ pos (suc v)))
-    (at_above sum v) (at_above line v) q ef p
+    (part_above sum.fixed sum.per (suc v) (omega arith)) (part_above line.fixed line.per (suc v) (omega arith)) q ef p
 
 pub line_minus : (line opposite : Line) → opposite.fixed ≡ neg_ℤ line.fixed → opposite.per ≡ neg_ℤ line.per → (v : ℕ) → line_at opposite v ≡ neg_ℤ (line_at line v)
 line_minus line opposite ef ep zero = refl
 line_minus line opposite ef ep (suc v) =
     let p = ap (λ x. x *ℤ pos (suc v)) ep ∙ neg_mul line.per (suc v) in
     two_minus (line_at opposite (suc v)) opposite.fixed (opposite.per *ℤ pos (suc v)) (line_at line (suc v)) line.fixed (line.per *ℤ pos (suc v))
-    (at_above opposite v) (at_above line v) ef p
+    (part_above opposite.fixed opposite.per (suc v) (omega arith)) (part_above line.fixed line.per (suc v) (omega arith)) ef p
 
 pub within_le : (m n : ℕ) (line : Line) → IsWithin m line → m ≤ n → IsWithin n line
 within_le m n line w h = record { fixed = omega (arith, w.fixed); per = omega (arith, w.per) }
@@ -83,39 +74,11 @@ added lines es n i r lt named is slot v =
 pub all_within_le : (m n : ℕ) (lines : List Line) → m ≤ n → All (IsWithin m) lines → All (IsWithin n) lines
 all_within_le m n lines h all = All-weaker (IsWithin m) (IsWithin n) (λ (x : Line) (w : IsWithin m x). within_le m n x w h) lines all
 
-per_rises : (per : ℤ) (m n : ℕ) → pos 0 ≤ℤ per → m ≤ n → (per *ℤ pos m) ≤ℤ (per *ℤ pos n)
-per_rises (pos x) m n h k = omega (arith, ints, pos-*ℤ-pos x m, pos-*ℤ-pos x n, mul-le-mul_left x k)
-per_rises (negsuc x) m n h k = absurd (omega (arith, ints))
-
-per_falls : (per : ℤ) (m n : ℕ) → per ≤ℤ pos 0 → m ≤ n → (per *ℤ pos n) ≤ℤ (per *ℤ pos m)
-per_falls (pos zero) m n h k = omega (arith, ints, pos-*ℤ-pos 0 m, pos-*ℤ-pos 0 n)
-per_falls (pos (suc x)) m n h k = absurd (omega (arith, ints))
-per_falls (negsuc x) m n h k = omega (arith, ints, negsuc-*ℤ-pos x m, negsuc-*ℤ-pos x n, mul-le-mul_left (suc x) k)
-
-at_positive : (line : Line) (v : ℕ) → 1 ≤ v → line_at line v ≡ line.fixed +ℤ (line.per *ℤ pos v)
-at_positive line zero h = absurd (omega arith)
-at_positive line (suc v) h = at_above line v
-
-added_le : (f a b x y : ℤ) → x ≡ f +ℤ a → y ≡ f +ℤ b → a ≤ℤ b → x ≤ℤ y
-added_le f a b x y p q h = omega (arith, ints)
-
--- a line counts most at one end
-pub line_rises : (line : Line) (v hi : ℕ) → pos 0 ≤ℤ line.per → 1 ≤ v → v ≤ hi → line_at line v ≤ℤ line_at line hi
-line_rises line v hi up low h = added_le line.fixed (line.per *ℤ pos v) (line.per *ℤ pos hi) (line_at line v) (line_at line hi) (at_positive line v low) (at_positive line hi (omega arith)) (per_rises line.per v hi up h)
-
-pub line_falls : (line : Line) (lo v : ℕ) → line.per ≤ℤ pos 0 → 1 ≤ lo → lo ≤ v → line_at line v ≤ℤ line_at line lo
-line_falls line lo v down low h = added_le line.fixed (line.per *ℤ pos v) (line.per *ℤ pos lo) (line_at line v) (line_at line lo) (at_positive line v (omega arith)) (at_positive line lo low) (per_falls line.per lo v down h)
-
 pub row_moved : (n r o c d w : ℤ) → n ≡ o +ℤ c → d ≡ c +ℤ r → o +ℤ d ≡ w → n +ℤ r ≡ w
 row_moved n r o c d w p q s = omega (arith, ints)
 
 pub combined : (x t a b r e : ℤ) → x ≡ t +ℤ e → t ≡ neg_ℤ a → a ≡ b +ℤ r → b ≡ pos 0 → x ≡ e -ℤ r
 combined x t a b r e p q s z = omega (arith, ints)
-
--- the line that counts nothing
-pub none_at : (v : ℕ) → line_at no_line v ≡ pos 0
-none_at zero = refl
-none_at (suc v) = at_above no_line v ∙ +ℤ_idl (pos 0 *ℤ pos (suc v)) ∙ zero-*ℤ (pos (suc v))
 
 pub bare_at : (n k : ℕ) → get_or (replicate n no_line) k no_line ≡ no_line
 bare_at n k =

@@ -1,4 +1,4 @@
-pub mod Wide
+pub mod SignedNumbers
 pub mod NumberTexts
 pub mod LineTexts
 pub mod SaidLines

@@ -12,7 +12,7 @@ use Rattle.log_lines.specs.declared.line.Line.{Line}
 use Rattle.log_lines.specs.declared.line.Line.TheVariants.{Header, Node, Cut, Found, Value, Empty, Point, Dual, Pending, Split, Mult, ClaimOptimal, ClaimInfeasible, ClaimBetween, ClaimBelow, End}
 use Rattle.log_lines.specs.Line.{IsShort, IsLine, form_name, line_form, line_numbers, line_text, number_text}
 use Rattle.log_lines.specs.Reader.{HasNoFeed}
-use Rattle.log_lines.proofs.Wide.{decimal-lacks_wide}
+use Rattle.text_words.proofs.Printed.{decimal-lacks}
 
 -- ---- no line feed
 
@@ -38,7 +38,7 @@ name_tested form.ClaimBelow = refl
 name_tested form.End = refl
 
 plain_decimal : (n : ℕ) → n < 10 ^ 64 → HasNoFeed (decimal n)
-plain_decimal n small = λ k d within. let lacks : eqb (get_or (decimal n) k d) 10 ≡ false = decimal-lacks_wide n 10 small (λ r. omega arith) k d within in grind (arith, nat_tests)
+plain_decimal n small = λ k d within. let lacks : eqb (get_or (decimal n) k d) 10 ≡ false = decimal-lacks n 10 small (λ r. omega arith) k d within in grind (arith, nat_tests)
 
 plain_signed : (number : ℤ) → IsShort number → HasNoFeed (signed_decimal number)
 plain_signed (pos n) short = plain_decimal n (omega arith)

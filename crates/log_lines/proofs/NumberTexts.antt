@@ -14,14 +14,15 @@ use mir.Syntax.{w128}
 use mir.Val.{to_z, of_z}
 use Rattle.log_lines.specs.Line.{IsShort, number_text}
 use Rattle.log_lines.specs.Numbers.{IsCut, IsWord, IsRest, HasSign, Fit, Reads, IsFirst, ReadsFirst}
-use Rattle.log_lines.proofs.Wide.{decimal-lacks_wide, signed_decimal_injective_wide}
+use Rattle.text_words.proofs.Printed.{decimal-lacks}
+use Rattle.log_lines.proofs.SignedNumbers.{signed_decimal_injective_wide}
 
 -- ---- words
 
 -- what is printed of a number has no blank
 pub IsWord-signed : (number : ℤ) → IsShort number → IsWord (signed_decimal number)
-IsWord-signed (pos n) short = decimal-lacks_wide n 32 (omega arith) (λ r. omega arith)
-IsWord-signed (negsuc n) short = All-cons (λ b. eqb b 32 ≡ false) 45 _ refl (decimal-lacks_wide (suc n) 32 (omega arith) (λ r. omega arith))
+IsWord-signed (pos n) short = decimal-lacks n 32 (omega arith) (λ r. omega arith)
+IsWord-signed (negsuc n) short = All-cons (λ b. eqb b 32 ≡ false) 45 _ refl (decimal-lacks (suc n) 32 (omega arith) (λ r. omega arith))
 
 -- numbers follow after a blank
 pub IsRest-number_text : (numbers : List ℤ) → IsRest (number_text numbers)

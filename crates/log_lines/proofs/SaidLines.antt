@@ -1,5 +1,5 @@
 -- The line that some bytes are, as a function of them.
-use Rattle.std.proofs.Common.{◌≡◌, ◌≢◌, ℕ, ℤ, pos, negsuc, neg_ℤ, zero, suc, ◌<◌, ◌≤◌, ◌^◌, nat_lt, nat_le, Bool, true, false, cond, eqb, All, List, [], ◌∷◌, ◌++◌, length, get_or, map, decimal, bytes_eq, Option, Some, None, MatchOption, subst, sym, ap, ◌∙◌, refl, arith}
+use Rattle.std.proofs.Common.{◌≡◌, ◌≢◌, ℕ, ℤ, pos, negsuc, neg_ℤ, zero, suc, ◌<◌, ◌≤◌, ◌^◌, nat_lt, nat_le, Bool, true, false, cond, eqb, All, List, [], ◌∷◌, ◌++◌, length, get_or, map, bytes_eq, Option, Some, None, MatchOption, subst, sym, ap, ◌∙◌, refl, arith}
 use Rattle.std.specs.Prelude.{find, unsigned_abs}
 use Rattle.std.specs.Bool.{Decides}
 use Rattle.std.specs.Fmt.{signed_decimal}
@@ -10,7 +10,6 @@ use Rattle.std.proofs.lemmas.Bool.Decides.{Decides-and, Decides-by_and, Decides-
 use Rattle.std.proofs.lemmas.Fmt.{decimal_is_IsNumeral_wide}
 use Rattle.std.proofs.lemmas.List.{append-nil}
 use Rattle.std.proofs.lemmas.List.Splits.{slice_split_at, slice_split_none}
-use Rattle.std.proofs.lemmas.Str.Parse.{digit_at}
 use Rattle.std.proofs.lemmas.Slice.Eq.{bytes_eq-Decides}
 use Rattle.log_lines.specs.declared.form.Form.{Form}
 use Rattle.log_lines.specs.declared.form.Form.TheVariants as form
@@ -21,14 +20,11 @@ use Rattle.log_lines.specs.Line.{IsShort, IsLine, IsInRange, form_name, line_for
 use Rattle.log_lines.specs.Numbers.{Fit}
 use Rattle.log_lines.specs.Reading.{form_named, form_signs}
 use Rattle.log_lines.specs.Said.{word_number, numbers_after, line_with, is_in_range, is_line, is_text, line_said}
+use Rattle.log_lines.proofs.SignedNumbers.{plain_first}
 use Rattle.log_lines.proofs.NumberTexts.{IsWord-signed, IsRest-number_text, number_text_unique}
 use Rattle.log_lines.proofs.LineTexts.{find_form, find_passes, name_alone, Fit-line}
 
 -- ---- numbers
-
--- a printed word is no minus first
-plain_first : (n : ℕ) → n < 10 ^ 64 → eqb (get_or (decimal n) 0 0) 45 ≡ false
-plain_first n small = let other : get_or (decimal n) 0 0 ≢ 45 = λ minus. let digit = digit_at (decimal n) 0 (decimal_is_IsNumeral_wide n small).0.1 (decimal_is_IsNumeral_wide n small).0.0 in omega arith in grind (arith, nat_tests)
 
 -- what is printed of a number is that number
 word_number-signed : (number : ℤ) → IsShort number → word_number (signed_decimal number) ≡ number

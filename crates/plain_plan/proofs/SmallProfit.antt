@@ -16,7 +16,7 @@ use Rattle.stn_model.specs.Sums.{total, total_below}
 use Rattle.stn_model.specs.Profit.{end_value, payments, holding_cost, utility_cost, cost_of, start_cost, changeover, change_costs, profit}
 use Rattle.stn_model.specs.Batches.{is_next}
 use Rattle.stn_model.specs.Sound.{Sound, SoundTask, SoundState}
-use Rattle.plain_plan.proofs.Small.{inputs_small, outputs_small, run_costs_small}
+use Rattle.stn_model.proofs.Small.{inputs_small, outputs_small, run_costs_small}
 
 -- a start of a task that is there, of a size that a batch may have
 pub record SmallStart (plant : Plant) (start : Start) : Type 0 where

@@ -98,7 +98,7 @@ fn scaled(rate: i64, amount: i128) -> i128
     rate as i128 * amount
 }
 
-#[tactic(auto, unfolding(stn_model::specs::Profit::end_value), using(crate::proofs::Totals::total_below_more))]
+#[tactic(auto, unfolding(stn_model::specs::Profit::end_value), using(stn_model::proofs::Totals::total_below_more))]
 fn end_value(plant: &Plant, plan: &[Start]) -> i128
     requires sound { Sound plant.now }
     requires few { length plan.now < 2 ^ 32 }
@@ -132,7 +132,7 @@ fn payments(plant: &Plant) -> i128
     paid(plant.deliveries.as_slice())
 }
 
-#[tactic(auto, using(crate::proofs::Totals::total_more))]
+#[tactic(auto, using(stn_model::proofs::Totals::total_more))]
 fn paid(deliveries: &[Delivery]) -> i128
     requires few { length deliveries.now ≤ 256 }
     requires each { All (λ delivery. unsigned_abs delivery.payment ≤ 2 ^ 30) deliveries.now }
@@ -154,7 +154,7 @@ fn payment(delivery: &Delivery) -> i128
     delivery.payment as i128
 }
 
-#[tactic(auto, unfolding(stn_model::specs::Profit::holding_cost), using(crate::proofs::Totals::total_below_more))]
+#[tactic(auto, unfolding(stn_model::specs::Profit::holding_cost), using(stn_model::proofs::Totals::total_below_more))]
 fn holding_cost(plant: &Plant, plan: &[Start]) -> i128
     requires sound { Sound plant.now }
     requires few { length plan.now < 2 ^ 32 }
@@ -168,7 +168,7 @@ fn holding_cost(plant: &Plant, plan: &[Start]) -> i128
     sum
 }
 
-#[tactic(auto, using(crate::proofs::Totals::total_below_more))]
+#[tactic(auto, using(stn_model::proofs::Totals::total_below_more))]
 fn held(plant: &Plant, plan: &[Start], state: u32) -> i128
     requires sound { Sound plant.now }
     requires few { length plan.now < 2 ^ 32 }
@@ -194,7 +194,7 @@ fn held_at(plant: &Plant, plan: &[Start], state: u32, time: u32) -> i128
     scaled(holding, stock_at(plant, plan, state, time))
 }
 
-#[tactic(auto, unfolding(stn_model::specs::Profit::utility_cost), using(crate::proofs::Totals::total_below_more))]
+#[tactic(auto, unfolding(stn_model::specs::Profit::utility_cost), using(stn_model::proofs::Totals::total_below_more))]
 fn utility_cost(plant: &Plant, plan: &[Start]) -> i128
     requires sound { Sound plant.now }
     requires few { length plan.now < 2 ^ 32 }
@@ -208,7 +208,7 @@ fn utility_cost(plant: &Plant, plan: &[Start]) -> i128
     sum
 }
 
-#[tactic(auto, using(crate::proofs::Totals::total_below_more))]
+#[tactic(auto, using(stn_model::proofs::Totals::total_below_more))]
 fn used(plant: &Plant, plan: &[Start], utility: u32) -> i128
     requires sound { Sound plant.now }
     requires few { length plan.now < 2 ^ 32 }
@@ -234,7 +234,7 @@ fn used_in(plant: &Plant, plan: &[Start], utility: u32, period: u32) -> i128
     scaled(rate, load_in(plant, plan, utility, period) as i128)
 }
 
-#[tactic(auto, unfolding(stn_model::specs::Profit::start_cost), using(crate::proofs::Totals::total_more))]
+#[tactic(auto, unfolding(stn_model::specs::Profit::start_cost), using(stn_model::proofs::Totals::total_more))]
 fn start_cost(plant: &Plant, plan: &[Start]) -> i128
     requires sound { Sound plant.now }
     requires few { length plan.now < 2 ^ 32 }

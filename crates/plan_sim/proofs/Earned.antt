@@ -7,20 +7,20 @@ use Rattle.stn_model.specs.Plant.{state_at, utility_at}
 use Rattle.stn_model.specs.Profit.{end_value, payments, holding_cost, utility_cost, start_cost, change_costs, profit}
 use Rattle.plan_sim.specs.Money.{levels_worth, levels_held, uses_cost}
 use Rattle.plan_sim.specs.Tables.{IsStockTable, IsLoadTable}
-use Rattle.plan_sim.proofs.Totals.{total_below_ext}
+use Rattle.stn_model.proofs.Totals.{total_below-agree}
 
 module _ (plant : Plant) (plan : List Start) (stocks : List ℤ) (loads : List ℕ) (s : IsStockTable plant plan stocks) (l : IsLoadTable plant plan loads) where
   worth_is : levels_worth plant stocks ≡ end_value plant plan
   unfolding end_value
-  worth_is = total_below_ext _ _ (length plant.states) (λ state h. ap (λ (x : ℤ). (state_at plant state).price *ℤ x) (s.level state plant.periods h (omega arith)))
+  worth_is = total_below-agree _ _ (length plant.states) (λ state h. ap (λ (x : ℤ). (state_at plant state).price *ℤ x) (s.level state plant.periods h (omega arith)))
 
   held_is : levels_held plant stocks ≡ holding_cost plant plan
   unfolding holding_cost
-  held_is = total_below_ext _ _ (length plant.states) (λ state h. total_below_ext _ _ plant.periods (λ time k. ap (λ (x : ℤ). (state_at plant state).holding *ℤ x) (s.level state time h (omega arith))))
+  held_is = total_below-agree _ _ (length plant.states) (λ state h. total_below-agree _ _ plant.periods (λ time k. ap (λ (x : ℤ). (state_at plant state).holding *ℤ x) (s.level state time h (omega arith))))
 
   uses_is : uses_cost plant loads ≡ utility_cost plant plan
   unfolding utility_cost
-  uses_is = total_below_ext _ _ (length plant.utilities) (λ utility h. total_below_ext _ _ plant.periods (λ period k. ap (λ (n : ℕ). (utility_at plant utility).rate *ℤ pos n) (l.level utility period h k)))
+  uses_is = total_below-agree _ _ (length plant.utilities) (λ utility h. total_below-agree _ _ plant.periods (λ period k. ap (λ (n : ℕ). (utility_at plant utility).rate *ℤ pos n) (l.level utility period h k)))
 
   pub profit_is : (x : ℤ) (costs : ℕ) → x ≡ (((levels_worth plant stocks +ℤ payments plant) -ℤ levels_held plant stocks) -ℤ uses_cost plant loads) -ℤ start_cost plant plan → costs ≡ change_costs plant plan → x -ℤ pos costs ≡ profit plant plan
   unfolding profit

@@ -3,5 +3,3 @@ pub mod Firsts
 pub mod Following
 pub mod Tables
 pub mod Placed
-pub mod Small
-pub mod Totals

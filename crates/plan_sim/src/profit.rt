@@ -101,7 +101,7 @@ fn scaled(rate: i64, amount: i128) -> i128
     rate as i128 * amount
 }
 
-#[tactic(auto, using(crate::proofs::Totals::total_below_more))]
+#[tactic(auto, using(stn_model::proofs::Totals::total_below_more))]
 fn worth_of_levels(plant: &Plant, stocks: &[i128]) -> i128
     requires sound { Sound plant.now }
     requires stocks { length stocks.now ≡ length plant.now.states * (plant.now.periods + 1) }
@@ -172,7 +172,7 @@ fn payment(delivery: &Delivery) -> i128
     delivery.payment as i128
 }
 
-#[tactic(auto, using(crate::proofs::Totals::total_below_more))]
+#[tactic(auto, using(stn_model::proofs::Totals::total_below_more))]
 fn cost_of_levels(plant: &Plant, stocks: &[i128]) -> i128
     requires sound { Sound plant.now }
     requires stocks { length stocks.now ≡ length plant.now.states * (plant.now.periods + 1) }
@@ -187,7 +187,7 @@ fn cost_of_levels(plant: &Plant, stocks: &[i128]) -> i128
     sum
 }
 
-#[tactic(auto, using(crate::proofs::Totals::total_below_more))]
+#[tactic(auto, using(stn_model::proofs::Totals::total_below_more))]
 fn cost_of_level(plant: &Plant, stocks: &[i128], state: usize) -> i128
     requires sound { Sound plant.now }
     requires stocks { length stocks.now ≡ length plant.now.states * (plant.now.periods + 1) }
@@ -216,7 +216,7 @@ fn cost_at(plant: &Plant, stocks: &[i128], state: usize, time: usize) -> i128
     scaled(holding, level_at(plant, stocks, state, time))
 }
 
-#[tactic(auto, using(crate::proofs::Totals::total_below_more))]
+#[tactic(auto, using(stn_model::proofs::Totals::total_below_more))]
 fn cost_of_uses(plant: &Plant, loads: &[u128]) -> i128
     requires sound { Sound plant.now }
     requires loads { length loads.now ≡ length plant.now.utilities * plant.now.periods }
@@ -231,7 +231,7 @@ fn cost_of_uses(plant: &Plant, loads: &[u128]) -> i128
     sum
 }
 
-#[tactic(auto, using(crate::proofs::Totals::total_below_more))]
+#[tactic(auto, using(stn_model::proofs::Totals::total_below_more))]
 fn cost_of_use(plant: &Plant, loads: &[u128], utility: usize) -> i128
     requires sound { Sound plant.now }
     requires loads { length loads.now ≡ length plant.now.utilities * plant.now.periods }

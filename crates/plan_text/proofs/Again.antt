@@ -181,15 +181,16 @@ line_of plant start sound writable =
     let no_unit : StnUnit = record { name = [] } in
     let unit = name_at (λ (u : StnUnit). u.name) plant.units start.unit no_unit writable.named.unit sound.units sound.names.units in
     let task = name_at (λ (t : Task). t.name) plant.tasks start.task no_task writable.named.task (λ k d within. (sound.tasks k d within).name) sound.names.tasks in
-    let period : start.period < 2 ^ 64 = omega (arith, writable.period) in
-    let quanta : start.quanta < 2 ^ 64 = omega (arith, writable.quanta) in
+    let period : start.period < 10 ^ 64 = omega (arith, writable.period) in
+    let quanta : start.quanta < 10 ^ 64 = omega (arith, writable.quanta) in
+    let some = decimal_nonempty start.period (omega (arith, writable.period)) in
     let u : List ℕ = slice_index_or (unit_names plant) start.unit [] in
     let t : List ℕ = slice_index_or (task_names plant) start.task [] in
     record {
       no_feed = Lacks-four 10 (decimal start.period) u t (decimal start.quanta) refl (decimal-lacks start.period 10 period (λ r. omega arith)) unit.no_feed task.no_feed (decimal-lacks start.quanta 10 quanta (λ r. omega arith));
       no_comment =
-          ap (λ (x : ℕ). eqb x 35) (get_or_append_left (decimal start.period) (32 ∷ (u ++ (32 ∷ (t ++ (32 ∷ decimal start.quanta))))) 0 0 (decimal_nonempty start.period period))
-          ∙ decimal-lacks start.period 35 period (λ r. omega arith) 0 0 (decimal_nonempty start.period period);
+          ap (λ (x : ℕ). eqb x 35) (get_or_append_left (decimal start.period) (32 ∷ (u ++ (32 ∷ (t ++ (32 ∷ decimal start.quanta))))) 0 0 some)
+          ∙ decimal-lacks start.period 35 period (λ r. omega arith) 0 0 some;
       says =
           ap (start_of_words plant) (line_words-four (decimal start.period) u t (decimal start.quanta) (decimal-lacks start.period 32 period (λ r. omega arith)) unit.no_blank task.no_blank (decimal-lacks start.quanta 32 quanta (λ r. omega arith)))
           ∙ start_of-says plant start.period start.unit start.task start.quanta u t unit.some task.some writable.period writable.quanta unit.place task.place;

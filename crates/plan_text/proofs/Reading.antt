@@ -71,7 +71,7 @@ empty_word : number_below NUMBER_LIMIT [] ≡ None
 empty_word = sym (number_below-is NUMBER_LIMIT [] None (omega arith) (λ n small printed. omega (arith, ap length printed, decimal_nonempty n (omega arith))))
 
 -- a number has no blank
-no_blank : (n : ℕ) (front back : List ℕ) → n < 2 ^ 64 → decimal n ≡ front ++ 32 ∷ back → ⊥
+no_blank : (n : ℕ) (front back : List ℕ) → n < 10 ^ 64 → decimal n ≡ front ++ 32 ∷ back → ⊥
 no_blank n front back small joined =
     let other : eqb (get_or (decimal n) (length front) 0) 32 ≡ false = decimal-lacks n 32 small (λ r. omega arith) (length front) 0 (omega (arith, ap length joined, length-append front (32 ∷ back))) in
     let blank : get_or (decimal n) (length front) 0 ≡ 32 = ap (λ (x : List ℕ). get_or x (length front) 0) joined ∙ get_or-append_seam front 32 back 0 in

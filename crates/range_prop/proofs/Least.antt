@@ -1,63 +1,36 @@
 -- The least of a function over values.
-use Rattle.std.proofs.Common.{◌≡◌, ℕ, zero, suc, true, false, ◌<◌, ◌≤◌, List, [], ◌∷◌, length, map, get_or, refl, sym, ap, ◌∙◌, subst, ⊎_elim, arith, ℤ, pos, ◌≤ℤ◌, ◌⊎◌, inl, inr}
-use Rattle.std.specs.List.{All, Contains}
+use Rattle.std.proofs.Common.{◌≡◌, ℕ, true, false, ◌<◌, ◌≤◌, List, [], ◌∷◌, length, map, refl, sym, ◌∙◌, subst, ⊎_elim, arith, ℤ, pos, ◌≤ℤ◌, ◌⊎◌}
+use Rattle.std.specs.List.{Contains}
 use Rattle.std.proofs.lemmas.Bool.{false≢true}
 use Rattle.std.proofs.lemmas.Int.{ints, fold-int_min_bounds, fold-int_min_reached}
-use Rattle.std.proofs.lemmas.List.{get_or-map, length-map, get_or_default}
 use Rattle.row_kit.specs.declared.domain.Domain.{Domain}
 use Rattle.row_kit.specs.Domain.{Holds, count_of, values_of}
 use Rattle.row_kit.proofs.Domains.{Holds-from_values, values-from_Holds, length-values_of}
+use Rattle.row_kit.proofs.Values.{at_each, reached_at, by_value, in_range}
 use Rattle.range_prop.specs.Cut.{least}
-
-at_place : (f : ℕ → ℤ) (v : ℕ) (vs : List ℕ) (w k : ℕ) → k < length (v ∷ vs) → get_or (v ∷ vs) k w ≡ w → (g : ℤ) → g ≤ℤ f v → All (λ x. g ≤ℤ x) (map f vs) → g ≤ℤ f w
-at_place f v vs w zero lt e g first rest = subst (λ (x : ℕ). g ≤ℤ f x) e first
-at_place f v vs w (suc k) lt e g first rest =
-    let short : k < length vs = omega arith in
-    let h = rest k (f w) (omega (arith, length-map vs f)) in
-    subst (λ (x : ℤ). g ≤ℤ x) (get_or-map f vs k w (f w) short ∙ ap f e) h
 
 -- the least is at most the function at each value
 pub least_bound : (f : ℕ → ℤ) (vs : List ℕ) (w : ℕ) → Contains vs w → least f vs ≤ℤ f w
 least_bound f [] w c = absurd (omega (arith, c.1))
 least_bound f (v ∷ vs) w c =
-    let b = fold-int_min_bounds (f v) (map f vs) (least f (v ∷ vs)) refl in
-    at_place f v vs w c.0 c.1 c.2 (least f (v ∷ vs)) b.0 b.1
+    let low = least f (v ∷ vs) in
+    let b = fold-int_min_bounds (f v) (map f vs) low refl in
+    at_each (λ x. low ≤ℤ x) f v vs w c b.0 b.1
 
-antisym : (a b : ℤ) → a ≤ℤ b → b ≤ℤ a → a ≡ b
-antisym a b h k = omega (arith, ints)
-
--- a bound of all values is a bound of the least
-reached_above : (f : ℕ → ℤ) (vs : List ℕ) (r : ℤ) → ((v : ℕ) → Contains vs v → r ≤ℤ f v) → (w : ℕ) → Contains vs w → r ≤ℤ least f vs
-reached_above f [] r h w c = absurd (omega (arith, c.1))
-reached_above f (v ∷ vs) r h w c =
-    ⊎_elim
-    (λ (first : least f (v ∷ vs) ≡ f v). subst (λ (x : ℤ). r ≤ℤ x) (sym first) (h v (0, omega arith, refl)))
-    (λ (later : Contains (map f vs) (least f (v ∷ vs))).
-    let k = later.0 in
-    let short : k < length vs = omega (arith, later.1, length-map vs f) in
-    let e = sym (get_or-map f vs k 0 (least f (v ∷ vs)) short) ∙ later.2 in
-    subst (λ (x : ℤ). r ≤ℤ x) e (h (get_or vs k 0) (suc k, omega arith, get_or_default vs k (get_or vs k 0) 0 short)))
-    (fold-int_min_reached (f v) (map f vs) (least f (v ∷ vs)) refl)
+-- some value is the least
+least_at : (f : ℕ → ℤ) (vs : List ℕ) → 0 < length vs → (w : ℕ) × Contains vs w × (f w ≡ least f vs)
+least_at f [] some = absurd (omega arith)
+least_at f (v ∷ vs) some = reached_at f v vs (least f (v ∷ vs)) (fold-int_min_reached (f v) (map f vs) (least f (v ∷ vs)) refl)
 
 -- a bound that is reached is the least
 pub least_is : (f : ℕ → ℤ) (vs : List ℕ) (r : ℤ) (w : ℕ) → Contains vs w → f w ≡ r → ((v : ℕ) → Contains vs v → r ≤ℤ f v) → least f vs ≡ r
-least_is f vs r w c e h = antisym (least f vs) r (subst (λ (x : ℤ). least f vs ≤ℤ x) e (least_bound f vs w c)) (reached_above f vs r h w c)
+least_is f vs r w c e h =
+    let at = least_at f vs (omega (arith, c.1)) in
+    omega (arith, ints, at.2, h at.0 at.1, e, least_bound f vs w c)
 
 -- over a domain: a bound that some value reaches
 pub least_held : (f : ℕ → ℤ) (d : Domain) (r : ℤ) (w : ℕ) → 1 ≤ d.lo → Holds d w → f w ≡ r → ((v : ℕ) → Holds d v → r ≤ℤ f v) → least f (values_of d) ≡ r
 least_held f d r w low held e h = least_is f (values_of d) r w (values-from_Holds d w held) e (λ v c. h v (Holds-from_values d v low c))
-
--- each value of a domain is 0 or lies in its range
-pub by_value : (d : Domain) (v : ℕ) → Holds d v → ((v ≡ 0) × (d.zero ≡ true)) ⊎ ((1 ≤ v) × (d.lo ≤ v) × (v ≤ d.hi))
-by_value d v h = at v h
-  where
-    at : (v : ℕ) → Holds d v → ((v ≡ 0) × (d.zero ≡ true)) ⊎ ((1 ≤ v) × (d.lo ≤ v) × (v ≤ d.hi))
-    at zero h = inl (refl, h.at_zero refl)
-    at (suc v) h = let p : 0 < suc v = omega arith in inr (omega arith, (h.above_zero p).0, (h.above_zero p).1)
-
--- a value of the range is held
-in_range : (d : Domain) (v : ℕ) → 1 ≤ d.lo → d.lo ≤ v → v ≤ d.hi → Holds d v
-in_range d v low h k = record { at_zero = λ e. absurd (omega arith); above_zero = λ _. (h, k) }
 
 le_same : (a b c : ℤ) → a ≤ℤ b → c ≡ b → a ≤ℤ c
 le_same a b c h e = omega (arith, ints)
@@ -96,19 +69,9 @@ most_zero f d r m none bound above v h =
 
 -- some value of a domain that holds one is the least
 pub least_reached : (f : ℕ → ℤ) (d : Domain) → 1 ≤ d.lo → 0 < count_of d → (w : ℕ) × Holds d w × (f w ≡ least f (values_of d))
-least_reached f d low some = of_list (values_of d) (λ v c. Holds-from_values d v low c) (omega (arith, some, length-values_of d))
-  where
-    of_list : (vs : List ℕ) → ((v : ℕ) → Contains vs v → Holds d v) → 0 < length vs → (w : ℕ) × Holds d w × (f w ≡ least f vs)
-    of_list [] held lt = absurd (omega arith)
-    of_list (v ∷ vs) held lt =
-        ⊎_elim
-        (λ (first : least f (v ∷ vs) ≡ f v). (v, held v (0, omega arith, refl), sym first))
-        (λ (later : Contains (map f vs) (least f (v ∷ vs))).
-        let k = later.0 in
-        let short : k < length vs = omega (arith, later.1, length-map vs f) in
-        let e = sym (get_or-map f vs k 0 (least f (v ∷ vs)) short) ∙ later.2 in
-        (get_or vs k 0, held (get_or vs k 0) (suc k, omega arith, get_or_default vs k (get_or vs k 0) 0 short), e))
-        (fold-int_min_reached (f v) (map f vs) (least f (v ∷ vs)) refl)
+least_reached f d low some =
+    let at = least_at f (values_of d) (omega (arith, some, length-values_of d)) in
+    (at.0, Holds-from_values d at.0 low at.1, at.2)
 
 -- a domain that holds a value is not empty
 pub held_open : (d : Domain) (w : ℕ) → Holds d w → 0 < count_of d

@@ -1,4 +1,3 @@
-pub mod Counts
 pub mod CutLaws
 pub mod Entries
 pub mod Kept

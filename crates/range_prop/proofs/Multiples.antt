@@ -7,7 +7,7 @@ use Rattle.std.proofs.Math.IntN.{pos-*ℤ-pos, negsuc-*ℤ-pos}
 use Rattle.std.proofs.Math.Nat.{le-div_iff_mul-le, mul_comm}
 use Rattle.row_kit.specs.declared.row.Entry.{Entry}
 use Rattle.row_kit.specs.Row.{counted}
-use Rattle.range_prop.proofs.Counts.{counted_above}
+use Rattle.row_kit.proofs.Values.{part_above}
 
 -- a test that is true exactly where another is, is that one
 pub same_test : (a b : Bool) → (a ≡ true → b ≡ true) → (b ≡ true → a ≡ true) → a ≡ b
@@ -52,7 +52,7 @@ moved_back c f p room left m e q s h = omega (arith, ints)
 pub allowed_up : (e : Entry) (room left : ℤ) (per most v : ℕ) → pos 0 ≤ℤ e.per → left ≡ room -ℤ e.fixed → per ≡ unsigned_abs e.per → 1 ≤ v → (pos (per * v) ≤ℤ left → v ≤ most) × (v ≤ most → pos (per * v) ≤ℤ left) → int_le (counted e v) room ≡ (leb 1 v && leb v most)
 allowed_up e room left per most v up is p low iff =
     let product : e.per *ℤ pos v ≡ pos (per * v) = risen e.per v up ∙ ap (λ (n : ℕ). pos (n * v)) (sym p) in
-    let sum = counted_above e v low in
+    let sum : counted e v ≡ e.fixed +ℤ (e.per *ℤ pos v) = part_above e.fixed e.per v low in
     same_test (int_le (counted e v) room) (leb 1 v && leb v most)
     (λ h. up_true v most low (iff.0 (moved_up (counted e v) e.fixed (e.per *ℤ pos v) room left (pos (per * v)) sum product is (true_le (counted e v) room h))))
     (λ h. le_true (counted e v) room (moved_back (counted e v) e.fixed (e.per *ℤ pos v) room left (pos (per * v)) sum product is (iff.1 (true_up v most h))))
@@ -66,7 +66,7 @@ turned_back c f p room least m e q s h = omega (arith, ints)
 pub allowed_down : (e : Entry) (room least : ℤ) (per first v : ℕ) (kept : Bool) → e.per ≤ℤ pos 0 → least ≡ e.fixed -ℤ room → per ≡ unsigned_abs e.per → 1 ≤ v → (least ≤ℤ pos (per * v) → first ≤ v) × (first ≤ v → least ≤ℤ pos (per * v)) → kept ≡ leb first v → int_le (counted e v) room ≡ kept
 allowed_down e room least per first v kept down is p low iff same =
     let product : (e.per *ℤ pos v) +ℤ pos (per * v) ≡ pos 0 = ap (λ (n : ℕ). (e.per *ℤ pos v) +ℤ pos (n * v)) p ∙ fallen e.per v down in
-    let sum = counted_above e v low in
+    let sum : counted e v ≡ e.fixed +ℤ (e.per *ℤ pos v) = part_above e.fixed e.per v low in
     same_test (int_le (counted e v) room) (leb first v)
     (λ h. down_true v first (iff.0 (turned (counted e v) e.fixed (e.per *ℤ pos v) room least (pos (per * v)) sum product is (true_le (counted e v) room h))))
     (λ h. le_true (counted e v) room (turned_back (counted e v) e.fixed (e.per *ℤ pos v) room least (pos (per * v)) sum product is (iff.1 (true_down v first h))))

@@ -1,16 +1,17 @@
 -- The entries of slots: what they sum to, and their bounds.
-use Rattle.std.proofs.Common.{◌≡◌, ℕ, zero, suc, ◌+◌, ◌<◌, ◌≤◌, true, false, List, [], ◌∷◌, ◌++◌, length, map, get_or, set, take, drop, refl, sym, ap, ap₂, ◌∙◌, inl, inr, arith, ℤ, pos, ◌+ℤ◌, ◌*ℤ◌, unsigned_abs, eqb}
+use Rattle.std.proofs.Common.{◌≡◌, ℕ, zero, suc, ◌+◌, ◌<◌, ◌≤◌, true, false, List, [], ◌∷◌, ◌++◌, length, map, get_or, set, take, drop, refl, sym, ap, ap₂, ◌∙◌, inl, inr, arith, ℤ, pos, ◌+ℤ◌, unsigned_abs}
 use Rattle.std.specs.List.{All}
 use Rattle.std.specs.List.Sorted.{IsStrictlyIncreasing}
 use Rattle.std.specs.Ordering.{int_eq}
-use Rattle.std.proofs.lemmas.Bool.{cases_Bool, cases_eq, cond-true, cond-false, and_parts, eq-eqb, ne_eqb}
+use Rattle.std.proofs.lemmas.Bool.{cases_Bool, cond-true, cond-false, and_parts}
 use Rattle.std.proofs.lemmas.Bool.Decides.{Decides-int_eq}
 use Rattle.std.proofs.lemmas.List.{drop_more, take_more_set, map_more, take_all}
 use Rattle.std.proofs.lemmas.List.Elements.{All-cons, All-head, All-tail}
-use Rattle.std.proofs.Math.IntN.{zero-*ℤ, +ℤ_idl}
+use Rattle.std.proofs.Math.IntN.{+ℤ_idl}
 use Rattle.row_kit.specs.declared.row.Entry.{Entry}
 use Rattle.row_kit.specs.Row.{entries_sum, is_nothing, entries_from, part_at, parts_sum}
 use Rattle.row_kit.specs.Bounds.{AreBounded}
+use Rattle.row_kit.proofs.Values.{part_at-nothing}
 
 -- the entry of a slot
 abbrev entry : ℕ → ℤ × ℤ → Entry
@@ -23,18 +24,11 @@ entries-skip slot parts rest t = cond-true (is_nothing parts) (entries_from (slo
 pub entries-keep : (slot : ℕ) (parts : ℤ × ℤ) (rest : List (ℤ × ℤ)) → is_nothing parts ≡ false → entries_from slot (parts ∷ rest) ≡ entry slot parts ∷ entries_from (slot + 1) rest
 entries-keep slot parts rest t = cond-false (is_nothing parts) (entries_from (slot + 1) rest) (entry slot parts ∷ entries_from (slot + 1) rest) t
 
-zero_part : (a b : ℤ) (v : ℕ) → a ≡ pos 0 → b ≡ pos 0 → part_at (a, b) v ≡ pos 0
-zero_part a b v p q =
-    elim (cases_eq v 0) [
-      | inl e ↦ cond-true (eqb v 0) (pos 0) (a +ℤ (b *ℤ pos v)) (eq-eqb v 0 e)
-      | inr n ↦ cond-false (eqb v 0) (pos 0) (a +ℤ (b *ℤ pos v)) (ne_eqb v 0 n) ∙ ap₂ (λ x y. x +ℤ (y *ℤ pos v)) p q ∙ +ℤ_idl (pos 0 *ℤ pos v) ∙ zero-*ℤ (pos v)
-    ]
-
 -- a slot without parts counts nothing
 nothing_counts : (parts : ℤ × ℤ) (value : ℕ) → is_nothing parts ≡ true → part_at parts value ≡ pos 0
 nothing_counts parts value t =
     let both = and_parts (int_eq parts.0 (pos 0)) (int_eq parts.1 (pos 0)) t in
-    zero_part parts.0 parts.1 value ((Decides-int_eq parts.0 (pos 0)).0 both.0) ((Decides-int_eq parts.1 (pos 0)).0 both.1)
+    ap₂ (λ fixed per. part_at (fixed, per) value) ((Decides-int_eq parts.0 (pos 0)).0 both.0) ((Decides-int_eq parts.1 (pos 0)).0 both.1) ∙ part_at-nothing value
 
 sum_from : (slot : ℕ) (parts : List (ℤ × ℤ)) (point : List ℕ) → slot + length parts ≡ length point → entries_sum (entries_from slot parts) point ≡ parts_sum parts (drop slot point)
 sum_from slot [] point e = refl

@@ -6,3 +6,4 @@ pub mod Marks
 pub mod Parts
 pub mod Starts
 pub mod Tables
+pub mod Values

@@ -7,13 +7,10 @@ use Rattle.std.proofs.lemmas.List.Elements.{All-head, All-tail}
 use Rattle.std.proofs.lemmas.List.Sums.{sum_by-cons}
 use Rattle.std.proofs.lemmas.Bool.{cond-true, cond-false, eq-eqb, ne_eqb, le-leb, lt-leb, lt-ltb, le-ltb, cases_eq, cases_lt}
 use Rattle.stn_model.specs.Sums.{total, total_below, sum_below}
+use Rattle.stn_model.proofs.Totals.{total_below-agree}
 use Rattle.row_set.proofs.Signed.{times-plus}
 
 -- sums of equal terms
-pub below-agree : (f g : ℕ → ℤ) (n : ℕ) → ((k : ℕ) → k < n → f k ≡ g k) → total_below f n ≡ total_below g n
-below-agree f g zero h = refl
-below-agree f g (suc n) h = ap₂ (λ x y. x +ℤ y) (below-agree f g n (λ k l. h k (omega arith))) (h n (omega arith))
-
 pub total-agree : {X : Type 0} (f g : X → ℤ) (xs : List X) → All (λ x. f x ≡ g x) xs → total f xs ≡ total g xs
 total-agree f g [] h = refl
 total-agree f g (x ∷ xs) h = ap₂ (λ a b. a +ℤ b) (All-head (λ y. f y ≡ g y) x xs h) (total-agree f g xs (All-tail (λ y. f y ≡ g y) x xs h))
@@ -71,11 +68,11 @@ below-one c k n (suc m) l =
 -- a sum over numbers of what each has of a list's items is a sum over the items
 pub by_items : {X : Type 0} (c : ℕ → ℤ) (key f : X → ℕ) (xs : List X) (m : ℕ) → All (λ x. key x < m) xs →
     total_below (λ s. c s *ℤ pos (sum_by (λ x. cond (key x == s) (f x) 0) xs)) m ≡ total (λ x. c (key x) *ℤ pos (f x)) xs
-by_items c key f [] m h = below-agree (λ s. c s *ℤ pos 0) (λ s. pos 0) m (λ s l. *ℤ-zero (c s)) ∙ below-zero m
+by_items c key f [] m h = total_below-agree (λ s. c s *ℤ pos 0) (λ s. pos 0) m (λ s l. *ℤ-zero (c s)) ∙ below-zero m
 by_items {X} c key f (x ∷ xs) m h =
     let own : ℕ → ℤ = λ s. c s *ℤ pos (cond (key x == s) (f x) 0) in
     let rest : ℕ → ℤ = λ s. c s *ℤ pos (sum_by (λ y. cond (key y == s) (f y) 0) xs) in
-    below-agree (λ s. c s *ℤ pos (sum_by (λ y. cond (key y == s) (f y) 0) (x ∷ xs))) (λ s. own s +ℤ rest s) m
+    total_below-agree (λ s. c s *ℤ pos (sum_by (λ y. cond (key y == s) (f y) 0) (x ∷ xs))) (λ s. own s +ℤ rest s) m
     (λ s l. ap (λ n. c s *ℤ pos n) (sum_by-cons (λ (y : X). cond (key y == s) (f y) 0) x xs) ∙ times-plus (c s) (cond (key x == s) (f x) 0) (sum_by (λ y. cond (key y == s) (f y) 0) xs))
     ∙ below-add own rest m
     ∙ ap₂ (λ a b. a +ℤ b) (below-one c (key x) (f x) m (All-head (λ y. key y < m) x xs h)) (by_items c key f xs m (All-tail (λ y. key y < m) x xs h))

@@ -16,7 +16,7 @@ use Rattle.stn_model.specs.Plant.{state_at, utility_at, task_at, no_task, durati
 use Rattle.stn_model.specs.Stock.{given, taken, inflow, outflow, stock}
 use Rattle.stn_model.specs.Load.{drawn_in, drawn, load}
 use Rattle.stn_model.specs.Points.{has_slot}
-use Rattle.stn_model.specs.Sums.{total, total_below, sum_below, greatest_by}
+use Rattle.stn_model.specs.Sums.{total, total_below, sum_below}
 use Rattle.stn_model.specs.Profit.{end_value, holding_cost, utility_cost, cost_of, start_cost, profit}
 use Rattle.stn_model.specs.Sound.{Sound, SoundTask}
 use Rattle.plain_plan.proofs.SmallProfit.{change_costs-nil, change_costs-one}
@@ -27,7 +27,9 @@ use Rattle.time_grid.proofs.SlotList.{sum_by-same}
 use Rattle.time_grid.proofs.PointPlan.{found_run}
 use Rattle.row_set.specs.ProfitParts.{worth_from, output_worth, input_worth, fixed_cost, each_cost, fixed_profit, each_profit}
 use Rattle.row_set.proofs.Signed.{times-add, times-sub, times-plus, parts-worth, quanta-parts, quanta-price, scale-sub, total-scale}
-use Rattle.row_set.proofs.Below.{below-agree, total-agree, below-add, below-sub, total-add, total-sub, below-zero, below-turn, below-total, by_items, below-from, below-window, below-times}
+use Rattle.stn_model.proofs.Totals.{total_below-agree}
+use Rattle.stn_model.proofs.Fitting.{delay-within}
+use Rattle.row_set.proofs.Below.{total-agree, below-add, below-sub, total-add, total-sub, below-zero, below-turn, below-total, by_items, below-from, below-window, below-times}
 
 both-tests : (a b : Bool) (n : ℕ) → cond (a && b) n 0 ≡ cond a (cond b n 0) 0
 both-tests true b n = refl
@@ -47,7 +49,7 @@ module _ {X : Type 0} (key from amount : X → ℕ) (v : ℕ) where
   at_time : (c : ℕ → ℤ) (t m : ℕ) (xs : List X) → All (λ x. key x < m) xs →
       total_below (λ s. c s *ℤ pos (moved s t xs)) m ≡ total (λ x. c (key x) *ℤ pos (cond (nat_le (from x) t) (v * amount x) 0)) xs
   at_time c t m xs there =
-      below-agree (λ s. c s *ℤ pos (moved s t xs)) (λ s. c s *ℤ pos (sum_by (λ x. cond (key x == s) (cond (nat_le (from x) t) (v * amount x) 0) 0) xs)) m
+      total_below-agree (λ s. c s *ℤ pos (moved s t xs)) (λ s. c s *ℤ pos (sum_by (λ x. cond (key x == s) (cond (nat_le (from x) t) (v * amount x) 0) 0) xs)) m
       (λ s l. ap (λ n. c s *ℤ pos n) (moved-by_state s t xs))
       ∙ by_items c key (λ x. cond (nat_le (from x) t) (v * amount x) 0) xs m there
 
@@ -64,7 +66,7 @@ module _ {X : Type 0} (key from amount : X → ℕ) (v : ℕ) where
       total_below (λ s. total_below (λ t. c s *ℤ pos (moved s t xs)) n) m ≡ total (λ x. c (key x) *ℤ pos ((v * amount x) * (n - from x))) xs
   at_times c n m xs there =
       below-turn (λ s t. c s *ℤ pos (moved s t xs)) m n
-      ∙ below-agree (λ t. total_below (λ s. c s *ℤ pos (moved s t xs)) m) (λ t. total (λ x. c (key x) *ℤ pos (cond (nat_le (from x) t) (v * amount x) 0)) xs) n (λ t l. at_time c t m xs there)
+      ∙ total_below-agree (λ t. total_below (λ s. c s *ℤ pos (moved s t xs)) m) (λ t. total (λ x. c (key x) *ℤ pos (cond (nat_le (from x) t) (v * amount x) 0)) xs) n (λ t l. at_time c t m xs there)
       ∙ below-total (λ t x. c (key x) *ℤ pos (cond (nat_le (from x) t) (v * amount x) 0)) xs n
       ∙ total-agree (λ x. total_below (λ t. c (key x) *ℤ pos (cond (nat_le (from x) t) (v * amount x) 0)) n) (λ x. c (key x) *ℤ pos ((v * amount x) * (n - from x))) xs
       (λ k d l. below-from (c (key (get_or xs k d))) (v * amount (get_or xs k d)) (from (get_or xs k d)) n)
@@ -103,7 +105,7 @@ stocks-one : (plant : Plant) (a : Start) (c : ℕ → ℤ) (t n : ℕ) →
     total_below (λ s. c s *ℤ stock plant (a ∷ []) s t) n
     ≡ total_below (λ s. c s *ℤ stock plant [] s t) n +ℤ (total_below (λ s. c s *ℤ pos (given plant s t a)) n -ℤ total_below (λ s. c s *ℤ pos (taken plant s t a)) n)
 stocks-one plant a c t n =
-    below-agree (λ s. c s *ℤ stock plant (a ∷ []) s t) (λ s. (c s *ℤ stock plant [] s t) +ℤ ((c s *ℤ pos (given plant s t a)) -ℤ (c s *ℤ pos (taken plant s t a)))) n
+    total_below-agree (λ s. c s *ℤ stock plant (a ∷ []) s t) (λ s. (c s *ℤ stock plant [] s t) +ℤ ((c s *ℤ pos (given plant s t a)) -ℤ (c s *ℤ pos (taken plant s t a)))) n
     (λ s l. ap (λ x. c s *ℤ x) (stock-one plant a s t) ∙ priced (c s) (stock plant [] s t) (pos (given plant s t a)) (pos (taken plant s t a)))
     ∙ below-add (λ s. c s *ℤ stock plant [] s t) (λ s. (c s *ℤ pos (given plant s t a)) -ℤ (c s *ℤ pos (taken plant s t a))) n
     ∙ ap (λ x. total_below (λ s. c s *ℤ stock plant [] s t) n +ℤ x) (below-sub (λ s. c s *ℤ pos (given plant s t a)) (λ s. c s *ℤ pos (taken plant s t a)) n)
@@ -118,7 +120,7 @@ holding-one plant a c n m =
     let come : ℕ → ℤ = λ t. total_below (λ s. c s *ℤ pos (given plant s t a)) m in
     let gone : ℕ → ℤ = λ t. total_below (λ s. c s *ℤ pos (taken plant s t a)) m in
     below-turn (λ s t. c s *ℤ stock plant (a ∷ []) s t) m n
-    ∙ below-agree (λ t. total_below (λ s. c s *ℤ stock plant (a ∷ []) s t) m) (λ t. none t +ℤ (come t -ℤ gone t)) n (λ t l. stocks-one plant a c t m)
+    ∙ total_below-agree (λ t. total_below (λ s. c s *ℤ stock plant (a ∷ []) s t) m) (λ t. none t +ℤ (come t -ℤ gone t)) n (λ t l. stocks-one plant a c t m)
     ∙ below-add none (λ t. come t -ℤ gone t) n
     ∙ ap₂ (λ x y. x +ℤ y) (sym (below-turn (λ s t. c s *ℤ stock plant [] s t) m n))
     (below-sub come gone n ∙ ap₂ (λ x y. x -ℤ y) (sym (below-turn (λ s t. c s *ℤ pos (given plant s t a)) m n)) (sym (below-turn (λ s t. c s *ℤ pos (taken plant s t a)) m n)))
@@ -145,24 +147,18 @@ taken-moved : (plant : Plant) (slot : ℕ × ℕ) (v s t : ℕ) → taken plant 
 unfolding taken moved
 taken-moved plant slot v s t = refl
 
--- each is no greater than the greatest
-pub greatest-each : {X : Type 0} (f : X → ℕ) (xs : List X) → All (λ x. f x ≤ greatest_by f xs) xs
-greatest-each f [] k d l = absurd (omega arith)
-greatest-each f (x ∷ xs) zero d l = omega arith
-greatest-each f (x ∷ xs) (suc k) d l = let h = greatest-each f xs k d (omega arith) in omega (arith, h)
-
 -- a slot's batch ends by the horizon, and so do its outputs
 pub record EndsBy (plant : Plant) (slot : ℕ × ℕ) : Type 0 where
   pub ends : slot.1 + duration_of (task_in plant slot) ≤ plant.periods
   pub outputs : All (λ output. slot.1 + output.delay ≤ plant.periods) (task_in plant slot).outputs
 
 pub ends_by : (plant : Plant) (slot : ℕ × ℕ) → IsSlotOf plant slot → EndsBy plant slot
-unfolding has_slot duration_of
+unfolding has_slot
 ends_by plant slot is =
     let ends : slot.1 + duration_of (task_in plant slot) ≤ plant.periods = leb-true _ _ (and_parts _ _ is.has).0 in
     record {
       ends = ends;
-      outputs = λ k d l. let h = greatest-each (λ output. output.delay) (task_in plant slot).outputs k d l in omega (arith, h, ends);
+      outputs = λ k d l. let h = delay-within (task_in plant slot) k d l in omega (arith, h, ends);
     }
 
 -- the sum of the first numbers of two lists
@@ -184,7 +180,7 @@ all_sums xs ys v n e f =
 -- a sum of which all terms are there, or none
 let_in : (b : Bool) (c f : ℕ → ℤ) (g : ℕ → ℕ) (n : ℕ) (x : ℤ) → total_below (λ u. c u *ℤ pos (g u)) n ≡ x → total_below (λ u. c u *ℤ pos (cond b (g u) 0)) n ≡ cond b x (pos 0)
 let_in true c f g n x e = e
-let_in false c f g n x e = below-agree (λ u. c u *ℤ pos 0) (λ u. pos 0) n (λ u l. *ℤ-zero (c u)) ∙ below-zero n
+let_in false c f g n x e = total_below-agree (λ u. c u *ℤ pos 0) (λ u. pos 0) n (λ u l. *ℤ-zero (c u)) ∙ below-zero n
 
 -- the sums that a slot's batch adds to the parts of the profit
 module _ (plant : Plant) (sound : Sound plant) (slot : ℕ × ℕ) (is : IsSlotOf plant slot) (v : ℕ) where
@@ -212,12 +208,12 @@ module _ (plant : Plant) (sound : Sound plant) (slot : ℕ × ℕ) (is : IsSlotO
       let n = length plant.states in
       stocks-one plant (start_in plant slot v) (price_of plant) plant.periods n
       ∙ ap (λ x. end_value plant [] +ℤ x) (ap₂ (λ x y. x -ℤ y)
-      (below-agree (λ s. price_of plant s *ℤ pos (given plant s plant.periods (start_in plant slot v)))
+      (total_below-agree (λ s. price_of plant s *ℤ pos (given plant s plant.periods (start_in plant slot v)))
       (λ s. price_of plant s *ℤ pos (moved (λ (o : Output). o.state) (λ (o : Output). slot.1 + o.delay) (λ (o : Output). o.amount) v s plant.periods (task_in plant slot).outputs)) n
       (λ s l. ap (λ k. price_of plant s *ℤ pos k) (given-moved plant slot v s plant.periods))
       ∙ by_end (λ (o : Output). o.state) (λ (o : Output). slot.1 + o.delay) (λ (o : Output). o.amount) v (price_of plant) plant.periods n (task_in plant slot).outputs
       (λ k d l. (fine.output k d l).state) (ends_by plant slot is).outputs)
-      (below-agree (λ s. price_of plant s *ℤ pos (taken plant s plant.periods (start_in plant slot v)))
+      (total_below-agree (λ s. price_of plant s *ℤ pos (taken plant s plant.periods (start_in plant slot v)))
       (λ s. price_of plant s *ℤ pos (moved (λ (i : Input). i.state) (λ (i : Input). slot.1) (λ (i : Input). i.amount) v s plant.periods (task_in plant slot).inputs)) n
       (λ s l. ap (λ k. price_of plant s *ℤ pos k) (taken-moved plant slot v s plant.periods))
       ∙ by_end (λ (i : Input). i.state) (λ (i : Input). slot.1) (λ (i : Input). i.amount) v (price_of plant) plant.periods n (task_in plant slot).inputs
@@ -229,15 +225,15 @@ module _ (plant : Plant) (sound : Sound plant) (slot : ℕ × ℕ) (is : IsSlotO
       let n = length plant.states in
       holding-one plant (start_in plant slot v) (holding_of plant) plant.periods n
       ∙ ap (λ x. holding_cost plant [] +ℤ x) (ap₂ (λ x y. x -ℤ y)
-      (below-agree (λ s. total_below (λ t. holding_of plant s *ℤ pos (given plant s t (start_in plant slot v))) plant.periods)
+      (total_below-agree (λ s. total_below (λ t. holding_of plant s *ℤ pos (given plant s t (start_in plant slot v))) plant.periods)
       (λ s. total_below (λ t. holding_of plant s *ℤ pos (moved (λ (o : Output). o.state) (λ (o : Output). slot.1 + o.delay) (λ (o : Output). o.amount) v s t (task_in plant slot).outputs)) plant.periods) n
-      (λ s l. below-agree (λ t. holding_of plant s *ℤ pos (given plant s t (start_in plant slot v)))
+      (λ s l. total_below-agree (λ t. holding_of plant s *ℤ pos (given plant s t (start_in plant slot v)))
       (λ t. holding_of plant s *ℤ pos (moved (λ (o : Output). o.state) (λ (o : Output). slot.1 + o.delay) (λ (o : Output). o.amount) v s t (task_in plant slot).outputs)) plant.periods
       (λ t m. ap (λ k. holding_of plant s *ℤ pos k) (given-moved plant slot v s t)))
       ∙ at_times (λ (o : Output). o.state) (λ (o : Output). slot.1 + o.delay) (λ (o : Output). o.amount) v (holding_of plant) plant.periods n (task_in plant slot).outputs (λ k d l. (fine.output k d l).state))
-      (below-agree (λ s. total_below (λ t. holding_of plant s *ℤ pos (taken plant s t (start_in plant slot v))) plant.periods)
+      (total_below-agree (λ s. total_below (λ t. holding_of plant s *ℤ pos (taken plant s t (start_in plant slot v))) plant.periods)
       (λ s. total_below (λ t. holding_of plant s *ℤ pos (moved (λ (i : Input). i.state) (λ (i : Input). slot.1) (λ (i : Input). i.amount) v s t (task_in plant slot).inputs)) plant.periods) n
-      (λ s l. below-agree (λ t. holding_of plant s *ℤ pos (taken plant s t (start_in plant slot v)))
+      (λ s l. total_below-agree (λ t. holding_of plant s *ℤ pos (taken plant s t (start_in plant slot v)))
       (λ t. holding_of plant s *ℤ pos (moved (λ (i : Input). i.state) (λ (i : Input). slot.1) (λ (i : Input). i.amount) v s t (task_in plant slot).inputs)) plant.periods
       (λ t m. ap (λ k. holding_of plant s *ℤ pos k) (taken-moved plant slot v s t)))
       ∙ at_times (λ (i : Input). i.state) (λ (i : Input). slot.1) (λ (i : Input). i.amount) v (holding_of plant) plant.periods n (task_in plant slot).inputs (λ k d l. (fine.input k d l).state)))
@@ -280,9 +276,9 @@ module _ (plant : Plant) (sound : Sound plant) (slot : ℕ × ℕ) (is : IsSlotO
       let all : ℕ → ℤ = λ k. total (drawn_at k) draws in
       let whole : min (plant.periods - slot.1) long ≡ long = let h = (ends_by plant slot is).ends in omega (arith, h) in
       below-turn (λ u t. rate_of plant u *ℤ pos (load plant (start_in plant slot v ∷ []) u t)) n plant.periods
-      ∙ below-agree (λ t. total_below (λ u. rate_of plant u *ℤ pos (load plant (start_in plant slot v ∷ []) u t)) n) (λ t. cond (runs t) (all (t - slot.1)) (pos 0)) plant.periods
+      ∙ total_below-agree (λ t. total_below (λ u. rate_of plant u *ℤ pos (load plant (start_in plant slot v ∷ []) u t)) n) (λ t. cond (runs t) (all (t - slot.1)) (pos 0)) plant.periods
       (λ t l.
-      below-agree (λ u. rate_of plant u *ℤ pos (load plant (start_in plant slot v ∷ []) u t)) (λ u. rate_of plant u *ℤ pos (cond (runs t) (sum_by (drawn_in u v (t - slot.1)) draws) 0)) n
+      total_below-agree (λ u. rate_of plant u *ℤ pos (load plant (start_in plant slot v ∷ []) u t)) (λ u. rate_of plant u *ℤ pos (cond (runs t) (sum_by (drawn_in u v (t - slot.1)) draws) 0)) n
       (λ u m. ap (λ k. rate_of plant u *ℤ pos k) (load-one plant (start_in plant slot v) u t))
       ∙ let_in (runs t) (rate_of plant) (rate_of plant) (λ u. sum_by (drawn_in u v (t - slot.1)) draws) n (all (t - slot.1)) (draws-at (t - slot.1)))
       ∙ below-window all slot.1 long plant.periods
@@ -295,8 +291,8 @@ module _ (plant : Plant) (sound : Sound plant) (slot : ℕ × ℕ) (is : IsSlotO
   utility_cost-none : utility_cost plant [] ≡ pos 0
   unfolding utility_cost
   utility_cost-none =
-      below-agree (λ u. total_below (λ t. rate_of plant u *ℤ pos (load plant [] u t)) plant.periods) (λ u. pos 0) (length plant.utilities)
-      (λ u l. below-agree (λ t. rate_of plant u *ℤ pos (load plant [] u t)) (λ t. pos 0) plant.periods
+      total_below-agree (λ u. total_below (λ t. rate_of plant u *ℤ pos (load plant [] u t)) plant.periods) (λ u. pos 0) (length plant.utilities)
+      (λ u l. total_below-agree (λ t. rate_of plant u *ℤ pos (load plant [] u t)) (λ t. pos 0) plant.periods
       (λ t m. ap (λ k. rate_of plant u *ℤ pos k) (load-none plant u t) ∙ *ℤ-zero (rate_of plant u)) ∙ below-zero plant.periods)
       ∙ below-zero (length plant.utilities)
 

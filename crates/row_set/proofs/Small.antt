@@ -14,8 +14,9 @@ use Rattle.stn_model.specs.Plant.{state_at, no_state, utility_at, no_utility, ta
 use Rattle.stn_model.specs.Sums.{total, greatest_by}
 use Rattle.stn_model.specs.Sound.{Sound, SoundTask}
 use Rattle.plain_plan.proofs.SmallProfit.{times-small}
-use Rattle.plain_plan.proofs.Totals.{total_more}
-use Rattle.row_set.proofs.GainParts.{greatest-each, task_in}
+use Rattle.stn_model.proofs.Totals.{total_more}
+use Rattle.stn_model.proofs.Fitting.{delay-within}
+use Rattle.row_set.proofs.GainParts.{task_in}
 use Rattle.row_kit.proofs.Gathered.{IsPartWithin}
 use Rattle.time_grid.specs.Slots.{no_run, run_at, IsSlotOf}
 use Rattle.std.proofs.Math.Seq.{take-length}
@@ -152,10 +153,9 @@ machine-step_fits s t x m n e small k tiny j = machine-add_fits s x (omega (arit
 
 -- an output of a batch that ends by the horizon comes by the horizon
 pub output-ends : (plant : Plant) (task : Task) (outputs : List Output) (period i : ℕ) (d : Output) → outputs ≡ task.outputs → period + duration_of task ≤ plant.periods → i < length outputs → period + (get_or outputs i d).delay ≤ plant.periods
-unfolding duration_of
 output-ends plant task outputs period i d e ends l =
-    let each : All (λ output. output.delay ≤ greatest_by (λ o. o.delay) task.outputs) outputs =
-    subst (λ (os : List Output). All (λ output. output.delay ≤ greatest_by (λ o. o.delay) task.outputs) os) (sym e) (greatest-each (λ output. output.delay) task.outputs) in
+    let each : All (λ output. output.delay ≤ duration_of task) outputs =
+    subst (λ (os : List Output). All (λ output. output.delay ≤ duration_of task) os) (sym e) (delay-within task) in
     omega (arith, each i d l, ends)
 
 -- a draw of a task has a few amounts of each kind

@@ -5,6 +5,7 @@ use Rattle.std.proofs.lemmas.Bool.{and_parts, eqb-true, cases_Bool}
 use Rattle.std.proofs.lemmas.List.Elements.{All-head, All-tail}
 use Rattle.stn_model.specs.declared.plant.Plant.{Plant}
 use Rattle.stn_model.specs.declared.plant.Task.{Task}
+use Rattle.stn_model.specs.declared.plant.Output.{Output}
 use Rattle.stn_model.specs.declared.plant.Run.{Run}
 use Rattle.stn_model.specs.declared.start.Start.{Start}
 use Rattle.stn_model.specs.Sums.{greatest_by}
@@ -59,3 +60,10 @@ placed-Fits plant start sound fits =
 -- the task of a start that fits is a sound one
 pub sound-task_at : (plant : Plant) (start : Start) → Sound plant → Fits plant start → SoundTask plant (task_at plant start.task)
 sound-task_at plant start sound fits = sound.tasks start.task no_task (placed-Fits plant start sound fits).task
+
+-- every batch of a task that is there takes a period or more
+pub duration_pos : (plant : Plant) (task : ℕ) → Sound plant → task < length plant.tasks → 1 ≤ duration_of (task_at plant task)
+duration_pos plant task sound there =
+    let is : SoundTask plant (task_at plant task) = sound.tasks task no_task there in
+    let first : Output = record { state = 0; amount = 0; delay = 0 } in
+    omega (arith, delay-within (task_at plant task) 0 first is.outputs.0, (is.output 0 first is.outputs.0).delay.0)

@@ -2,7 +2,7 @@
 //!
 //! `cut_at` cuts a text at the first of a byte. `read_number` gives the number below a limit whose
 //! digits a word is, without sign and leading zeros, and `put_number` appends the digits of a number:
-//! each undoes the other.
+//! each undoes the other. `read_wide` is `read_number` for numbers of up to 128 bits.
 #![tactic(auto)]
 
 pub mod cut;
@@ -11,7 +11,7 @@ pub mod read;
 
 pub use cut::cut_at;
 pub use print::put_number;
-pub use read::read_number;
+pub use read::{read_number, read_wide};
 
 #[cfg(test)]
 mod tests;

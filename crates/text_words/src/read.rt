@@ -9,15 +9,26 @@ pub fn read_number(word: &[u8], limit: u64) -> Option<u64>
     ensures value { result ≡ number_below limit word.now }
     ensures printed { IsNumberBelow limit word.now result }
 {
+    match read_wide(word, limit as u128) {
+        Some(number) => Some(number as u64),
+        None => None,
+    }
+}
+
+/// The same as `read_number`, of numbers of up to 128 bits.
+pub fn read_wide(word: &[u8], limit: u128) -> Option<u128>
+    ensures value { result ≡ number_below limit word.now }
+    ensures printed { IsNumberBelow limit word.now result }
+{
     match read_digits(word) {
         Some(number) if number < limit => Some(number),
         _ => None,
     }
 }
 
-// The number whose decimal digits the word is, if it has 64 bits.
-fn read_digits(word: &[u8]) -> Option<u64>
-    ensures { IsNumberBelow (2 ^ 64) word.now result }
+// The number whose decimal digits the word is, if it has 128 bits.
+fn read_digits(word: &[u8]) -> Option<u128>
+    ensures { IsNumberBelow (2 ^ 128) word.now result }
 {
     if is_plain(word) {
         parse_plain(word)
@@ -38,12 +49,12 @@ fn is_plain(word: &[u8]) -> bool
 }
 
 // The same as `read_digits`, of a plain word.
-fn parse_plain(word: &[u8]) -> Option<u64>
+fn parse_plain(word: &[u8]) -> Option<u128>
     requires { IsPlain word.now }
-    ensures { IsNumberBelow (2 ^ 64) word.now result }
+    ensures { IsNumberBelow (2 ^ 128) word.now result }
 {
     match str::from_utf8(word) {
-        Ok(text) => text.parse::<u64>().ok(),
+        Ok(text) => text.parse::<u128>().ok(),
         Err(_) => None,
     }
 }

@@ -1,4 +1,4 @@
-use crate::{cut_at, put_number, read_number};
+use crate::{cut_at, put_number, read_number, read_wide};
 use std::test::Fail;
 
 #[test]
@@ -11,6 +11,7 @@ fn reads_numbers(rt: HostRuntime) {
     assert_eq!(rt; read_number(b"+7", limit), None);
     assert_eq!(rt; read_number(b"", limit), None);
     assert_eq!(rt; read_number(b"7 ", limit), None);
+    assert_eq!(rt; read_wide(b"18446744073709551616", 1 << 65), Some(1 << 64));
 }
 
 #[test]

@@ -1,35 +1,22 @@
 -- Starts that fit, and the slots that they are in.
-use Rattle.std.proofs.Common.{◌≡◌, ℕ, ◌+◌, ◌<◌, ◌≤◌, Bool, true, false, Option, Some, None, IsSomeAnd, List, [], ◌∷◌, length, get_or, position, slice_get, find, sym, refl, ◌∙◌, arith, inl, inr, ap₂}
-use Rattle.std.specs.List.{All, position_or_len}
+use Rattle.std.proofs.Common.{◌≡◌, ℕ, ◌+◌, ◌<◌, ◌≤◌, Bool, true, false, Option, Some, None, IsSomeAnd, List, length, get_or, position, slice_get, find, sym, refl, ◌∙◌, arith, inl, inr, ap₂}
+use Rattle.std.specs.List.{position_or_len}
 use Rattle.std.proofs.lemmas.Option.{none-some, same_Some, slice_get_within, get_or_from_slice_get}
 use Rattle.std.proofs.lemmas.List.{get_or_default}
 use Rattle.std.proofs.lemmas.List.Sums.{passes_at_first, fails_before_first}
 use Rattle.std.proofs.lemmas.List.Folds.{find_at}
-use Rattle.std.proofs.lemmas.List.Elements.{All-head}
 use Rattle.std.proofs.lemmas.List.Quantifiers.{position-Some}
 use Rattle.std.proofs.lemmas.Bool.{eqb-true, eq-eqb, le-leb, lt-ltb, and_parts, and_from, cases_lt, true≢false}
 use Rattle.stn_model.specs.declared.plant.Plant.{Plant}
 use Rattle.stn_model.specs.declared.start.Start.{Start}
-use Rattle.stn_model.specs.Plant.{task_at, no_task, duration_of, is_of, run_on, run_number, end_of}
+use Rattle.stn_model.specs.Plant.{task_at, duration_of, is_of, run_on, run_number, end_of}
 use Rattle.stn_model.specs.Fits.{Fits}
-use Rattle.stn_model.specs.Sums.{greatest_by}
 use Rattle.stn_model.specs.Points.{has_slot}
-use Rattle.stn_model.specs.Sound.{Sound, SoundTask, SoundRun}
+use Rattle.stn_model.specs.Sound.{Sound, SoundRun}
+use Rattle.stn_model.proofs.Fitting.{duration_pos}
 use Rattle.time_grid.specs.Slots.{no_run, run_at, slots, is_slot, IsSlotOf}
 use Rattle.time_grid.specs.PlanPoint.{is_in, IsPlaceOf}
 use Rattle.time_grid.proofs.SlotList.{Contains-slots}
-
--- the greatest is at least the first
-least_of : {X : Type 0} (f : X → ℕ) (xs : List X) (n : ℕ) → 1 ≤ length xs → All (λ x. n ≤ f x) xs → n ≤ greatest_by f xs
-least_of f [] n l h = absurd (omega arith)
-least_of f (x ∷ xs) n l h = let k = All-head (λ y. n ≤ f y) x xs h in omega (arith, k)
-
--- every batch of a task that is there takes a period or more
-pub duration_pos : (plant : Plant) (task : ℕ) → Sound plant → task < length plant.tasks → 1 ≤ duration_of (task_at plant task)
-unfolding duration_of
-duration_pos plant task sound there =
-    let is : SoundTask plant (task_at plant task) = sound.tasks task no_task there in
-    least_of (λ output. output.delay) (task_at plant task).outputs 1 is.outputs.0 (λ k d l. (is.output k d l).delay.0)
 
 -- the first that passes is at the first place
 record FoundAt {X : Type 0} (p : X → Bool) (xs : List X) (x : X) : Type 0 where

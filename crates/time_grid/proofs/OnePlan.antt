@@ -16,7 +16,8 @@ use Rattle.time_grid.specs.Slots.{no_run, run_at, slots}
 use Rattle.time_grid.specs.PlanPoint.{ShareSlot, is_in, quanta_of, quanta_in, HasPoint, plan_point, point_starts, start_in}
 use Rattle.time_grid.proofs.Lists.{AllPairs-head, AllPairs-tail}
 use Rattle.time_grid.proofs.SlotList.{slots-are}
-use Rattle.time_grid.proofs.Fitting.{fits-at, place-of-fits, duration_pos}
+use Rattle.stn_model.proofs.Fitting.{duration_pos}
+use Rattle.time_grid.proofs.Fitting.{fits-at, place-of-fits}
 use Rattle.time_grid.proofs.PlanPoints.{share-from_in, same_slot, same_place, quanta_pos}
 
 same_start : (p u t q : ℕ) (a : Start) → p ≡ a.period → u ≡ a.unit → t ≡ a.task → q ≡ a.quanta →

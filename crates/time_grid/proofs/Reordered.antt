@@ -1,5 +1,5 @@
 -- Feasibility and profit do not depend on the order of the starts.
-use Rattle.std.proofs.Common.{◌≡◌, ◌≢◌, ℕ, zero, suc, ◌<◌, ◌⊎◌, Bool, true, not, ◌&&◌, List, [], ◌∷◌, length, get_or, sum_by, ℤ, pos, ◌+ℤ◌, ◌-ℤ◌, ◌*ℤ◌, IsPermutation, swap, sym, refl, ap, ap₂, ◌∙◌, arith, inl, inr, ⊎_elim, nat_lt, ◌==◌, if◌then◌else◌}
+use Rattle.std.proofs.Common.{◌≡◌, ◌≢◌, ℕ, ◌<◌, ◌⊎◌, Bool, true, not, ◌&&◌, List, [], ◌∷◌, length, get_or, sum_by, ℤ, pos, ◌+ℤ◌, ◌-ℤ◌, ◌*ℤ◌, IsPermutation, swap, sym, refl, ap, ap₂, ◌∙◌, arith, inl, inr, ⊎_elim, nat_lt, ◌==◌, if◌then◌else◌}
 use Rattle.std.specs.List.{All, AllPairs, list_all}
 use Rattle.std.proofs.lemmas.Int.{ints}
 use borrow.Author.Differences.{up, down}
@@ -16,7 +16,8 @@ use Rattle.stn_model.specs.Batches.{Apart, Cleaned, is_amid, is_next}
 use Rattle.stn_model.specs.Stock.{given, taken, inflow, outflow, stock}
 use Rattle.stn_model.specs.Load.{drawn, load}
 use Rattle.stn_model.specs.Feasible.{Feasible}
-use Rattle.stn_model.specs.Sums.{total, total_below}
+use Rattle.stn_model.specs.Sums.{total}
+use Rattle.stn_model.proofs.Totals.{total_below-agree}
 use Rattle.stn_model.specs.Profit.{end_value, payments, holding_cost, utility_cost, cost_of, start_cost, changeover, change_costs, profit}
 
 -- what holds of any two places, and does not depend on their order, holds after a swap
@@ -137,10 +138,6 @@ Feasible-permutation plant P Q same is = record {
   loads = λ utility period l m. rw (← load-permutation plant P Q utility period same) (is.loads utility period l m);
 }
 
-pub total_below-same : (f g : ℕ → ℤ) → ((k : ℕ) → f k ≡ g k) → (n : ℕ) → total_below f n ≡ total_below g n
-total_below-same f g e zero = refl
-total_below-same f g e (suc n) = ap₂ (λ x y. x +ℤ y) (total_below-same f g e n) (e n)
-
 sum_by-agree : {X : Type 0} (f g : X → ℕ) → ((x : X) → f x ≡ g x) → (xs : List X) → sum_by f xs ≡ sum_by g xs
 sum_by-agree f g e [] = refl
 sum_by-agree f g e (x ∷ xs) = simp sum_by-cons (omega (arith, e x, sum_by-agree f g e xs))
@@ -158,14 +155,9 @@ change_costs-permutation plant P Q same =
 pub profit-permutation : (plant : Plant) (P Q : List Start) → IsPermutation P Q → profit plant P ≡ profit plant Q
 unfolding profit end_value holding_cost utility_cost start_cost
 profit-permutation plant P Q same =
-    let worth = total_below-same (λ state. (state_at plant state).price *ℤ stock plant P state plant.periods) (λ state. (state_at plant state).price *ℤ stock plant Q state plant.periods)
-    (λ state. ap (λ n. (state_at plant state).price *ℤ n) (stock-permutation plant P Q state plant.periods same)) (length plant.states) in
-    let held = total_below-same (λ state. total_below (λ time. (state_at plant state).holding *ℤ stock plant P state time) plant.periods) (λ state. total_below (λ time. (state_at plant state).holding *ℤ stock plant Q state time) plant.periods)
-    (λ state. total_below-same (λ time. (state_at plant state).holding *ℤ stock plant P state time) (λ time. (state_at plant state).holding *ℤ stock plant Q state time)
-    (λ time. ap (λ n. (state_at plant state).holding *ℤ n) (stock-permutation plant P Q state time same)) plant.periods) (length plant.states) in
-    let used = total_below-same (λ utility. total_below (λ period. (utility_at plant utility).rate *ℤ pos (load plant P utility period)) plant.periods) (λ utility. total_below (λ period. (utility_at plant utility).rate *ℤ pos (load plant Q utility period)) plant.periods)
-    (λ utility. total_below-same (λ period. (utility_at plant utility).rate *ℤ pos (load plant P utility period)) (λ period. (utility_at plant utility).rate *ℤ pos (load plant Q utility period))
-    (λ period. ap (λ n. (utility_at plant utility).rate *ℤ pos n) (load-permutation plant P Q utility period same)) plant.periods) (length plant.utilities) in
+    let worth = total_below-agree _ _ (length plant.states) (λ state _. ap (λ n. (state_at plant state).price *ℤ n) (stock-permutation plant P Q state plant.periods same)) in
+    let held = total_below-agree _ _ (length plant.states) (λ state _. total_below-agree _ _ plant.periods (λ time _. ap (λ n. (state_at plant state).holding *ℤ n) (stock-permutation plant P Q state time same))) in
+    let used = total_below-agree _ _ (length plant.utilities) (λ utility _. total_below-agree _ _ plant.periods (λ period _. ap (λ n. (utility_at plant utility).rate *ℤ pos n) (load-permutation plant P Q utility period same))) in
     let begun = sym (total-permutation (λ start. cost_of (run_on plant start.task start.unit)) P Q same) in
     let changed = change_costs-permutation plant P Q same in
     ap₂ (λ x y. x -ℤ pos y) (ap₂ (λ x y. x -ℤ y) (ap₂ (λ x y. x -ℤ y) (ap₂ (λ x y. (x +ℤ payments plant) -ℤ y) worth held) used) begun) changed

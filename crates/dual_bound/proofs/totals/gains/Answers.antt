@@ -11,7 +11,8 @@ use Rattle.dual_bound.specs.Line.{line_at, slot_line}
 use Rattle.dual_bound.specs.Total.{rows_at, gain}
 use Rattle.dual_bound.proofs.Fit.{few_entries}
 use Rattle.dual_bound.proofs.Greatest.{slots_total_same}
-use Rattle.dual_bound.proofs.LineSums.{all_within_le, combined, none_at}
+use Rattle.row_kit.proofs.Values.{part_at-nothing}
+use Rattle.dual_bound.proofs.LineSums.{all_within_le, combined}
 use Rattle.dual_bound.proofs.totals.gains.Goals as goal
 use mir.Syntax.{w128}
 
@@ -44,7 +45,7 @@ returns-clause-value c =
     let last = c.add_entries.ensures.value slot v (omega (arith, h, c.bare_lines-lines.ensures.length, c.add_rows.auto.lines, c.turn.auto.lines, c.add_entries.auto.lines)) in
     let turned = c.turn.ensures.value slot v (omega (arith, h, c.bare_lines-lines.ensures.length, c.add_rows.auto.lines, c.turn.auto.lines)) in
     let first = c.add_rows.ensures.value slot v (omega (arith, h, c.bare_lines-lines.ensures.length, c.add_rows.auto.lines)) in
-    let bare = ap (λ (l : Line). line_at l v) (c.bare_lines-lines.ensures.bare slot) ∙ none_at v in
+    let bare = ap (λ (l : Line). line_at l v) (c.bare_lines-lines.ensures.bare slot) ∙ part_at-nothing v in
     combined (line_at (slot_line c.add_entries.new.lines slot) v) (line_at (slot_line c.turn.new.lines slot) v) (line_at (slot_line c.add_rows.new.lines slot) v) (line_at (slot_line c.bare_lines-lines.result slot) v) (rows_at program.rows cert.mults slot v) (pos cert.scale *ℤ entry_at program.profit slot v)
     (last ∙ ap (λ (x : ℤ). line_at (slot_line c.turn.new.lines slot) v +ℤ x) profit) turned (first ∙ ap (λ (x : ℤ). line_at (slot_line c.bare_lines-lines.result slot) v +ℤ x) rows) bare in
     exact ∙ c.slots_sum.ensures.value

@@ -1,5 +1,6 @@
 use Rattle.std.proofs.Common.{sym, ◌∙◌, arith}
-use Rattle.log_lines.proofs.Wide.{no_negative, decimal_injective_wide}
+use Rattle.text_words.proofs.Digits.{decimal_injective_wide}
+use Rattle.log_lines.proofs.SignedNumbers.{no_negative}
 use Rattle.log_lines.proofs.number.read_negative.Goals as goal
 
 pub returns-then-number-eq0 : goal.returns-then-number-eq0

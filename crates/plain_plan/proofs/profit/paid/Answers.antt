@@ -1,5 +1,5 @@
 use Rattle.std.proofs.Common.{◌*◌, ◌^◌, arith}
-use Rattle.plain_plan.proofs.Totals.{sum_fits, total_step}
+use Rattle.stn_model.proofs.Totals.{sum_fits, total_step}
 use mir.Val.{to_z}
 use mir.Syntax.{w128}
 use Rattle.plain_plan.proofs.profit.paid.Goals as goal

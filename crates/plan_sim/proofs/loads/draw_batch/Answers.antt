@@ -6,11 +6,12 @@ use Rattle.stn_model.specs.declared.plant.Draw.{Draw}
 use Rattle.stn_model.specs.Plant.{task_at}
 use Rattle.stn_model.specs.Load.{drawn}
 use Rattle.plan_sim.specs.Moves.{HasRow, drawn_until}
-use Rattle.plan_sim.proofs.Placed.{placed, draws_rows, draws_fixed, draws_each, begins_first}
+use Rattle.stn_model.proofs.Fitting.{placed-Fits}
+use Rattle.plan_sim.proofs.Placed.{draws_rows, draws_fixed, draws_each, begins_first}
 use Rattle.plan_sim.proofs.loads.draw_batch.Goals as goal
 
 pub draw_task-requires-clause-quanta : goal.draw_task-requires-clause-quanta
-draw_task-requires-clause-quanta c = (placed c.args.plant.now c.args.start.now c.requires.sound c.requires.fits).quanta
+draw_task-requires-clause-quanta c = (placed-Fits c.args.plant.now c.args.start.now c.requires.sound c.requires.fits).quanta
 
 pub draw_task-requires-clause-begun : goal.draw_task-requires-clause-begun
 draw_task-requires-clause-begun c = omega (arith, c.end-ending.ensures, begins_first c.args.plant.now c.args.start.now c.requires.sound c.requires.fits)

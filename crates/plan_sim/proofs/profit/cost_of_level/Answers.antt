@@ -1,5 +1,5 @@
 use Rattle.std.proofs.Common.{◌*◌, ◌^◌, arith}
-use Rattle.plan_sim.proofs.Totals.{sum_fits, total_below_step}
+use Rattle.stn_model.proofs.Totals.{sum_fits, total_below_step}
 use mir.Val.{to_z}
 use mir.Syntax.{w128}
 use Rattle.plan_sim.proofs.profit.cost_of_level.Goals as goal

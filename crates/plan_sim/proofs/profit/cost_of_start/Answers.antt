@@ -1,6 +1,6 @@
 use Rattle.std.proofs.Common.{arith}
 use Rattle.std.proofs.lemmas.Int.{ints}
-use Rattle.plan_sim.proofs.Small.{run_cost_small}
+use Rattle.stn_model.proofs.Small.{run_cost_small}
 use Rattle.plan_sim.proofs.profit.cost_of_start.Goals as goal
 
 pub returns-in-Some-clause-small : goal.returns-in-Some-clause-small

@@ -2,7 +2,10 @@ use Rattle.std.proofs.Common.{◌+◌, ◌≤◌, ◌^◌, length, ◌∙◌, ap
 use Rattle.std.proofs.lemmas.List.Elements.{All-same}
 use Rattle.stn_model.specs.declared.plant.Task.{Task}
 use Rattle.plan_sim.specs.Moves.{HasRow}
-use Rattle.plan_sim.proofs.Placed.{placed, inputs_few, inputs_rows, inputs_small, starts_within}
+use Rattle.stn_model.specs.Plant.{task_at}
+use Rattle.stn_model.proofs.Fitting.{placed-Fits, sound-task_at}
+use Rattle.stn_model.proofs.Small.{inputs_small}
+use Rattle.plan_sim.proofs.Placed.{inputs_few, inputs_rows, starts_within}
 use Rattle.plan_sim.proofs.stocks.take_from.Goals as goal
 
 pub add_inputs-requires-clause-rows : goal.add_inputs-requires-clause-rows
@@ -13,10 +16,10 @@ add_inputs-requires-clause-rows c =
 pub add_inputs-requires-clause-small : goal.add_inputs-requires-clause-small
 add_inputs-requires-clause-small c =
     All-same (λ move. move.amount ≤ 2 ^ 20) _ _ (c.as_slice.ensures ∙ ap (λ (t : Task). t.inputs) c.task_of-task.ensures)
-    (inputs_small c.args.plant.now c.args.start.now c.requires.sound c.requires.fits)
+    (inputs_small c.args.plant.now (task_at c.args.plant.now c.args.start.now.task) (sound-task_at c.args.plant.now c.args.start.now c.requires.sound c.requires.fits))
 
 pub add_inputs-requires-clause-quanta : goal.add_inputs-requires-clause-quanta
-add_inputs-requires-clause-quanta c = (placed c.args.plant.now c.args.start.now c.requires.sound c.requires.fits).quanta
+add_inputs-requires-clause-quanta c = (placed-Fits c.args.plant.now c.args.start.now c.requires.sound c.requires.fits).quanta
 
 pub add_inputs-requires-clause-few : goal.add_inputs-requires-clause-few
 add_inputs-requires-clause-few c = omega (arith, ap length (c.as_slice.ensures ∙ ap (λ (t : Task). t.inputs) c.task_of-task.ensures), inputs_few c.args.plant.now c.args.start.now c.requires.sound c.requires.fits)

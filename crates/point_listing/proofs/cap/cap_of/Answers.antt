@@ -5,7 +5,7 @@ use Rattle.std.proofs.lemmas.Int.{ints}
 use Rattle.std.proofs.lemmas.List.{take_all}
 use Rattle.stn_model.specs.Sums.{total}
 use Rattle.stn_model.specs.Profit.{profit}
-use Rattle.plain_plan.proofs.Totals.{sum_fits, total_more}
+use Rattle.stn_model.proofs.Totals.{sum_fits, total_more}
 use Rattle.time_grid.specs.Slots.{slots, IsSlotOf}
 use Rattle.time_grid.proofs.SlotList.{slots-are, length-slots}
 use Rattle.point_listing.specs.Cap.{slot_gain, listing_cap}

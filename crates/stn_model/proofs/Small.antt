@@ -2,12 +2,13 @@
 use Rattle.std.proofs.Common.{◌≡◌, ℕ, ◌^◌, ◌≤◌, arith, sym, subst, Option, Some}
 use Rattle.std.specs.Prelude.{All, IfSome, unsigned_abs}
 use Rattle.std.proofs.lemmas.List.Sums.{get_or-le-sum_by}
+use Rattle.std.proofs.lemmas.Option.{IfSome_then}
 use Rattle.stn_model.specs.declared.plant.Plant.{Plant}
 use Rattle.stn_model.specs.declared.plant.Task.{Task}
 use Rattle.stn_model.specs.declared.plant.Run.{Run}
 use Rattle.stn_model.specs.Plant.{run_on, is_of}
-use Rattle.plain_plan.proofs.Totals.{IfSome_find}
-use Rattle.stn_model.specs.Sound.{Sound, SoundTask}
+use Rattle.stn_model.specs.Sound.{Sound, SoundTask, SoundRun}
+use Rattle.stn_model.proofs.Fitting.{found-All}
 
 pub inputs_small : (plant : Plant) (task : Task) → SoundTask plant task → All (λ input. input.amount ≤ 2 ^ 20) task.inputs
 inputs_small plant task sound k d h = omega (arith, get_or-le-sum_by (λ input. input.amount) task.inputs k d h, sound.taken, sound.quantum)
@@ -18,7 +19,7 @@ outputs_small plant task sound k d h = omega (arith, get_or-le-sum_by (λ output
 -- what the run of a task on a unit costs
 pub run_costs_small : (plant : Plant) → Sound plant → (task unit : ℕ) → IfSome (run_on plant task unit) (λ run. unsigned_abs run.cost ≤ 2 ^ 20)
 unfolding run_on
-run_costs_small plant sound task unit = IfSome_find (λ run. unsigned_abs run.cost ≤ 2 ^ 20) (is_of task unit) plant.runs (λ k d h. omega (arith, (sound.runs k d h).cost))
+run_costs_small plant sound task unit = IfSome_then (run_on plant task unit) (found-All (SoundRun plant) (is_of task unit) plant.runs sound.runs) (λ run h. omega (arith, h.0.cost))
 
 pub run_cost_small : (plant : Plant) → Sound plant → (task unit : ℕ) (r : Option Run) (run : Run) → r ≡ run_on plant task unit → r ≡ Some run → unsigned_abs run.cost ≤ 2 ^ 20
 run_cost_small plant sound task unit r run e is =

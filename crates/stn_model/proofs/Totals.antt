@@ -1,12 +1,12 @@
 -- Signed sums over one more item, and how large they are.
-use Rattle.std.proofs.Common.{◌≡◌, ℕ, zero, suc, ◌+◌, ◌<◌, ◌≤◌, List, [], ◌∷◌, length, get_or, take, arith, add-one, refl, Bool, true, false, cond, Some, ◌^◌, unsigned_abs}
-use Rattle.std.specs.Prelude.{ℤ, ◌+ℤ◌, All, find, IfSome}
+use Rattle.std.proofs.Common.{◌≡◌, ℕ, zero, suc, ◌+◌, ◌<◌, ◌≤◌, List, [], ◌∷◌, length, get_or, take, arith, add-one, refl, ◌^◌, unsigned_abs}
+use Rattle.std.specs.Prelude.{ℤ, ◌+ℤ◌}
 use Rattle.std.proofs.lemmas.Int.{ints, to_z-of_z, fits_signed_from_abs}
 use mir.Val.{to_z, of_z}
 use mir.Syntax.{w128}
-use Rattle.std.proofs.lemmas.List.Elements.{All-head, All-tail}
 use Rattle.stn_model.specs.Sums.{total, total_below}
 
+-- a sum over one more number, and over one more item
 pub total_below_more : (f : ℕ → ℤ) (n : ℕ) → total_below f (n + 1) ≡ total_below f n +ℤ f n
 total_below_more f n = rw add-one refl
 
@@ -17,12 +17,6 @@ total-take-suc f (x ∷ xs) (suc i) d h = let k : i < length xs = omega arith in
 
 pub total_more : {X : Type 0} (f : X → ℤ) (xs : List X) (i : ℕ) (d : X) → i < length xs → total f (take (i + 1) xs) ≡ total f (take i xs) +ℤ f (get_or xs i d)
 total_more f xs i d h = rw add-one (total-take-suc f xs i d h)
-
--- what holds of each item holds of the one that is found
-pub IfSome_find : {X : Type 0} (P : X → Type 0) (test : X → Bool) (xs : List X) → All P xs → IfSome (find test xs) P
-IfSome_find P test [] h = tt
-IfSome_find P test (x ∷ xs) h =
-    elim (test x) as (λ b. IfSome (cond b (Some x) (find test xs)) P) [ true ↦ All-head P x xs h | false ↦ IfSome_find P test xs (All-tail P x xs h) ]
 
 -- a sum of two numbers that are small enough is what the machine's sum gives, and no larger than both
 pub sum_fits : (s x : ℤ) (m k : ℕ) → unsigned_abs s ≤ m → unsigned_abs x ≤ k → m + k < 2 ^ 127 → (to_z w128 (of_z w128 (s +ℤ to_z w128 (of_z w128 x))) ≡ s +ℤ x) × (unsigned_abs (s +ℤ x) ≤ m + k)
@@ -41,9 +35,9 @@ pub total_step : {X : Type 0} (f : X → ℤ) (xs : List X) (i : ℕ) (d : X) (r
 total_step f xs i d r s x h e es ex = rw (total_more f xs i d h) (rw (e, es, ex) refl)
 
 -- sums of the same summands are the same
-pub total_below_ext : (f g : ℕ → ℤ) (n : ℕ) → ((k : ℕ) → k < n → f k ≡ g k) → total_below f n ≡ total_below g n
-total_below_ext f g zero same = refl
-total_below_ext f g (suc n) same =
-    let before : total_below f n ≡ total_below g n = total_below_ext f g n (λ k h. same k (omega arith)) in
+pub total_below-agree : (f g : ℕ → ℤ) (n : ℕ) → ((k : ℕ) → k < n → f k ≡ g k) → total_below f n ≡ total_below g n
+total_below-agree f g zero same = refl
+total_below-agree f g (suc n) same =
+    let before : total_below f n ≡ total_below g n = total_below-agree f g n (λ k h. same k (omega arith)) in
     let last : f n ≡ g n = same n (omega arith) in
     rw (before, last) refl

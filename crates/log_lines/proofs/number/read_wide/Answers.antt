@@ -1,7 +1,0 @@
-use Rattle.std.proofs.Common.{subst, sym, arith}
-use Rattle.text_words.specs.Numbers.{IsPlain}
-use Rattle.log_lines.proofs.Wide.{IsPlain-decimal_wide}
-use Rattle.log_lines.proofs.number.read_wide.Goals as goal
-
-pub returns-else-is_plain : goal.returns-else-is_plain
-returns-else-is_plain c = λ n small printed. let plain = c.is_plain.ensures.1 (subst IsPlain (sym printed) (IsPlain-decimal_wide n (omega arith))) in cc
