@@ -10,3 +10,5 @@ pub mod Groups
 pub mod ValueLines
 pub mod Agreeing
 pub mod Texts
+pub mod Reading
+pub mod PartsRead
