@@ -11,3 +11,5 @@ pub mod ValueLines
 pub mod Agreeing
 pub mod Gathers
 pub mod Texts
+pub mod Reading
+pub mod PartsRead
