@@ -4,9 +4,9 @@ ghost use Rattle.proof_tree.specs.Views.{View, present};
 ghost use Rattle.row_relax.specs.Steps.{row_steps};
 ghost use Rattle.row_relax.specs.View.{Fits, view_of};
 ghost use Rattle.proof_tree.specs.Walk.{Stands};
-ghost use Rattle.proof_log.specs.Log.{RowItem};
-ghost use Rattle.log_check.specs.Meaning.{ItemDefect, line_after};
-ghost use Rattle.log_check.specs.Course.{StandsAt, IsReady, Leads, MayTake, IsTested, end_kind, course_of};
+ghost use Rattle.proof_log.specs.Log.{RowItem, line_after};
+ghost use Rattle.log_check.specs.Meaning.{ItemDefect};
+ghost use Rattle.log_check.specs.Course.{StandsAt, IsReady, MayTake, IsTested, end_kind, course_of};
 
 use crate::course::Course;
 use crate::points::point_defect;
@@ -103,8 +103,6 @@ impl Checker {
         requires may { MayTake (row_steps rows.now.program) self.old.course self.old.walk (present (map view_of self.old.area)) item.now }
         ensures fits { Fits rows.now.program (present (map view_of self.new.area)) }
         ensures ready { OnOk result (IsReady (row_steps rows.now.program) self.new.course self.new.walk (map view_of self.new.area)) }
-        ensures leads { OnOk result (Leads (row_steps rows.now.program) self.old.course self.old.walk (map view_of self.old.area) item.now
-            self.new.course self.new.walk (map view_of self.new.area)) }
         ensures stands { OnOk result ((root : View) (items : Items RowItem) → line ≡ line_after items
             → StandsAt (row_steps rows.now.program) rows.now.program root items self.old.course self.old.walk (map view_of self.old.area)
             → StandsAt (row_steps rows.now.program) rows.now.program root (items ++ item.now ∷ []) self.new.course self.new.walk (map view_of self.new.area)) }
@@ -123,8 +121,6 @@ impl Checker {
         requires may { MayTake (row_steps rows.now.program) Course.Going self.old.walk (present (map view_of self.old.area)) item.now }
         ensures fits { Fits rows.now.program (present (map view_of self.new.area)) }
         ensures ready { OnOk result (IsReady (row_steps rows.now.program) self.new.course self.new.walk (map view_of self.new.area)) }
-        ensures leads { OnOk result (Leads (row_steps rows.now.program) Course.Going self.old.walk (map view_of self.old.area) item.now
-            self.new.course self.new.walk (map view_of self.new.area)) }
         ensures stands { OnOk result ((root : View) (items : Items RowItem) → line ≡ line_after items
             → StandsAt (row_steps rows.now.program) rows.now.program root items Course.Going self.old.walk (map view_of self.old.area)
             → StandsAt (row_steps rows.now.program) rows.now.program root (items ++ item.now ∷ []) self.new.course self.new.walk (map view_of self.new.area)) }
