@@ -130,6 +130,13 @@ impl Grammar {
         Ok(())
     }
 
+    /// The version of the log; 1 before its first line.
+    pub fn version(&self) -> u8
+        ensures { result ≡ self.now.version }
+    {
+        self.version
+    }
+
     /// What comes next.
     pub fn place(&self) -> Place
         ensures { result ≡ self.now.place }

@@ -1,16 +1,15 @@
 -- Where a line leads agrees with what it makes of a group, and where an item leads with where the walk stands.
 use Rattle.std.proofs.Common.{◌≡◌, ⊎_elim, ℕ, ◌+◌, ◌-◌, ◌==◌, nat_le, nat_lt, ◌<◌, ◌≤◌, Bool, true, false, List, [], ◌∷◌, ◌++◌, length, Option, Some, None, is_some, IsTrue, if◌then◌else◌, refl, ap, sym, subst, arith}
-use Rattle.std.specs.Prelude.{◌^◌}
+use Rattle.std.specs.Prelude.{⊤, ◌^◌}
 use Rattle.std.proofs.lemmas.Bool.Decides.{nat_tests}
 use Rattle.proof_tree.specs.declared.capped.Capped.{Capped}
-use Rattle.proof_tree.specs.declared.capped.Capped.TheVariants.{AtMost, NoPoint, Bad}
+use Rattle.proof_tree.specs.declared.capped.Capped.TheVariants.{NoPoint}
 use Rattle.proof_tree.specs.declared.item.Item.TheVariants.{Node, Cut, Found as FoundItem, Empty, Dual as DualItem, Point, Pending as PendingItem, Split as SplitItem}
 use Rattle.proof_tree.specs.declared.walk.Expected.{Expected}
-use Rattle.proof_tree.specs.declared.walk.Expected.TheVariants.{Node as ExpectNode, Inside as ExpectInside, End as ExpectEnd}
 use Rattle.proof_tree.specs.Cap.{greater}
-use Rattle.proof_tree.specs.Tree.{no_point, leaf_cap}
+use Rattle.proof_tree.specs.Form.{any_steps}
 use Rattle.proof_tree.specs.Views.{View}
-use Rattle.proof_tree.specs.Walk.{Opened, Stage, going, ended, may_come, going_to, close, close_split, part_ended, taken, step}
+use Rattle.proof_tree.specs.Walk.{Opened, may_come, close, close_split, taken, step}
 use Rattle.row_relax.specs.declared.pick.RowPick.{RowPick}
 use Rattle.dual_bound.specs.declared.cert.Mult.{Mult}
 use Rattle.proof_log.specs.Log.{RowItem}
@@ -32,11 +31,67 @@ use Rattle.proof_log.specs.declared.group.MultHead.TheVariants.{Dual, Pending, S
 use Rattle.proof_log.specs.declared.group.Group.{Group}
 use Rattle.proof_log.specs.declared.group.Group.TheVariants.{Nothing, Values, Mults}
 use Rattle.proof_log.specs.declared.group.Grown.TheVariants.{More, Whole}
-use Rattle.proof_log.specs.Agree.{is_claim, is_split, IsHeadIn, GroupAgrees, ItemAt, item_step, StaysAt, GrownAgrees, least_after, PlaceExpects, IsPastProof, lefts, StageAgrees, IsBody}
+use Rattle.proof_log.specs.declared.group.Grown.{Grown}
+use Rattle.proof_log.specs.declared.group.Piece.TheVariants.{Item, Claim as ClaimPiece}
+use Rattle.proof_log.specs.Agree.{is_claim, is_split, IsHeadIn, GroupAgrees, least_after, PlaceExpects, lefts, FormAgrees, IsBody}
 use Rattle.proof_log.specs.Gathering.{padded, value_piece, mult_piece, grown_values, grown_mults, begun, followed, MayBegin, MayValue, MayMult, MayFollow}
-use Rattle.proof_tree.specs.Relaxation.{Steps}
 use Rattle.range_prop.specs.declared.row_cut.RowCut.{RowCut}
 use Rattle.dual_bound.specs.declared.cert.Cert.{Cert}
+
+-- the items that the lines at a place may make whole; the row and the slot of a cut and the slot of a split are there
+abbrev pub ItemAt : Limits → Place → RowItem → Type 0
+ItemAt limits AtNode Node = ⊤
+ItemAt limits Inside (Cut cut) = (cut.row < limits.rows) × (cut.slot < limits.slots)
+ItemAt limits Inside (FoundItem found) = ⊤
+ItemAt limits Inside Empty = ⊤
+ItemAt limits Inside (DualItem cert) = ⊤
+ItemAt limits Inside Point = ⊤
+ItemAt limits Inside (PendingItem cert) = ⊤
+ItemAt limits Inside (SplitItem pick cert) = pick.slot < limits.slots
+ItemAt limits Ending Empty = ⊤
+ItemAt limits Ending (DualItem cert) = ⊤
+ItemAt limits Ending Point = ⊤
+ItemAt limits Ending (PendingItem cert) = ⊤
+ItemAt limits Ending (SplitItem pick cert) = pick.slot < limits.slots
+ItemAt limits (AtValues left above claim) (FoundItem found) = claim ≡ false
+ItemAt limits (AtMults left above split) (DualItem cert) = ⊤
+ItemAt limits (AtMults left above split) (PendingItem cert) = ⊤
+ItemAt limits (AtMults left above split) (SplitItem pick cert) = pick.slot < limits.slots
+ItemAt limits _ _ = ⊥
+
+-- where an item leads
+abbrev pub item_step : RowItem → Step
+item_step Node = At Inside
+item_step (Cut cut) = At Inside
+item_step (FoundItem found) = At Ending
+item_step Empty = Ends
+item_step (DualItem cert) = Ends
+item_step Point = Ends
+item_step (PendingItem cert) = Ends
+item_step (SplitItem pick cert) = Opens
+
+-- the places where a claim's lines may end
+abbrev pub ClaimAt : Place → Type 0
+ClaimAt AtClaim = ⊤
+ClaimAt (AtValues left above claim) = claim ≡ true
+ClaimAt _ = ⊥
+
+-- values and multipliers of a found point or of a node's ending stay in the node, and those of a claim in the claim
+abbrev pub StaysAt : Place → Place → Type 0
+StaysAt Inside (AtValues left above claim) = claim ≡ false
+StaysAt Inside (AtMults left above split) = ⊤
+StaysAt Ending (AtMults left above split) = ⊤
+StaysAt AtClaim (AtValues left above claim) = claim ≡ true
+StaysAt (AtValues left above claim) (AtValues left2 above2 claim2) = claim2 ≡ claim
+StaysAt (AtMults left above split) (AtMults left2 above2 split2) = ⊤
+StaysAt _ _ = ⊥
+
+-- what a line has made of a group agrees with where it leads from a place
+abbrev pub GrownAgrees : Limits → Place → Grown → Step → Type 0
+GrownAgrees limits place (More group) (At later) = GroupAgrees limits later group × StaysAt place later
+GrownAgrees limits place (More group) _ = ⊥
+GrownAgrees limits place (Whole (Item item)) step = ItemAt limits place item × (step ≡ item_step item)
+GrownAgrees limits place (Whole (ClaimPiece claim)) step = ClaimAt place × (step ≡ At End)
 
 -- a test that finds nothing has not held
 passed : (test : Bool) (kind : ℕ) (tests : List (Bool × ℕ)) → first_kind ((test, kind) ∷ tests) ≡ None → (test ≡ false) × (first_kind tests ≡ None)
@@ -67,10 +122,10 @@ not_zero : (a : ℕ) → (a == 0) ≡ false → 0 < a
 not_zero a is = grind (arith, nat_tests)
 
 -- a group of values agrees with what is left of it
-values_agree : (limits : Limits) (slots : ℕ) (place : Place) (head : ValueHead) (left : ℕ) (above : Option ℕ) (claim : Bool) (point : List ℕ) → is_claim head ≡ claim → length point ≡ least_after above → ((n : ℕ) (m : Option ℕ) → StaysAt place (AtValues n m claim)) → GrownAgrees limits place (Whole (value_piece head (padded slots point))) (At (if claim then End else Ending)) → GrownAgrees limits place (grown_values slots head left point) (values_step left above claim)
-values_agree limits slots place head left above claim point is_head long stays whole = at (left == 0) refl
+values_agree : (limits : Limits) (place : Place) (head : ValueHead) (left : ℕ) (above : Option ℕ) (claim : Bool) (point : List ℕ) → is_claim head ≡ claim → length point ≡ least_after above → ((n : ℕ) (m : Option ℕ) → StaysAt place (AtValues n m claim)) → GrownAgrees limits place (Whole (value_piece head (padded limits.slots point))) (At (if claim then End else Ending)) → GrownAgrees limits place (grown_values limits.slots head left point) (values_step left above claim)
+values_agree limits place head left above claim point is_head long stays whole = at (left == 0) refl
   where
-    at : (none : Bool) → (left == 0) ≡ none → GrownAgrees limits place (if none then Whole (value_piece head (padded slots point)) else More (Values head left point)) (At (if none then (if claim then End else Ending) else AtValues left above claim))
+    at : (none : Bool) → (left == 0) ≡ none → GrownAgrees limits place (if none then Whole (value_piece head (padded limits.slots point)) else More (Values head left point)) (At (if none then (if claim then End else Ending) else AtValues left above claim))
     at true is = whole
     at false is = ((not_zero left is, refl, long, is_head), stays left above)
 
@@ -83,10 +138,10 @@ mults_agree limits place head left above split mults is_head inside stays whole 
     at false is = ((not_zero left is, refl, is_head, inside), stays left above)
 
 -- a line that may come begins a group or is whole, and agrees with where it leads
-abbrev Begins_at : Limits → ℕ → Place → Line → Step → Type 0
-Begins_at limits slots place line step = MayBegin line × GrownAgrees limits place (begun slots line) step
+abbrev Begins_at : Limits → Place → Line → Step → Type 0
+Begins_at limits place line step = MayBegin line × GrownAgrees limits place (begun limits.slots line) step
 
-module _ (limits : Limits) (slots : ℕ) (few_rows : limits.rows < 2 ^ 32) (few_slots : limits.slots < 2 ^ 32) where
+module _ (limits : Limits) (few_rows : limits.rows < 2 ^ 32) (few_slots : limits.slots < 2 ^ 32) where
   -- a certificate keeps its limits, and leads to its multipliers
   cert_agrees : (place : Place) (head : MultHead) (scale count : ℕ) (split : Bool) (step : Step) → is_split head ≡ split → IsHeadIn limits head → ((n : ℕ) (m : Option ℕ) → StaysAt place (AtMults n m split)) → GrownAgrees limits place (Whole (mult_piece head [])) (if split then Opens else Ends) → mults_step count None split ≡ step → first_kind ((nat_lt 1048576 scale, 7) ∷ (nat_lt 50000 count, 8) ∷ []) ≡ None → (scale < 2 ^ 32) × GrownAgrees limits place (grown_mults head count []) step
   cert_agrees place head scale count split step is_head inside stays whole is tests =
@@ -95,7 +150,7 @@ module _ (limits : Limits) (slots : ℕ) (few_rows : limits.rows < 2 ^ 32) (few_
       (omega arith, subst (GrownAgrees limits place (grown_mults head count [])) is (mults_agree limits place head count None split [] is_head inside stays whole))
 
   module _ (place : Place) (empty : ItemAt limits place Empty) (duals : (cert : _) → ItemAt limits place (DualItem cert)) (point : ItemAt limits place Point) (pendings : (cert : _) → ItemAt limits place (PendingItem cert)) (splits : (pick : RowPick) (cert : _) → pick.slot < limits.slots → ItemAt limits place (SplitItem pick cert)) (stays : (n : ℕ) (m : Option ℕ) (split : Bool) → StaysAt place (AtMults n m split)) where
-    ending_begins : (version opened : ℕ) (line : Line) (step : Step) → ending_step version line ≡ Some step → over_at limits opened line ≡ None → Begins_at limits slots place line step
+    ending_begins : (version opened : ℕ) (line : Line) (step : Step) → ending_step version line ≡ Some step → over_at limits opened line ≡ None → Begins_at limits place line step
     ending_begins version opened EmptyLine step is tests = (tt, (empty, sym (some_same Ends step is)))
     ending_begins version opened PointLine step is tests =
         let test = where_true (version == 2) Ends step is in
@@ -110,7 +165,7 @@ module _ (limits : Limits) (slots : ℕ) (few_rows : limits.rows < 2 ^ 32) (few_
         ((omega arith, rest.0), rest.1)
     ending_begins version opened _ step is tests = cc
 
-  inside_begins : (version opened : ℕ) (line : Line) (step : Step) → inside_step version line ≡ Some step → over_at limits opened line ≡ None → Begins_at limits slots Inside line step
+  inside_begins : (version opened : ℕ) (line : Line) (step : Step) → inside_step version line ≡ Some step → over_at limits opened line ≡ None → Begins_at limits Inside line step
   inside_begins version opened (CutLine row slot) step is tests =
       let first = passed (nat_le limits.rows row) 4 ((nat_le limits.slots slot, 5) ∷ []) tests in
       let second = passed (nat_le limits.slots slot) 5 [] first.1 in
@@ -118,36 +173,36 @@ module _ (limits : Limits) (slots : ℕ) (few_rows : limits.rows < 2 ^ 32) (few_
       let slot_in : slot < limits.slots = not_at_least limits.slots slot second.0 in
       ((omega arith, omega arith), ((row_in, slot_in), sym (some_same (At Inside) step is)))
   inside_begins version opened (FoundLine value count) step is tests =
-      (tt, subst (GrownAgrees limits Inside (grown_values slots (Found value) count [])) (some_same (values_step count None false) step is) (values_agree limits slots Inside (Found value) count None false [] refl refl (λ n m. refl) (tt, refl)))
+      (tt, subst (GrownAgrees limits Inside (grown_values limits.slots (Found value) count [])) (some_same (values_step count None false) step is) (values_agree limits Inside (Found value) count None false [] refl refl (λ n m. refl) (tt, refl)))
   inside_begins version opened line step is tests = ending_begins Inside tt (λ cert. tt) tt (λ cert. tt) (λ pick cert inside. inside) (λ n m split. tt) version opened line step is tests
 
-  claim_begins : (line : Line) (step : Step) → claim_step line ≡ Some step → Begins_at limits slots AtClaim line step
+  claim_begins : (line : Line) (step : Step) → claim_step line ≡ Some step → Begins_at limits AtClaim line step
   claim_begins (ClaimOptimal profit count) step is =
-      (tt, subst (GrownAgrees limits AtClaim (grown_values slots (Optimal profit) count [])) (some_same (values_step count None true) step is) (values_agree limits slots AtClaim (Optimal profit) count None true [] refl refl (λ n m. refl) (tt, refl)))
+      (tt, subst (GrownAgrees limits AtClaim (grown_values limits.slots (Optimal profit) count [])) (some_same (values_step count None true) step is) (values_agree limits AtClaim (Optimal profit) count None true [] refl refl (λ n m. refl) (tt, refl)))
   claim_begins ClaimInfeasible step is = (tt, (tt, sym (some_same (At End) step is)))
   claim_begins (ClaimBetween profit most count) step is =
-      (tt, subst (GrownAgrees limits AtClaim (grown_values slots (Between profit most) count [])) (some_same (values_step count None true) step is) (values_agree limits slots AtClaim (Between profit most) count None true [] refl refl (λ n m. refl) (tt, refl)))
+      (tt, subst (GrownAgrees limits AtClaim (grown_values limits.slots (Between profit most) count [])) (some_same (values_step count None true) step is) (values_agree limits AtClaim (Between profit most) count None true [] refl refl (λ n m. refl) (tt, refl)))
   claim_begins (ClaimBelow most) step is = (tt, (tt, sym (some_same (At End) step is)))
   claim_begins _ step is = cc
 
-  node_begins : (version : ℕ) (line : Line) (step : Step) → step_of version AtNode line ≡ Some step → Begins_at limits slots AtNode line step
+  node_begins : (version : ℕ) (line : Line) (step : Step) → step_of version AtNode line ≡ Some step → Begins_at limits AtNode line step
   node_begins version NodeLine step is = (tt, (tt, sym (some_same (At Inside) step is)))
   node_begins version _ step is = cc
 
-  values_follow : (left remaining slot quanta opened : ℕ) (above : Option ℕ) (claim : Bool) (head : ValueHead) (point : List ℕ) (step : Step) → 0 < quanta → 0 < left → remaining ≡ left → length point ≡ least_after above → is_claim head ≡ claim → slots ≡ limits.slots
+  values_follow : (left remaining slot quanta opened : ℕ) (above : Option ℕ) (claim : Bool) (head : ValueHead) (point : List ℕ) (step : Step) → 0 < quanta → 0 < left → remaining ≡ left → length point ≡ least_after above → is_claim head ≡ claim
       → ◌≡◌ {A = Option Step} (if follows above slot then Some (values_step (left - 1) (Some slot) claim) else None) (Some step) → over_at limits opened (ValueLine slot quanta) ≡ None
-      → MayValue slots remaining point (ValueLine slot quanta) × GrownAgrees limits (AtValues left above claim) (grown_values slots head (remaining - 1) (padded slot point ++ quanta ∷ [])) step
-  values_follow left remaining slot quanta opened above claim head point step some more same long is_head all is tests =
+      → MayValue limits.slots remaining point (ValueLine slot quanta) × GrownAgrees limits (AtValues left above claim) (grown_values limits.slots head (remaining - 1) (padded slot point ++ quanta ∷ [])) step
+  values_follow left remaining slot quanta opened above claim head point step some more same long is_head is tests =
       let first = where_true (follows above slot) (values_step (left - 1) (Some slot) claim) step is in
       let second = passed (nat_le limits.slots slot) 5 [] tests in
       let least : least_after above ≤ slot = follows-least above slot first.0 in
       let inside : slot < limits.slots = not_at_least limits.slots slot second.0 in
       let later = padded slot point ++ quanta ∷ [] in
       let grown : length later ≡ slot + 1 = grind (arith, common_steps, length-replicate) in
-      let agree = values_agree limits slots (AtValues left above claim) head (left - 1) (Some slot) claim later is_head grown (λ n m. refl) (whole head is_head) in
-      ((omega arith, (omega arith), (omega arith), some), rw same (subst (GrownAgrees limits (AtValues left above claim) (grown_values slots head (left - 1) later)) first.1 agree))
+      let agree = values_agree limits (AtValues left above claim) head (left - 1) (Some slot) claim later is_head grown (λ n m. refl) (whole head is_head) in
+      ((omega arith, (omega arith), (omega arith), some), rw same (subst (GrownAgrees limits (AtValues left above claim) (grown_values limits.slots head (left - 1) later)) first.1 agree))
     where
-      whole : (head : ValueHead) → is_claim head ≡ claim → GrownAgrees limits (AtValues left above claim) (Whole (value_piece head (padded slots (padded slot point ++ quanta ∷ [])))) (At (if claim then End else Ending))
+      whole : (head : ValueHead) → is_claim head ≡ claim → GrownAgrees limits (AtValues left above claim) (Whole (value_piece head (padded limits.slots (padded slot point ++ quanta ∷ [])))) (At (if claim then End else Ending))
       whole (Found value) is = (sym is, rw (← is) refl)
       whole (Optimal profit) is = (sym is, rw (← is) refl)
       whole (Between profit most) is = (sym is, rw (← is) refl)
@@ -172,12 +227,12 @@ module _ (limits : Limits) (slots : ℕ) (few_rows : limits.rows < 2 ^ 32) (few_
 
   -- a line that may come, other than the header and the end, may follow the group, and what it makes of it agrees with where it leads
   Follows : Place → Group → Line → Step → Type 0
-  Follows place group line step = MayFollow slots group line × GrownAgrees limits place (followed slots group line) step
+  Follows place group line step = MayFollow limits.slots group line × GrownAgrees limits place (followed limits.slots group line) step
 
-  values_lines : (version left remaining opened : ℕ) (above : Option ℕ) (claim : Bool) (head : ValueHead) (point : List ℕ) (line : Line) (step : Step) → IsInRange line → slots ≡ limits.slots → 0 < left → remaining ≡ left → length point ≡ least_after above → is_claim head ≡ claim → step_of version (AtValues left above claim) line ≡ Some step → over_at limits opened line ≡ None → Follows (AtValues left above claim) (Values head remaining point) line step
+  values_lines : (version left remaining opened : ℕ) (above : Option ℕ) (claim : Bool) (head : ValueHead) (point : List ℕ) (line : Line) (step : Step) → IsInRange line → 0 < left → remaining ≡ left → length point ≡ least_after above → is_claim head ≡ claim → step_of version (AtValues left above claim) line ≡ Some step → over_at limits opened line ≡ None → Follows (AtValues left above claim) (Values head remaining point) line step
   unfolding Follows
-  values_lines version left remaining opened above claim head point (ValueLine slot quanta) step range all more same long is_head is tests = values_follow left remaining slot quanta opened above claim head point step range.0 more same long is_head all is tests
-  values_lines version left remaining opened above claim head point _ step range all more same long is_head is tests = cc
+  values_lines version left remaining opened above claim head point (ValueLine slot quanta) step range more same long is_head is tests = values_follow left remaining slot quanta opened above claim head point step range.0 more same long is_head is tests
+  values_lines version left remaining opened above claim head point _ step range more same long is_head is tests = cc
 
   mults_lines : (version left remaining opened : ℕ) (above : Option ℕ) (split : Bool) (head : MultHead) (mults : List Mult) (line : Line) (step : Step) → 0 < left → remaining ≡ left → is_split head ≡ split → IsHeadIn limits head → step_of version (AtMults left above split) line ≡ Some step → over_at limits opened line ≡ None → Follows (AtMults left above split) (Mults head remaining mults) line step
   unfolding Follows
@@ -193,18 +248,18 @@ module _ (limits : Limits) (slots : ℕ) (few_rows : limits.rows < 2 ^ 32) (few_
   end_only version _ step is body = cc
 
   -- by places and groups
-  pub line_follows : (version opened : ℕ) (place : Place) (group : Group) (line : Line) (step : Step) → slots ≡ limits.slots → IsInRange line → IsBody line → GroupAgrees limits place group → step_of version place line ≡ Some step → over_at limits opened line ≡ None → MayFollow slots group line × GrownAgrees limits place (followed slots group line) step
+  pub line_follows : (version opened : ℕ) (place : Place) (group : Group) (line : Line) (step : Step) → IsInRange line → IsBody line → GroupAgrees limits place group → step_of version place line ≡ Some step → over_at limits opened line ≡ None → MayFollow limits.slots group line × GrownAgrees limits place (followed limits.slots group line) step
   unfolding Follows
-  line_follows version opened AtHeader Nothing line step all range body agree is tests = absurd (header_only version line step is body)
-  line_follows version opened AtNode Nothing line step all range body agree is tests = node_begins version line step is
-  line_follows version opened Inside Nothing line step all range body agree is tests = inside_begins version opened line step is tests
-  line_follows version opened Ending Nothing line step all range body agree is tests = ending_begins Ending tt (λ cert. tt) tt (λ cert. tt) (λ pick cert inside. inside) (λ n m split. tt) version opened line step is tests
-  line_follows version opened (AtValues left above claim) (Values head remaining point) line step all range body agree is tests = values_lines version left remaining opened above claim head point line step range all agree.0 agree.1 agree.2 agree.3 is tests
-  line_follows version opened (AtMults left above split) (Mults head remaining mults) line step all range body agree is tests = mults_lines version left remaining opened above split head mults line step agree.0 agree.1 agree.2 agree.3 is tests
-  line_follows version opened AtClaim Nothing line step all range body agree is tests = claim_begins line step is
-  line_follows version opened End Nothing line step all range body agree is tests = absurd (end_only version line step is body)
-  line_follows version opened Done Nothing line step all range body agree is tests = cc
-  line_follows version opened _ _ line step all range body agree is tests = absurd agree
+  line_follows version opened AtHeader Nothing line step range body agree is tests = absurd (header_only version line step is body)
+  line_follows version opened AtNode Nothing line step range body agree is tests = node_begins version line step is
+  line_follows version opened Inside Nothing line step range body agree is tests = inside_begins version opened line step is tests
+  line_follows version opened Ending Nothing line step range body agree is tests = ending_begins Ending tt (λ cert. tt) tt (λ cert. tt) (λ pick cert inside. inside) (λ n m split. tt) version opened line step is tests
+  line_follows version opened (AtValues left above claim) (Values head remaining point) line step range body agree is tests = values_lines version left remaining opened above claim head point line step range agree.0 agree.1 agree.2 agree.3 is tests
+  line_follows version opened (AtMults left above split) (Mults head remaining mults) line step range body agree is tests = mults_lines version left remaining opened above split head mults line step agree.0 agree.1 agree.2 agree.3 is tests
+  line_follows version opened AtClaim Nothing line step range body agree is tests = claim_begins line step is
+  line_follows version opened End Nothing line step range body agree is tests = absurd (end_only version line step is body)
+  line_follows version opened Done Nothing line step range body agree is tests = cc
+  line_follows version opened _ _ line step range body agree is tests = absurd agree
 
 -- an item that the lines may make whole may come where the walk stands
 pub item_comes : (limits : Limits) (place : Place) (expected : Expected) (item : RowItem) → ItemAt limits place item → PlaceExpects place expected → IsTrue (may_come expected item)
@@ -227,77 +282,30 @@ item_comes limits (AtMults left above split) expected (PendingItem cert) at is =
 item_comes limits (AtMults left above split) expected (SplitItem pick cert) at is = ⊎_elim (λ e. rw e refl) (λ e. rw e refl) is
 item_comes limits _ expected _ at is = absurd at
 
-same_stage : (a b : Stage RowPick) → going a ≡ going b → a ≡ b
-same_stage a b is = cc
-
--- a stage that a walk goes to
-going_agrees : (expected : Expected) (splits : List (Opened RowPick)) (next : Option View) (stage : Stage RowPick) (standing : Standing) → going_to expected splits next ≡ going stage → PlaceExpects standing.place expected → lefts splits ≡ standing.sides → StageAgrees standing stage
-going_agrees expected splits None stage standing is expects same = cc
-going_agrees expected splits (Some v) stage standing is expects same =
-    subst (StageAgrees standing) (same_stage (record { expected = expected; splits = splits; view = v }) stage is) (record { expects = expects; splits = same })
-
 -- after a node that has ended
 abbrev after_node : ℕ → List Bool → Standing
 after_node version sides = record { version = version; place = part_place (after_part sides); sides = after_part sides }
 
-module _ (s : Steps RowCut Cert RowPick) where
-  -- where a part ends the walk agrees with where a node's end leads
-  close_agrees : (version : ℕ) (splits : List (Opened RowPick)) (proof_cap : Capped) (stage : Stage RowPick) → close s splits proof_cap ≡ going stage → StageAgrees (after_node version (lefts splits)) stage
-  close_agrees version [] proof_cap stage = λ is. cc
-  close_agrees version (split ∷ splits) proof_cap stage = at split.left (λ c. close_agrees version splits c stage)
-    where
-      at : (left : Option Capped) → ((c : Capped) → close s splits c ≡ going stage → StageAgrees (after_node version (lefts splits)) stage) → close_split s split splits proof_cap left (close s splits) ≡ going stage → StageAgrees (after_node version (is_some left ∷ lefts splits)) stage
-      at None rest is = going_agrees ExpectNode (record split { left = Some proof_cap } ∷ splits) (s.right split.view split.pick) stage (after_node version (false ∷ lefts splits)) is refl refl
-      at (Some first) rest is = rest (greater first proof_cap) is
+-- where a part ends the form stands where a node's end leads
+close_agrees : (version : ℕ) (splits : List (Opened RowPick)) (part_cap : Capped) → FormAgrees (after_node version (lefts splits)) (close (any_steps {U = RowCut} {C = Cert}) splits part_cap)
+close_agrees version [] part_cap = tt
+close_agrees version (split ∷ splits) part_cap = at split.left (close_agrees version splits)
+  where
+    at : (left : Option Capped) → ((c : Capped) → FormAgrees (after_node version (lefts splits)) (close (any_steps {U = RowCut} {C = Cert}) splits c))
+        → FormAgrees (after_node version (is_some left ∷ lefts splits)) (close_split (any_steps {U = RowCut} {C = Cert}) split splits part_cap left (close (any_steps {U = RowCut} {C = Cert}) splits))
+    at None rest = record { expects = refl; splits = refl }
+    at (Some first) rest = rest (greater first part_cap)
 
-  close_ends : (version : ℕ) (splits : List (Opened RowPick)) (proof_cap end_cap : Capped) → close s splits proof_cap ≡ ended end_cap → (after_node version (lefts splits)).place ≡ AtClaim
-  close_ends version [] proof_cap end_cap = λ is. refl
-  close_ends version (split ∷ splits) proof_cap end_cap = at split.left (λ c. close_ends version splits c end_cap)
-    where
-      goes : (next : Option View) → going_to ExpectNode (record split { left = Some proof_cap } ∷ splits) next ≡ ended end_cap → ⊥
-      goes None is = cc
-      goes (Some v) is = cc
+part_agrees : (standing : Standing) (splits : List (Opened RowPick)) → lefts splits ≡ standing.sides → FormAgrees (after_step standing Ends) (close (any_steps {U = RowCut} {C = Cert}) splits NoPoint)
+part_agrees standing splits same = subst (λ l. FormAgrees (after_node standing.version l) (close (any_steps {U = RowCut} {C = Cert}) splits NoPoint)) same (close_agrees standing.version splits NoPoint)
 
-      at : (left : Option Capped) → ((c : Capped) → close s splits c ≡ ended end_cap → (after_node version (lefts splits)).place ≡ AtClaim) → close_split s split splits proof_cap left (close s splits) ≡ ended end_cap → (after_node version (is_some left ∷ lefts splits)).place ≡ AtClaim
-      at None rest is = absurd (goes (s.right split.view split.pick) is)
-      at (Some first) rest is = rest (greater first proof_cap) is
-
-  part_agrees : (version : ℕ) (splits : List (Opened RowPick)) (proof_cap : Capped) (stage : Stage RowPick) → part_ended s splits proof_cap ≡ going stage → StageAgrees (after_node version (lefts splits)) stage
-  part_agrees version splits Bad stage is = cc
-  part_agrees version splits NoPoint stage is = close_agrees version splits NoPoint stage is
-  part_agrees version splits (AtMost n) stage is = close_agrees version splits (AtMost n) stage is
-
-  part_ends : (version : ℕ) (splits : List (Opened RowPick)) (proof_cap end_cap : Capped) → part_ended s splits proof_cap ≡ ended end_cap → (after_node version (lefts splits)).place ≡ AtClaim
-  part_ends version splits Bad end_cap is = cc
-  part_ends version splits NoPoint end_cap is = close_ends version splits NoPoint end_cap is
-  part_ends version splits (AtMost n) end_cap is = close_ends version splits (AtMost n) end_cap is
-
-  -- where an item leads the walk agrees with where it leads the lines
-  pub item_agrees : (standing : Standing) (splits : List (Opened RowPick)) (v : View) (item : RowItem) (stage : Stage RowPick) → lefts splits ≡ standing.sides → taken s splits v item ≡ going stage → StageAgrees (after_step standing (item_step item)) stage
-  item_agrees standing splits v Node stage same is = going_agrees ExpectInside splits (Some v) stage (after_step standing (At Inside)) is refl same
-  item_agrees standing splits v (Cut cut) stage same is = going_agrees ExpectInside splits (s.cut v cut) stage (after_step standing (At Inside)) is refl same
-  item_agrees standing splits v (FoundItem found) stage same is = going_agrees ExpectEnd splits (Some v) stage (after_step standing (At Ending)) is refl same
-  item_agrees standing splits v Empty stage same is = subst (λ l. StageAgrees (after_node standing.version l) stage) same (part_agrees standing.version splits (leaf_cap s v no_point) stage is)
-  item_agrees standing splits v (DualItem cert) stage same is = subst (λ l. StageAgrees (after_node standing.version l) stage) same (part_agrees standing.version splits (s.cap v cert) stage is)
-  item_agrees standing splits v Point stage same is = subst (λ l. StageAgrees (after_node standing.version l) stage) same (part_agrees standing.version splits (s.settle v) stage is)
-  item_agrees standing splits v (PendingItem cert) stage same is = subst (λ l. StageAgrees (after_node standing.version l) stage) same (part_agrees standing.version splits (s.cap v cert) stage is)
-  item_agrees standing splits v (SplitItem pick cert) stage same is =
-      going_agrees ExpectNode (record { view = v; pick = pick; left = None } ∷ splits) (s.left v pick) stage (after_step standing Opens) is refl (ap (λ l. false ∷ l) same)
-
-  leads_not_end : (expected : Expected) (splits : List (Opened RowPick)) (next : Option View) (end_cap : Capped) → going_to expected splits next ≡ ended end_cap → ⊥
-  leads_not_end expected splits None end_cap is = cc
-  leads_not_end expected splits (Some v) end_cap is = cc
-
-  past_claim : (place : Place) → place ≡ AtClaim → IsPastProof place
-  past_claim place is = rw is tt
-
-  -- where an item ends the proof, the claim comes
-  pub item_ends : (standing : Standing) (splits : List (Opened RowPick)) (v : View) (item : RowItem) (end_cap : Capped) → lefts splits ≡ standing.sides → taken s splits v item ≡ ended end_cap → IsPastProof (after_step standing (item_step item)).place
-  item_ends standing splits v Node end_cap same is = absurd (leads_not_end ExpectInside splits (Some v) end_cap is)
-  item_ends standing splits v (Cut cut) end_cap same is = absurd (leads_not_end ExpectInside splits (s.cut v cut) end_cap is)
-  item_ends standing splits v (FoundItem found) end_cap same is = absurd (leads_not_end ExpectEnd splits (Some v) end_cap is)
-  item_ends standing splits v Empty end_cap same is = past_claim (after_node standing.version standing.sides).place (subst (λ l. (after_node standing.version l).place ≡ AtClaim) same (part_ends standing.version splits (leaf_cap s v no_point) end_cap is))
-  item_ends standing splits v (DualItem cert) end_cap same is = past_claim (after_node standing.version standing.sides).place (subst (λ l. (after_node standing.version l).place ≡ AtClaim) same (part_ends standing.version splits (s.cap v cert) end_cap is))
-  item_ends standing splits v Point end_cap same is = past_claim (after_node standing.version standing.sides).place (subst (λ l. (after_node standing.version l).place ≡ AtClaim) same (part_ends standing.version splits (s.settle v) end_cap is))
-  item_ends standing splits v (PendingItem cert) end_cap same is = past_claim (after_node standing.version standing.sides).place (subst (λ l. (after_node standing.version l).place ≡ AtClaim) same (part_ends standing.version splits (s.cap v cert) end_cap is))
-  item_ends standing splits v (SplitItem pick cert) end_cap same is = absurd (leads_not_end ExpectNode (record { view = v; pick = pick; left = None } ∷ splits) (s.left v pick) end_cap is)
+-- where an item leads the form stands where it leads the lines
+pub taken_agrees : (standing : Standing) (splits : List (Opened RowPick)) (v : View) (item : RowItem) → lefts splits ≡ standing.sides → FormAgrees (after_step standing (item_step item)) (taken any_steps splits v item)
+taken_agrees standing splits v Node same = record { expects = refl; splits = same }
+taken_agrees standing splits v (Cut cut) same = record { expects = refl; splits = same }
+taken_agrees standing splits v (FoundItem found) same = record { expects = refl; splits = same }
+taken_agrees standing splits v Empty same = part_agrees standing splits same
+taken_agrees standing splits v (DualItem cert) same = part_agrees standing splits same
+taken_agrees standing splits v Point same = part_agrees standing splits same
+taken_agrees standing splits v (PendingItem cert) same = part_agrees standing splits same
+taken_agrees standing splits v (SplitItem pick cert) same = record { expects = refl; splits = ap (λ l. false ∷ l) same }

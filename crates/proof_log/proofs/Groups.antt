@@ -127,4 +127,3 @@ pub followed-lines : (slots : ℕ) (group : Group) (line : Line) → MayFollow s
 followed-lines slots Nothing line may = begun-lines slots line may
 followed-lines slots (Values head left point) line may = valued-lines slots head left point line may
 followed-lines slots (Mults head left mults) line may = multed-lines slots head left mults line may
-

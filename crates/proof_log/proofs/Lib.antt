@@ -9,4 +9,7 @@ pub mod TreeLines
 pub mod Groups
 pub mod ValueLines
 pub mod Agreeing
+pub mod Gathers
 pub mod Texts
+pub mod Reading
+pub mod PartsRead

@@ -53,21 +53,15 @@ text_more text a b xs ys first second =
     ∙ ap (λ (t : List ℕ). text ++ t) (sym (lines_text-append xs ys))
 
 -- the lines of a proof, and then those of a claim and the end, are the text of a log
-pub log_text-parts : (items : List RowItem) (claim : Claim) → lines_text (Header 2 ∷ flat_map item_lines items) ++ lines_text (claim_lines claim ++ End ∷ []) ≡ log_text 2 items claim
+pub log_text-parts : (version : ℕ) (items : List RowItem) (claim : Claim) → lines_text (Header version ∷ flat_map item_lines items) ++ lines_text (claim_lines claim ++ End ∷ []) ≡ log_text version items claim
 unfolding log_lines log_text
-log_text-parts items claim = sym (lines_text-append (Header 2 ∷ flat_map item_lines items) (claim_lines claim ++ End ∷ []))
+log_text-parts version items claim = sym (lines_text-append (Header version ∷ flat_map item_lines items) (claim_lines claim ++ End ∷ []))
 
 -- the same, where they stand behind other bytes
 pub log_text-behind : (before old new : List ℕ) (items : List RowItem) (claim : Claim) → old ≡ before ++ lines_text (Header 2 ∷ flat_map item_lines items) → new ≡ old ++ lines_text (claim_lines claim ++ End ∷ []) → new ≡ before ++ log_text 2 items claim
 log_text-behind before old new items claim first second =
     let text = lines_text (claim_lines claim ++ End ∷ []) in
-    second ∙ ap (λ (bytes : List ℕ). bytes ++ text) first ∙ append_assoc before (lines_text (Header 2 ∷ flat_map item_lines items)) text ∙ ap (λ (bytes : List ℕ). before ++ bytes) (log_text-parts items claim)
-
--- the lines of a claim, and its end
-pub claim_text : (claim : Claim) (a b c d : List ℕ) → a ≡ [] → b ≡ a ++ lines_text (claim_lines claim) → c ≡ b ++ (line_text End ++ (10 ∷ [])) → d ≡ c → d ≡ lines_text (claim_lines claim ++ End ∷ [])
-claim_text claim a b c d none first second third =
-    third ∙ second ∙ ap (λ (bytes : List ℕ). bytes ++ (line_text End ++ (10 ∷ []))) (first ∙ ap (λ (bytes : List ℕ). bytes ++ lines_text (claim_lines claim)) none)
-    ∙ sym (lines_text-append (claim_lines claim) (End ∷ []) ∙ ap (λ (bytes : List ℕ). lines_text (claim_lines claim) ++ bytes) (lines_text-one End))
+    second ∙ ap (λ (bytes : List ℕ). bytes ++ text) first ∙ append_assoc before (lines_text (Header 2 ∷ flat_map item_lines items)) text ∙ ap (λ (bytes : List ℕ). before ++ bytes) (log_text-parts 2 items claim)
 
 -- where they were put behind the lines of a proof
 pub log_text-extended : {T E : Type 0} (r : Result T E) (old new slice : List ℕ) (claim : Claim) → new ≡ (if is_ok r then old ++ slice else old) → slice ≡ lines_text (claim_lines claim ++ End ∷ [])

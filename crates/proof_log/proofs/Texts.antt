@@ -1,5 +1,5 @@
 -- The first defect of a text, line by line.
-use Rattle.std.proofs.Common.{◌≡◌, ℕ, ◌+◌, ◌<◌, ◌≤◌, ◌==◌, Bool, true, false, ◌&&◌, List, [], ◌∷◌, ◌++◌, length, Option, Some, None, if◌then◌else◌, refl, ap, ◌∙◌, arith, nat_lt}
+use Rattle.std.proofs.Common.{◌≡◌, ◌≢◌, ℕ, ◌+◌, ◌<◌, ◌≤◌, ◌==◌, Bool, true, false, ◌&&◌, List, [], ◌∷◌, ◌++◌, length, Option, Some, None, if◌then◌else◌, refl, ap, ◌∙◌, arith, nat_lt}
 use Rattle.std.specs.Prelude.{not}
 use Rattle.std.specs.List.{All, slice_split, before_first, after_first}
 use Rattle.std.proofs.Common.{⊎_elim}
@@ -10,12 +10,22 @@ use Rattle.std.proofs.lemmas.Bool.Decides.{nat_tests}
 use Rattle.std.proofs.lemmas.Grind.{common_steps}
 use Rattle.std.proofs.lemmas.List.Splits.{slice_split_at, slice_split_none, length-slice_split, slice_split_first}
 use Rattle.log_lines.specs.declared.grammar.Limits.{Limits}
+use Rattle.log_lines.specs.declared.grammar.Place.{Place}
+use Rattle.log_lines.specs.declared.grammar.Place.TheVariants.{Done}
 use Rattle.log_lines.specs.declared.line.Line.{Line}
 use Rattle.log_lines.specs.Grammar.{Standing, next, line_defect}
 use Rattle.log_lines.specs.Reader.{HasNoFeed, line_length}
 use Rattle.log_lines.specs.Said.{line_said}
 use Rattle.log_lines.specs.TextDefect.{is_done, part_defect, after_bytes, text_defect}
 use Rattle.proof_log.specs.Text.{rest_defect}
+
+-- the test whether nothing comes next
+pub is_done-false : (place : Place) → place ≢ Done → is_done place ≡ false
+is_done-false Done other = absurd (other refl)
+is_done-false _ other = refl
+
+pub is_done-true : (place : Place) → place ≡ Done → is_done place ≡ true
+is_done-true place is = ap is_done is
 
 feed : ℕ → Bool
 feed byte = byte == 10

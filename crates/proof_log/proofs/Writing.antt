@@ -118,7 +118,7 @@ pub log_written : (name held : List ℕ) (files new : Option FileMap) (reads lat
 log_written name held files new reads later items claim took is =
     let front = Header 2 ∷ flat_map item_lines items in
     file_alone name (log_text 2 items claim) new
-    (subst (IsWhole (at name [] new later)) (log_text-parts items claim) (IsWhole-took (at name held files reads) (at name [] new later) (lines_text front) (lines_text (claim_lines claim ++ End ∷ [])) is took))
+    (subst (IsWhole (at name [] new later)) (log_text-parts 2 items claim) (IsWhole-took (at name held files reads) (at name [] new later) (lines_text front) (lines_text (claim_lines claim ++ End ∷ [])) is took))
 
 -- a text after which nothing is taken
 pub Took-after : (a b c : Writing) (text : List ℕ) → Took a b text → Took b c [] → Took a c text

@@ -1,19 +1,15 @@
 -- How a group and the items stand where the lines so far stand.
 use Rattle.std.specs.Prelude.{◌≡◌, ◌⊎◌, ◌+◌, ◌<◌, ⊤, ℕ, Bool, true, false, List, map, length, Option, Some, None, is_some}
-use Rattle.proof_tree.specs.declared.item.Item.TheVariants.{Node, Cut, Found as FoundItem, Empty, Dual as DualItem, Point, Pending as PendingItem, Split as SplitItem}
 use Rattle.proof_tree.specs.declared.walk.Expected.{Expected}
 use Rattle.proof_tree.specs.declared.walk.Expected.TheVariants.{Node as ExpectNode, Inside as ExpectInside, End as ExpectEnd}
 use Rattle.proof_tree.specs.Walk.{Opened, Stage, Outcome, going, ended, undefined, misplaced}
 use Rattle.row_relax.specs.declared.pick.RowPick.{RowPick}
 use Rattle.proof_log.specs.declared.claim.Claim.{Claim}
-use Rattle.proof_log.specs.Log.{RowItem}
 use Rattle.log_lines.specs.declared.line.Line.{Line}
 use Rattle.log_lines.specs.declared.line.Line.TheVariants.{Header as HeaderLine, End as EndLine}
 use Rattle.log_lines.specs.declared.grammar.Limits.{Limits}
 use Rattle.log_lines.specs.declared.grammar.Place.{Place}
 use Rattle.log_lines.specs.declared.grammar.Place.TheVariants.{Header, Node as AtNode, Inside, Ending, Values as AtValues, Mults as AtMults, Claim as AtClaim, End, Done}
-use Rattle.log_lines.specs.declared.step.Step.{Step}
-use Rattle.log_lines.specs.declared.step.Step.TheVariants.{At, Opens, Ends}
 use Rattle.log_lines.specs.Grammar.{Standing}
 use Rattle.proof_log.specs.declared.group.ValueHead.{ValueHead}
 use Rattle.proof_log.specs.declared.group.ValueHead.TheVariants.{Found, Optimal, Between}
@@ -21,9 +17,6 @@ use Rattle.proof_log.specs.declared.group.MultHead.{MultHead}
 use Rattle.proof_log.specs.declared.group.MultHead.TheVariants.{Dual, Pending, Split}
 use Rattle.proof_log.specs.declared.group.Group.{Group}
 use Rattle.proof_log.specs.declared.group.Group.TheVariants.{Nothing, Values, Mults}
-use Rattle.proof_log.specs.declared.group.Piece.TheVariants.{Item, Claim as ClaimPiece}
-use Rattle.proof_log.specs.declared.group.Grown.{Grown}
-use Rattle.proof_log.specs.declared.group.Grown.TheVariants.{More, Whole}
 
 -- whether values belong to a claim
 abbrev pub is_claim : ValueHead → Bool
@@ -62,61 +55,6 @@ GroupAgrees limits AtClaim Nothing = ⊤
 GroupAgrees limits End Nothing = ⊤
 GroupAgrees limits Done Nothing = ⊤
 GroupAgrees limits _ _ = ⊥
-
--- the items that the lines at a place may make whole; the row and the slot of a cut and the slot of a split are there
-abbrev pub ItemAt : Limits → Place → RowItem → Type 0
-ItemAt limits AtNode Node = ⊤
-ItemAt limits Inside (Cut cut) = (cut.row < limits.rows) × (cut.slot < limits.slots)
-ItemAt limits Inside (FoundItem found) = ⊤
-ItemAt limits Inside Empty = ⊤
-ItemAt limits Inside (DualItem cert) = ⊤
-ItemAt limits Inside Point = ⊤
-ItemAt limits Inside (PendingItem cert) = ⊤
-ItemAt limits Inside (SplitItem pick cert) = pick.slot < limits.slots
-ItemAt limits Ending Empty = ⊤
-ItemAt limits Ending (DualItem cert) = ⊤
-ItemAt limits Ending Point = ⊤
-ItemAt limits Ending (PendingItem cert) = ⊤
-ItemAt limits Ending (SplitItem pick cert) = pick.slot < limits.slots
-ItemAt limits (AtValues left above claim) (FoundItem found) = claim ≡ false
-ItemAt limits (AtMults left above split) (DualItem cert) = ⊤
-ItemAt limits (AtMults left above split) (PendingItem cert) = ⊤
-ItemAt limits (AtMults left above split) (SplitItem pick cert) = pick.slot < limits.slots
-ItemAt limits _ _ = ⊥
-
--- where an item leads
-abbrev pub item_step : RowItem → Step
-item_step Node = At Inside
-item_step (Cut cut) = At Inside
-item_step (FoundItem found) = At Ending
-item_step Empty = Ends
-item_step (DualItem cert) = Ends
-item_step Point = Ends
-item_step (PendingItem cert) = Ends
-item_step (SplitItem pick cert) = Opens
-
--- the places where a claim's lines may end
-abbrev pub ClaimAt : Place → Type 0
-ClaimAt AtClaim = ⊤
-ClaimAt (AtValues left above claim) = claim ≡ true
-ClaimAt _ = ⊥
-
--- values and multipliers of a found point or of a node's ending stay in the node, and those of a claim in the claim
-abbrev pub StaysAt : Place → Place → Type 0
-StaysAt Inside (AtValues left above claim) = claim ≡ false
-StaysAt Inside (AtMults left above split) = ⊤
-StaysAt Ending (AtMults left above split) = ⊤
-StaysAt AtClaim (AtValues left above claim) = claim ≡ true
-StaysAt (AtValues left above claim) (AtValues left2 above2 claim2) = claim2 ≡ claim
-StaysAt (AtMults left above split) (AtMults left2 above2 split2) = ⊤
-StaysAt _ _ = ⊥
-
--- what a line has made of a group agrees with where it leads from a place
-abbrev pub GrownAgrees : Limits → Place → Grown → Step → Type 0
-GrownAgrees limits place (More group) (At later) = GroupAgrees limits later group × StaysAt place later
-GrownAgrees limits place (More group) _ = ⊥
-GrownAgrees limits place (Whole (Item item)) step = ItemAt limits place item × (step ≡ item_step item)
-GrownAgrees limits place (Whole (ClaimPiece claim)) step = ClaimAt place × (step ≡ At End)
 
 -- which items a walk expects at a place; at a claim it has ended
 abbrev pub PlaceExpects : Place → Expected → Type 0

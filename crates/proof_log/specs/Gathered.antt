@@ -1,5 +1,5 @@
 -- What has been gathered of a log after some of its lines.
-use Rattle.std.specs.Prelude.{◌≡◌, ◌<◌, ⊤, ℕ, List, [], ◌∷◌, ◌++◌, length, flat_map, Option, Some, None, IfSome}
+use Rattle.std.specs.Prelude.{◌≡◌, ◌+◌, ◌<◌, ⊤, ℕ, List, [], ◌∷◌, ◌++◌, length, flat_map, Option, Some, None, IfSome}
 use Rattle.std.specs.List.{All}
 use Rattle.proof_tree.specs.Form.{form_of, MayComeAfter, AreWhole}
 use Rattle.proof_tree.specs.declared.item.Item.TheVariants.{Cut, Split}
@@ -8,11 +8,10 @@ use Rattle.log_lines.specs.declared.grammar.Place.{Place}
 use Rattle.log_lines.specs.declared.grammar.Place.TheVariants.{Header as AtHeader, Done}
 use Rattle.log_lines.specs.declared.line.Line.{Line}
 use Rattle.log_lines.specs.declared.line.Line.TheVariants.{Header, End}
-use Rattle.log_lines.specs.Grammar.{Standing, line_defect, next}
+use Rattle.log_lines.specs.Grammar.{Standing, line_defect, next, over}
 use Rattle.log_lines.specs.Line.{IsLine}
 use Rattle.proof_log.specs.declared.claim.Claim.{Claim}
 use Rattle.proof_log.specs.declared.group.Group.{Group}
-use Rattle.proof_log.specs.declared.group.Group.TheVariants.{Nothing, Values, Mults}
 use Rattle.proof_log.specs.declared.gatherer.Gatherer.{Gatherer}
 use Rattle.proof_log.specs.declared.gatherer.Gathered.{Gathered}
 use Rattle.proof_log.specs.declared.gatherer.Gathered.TheVariants.{On, Bad, Item as ItemGathered, Claim as ClaimGathered}
@@ -36,12 +35,6 @@ abbrev pub lines_at : ℕ → Place → List RowItem → Group → Option Claim 
 lines_at version AtHeader items group claim = []
 lines_at version place items group claim = Header version ∷ (flat_map item_lines items ++ tail_lines group claim place)
 
--- the open group begins after the lines of the items
-abbrev pub BeganAt : ℕ → List RowItem → Group → Type 0
-BeganAt began items Nothing = ⊤
-BeganAt began items (Values head left point) = began ≡ line_after items
-BeganAt began items (Mults head left mults) = began ≡ line_after items
-
 -- before the header there is no item
 abbrev pub IsFresh : Place → List RowItem → Type 0
 IsFresh AtHeader items = items ≡ []
@@ -55,10 +48,17 @@ pub record HasGathered (lines : List Line) (items : List RowItem) (claim : Optio
   pub over : All (IsOver g.limits.slots) items
   pub claim_over : IfSome claim (IsClaimOver g.limits.slots)
   pub fresh : IsFresh g.grammar.place items
-  pub began : BeganAt g.began items g.group
+  pub began : g.began ≡ line_after items
   pub group : GroupAgrees g.limits g.grammar.place g.group
   pub claimed : ClaimAgrees g.grammar.place claim
   pub form : FormAgrees g.grammar (form_of items)
+
+-- a line comes after these lines, items and this claim: the grammar has taken it and the number counts it, and what is gathered stands as before it
+pub record LineComes (before : Standing) (lines : List Line) (items : List RowItem) (claim : Option Claim) (line : Line) (g : Gatherer) : Type 0 where
+  pub gathered : HasGathered lines items claim (record g { grammar = before; number = length lines })
+  pub number : g.number ≡ length lines + 1
+  pub moves : next before line ≡ Some g.grammar
+  pub fine : over g.limits before line ≡ None
 
 -- what an item names is there
 abbrev pub IsThere : Limits → RowItem → Type 0
@@ -74,6 +74,11 @@ HasMade lines items claim g (ItemGathered line item) =
     (claim ≡ None) × (line ≡ line_after items) × MayComeAfter items item × IsThere g.limits item × HasGathered lines (items ++ item ∷ []) None g
 HasMade lines items claim g (ClaimGathered line made) =
     (claim ≡ None) × (line ≡ line_after items) × AreWhole items × HasGathered lines items (Some made) g
+
+-- a line has no defect
+abbrev pub IsGood : Gathered → Type 0
+IsGood (Bad kind) = ⊥
+IsGood _ = ⊤
 
 -- where a line leads: its defect and no further, or none and where it leads
 abbrev pub MovesAs : Limits → Standing → Line → Standing → Gathered → Type 0

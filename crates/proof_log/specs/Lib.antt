@@ -6,4 +6,5 @@ pub mod Gathering
 pub mod Agree
 pub mod Text
 pub mod Gathered
+pub mod Step
 pub mod LogReading

@@ -10,7 +10,6 @@ use log_lines::{Line, put_line};
 use std::alloc::{AllocError, Global};
 
 /// Appends the lines of the claim and the end of its log. After an error `into` is as before.
-#[tactic(auto, unfolding(crate::specs::Log::lines_text, crate::specs::Log::claim_lines))]
 pub fn put_claim(alloc: Global, claim: &Claim, into: &mut Vec<u8>) -> Result<(), AllocError>
     ensures ok { OnOk result (into.new.items ≡ into.old.items ++ lines_text (claim_lines claim.now ++ Line.End ∷ [])) }
     ensures err { OnErr result (into.new.items ≡ into.old.items) }
@@ -21,9 +20,21 @@ pub fn put_claim(alloc: Global, claim: &Claim, into: &mut Vec<u8>) -> Result<(),
         → into.new.items ≡ before ++ log_text 2 items claim.now) }
 {
     let mut lines = Vec::new(alloc);
-    append_claim(alloc, claim, &mut lines)?;
-    put_line(alloc, &Line::End, &mut lines)?;
+    append_rest(alloc, claim, &mut lines)?;
     into.extend_from_slice(lines.as_slice())
+}
+
+/// Appends the lines of the claim and the end of its log, or a part of them and then an error.
+#[tactic(auto, unfolding(crate::specs::Log::lines_text))]
+pub(crate) fn append_rest(
+    alloc: Global,
+    claim: &Claim,
+    into: &mut Vec<u8>,
+) -> Result<(), AllocError>
+    ensures { OnOk result (into.new.items ≡ into.old.items ++ lines_text (claim_lines claim.now ++ Line.End ∷ [])) }
+{
+    append_claim(alloc, claim, into)?;
+    put_line(alloc, &Line::End, into)
 }
 
 // Appends the lines of the claim, or of a part of it and then an error.

@@ -1,13 +1,15 @@
 //! The gathering of a log's lines into the items of its proof and its claim.
-ghost use Rattle.std.specs.Prelude.{◌≡◌, List as Items, [], ◌∷◌, ◌++◌, Some, None, IfOk};
+ghost use Rattle.std.specs.Prelude.{◌≡◌, ◌+◌, ◌<◌, ◌^◌, ◌↔◌, List as Items, [], ◌∷◌, ◌++◌, None, IfOk, IsTrue};
 ghost use Rattle.log_lines.specs.declared.line.Line.{Line as AnyLine};
-ghost use Rattle.log_lines.specs.Grammar.{new_standing};
+ghost use Rattle.log_lines.specs.Grammar.{Standing, new_standing};
 ghost use Rattle.log_lines.specs.Line.{IsLine};
+ghost use Rattle.proof_log.specs.Agree.{IsBody};
+ghost use Rattle.proof_log.specs.Gathered.{HasGathered, HasMade, IsGood, LineComes, MovesAs};
 ghost use Rattle.proof_log.specs.Log.{RowItem};
-ghost use Rattle.proof_log.specs.Gathered.{HasGathered, HasMade, MovesAs};
 
 use crate::claim::Claim;
-use crate::group::Group;
+use crate::gathering::follow;
+use crate::group::{Group, Grown, Piece};
 use log_lines::{Grammar, Limits, Line};
 use proof_tree::Item;
 use row_relax::Rows;
@@ -32,7 +34,9 @@ pub struct Gatherer {
     pub(crate) limits: Limits,
     pub(crate) grammar: Grammar,
     pub(crate) group: Group,
+    /// How many lines were taken.
     pub(crate) number: u64,
+    /// The line after those of the last item.
     pub(crate) began: u64,
 }
 
@@ -48,7 +52,7 @@ impl Gatherer {
             grammar: Grammar::new(alloc),
             group: Group::Nothing,
             number: 0,
-            began: 1,
+            began: 2,
         }
     }
 
@@ -61,8 +65,75 @@ impl Gatherer {
         ensures made { IfOk result (λ gathered. (lines : Items AnyLine) (items : Items RowItem) (claim : _)
             → HasGathered lines items claim self.old → HasMade (lines ++ line ∷ []) items claim self.new gathered) }
     {
-        let _ = alloc;
-        let _ = line;
-        Err(AllocError)
+        // No log has as many lines.
+        if self.number >= u64::MAX - 1 {
+            return Err(AllocError);
+        }
+        match self.grammar.take(&self.limits, &line)? {
+            Some(kind) => Ok(Gathered::Bad(kind)),
+            None => {
+                self.number += 1;
+                self.go_on(alloc, line)
+            }
+        }
+    }
+
+    // Takes a line that the grammar has taken. The header and the end line make nothing.
+    fn go_on(&mut self, alloc: Global, line: Line) -> Result<Gathered, AllocError>
+        requires line { IsLine line }
+        requires room { self.old.number + 1 < 2 ^ 64 }
+        requires comes { (before : Standing) × (lines : Items AnyLine) × (items : Items RowItem) × (claim : _) × LineComes before lines items claim line self.old }
+        ensures limits { self.new.limits ≡ self.old.limits }
+        ensures grammar { self.new.grammar ≡ self.old.grammar }
+        ensures good { IfOk result IsGood }
+        ensures made { IfOk result (λ gathered. (before : Standing) (lines : Items AnyLine) (items : Items RowItem) (claim : _)
+            → LineComes before lines items claim line self.old → HasMade (lines ++ line ∷ []) items claim self.new gathered) }
+    {
+        if is_body(line) {
+            return self.gather(alloc, line);
+        }
+        Ok(Gathered::On)
+    }
+
+    // Takes a line of an item or of the claim.
+    fn gather(&mut self, alloc: Global, line: Line) -> Result<Gathered, AllocError>
+        requires line { IsLine line }
+        requires body { IsBody line }
+        requires room { self.old.number + 1 < 2 ^ 64 }
+        requires comes { (before : Standing) × (lines : Items AnyLine) × (items : Items RowItem) × (claim : _) × LineComes before lines items claim line self.old }
+        ensures limits { self.new.limits ≡ self.old.limits }
+        ensures grammar { self.new.grammar ≡ self.old.grammar }
+        ensures good { IfOk result IsGood }
+        ensures made { IfOk result (λ gathered. (before : Standing) (lines : Items AnyLine) (items : Items RowItem) (claim : _)
+            → LineComes before lines items claim line self.old → HasMade (lines ++ line ∷ []) items claim self.new gathered) }
+    {
+        let limits = self.limits;
+        let group = std::mem::replace(&mut self.group, Group::Nothing);
+        match follow(alloc, limits.slots as usize, group, line)? {
+            Grown::More(group) => {
+                self.group = group;
+                Ok(Gathered::On)
+            }
+            Grown::Whole(Piece::Item(item)) => {
+                let line = self.began;
+                self.began = self.number + 1;
+                Ok(Gathered::Item { line, item })
+            }
+            Grown::Whole(Piece::Claim(claim)) => Ok(Gathered::Claim {
+                line: self.began,
+                claim,
+            }),
+        }
+    }
+}
+
+// Whether a line is neither the header nor the end line.
+fn is_body(line: Line) -> bool
+    ensures { IsTrue result ↔ IsBody line }
+{
+    match line {
+        Line::Header { version: _ } => false,
+        Line::End => false,
+        _ => true,
     }
 }

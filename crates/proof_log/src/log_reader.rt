@@ -1,14 +1,20 @@
 //! A log that is read from a file part by part.
-ghost use Rattle.std.specs.Prelude.{◌≡◌, ◌≤◌, ℕ, List as Items, [], None, Option, Err, IsTrue, IfOk};
+ghost use Rattle.std.specs.Prelude.{◌≡◌, ◌≢◌, ◌≤◌, ◌+◌, ℕ, List as Items, [], None, Some, Option, Err, IsTrue, IfOk, MatchOption};
 ghost use Rattle.stn_edge.specs.Count.{Rose};
 ghost use Rattle.stn_edge.specs.Files.{FileMap};
+ghost use Rattle.log_lines.specs.declared.line.Line.{Line};
+ghost use Rattle.log_lines.specs.declared.grammar.Place.TheVariants.{Done};
+ghost use Rattle.log_lines.specs.declared.reader.LineEnd.TheVariants.{Whole};
+ghost use Rattle.proof_log.specs.Gathered.{HasGathered};
 ghost use Rattle.proof_log.specs.Log.{RowItem};
 ghost use Rattle.proof_log.specs.LogReading.{HasRead, IsPartAfter};
+ghost use Rattle.proof_log.specs.Step.{IsPartOf, IsStepped, HasStepped};
 
 use crate::claim::Claim;
-use crate::gatherer::Gatherer;
+use crate::gatherer::{Gathered, Gatherer};
 use crate::log::Defect;
-use log_lines::{LineReader, Limits};
+use log_lines::kinds::{GRAMMAR, TRAILING, TRUNCATED};
+use log_lines::{LineEnd, LineReader, Limits, read_line};
 use proof_tree::Item;
 use row_relax::Rows;
 use std::alloc::{AllocError, Global};
@@ -41,9 +47,13 @@ impl LogReader {
     pub fn begin(alloc: Global, limits: Limits) -> Result<LogReader, AllocError>
         ensures { IfOk result (λ reader. (told : Option FileMap) (name : Items ℕ) → HasRead told name limits [] None reader) }
     {
-        let _ = limits;
-        let _ = alloc;
-        Err(AllocError)
+        let lines = LineReader::begin(alloc)?;
+        let gatherer = Gatherer::new(alloc, limits);
+        Ok(LogReader {
+            alloc,
+            lines,
+            gatherer,
+        })
     }
 
     /// Reads the next part. After `End`, `Bad` and every error the reader is not used again. `Failed` comes only where a read
@@ -61,8 +71,109 @@ impl LogReader {
         ensures no_write { F.write_faults files.new ≡ F.write_faults files.old }
         ensures fault { result ≡ Err Stop.Failed → Rose (F.read_faults files.old) (F.read_faults files.new) }
     {
-        let _ = files;
-        let _ = name;
+        'lines: for _ in 0..u64::MAX {
+            match self.step(files, name)? {
+                Some(part) => return Ok(part),
+                None => {}
+            }
+        }
+        // No file has as many lines.
         Err(Stop::Memory)
+    }
+
+    // Reads the next line: the part that it makes whole, or None where the part goes on.
+    fn step<F: Shelf>(&mut self, files: &mut F, name: &str) -> Result<Option<LogPart>, Stop>
+        requires allowed { IsTrue (F.may_read files.old name.now) }
+        requires open { (limits : _) × (items : Items RowItem) × (claim : _) × HasRead (F.files files.old) name.now limits items claim self.old }
+        ensures part { IfOk result (λ part. (limits : _) (items : Items RowItem) (claim : _)
+            → HasRead (F.files files.old) name.now limits items claim self.old
+            → MatchOption part (HasRead (F.files files.old) name.now limits items claim self.new) (IsPartAfter (F.files files.old) name.now limits items claim self.new)) }
+        ensures same { F.files files.new ≡ F.files files.old }
+        ensures readable { F.may_read files.new ≡ F.may_read files.old }
+        ensures writable { F.may_write files.new ≡ F.may_write files.old }
+        ensures later { F.read_faults files.old ≤ F.read_faults files.new }
+        ensures no_write { F.write_faults files.new ≡ F.write_faults files.old }
+        ensures fault { result ≡ Err Stop.Failed → Rose (F.read_faults files.old) (F.read_faults files.new) }
+    {
+        let end = self.lines.next(files, name)?;
+        let part = advance(&mut self.gatherer, self.alloc, end, self.lines.line())?;
+        Ok(part)
+    }
+}
+
+// A text defect of a kind in a line.
+fn bad(line: u64, kind: u8) -> LogPart
+    ensures { result ≡ LogPart.Bad (record { line = line; kind = kind }) }
+{
+    LogPart::Bad(Defect { line, kind })
+}
+
+// Takes the next line as a reader of lines gives it: the part of the log that it makes whole, or None where the part goes on.
+fn advance(
+    gatherer: &mut Gatherer,
+    alloc: Global,
+    end: LineEnd,
+    part: &[u8],
+) -> Result<Option<LogPart>, AllocError>
+    requires gathered { (lines : Items Line) × (items : Items RowItem) × (claim : _) × HasGathered lines items claim gatherer.old }
+    requires part { IsPartOf part.now end }
+    ensures limits { gatherer.new.limits ≡ gatherer.old.limits }
+    ensures text { IfOk result (IsStepped gatherer.old.limits gatherer.old.grammar (gatherer.old.number + 1) part.now end gatherer.new.grammar) }
+    ensures made { IfOk result (HasStepped part.now end gatherer.old gatherer.new) }
+{
+    if gatherer.number == u64::MAX {
+        // No file has as many lines.
+        return Err(AllocError);
+    }
+    let line = gatherer.number + 1;
+    if gatherer.grammar.is_done() {
+        return Ok(Some(after_end(gatherer, line, end, part)));
+    }
+    match end {
+        LineEnd::Whole => take_line(gatherer, alloc, line, part),
+        LineEnd::Cut => Ok(Some(bad(line, TRUNCATED))),
+        LineEnd::Long => Ok(Some(bad(line, GRAMMAR))),
+        LineEnd::Nothing => Ok(Some(bad(line, TRUNCATED))),
+    }
+}
+
+// The end of a log whose end line was taken, or the defect that something follows it.
+fn after_end(gatherer: &Gatherer, line: u64, end: LineEnd, part: &[u8]) -> LogPart
+    requires done { gatherer.now.grammar.place ≡ Done }
+    requires part { IsPartOf part.now end }
+    ensures text { IsStepped gatherer.now.limits gatherer.now.grammar line part.now end gatherer.now.grammar (Some result) }
+    ensures made { HasStepped part.now end gatherer.now gatherer.now (Some result) }
+{
+    let _ = part;
+    match end {
+        LineEnd::Nothing => LogPart::End {
+            version: gatherer.grammar.version(),
+        },
+        _ => bad(line, TRAILING),
+    }
+}
+
+// Takes the line whose bytes these are, before the end line.
+fn take_line(
+    gatherer: &mut Gatherer,
+    alloc: Global,
+    line: u64,
+    part: &[u8],
+) -> Result<Option<LogPart>, AllocError>
+    requires gathered { (lines : Items Line) × (items : Items RowItem) × (claim : _) × HasGathered lines items claim gatherer.old }
+    requires going { gatherer.old.grammar.place ≢ Done }
+    requires part { IsPartOf part.now Whole }
+    ensures limits { gatherer.new.limits ≡ gatherer.old.limits }
+    ensures text { IfOk result (IsStepped gatherer.old.limits gatherer.old.grammar line part.now Whole gatherer.new.grammar) }
+    ensures made { IfOk result (HasStepped part.now Whole gatherer.old gatherer.new) }
+{
+    match read_line(part) {
+        None => Ok(Some(bad(line, GRAMMAR))),
+        Some(read) => match gatherer.take(alloc, read)? {
+            Gathered::On => Ok(None),
+            Gathered::Bad(kind) => Ok(Some(bad(line, kind))),
+            Gathered::Item { line, item } => Ok(Some(LogPart::Item { line, item })),
+            Gathered::Claim { line, claim } => Ok(Some(LogPart::Claim { line, claim })),
+        },
     }
 }

@@ -16,16 +16,29 @@ use row_relax::{RowPick, RowProof};
 use std::alloc::{AllocError, Global};
 
 /// Appends the first line of a log of version 2 and the lines of the proof. After an error `into` is as before.
-#[tactic(auto, unfolding(crate::specs::Log::lines_text, crate::specs::Log::item_lines))]
 pub fn put_proof(alloc: Global, tree: &RowProof, into: &mut Vec<u8>) -> Result<(), AllocError>
     ensures ok { OnOk result (into.new.items
         ≡ into.old.items ++ lines_text (Line.Header 2 ∷ tree_lines (tree_of tree.now))) }
     ensures err { OnErr result (into.new.items ≡ into.old.items) }
 {
     let mut lines = Vec::new(alloc);
-    put_line(alloc, &Line::Header { version: 2 }, &mut lines)?;
-    append_node(alloc, tree, &mut lines)?;
+    append_proof(alloc, 2, tree, &mut lines)?;
     into.extend_from_slice(lines.as_slice())
+}
+
+/// Appends the first line of a log of this version and the lines of the proof, or a part of them and then an error.
+#[tactic(auto, unfolding(crate::specs::Log::lines_text))]
+pub(crate) fn append_proof(
+    alloc: Global,
+    version: u8,
+    tree: &RowProof,
+    into: &mut Vec<u8>,
+) -> Result<(), AllocError>
+    ensures { OnOk result (into.new.items
+        ≡ into.old.items ++ lines_text (Line.Header version ∷ tree_lines (tree_of tree.now))) }
+{
+    put_line(alloc, &Line::Header { version }, into)?;
+    append_node(alloc, tree, into)
 }
 
 // Appends the lines of a node and of all that stands below it.

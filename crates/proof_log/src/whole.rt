@@ -4,7 +4,9 @@ ghost use Rattle.proof_tree.specs.Items.{tree_items};
 ghost use Rattle.proof_tree.specs.Tree.{tree_of};
 ghost use Rattle.proof_log.specs.Log.{log_text};
 
+use crate::claims::append_rest;
 use crate::log::Log;
+use crate::nodes::append_proof;
 use std::alloc::{AllocError, Global};
 
 /// Appends the text of the log, in the lines of its version. After an error `into` is as before.
@@ -13,8 +15,8 @@ pub fn put_log(alloc: Global, log: &Log, into: &mut Vec<u8>) -> Result<(), Alloc
         ≡ into.old.items ++ log_text log.now.version (tree_items (tree_of log.now.tree)) log.now.claim) }
     ensures err { OnErr result (into.new.items ≡ into.old.items) }
 {
-    let _ = alloc;
-    let _ = log;
-    let _ = into;
-    Err(AllocError)
+    let mut lines = Vec::new(alloc);
+    append_proof(alloc, log.version, &log.tree, &mut lines)?;
+    append_rest(alloc, &log.claim, &mut lines)?;
+    into.extend_from_slice(lines.as_slice())
 }
