@@ -1,11 +1,12 @@
 -- Where a line leads agrees with what it makes of a group, and where an item leads with where the walk stands.
-use Rattle.std.proofs.Common.{◌≡◌, ⊎_elim, ℕ, ◌+◌, ◌-◌, ◌==◌, nat_le, nat_lt, ◌<◌, ◌≤◌, Bool, true, false, List, [], ◌∷◌, ◌++◌, length, Option, Some, None, is_some, IsTrue, if◌then◌else◌, refl, ap, sym, subst, arith}
+use Rattle.std.proofs.Common.{◌≡◌, inl, inr, ⊎_elim, ℕ, ◌+◌, ◌-◌, ◌==◌, nat_le, nat_lt, ◌<◌, ◌≤◌, Bool, true, false, List, [], ◌∷◌, ◌++◌, length, Option, Some, None, is_some, IsTrue, if◌then◌else◌, refl, ap, sym, subst, arith}
 use Rattle.std.specs.Prelude.{⊤, ◌^◌}
 use Rattle.std.proofs.lemmas.Bool.Decides.{nat_tests}
 use Rattle.proof_tree.specs.declared.capped.Capped.{Capped}
 use Rattle.proof_tree.specs.declared.capped.Capped.TheVariants.{NoPoint}
 use Rattle.proof_tree.specs.declared.item.Item.TheVariants.{Node, Cut, Found as FoundItem, Empty, Dual as DualItem, Point, Pending as PendingItem, Split as SplitItem}
 use Rattle.proof_tree.specs.declared.walk.Expected.{Expected}
+use Rattle.proof_tree.specs.declared.walk.Expected.TheVariants.{Inside as ExpectInside, End as ExpectEnd}
 use Rattle.proof_tree.specs.Cap.{greater}
 use Rattle.proof_tree.specs.Form.{any_steps}
 use Rattle.proof_tree.specs.Views.{View}
@@ -33,31 +34,40 @@ use Rattle.proof_log.specs.declared.group.Group.TheVariants.{Nothing, Values, Mu
 use Rattle.proof_log.specs.declared.group.Grown.TheVariants.{More, Whole}
 use Rattle.proof_log.specs.declared.group.Grown.{Grown}
 use Rattle.proof_log.specs.declared.group.Piece.TheVariants.{Item, Claim as ClaimPiece}
-use Rattle.proof_log.specs.Agree.{is_claim, is_split, IsHeadIn, GroupAgrees, least_after, PlaceExpects, lefts, FormAgrees, IsBody}
+use Rattle.proof_log.specs.Agree.{is_claim, is_split, IsHeadIn, GroupAgrees, least_after, PlaceExpects, IsPastProof, lefts, FormAgrees, IsBody}
+use Rattle.proof_log.specs.Gathered.{IsThere}
 use Rattle.proof_log.specs.Gathering.{padded, value_piece, mult_piece, grown_values, grown_mults, begun, followed, MayBegin, MayValue, MayMult, MayFollow}
 use Rattle.range_prop.specs.declared.row_cut.RowCut.{RowCut}
 use Rattle.dual_bound.specs.declared.cert.Cert.{Cert}
 
--- the items that the lines at a place may make whole; the row and the slot of a cut and the slot of a split are there
-abbrev pub ItemAt : Limits → Place → RowItem → Type 0
-ItemAt limits AtNode Node = ⊤
-ItemAt limits Inside (Cut cut) = (cut.row < limits.rows) × (cut.slot < limits.slots)
-ItemAt limits Inside (FoundItem found) = ⊤
-ItemAt limits Inside Empty = ⊤
-ItemAt limits Inside (DualItem cert) = ⊤
-ItemAt limits Inside Point = ⊤
-ItemAt limits Inside (PendingItem cert) = ⊤
-ItemAt limits Inside (SplitItem pick cert) = pick.slot < limits.slots
-ItemAt limits Ending Empty = ⊤
-ItemAt limits Ending (DualItem cert) = ⊤
-ItemAt limits Ending Point = ⊤
-ItemAt limits Ending (PendingItem cert) = ⊤
-ItemAt limits Ending (SplitItem pick cert) = pick.slot < limits.slots
-ItemAt limits (AtValues left above claim) (FoundItem found) = claim ≡ false
-ItemAt limits (AtMults left above split) (DualItem cert) = ⊤
-ItemAt limits (AtMults left above split) (PendingItem cert) = ⊤
-ItemAt limits (AtMults left above split) (SplitItem pick cert) = pick.slot < limits.slots
-ItemAt limits _ _ = ⊥
+-- after the header, and before a claim is made
+abbrev pub IsMiddle : Place → Type 0
+IsMiddle AtHeader = ⊥
+IsMiddle End = ⊥
+IsMiddle Done = ⊥
+IsMiddle _ = ⊤
+
+-- an item may be made whole at a place: it may come where the form stands there
+pub record ItemAt (place : Place) (item : RowItem) : Type 0 where
+  pub middle : IsMiddle place
+  pub no_claim : ¬ IsPastProof place
+  pub comes : (expected : Expected) → PlaceExpects place expected → IsTrue (may_come expected item)
+
+-- a claim may be made whole at a place: no item is expected there
+pub record ClaimAt (place : Place) : Type 0 where
+  pub middle : IsMiddle place
+  pub no_item : (expected : Expected) → ¬ PlaceExpects place expected
+
+-- the form that stands at a place stands at a later one
+pub record StandsAt (place later : Place) : Type 0 where
+  pub expects : (expected : Expected) → PlaceExpects place expected → PlaceExpects later expected
+  pub past : IsPastProof place → IsPastProof later
+
+-- a group goes on from a place to a later one
+pub record StaysAt (place later : Place) : Type 0 where
+  pub middle : IsMiddle place
+  pub middle_later : IsMiddle later
+  pub stands : StandsAt place later
 
 -- where an item leads
 abbrev pub item_step : RowItem → Step
@@ -70,28 +80,35 @@ item_step Point = Ends
 item_step (PendingItem cert) = Ends
 item_step (SplitItem pick cert) = Opens
 
--- the places where a claim's lines may end
-abbrev pub ClaimAt : Place → Type 0
-ClaimAt AtClaim = ⊤
-ClaimAt (AtValues left above claim) = claim ≡ true
-ClaimAt _ = ⊥
-
--- values and multipliers of a found point or of a node's ending stay in the node, and those of a claim in the claim
-abbrev pub StaysAt : Place → Place → Type 0
-StaysAt Inside (AtValues left above claim) = claim ≡ false
-StaysAt Inside (AtMults left above split) = ⊤
-StaysAt Ending (AtMults left above split) = ⊤
-StaysAt AtClaim (AtValues left above claim) = claim ≡ true
-StaysAt (AtValues left above claim) (AtValues left2 above2 claim2) = claim2 ≡ claim
-StaysAt (AtMults left above split) (AtMults left2 above2 split2) = ⊤
-StaysAt _ _ = ⊥
-
 -- what a line has made of a group agrees with where it leads from a place
 abbrev pub GrownAgrees : Limits → Place → Grown → Step → Type 0
 GrownAgrees limits place (More group) (At later) = GroupAgrees limits later group × StaysAt place later
 GrownAgrees limits place (More group) _ = ⊥
-GrownAgrees limits place (Whole (Item item)) step = ItemAt limits place item × (step ≡ item_step item)
+GrownAgrees limits place (Whole (Item item)) step = ItemAt place item × IsThere limits item × (step ≡ item_step item)
 GrownAgrees limits place (Whole (ClaimPiece claim)) step = ClaimAt place × (step ≡ At End)
+
+-- what may be made whole at each place: an item of a node, of its ending, with multipliers or with values, or a claim
+inside_item : (item : RowItem) → IsTrue (may_come ExpectInside item) → ItemAt Inside item
+inside_item item may = record { middle = tt; no_claim = λ past. past; comes = λ expected is. rw is may }
+
+ending_item : (item : RowItem) → IsTrue (may_come ExpectEnd item) → ItemAt Ending item
+ending_item item may = record { middle = tt; no_claim = λ past. past; comes = λ expected is. rw is may }
+
+mults_item : (left : ℕ) (above : Option ℕ) (split : Bool) (item : RowItem) → IsTrue (may_come ExpectInside item) → IsTrue (may_come ExpectEnd item) → ItemAt (AtMults left above split) item
+mults_item left above split item inside end = record { middle = tt; no_claim = λ past. past; comes = λ expected. ⊎_elim (λ is. rw is inside) (λ is. rw is end) }
+
+values_item : (left : ℕ) (above : Option ℕ) (claim : Bool) (found : _) → claim ≡ false → ItemAt (AtValues left above claim) (FoundItem found)
+values_item left above claim found none = record { middle = tt; no_claim = λ past. cc; comes = λ expected is. rw is.1 refl }
+
+values_claim : (left : ℕ) (above : Option ℕ) (claim : Bool) → claim ≡ true → ClaimAt (AtValues left above claim)
+values_claim left above claim some = record { middle = tt; no_item = λ expected is. let none = is.0 in cc }
+
+-- the values of a claim
+claim_values : (left : ℕ) (above : Option ℕ) → StaysAt AtClaim (AtValues left above true)
+claim_values left above = record { middle = tt; middle_later = tt; stands = record { expects = λ expected is. absurd is; past = λ past. refl } }
+
+claim_claim : ClaimAt AtClaim
+claim_claim = record { middle = tt; no_item = λ expected is. is }
 
 -- a test that finds nothing has not held
 passed : (test : Bool) (kind : ℕ) (tests : List (Bool × ℕ)) → first_kind ((test, kind) ∷ tests) ≡ None → (test ≡ false) × (first_kind tests ≡ None)
@@ -149,19 +166,19 @@ module _ (limits : Limits) (few_rows : limits.rows < 2 ^ 32) (few_slots : limits
       let small : scale ≤ 1048576 = not_below 1048576 scale first.0 in
       (omega arith, subst (GrownAgrees limits place (grown_mults head count [])) is (mults_agree limits place head count None split [] is_head inside stays whole))
 
-  module _ (place : Place) (empty : ItemAt limits place Empty) (duals : (cert : _) → ItemAt limits place (DualItem cert)) (point : ItemAt limits place Point) (pendings : (cert : _) → ItemAt limits place (PendingItem cert)) (splits : (pick : RowPick) (cert : _) → pick.slot < limits.slots → ItemAt limits place (SplitItem pick cert)) (stays : (n : ℕ) (m : Option ℕ) (split : Bool) → StaysAt place (AtMults n m split)) where
+  module _ (place : Place) (ends : (item : RowItem) → IsTrue (may_come ExpectEnd item) → ItemAt place item) (stays : (n : ℕ) (m : Option ℕ) (split : Bool) → StaysAt place (AtMults n m split)) where
     ending_begins : (version opened : ℕ) (line : Line) (step : Step) → ending_step version line ≡ Some step → over_at limits opened line ≡ None → Begins_at limits place line step
-    ending_begins version opened EmptyLine step is tests = (tt, (empty, sym (some_same Ends step is)))
+    ending_begins version opened EmptyLine step is tests = (tt, (ends Empty refl, tt, sym (some_same Ends step is)))
     ending_begins version opened PointLine step is tests =
         let test = where_true (version == 2) Ends step is in
-        (tt, (point, sym test.1))
-    ending_begins version opened (DualLine scale count) step is tests = cert_agrees place (Dual scale) scale count false step refl tt (λ n m. stays n m false) (duals (record { scale = scale; mults = [] }), refl) (some_same (mults_step count None false) step is) tests
-    ending_begins version opened (PendingLine scale count) step is tests = cert_agrees place (Pending scale) scale count false step refl tt (λ n m. stays n m false) (pendings (record { scale = scale; mults = [] }), refl) (some_same (mults_step count None false) step is) tests
+        (tt, (ends Point refl, tt, sym test.1))
+    ending_begins version opened (DualLine scale count) step is tests = cert_agrees place (Dual scale) scale count false step refl tt (λ n m. stays n m false) (ends (DualItem (record { scale = scale; mults = [] })) refl, tt, refl) (some_same (mults_step count None false) step is) tests
+    ending_begins version opened (PendingLine scale count) step is tests = cert_agrees place (Pending scale) scale count false step refl tt (λ n m. stays n m false) (ends (PendingItem (record { scale = scale; mults = [] })) refl, tt, refl) (some_same (mults_step count None false) step is) tests
     ending_begins version opened (SplitLine slot max scale count) step is tests =
         let test = passed (nat_le limits.slots slot) 5 ((nat_lt 1048576 scale, 7) ∷ (nat_lt 50000 count, 8) ∷ []) tests in
         let inside : slot < limits.slots = not_at_least limits.slots slot test.0 in
         let pick : RowPick = record { slot = slot; max = max } in
-        let rest = cert_agrees place (Split pick scale) scale count true step refl inside (λ n m. stays n m true) (splits pick (record { scale = scale; mults = [] }) inside, refl) (some_same (mults_step count None true) step is) test.1 in
+        let rest = cert_agrees place (Split pick scale) scale count true step refl inside (λ n m. stays n m true) (ends (SplitItem pick (record { scale = scale; mults = [] })) refl, inside, refl) (some_same (mults_step count None true) step is) test.1 in
         ((omega arith, rest.0), rest.1)
     ending_begins version opened _ step is tests = cc
 
@@ -171,22 +188,29 @@ module _ (limits : Limits) (few_rows : limits.rows < 2 ^ 32) (few_slots : limits
       let second = passed (nat_le limits.slots slot) 5 [] first.1 in
       let row_in : row < limits.rows = not_at_least limits.rows row first.0 in
       let slot_in : slot < limits.slots = not_at_least limits.slots slot second.0 in
-      ((omega arith, omega arith), ((row_in, slot_in), sym (some_same (At Inside) step is)))
+      ((omega arith, omega arith), (inside_item (Cut (record { row = row; slot = slot })) refl, (row_in, slot_in), sym (some_same (At Inside) step is)))
   inside_begins version opened (FoundLine value count) step is tests =
-      (tt, subst (GrownAgrees limits Inside (grown_values limits.slots (Found value) count [])) (some_same (values_step count None false) step is) (values_agree limits Inside (Found value) count None false [] refl refl (λ n m. refl) (tt, refl)))
-  inside_begins version opened line step is tests = ending_begins Inside tt (λ cert. tt) tt (λ cert. tt) (λ pick cert inside. inside) (λ n m split. tt) version opened line step is tests
+      (tt, subst (GrownAgrees limits Inside (grown_values limits.slots (Found value) count [])) (some_same (values_step count None false) step is) (values_agree limits Inside (Found value) count None false [] refl refl (λ n m. record { middle = tt; middle_later = tt; stands = record { expects = λ expected is. (refl, is); past = λ past. absurd past } }) (inside_item (FoundItem (record { value = value; point = padded limits.slots [] })) refl, tt, refl)))
+  inside_begins version opened line step is tests = ending_begins Inside ends stays version opened line step is tests
+    where
+      ends : (item : RowItem) → IsTrue (may_come ExpectEnd item) → ItemAt Inside item
+      ends Node may = inside_item Node may
+      ends item may = inside_item item refl
+
+      stays : (n : ℕ) (m : Option ℕ) (split : Bool) → StaysAt Inside (AtMults n m split)
+      stays n m split = record { middle = tt; middle_later = tt; stands = record { expects = λ expected is. inl is; past = λ past. absurd past } }
 
   claim_begins : (line : Line) (step : Step) → claim_step line ≡ Some step → Begins_at limits AtClaim line step
   claim_begins (ClaimOptimal profit count) step is =
-      (tt, subst (GrownAgrees limits AtClaim (grown_values limits.slots (Optimal profit) count [])) (some_same (values_step count None true) step is) (values_agree limits AtClaim (Optimal profit) count None true [] refl refl (λ n m. refl) (tt, refl)))
-  claim_begins ClaimInfeasible step is = (tt, (tt, sym (some_same (At End) step is)))
+      (tt, subst (GrownAgrees limits AtClaim (grown_values limits.slots (Optimal profit) count [])) (some_same (values_step count None true) step is) (values_agree limits AtClaim (Optimal profit) count None true [] refl refl claim_values (claim_claim, refl)))
+  claim_begins ClaimInfeasible step is = (tt, (claim_claim, sym (some_same (At End) step is)))
   claim_begins (ClaimBetween profit most count) step is =
-      (tt, subst (GrownAgrees limits AtClaim (grown_values limits.slots (Between profit most) count [])) (some_same (values_step count None true) step is) (values_agree limits AtClaim (Between profit most) count None true [] refl refl (λ n m. refl) (tt, refl)))
-  claim_begins (ClaimBelow most) step is = (tt, (tt, sym (some_same (At End) step is)))
+      (tt, subst (GrownAgrees limits AtClaim (grown_values limits.slots (Between profit most) count [])) (some_same (values_step count None true) step is) (values_agree limits AtClaim (Between profit most) count None true [] refl refl claim_values (claim_claim, refl)))
+  claim_begins (ClaimBelow most) step is = (tt, (claim_claim, sym (some_same (At End) step is)))
   claim_begins _ step is = cc
 
   node_begins : (version : ℕ) (line : Line) (step : Step) → step_of version AtNode line ≡ Some step → Begins_at limits AtNode line step
-  node_begins version NodeLine step is = (tt, (tt, sym (some_same (At Inside) step is)))
+  node_begins version NodeLine step is = (tt, (record { middle = tt; no_claim = λ past. past; comes = λ expected is. rw is refl }, tt, sym (some_same (At Inside) step is)))
   node_begins version _ step is = cc
 
   values_follow : (left remaining slot quanta opened : ℕ) (above : Option ℕ) (claim : Bool) (head : ValueHead) (point : List ℕ) (step : Step) → 0 < quanta → 0 < left → remaining ≡ left → length point ≡ least_after above → is_claim head ≡ claim
@@ -199,13 +223,13 @@ module _ (limits : Limits) (few_rows : limits.rows < 2 ^ 32) (few_slots : limits
       let inside : slot < limits.slots = not_at_least limits.slots slot second.0 in
       let later = padded slot point ++ quanta ∷ [] in
       let grown : length later ≡ slot + 1 = grind (arith, common_steps, length-replicate) in
-      let agree = values_agree limits (AtValues left above claim) head (left - 1) (Some slot) claim later is_head grown (λ n m. refl) (whole head is_head) in
+      let agree = values_agree limits (AtValues left above claim) head (left - 1) (Some slot) claim later is_head grown (λ n m. record { middle = tt; middle_later = tt; stands = record { expects = λ expected is. is; past = λ past. past } }) (whole head is_head) in
       ((omega arith, (omega arith), (omega arith), some), rw same (subst (GrownAgrees limits (AtValues left above claim) (grown_values limits.slots head (left - 1) later)) first.1 agree))
     where
       whole : (head : ValueHead) → is_claim head ≡ claim → GrownAgrees limits (AtValues left above claim) (Whole (value_piece head (padded limits.slots (padded slot point ++ quanta ∷ [])))) (At (if claim then End else Ending))
-      whole (Found value) is = (sym is, rw (← is) refl)
-      whole (Optimal profit) is = (sym is, rw (← is) refl)
-      whole (Between profit most) is = (sym is, rw (← is) refl)
+      whole (Found value) is = (values_item left above claim (record { value = value; point = padded limits.slots (padded slot point ++ quanta ∷ []) }) (sym is), tt, rw (← is) refl)
+      whole (Optimal profit) is = (values_claim left above claim (sym is), rw (← is) refl)
+      whole (Between profit most) is = (values_claim left above claim (sym is), rw (← is) refl)
 
   mults_follow : (left remaining row factor opened : ℕ) (above : Option ℕ) (split : Bool) (head : MultHead) (mults : List Mult) (step : Step) → 0 < left → remaining ≡ left → is_split head ≡ split → IsHeadIn limits head
       → ◌≡◌ {A = Option Step} (if follows above row then Some (mults_step (left - 1) (Some row) split) else None) (Some step) → over_at limits opened (MultLine row factor) ≡ None
@@ -217,13 +241,13 @@ module _ (limits : Limits) (few_rows : limits.rows < 2 ^ 32) (few_slots : limits
       let row_in : row < limits.rows = not_at_least limits.rows row second.0 in
       let small : factor ≤ 1099511627776 = not_below 1099511627776 factor third.0 in
       let later = mults ++ (record { row = row; factor = factor }) ∷ [] in
-      let agree = mults_agree limits (AtMults left above split) head (left - 1) (Some row) split later is_head inside (λ n m. tt) (whole head is_head inside) in
+      let agree = mults_agree limits (AtMults left above split) head (left - 1) (Some row) split later is_head inside (λ n m. record { middle = tt; middle_later = tt; stands = record { expects = λ expected is. is; past = λ past. past } }) (whole head is_head inside) in
       ((omega arith, (omega arith), (omega arith)), rw same (subst (GrownAgrees limits (AtMults left above split) (grown_mults head (left - 1) later)) first.1 agree))
     where
       whole : (head : MultHead) → is_split head ≡ split → IsHeadIn limits head → GrownAgrees limits (AtMults left above split) (Whole (mult_piece head (mults ++ (record { row = row; factor = factor }) ∷ []))) (if split then Opens else Ends)
-      whole (Dual scale) is inside = (tt, rw (← is) refl)
-      whole (Pending scale) is inside = (tt, rw (← is) refl)
-      whole (Split pick scale) is inside = (inside, rw (← is) refl)
+      whole (Dual scale) is inside = (mults_item left above split (DualItem (record { scale = scale; mults = mults ++ (record { row = row; factor = factor }) ∷ [] })) refl refl, tt, rw (← is) refl)
+      whole (Pending scale) is inside = (mults_item left above split (PendingItem (record { scale = scale; mults = mults ++ (record { row = row; factor = factor }) ∷ [] })) refl refl, tt, rw (← is) refl)
+      whole (Split pick scale) is inside = (mults_item left above split (SplitItem pick (record { scale = scale; mults = mults ++ (record { row = row; factor = factor }) ∷ [] })) refl refl, inside, rw (← is) refl)
 
   -- a line that may come, other than the header and the end, may follow the group, and what it makes of it agrees with where it leads
   Follows : Place → Group → Line → Step → Type 0
@@ -253,34 +277,13 @@ module _ (limits : Limits) (few_rows : limits.rows < 2 ^ 32) (few_slots : limits
   line_follows version opened AtHeader Nothing line step range body agree is tests = absurd (header_only version line step is body)
   line_follows version opened AtNode Nothing line step range body agree is tests = node_begins version line step is
   line_follows version opened Inside Nothing line step range body agree is tests = inside_begins version opened line step is tests
-  line_follows version opened Ending Nothing line step range body agree is tests = ending_begins Ending tt (λ cert. tt) tt (λ cert. tt) (λ pick cert inside. inside) (λ n m split. tt) version opened line step is tests
+  line_follows version opened Ending Nothing line step range body agree is tests = ending_begins Ending ending_item (λ n m split. record { middle = tt; middle_later = tt; stands = record { expects = λ expected is. inr is; past = λ past. absurd past } }) version opened line step is tests
   line_follows version opened (AtValues left above claim) (Values head remaining point) line step range body agree is tests = values_lines version left remaining opened above claim head point line step range agree.0 agree.1 agree.2 agree.3 is tests
   line_follows version opened (AtMults left above split) (Mults head remaining mults) line step range body agree is tests = mults_lines version left remaining opened above split head mults line step agree.0 agree.1 agree.2 agree.3 is tests
   line_follows version opened AtClaim Nothing line step range body agree is tests = claim_begins line step is
   line_follows version opened End Nothing line step range body agree is tests = absurd (end_only version line step is body)
   line_follows version opened Done Nothing line step range body agree is tests = cc
   line_follows version opened _ _ line step range body agree is tests = absurd agree
-
--- an item that the lines may make whole may come where the walk stands
-pub item_comes : (limits : Limits) (place : Place) (expected : Expected) (item : RowItem) → ItemAt limits place item → PlaceExpects place expected → IsTrue (may_come expected item)
-item_comes limits AtNode expected Node at is = rw is refl
-item_comes limits Inside expected (Cut cut) at is = rw is refl
-item_comes limits Inside expected (FoundItem found) at is = rw is refl
-item_comes limits Inside expected Empty at is = rw is refl
-item_comes limits Inside expected (DualItem cert) at is = rw is refl
-item_comes limits Inside expected Point at is = rw is refl
-item_comes limits Inside expected (PendingItem cert) at is = rw is refl
-item_comes limits Inside expected (SplitItem pick cert) at is = rw is refl
-item_comes limits Ending expected Empty at is = rw is refl
-item_comes limits Ending expected (DualItem cert) at is = rw is refl
-item_comes limits Ending expected Point at is = rw is refl
-item_comes limits Ending expected (PendingItem cert) at is = rw is refl
-item_comes limits Ending expected (SplitItem pick cert) at is = rw is refl
-item_comes limits (AtValues left above claim) expected (FoundItem found) at is = rw is.1 refl
-item_comes limits (AtMults left above split) expected (DualItem cert) at is = ⊎_elim (λ e. rw e refl) (λ e. rw e refl) is
-item_comes limits (AtMults left above split) expected (PendingItem cert) at is = ⊎_elim (λ e. rw e refl) (λ e. rw e refl) is
-item_comes limits (AtMults left above split) expected (SplitItem pick cert) at is = ⊎_elim (λ e. rw e refl) (λ e. rw e refl) is
-item_comes limits _ expected _ at is = absurd at
 
 -- after a node that has ended
 abbrev after_node : ℕ → List Bool → Standing

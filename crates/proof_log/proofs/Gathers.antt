@@ -1,13 +1,12 @@
 -- What has been gathered of a log after one more line.
-use Rattle.std.proofs.Common.{◌≡◌, ◌≢◌, ◌⊎◌, inl, inr, ⊎_elim, ℕ, ◌+◌, ◌<◌, ◌^◌, Bool, true, false, List, [], ◌∷◌, ◌++◌, length, Option, Some, None, refl, ap, sym, ◌∙◌, subst, append_assoc, arith}
-use Rattle.std.specs.Prelude.{⊤, flat_map}
+use Rattle.std.proofs.Common.{◌≡◌, ◌≢◌, ℕ, ◌+◌, ◌<◌, ◌^◌, Bool, List, [], ◌∷◌, ◌++◌, length, Option, Some, None, refl, ap, sym, ◌∙◌, subst, append_assoc, arith}
+use Rattle.std.specs.Prelude.{flat_map}
 use Rattle.std.specs.List.{All, sum_by}
 use Rattle.std.specs.Option.{option_map}
 use Rattle.std.proofs.lemmas.Grind.{common_steps, flat_map-append}
 use Rattle.std.proofs.lemmas.List.Concat.{length-flat_map}
 use Rattle.std.proofs.lemmas.List.Elements.{All-append, All-cons}
 use Rattle.proof_tree.specs.declared.item.Item.TheVariants.{Node, Cut, Found as FoundItem, Empty, Dual as DualItem, Point, Pending as PendingItem, Split as SplitItem}
-use Rattle.proof_tree.specs.declared.walk.Expected.{Expected}
 use Rattle.proof_tree.specs.Form.{any_steps, form_of, AreWhole}
 use Rattle.proof_tree.specs.Walk.{Outcome, going, ended, undefined, misplaced, after, start}
 use Rattle.proof_tree.proofs.Forms.{Alike, alike}
@@ -24,7 +23,7 @@ use Rattle.log_lines.specs.declared.grammar.Place.TheVariants.{Header as AtHeade
 use Rattle.log_lines.specs.declared.step.Step.{Step}
 use Rattle.log_lines.specs.declared.step.Step.TheVariants.{Begins, At, Opens, Ends}
 use Rattle.log_lines.specs.Line.{IsLine}
-use Rattle.log_lines.specs.Grammar.{Standing, after_part, part_place, step_of, after_step, over, next, line_defect}
+use Rattle.log_lines.specs.Grammar.{Standing, after_part, part_place, step_of, after_step, next}
 use Rattle.proof_log.specs.declared.claim.Claim.{Claim}
 use Rattle.proof_log.specs.declared.gatherer.Gatherer.{Gatherer}
 use Rattle.proof_log.specs.declared.gatherer.Gathered.TheVariants.{Item as ItemGathered, Claim as ClaimGathered}
@@ -34,12 +33,12 @@ use Rattle.proof_log.specs.declared.group.Piece.{Piece}
 use Rattle.proof_log.specs.declared.group.Piece.TheVariants.{Item, Claim as ClaimPiece}
 use Rattle.proof_log.specs.declared.group.Grown.{Grown}
 use Rattle.proof_log.specs.declared.group.Grown.TheVariants.{More, Whole}
-use Rattle.proof_log.specs.Agree.{GroupAgrees, PlaceExpects, IsPastProof, ClaimAgrees, FormAgrees, IsBody}
-use Rattle.proof_log.specs.Gathered.{lines_at, IsFresh, HasGathered, LineComes, HasMade, IsThere}
+use Rattle.proof_log.specs.Agree.{GroupAgrees, ClaimAgrees, FormAgrees, IsBody}
+use Rattle.proof_log.specs.Gathered.{lines_at, IsFresh, HasGathered, LineComes, HasMade}
 use Rattle.proof_log.specs.Gathering.{group_lines, piece_lines, IsPieceOver, followed, MayFollow, HasLines}
 use Rattle.proof_log.specs.Log.{RowItem, item_lines, claim_lines, line_after}
 use Rattle.proof_log.specs.OneText.{IsOver}
-use Rattle.proof_log.proofs.Agreeing.{ItemAt, item_step, ClaimAt, StaysAt, GrownAgrees, line_follows, item_comes, taken_agrees}
+use Rattle.proof_log.proofs.Agreeing.{IsMiddle, ItemAt, ClaimAt, StandsAt, StaysAt, item_step, GrownAgrees, line_follows, taken_agrees}
 use Rattle.proof_log.proofs.Groups.{followed-lines}
 
 -- a line that may come makes a step
@@ -50,23 +49,13 @@ next_steps standing later line is = at (step_of standing.version standing.place 
     at None from to = cc
     at (Some taken_step) from to = (taken_step, from, cc)
 
--- a line without a defect has no number that is too large
-pub fine_of : (limits : Limits) (standing later : Standing) (line : Line) → next standing line ≡ Some later → line_defect limits standing line ≡ None → over limits standing line ≡ None
-fine_of limits standing later line moves none = rw moves at none
-
 All-next : {A : Type 0} (P : A → Type 0) (xs : List A) (x : A) → All P xs → P x → All P (xs ++ x ∷ [])
 All-next P xs x all is = All-append P xs (x ∷ []) all (All-cons P x [] is (λ k d below. absurd (omega arith)))
 
 counted : (lines : List Line) (line : Line) → length lines + 1 ≡ length (lines ++ line ∷ [])
 counted lines line = grind (arith, common_steps)
 
--- after the header, and before a claim is made
-abbrev IsMiddle : Place → Type 0
-IsMiddle AtHeader = ⊥
-IsMiddle End = ⊥
-IsMiddle Done = ⊥
-IsMiddle _ = ⊤
-
+-- between the header and the claim the lines are the header and those of the items and the group, and no claim is made
 middle_lines : (version : ℕ) (place : Place) (items : List RowItem) (group : Group) → IsMiddle place → lines_at version place items group None ≡ HeaderLine version ∷ (flat_map item_lines items ++ group_lines group)
 middle_lines version AtNode items group middle = refl
 middle_lines version Inside items group middle = refl
@@ -91,107 +80,48 @@ middle_claim End (Some claim) middle agree = absurd middle
 middle_claim Done (Some claim) middle agree = absurd middle
 middle_claim _ (Some claim) middle agree = absurd agree
 
-stays_middle : (place later : Place) → StaysAt place later → IsMiddle place × IsMiddle later
-stays_middle Inside (AtValues left above of_claim) stays = (tt, tt)
-stays_middle Inside (AtMults left above splits) stays = (tt, tt)
-stays_middle Ending (AtMults left above splits) stays = (tt, tt)
-stays_middle AtClaim (AtValues left above of_claim) stays = (tt, tt)
-stays_middle (AtValues left above of_claim) (AtValues left2 above2 of_claim2) stays = (tt, tt)
-stays_middle (AtMults left above splits) (AtMults left2 above2 splits2) stays = (tt, tt)
-stays_middle _ _ stays = absurd stays
+-- after an item no group is open, and the version is as before
+pub record IsAfterItem (limits : Limits) (standing later : Standing) : Type 0 where
+  pub middle : IsMiddle later.place
+  pub group : GroupAgrees limits later.place Nothing
+  pub version : later.version ≡ standing.version
 
-item_middle : (limits : Limits) (place : Place) (item : RowItem) → ItemAt limits place item → IsMiddle place
-item_middle limits AtHeader item at = at
-item_middle limits End item at = at
-item_middle limits Done item at = at
-item_middle limits _ item at = tt
+after_item : (limits : Limits) (standing : Standing) (item : RowItem) → IsAfterItem limits standing (after_step standing (item_step item))
+after_item limits standing item = at item
+  where
+    -- where no split is open the claim comes, and else a node
+    parts : (sides : List Bool) → IsMiddle (part_place sides) × GroupAgrees limits (part_place sides) Nothing
+    parts [] = (tt, tt)
+    parts (side ∷ sides) = (tt, tt)
 
-claim_middle : (place : Place) → ClaimAt place → IsMiddle place
-claim_middle AtHeader at = at
-claim_middle End at = at
-claim_middle Done at = at
-claim_middle _ at = tt
+    ends : IsAfterItem limits standing (after_step standing Ends)
+    ends = let part = parts (after_part standing.sides) in record { middle = part.0; group = part.1; version = refl }
 
--- after an item no group is open
-abbrev IsAfterItem : Limits → Place → Type 0
-IsAfterItem limits place = IsMiddle place × GroupAgrees limits place Nothing
+    at : (item : RowItem) → IsAfterItem limits standing (after_step standing (item_step item))
+    at Node = record { middle = tt; group = tt; version = refl }
+    at (Cut cut) = record { middle = tt; group = tt; version = refl }
+    at (FoundItem found) = record { middle = tt; group = tt; version = refl }
+    at Empty = ends
+    at (DualItem cert) = ends
+    at Point = ends
+    at (PendingItem cert) = ends
+    at (SplitItem pick cert) = record { middle = tt; group = tt; version = refl }
 
-after_item-part : (limits : Limits) (sides : List Bool) → IsAfterItem limits (part_place (after_part sides))
-after_item-part limits [] = (tt, tt)
-after_item-part limits (false ∷ sides) = (tt, tt)
-after_item-part limits (true ∷ sides) = after_item-part limits sides
-
-after_item : (limits : Limits) (standing : Standing) (item : RowItem) → IsAfterItem limits (after_step standing (item_step item)).place
-after_item limits standing Node = (tt, tt)
-after_item limits standing (Cut cut) = (tt, tt)
-after_item limits standing (FoundItem found) = (tt, tt)
-after_item limits standing Empty = after_item-part limits standing.sides
-after_item limits standing (DualItem cert) = after_item-part limits standing.sides
-after_item limits standing Point = after_item-part limits standing.sides
-after_item limits standing (PendingItem cert) = after_item-part limits standing.sides
-after_item limits standing (SplitItem pick cert) = (tt, tt)
-
-item_version : (standing : Standing) (item : RowItem) → (after_step standing (item_step item)).version ≡ standing.version
-item_version standing Node = refl
-item_version standing (Cut cut) = refl
-item_version standing (FoundItem found) = refl
-item_version standing Empty = refl
-item_version standing (DualItem cert) = refl
-item_version standing Point = refl
-item_version standing (PendingItem cert) = refl
-item_version standing (SplitItem pick cert) = refl
-
-item_there : (limits : Limits) (place : Place) (item : RowItem) → ItemAt limits place item → IsThere limits item
-item_there limits Inside (Cut cut) at = at
-item_there limits _ (Cut cut) at = absurd at
-item_there limits Inside (SplitItem pick cert) at = at
-item_there limits Ending (SplitItem pick cert) at = at
-item_there limits (AtMults left above splits) (SplitItem pick cert) at = at
-item_there limits _ (SplitItem pick cert) at = absurd at
-item_there limits place _ at = tt
-
--- the form of the items stands on where values and multipliers come
-stays_expects : (place later : Place) (expected : Expected) → StaysAt place later → PlaceExpects place expected → PlaceExpects later expected
-stays_expects Inside (AtValues left above of_claim) expected stays is = (stays, is)
-stays_expects Inside (AtMults left above splits) expected stays is = inl is
-stays_expects Ending (AtMults left above splits) expected stays is = inr is
-stays_expects AtClaim (AtValues left above of_claim) expected stays is = absurd is
-stays_expects (AtValues left above of_claim) (AtValues left2 above2 of_claim2) expected stays is = (stays ∙ is.0, is.1)
-stays_expects (AtMults left above splits) (AtMults left2 above2 splits2) expected stays is = is
-stays_expects _ _ expected stays is = absurd stays
-
-stays_past : (place later : Place) → StaysAt place later → IsPastProof place → IsPastProof later
-stays_past AtClaim (AtValues left above of_claim) stays past = stays
-stays_past (AtValues left above of_claim) (AtValues left2 above2 of_claim2) stays past = stays ∙ past
-stays_past Inside (AtValues left above of_claim) stays past = absurd past
-stays_past Inside (AtMults left above splits) stays past = absurd past
-stays_past Ending (AtMults left above splits) stays past = absurd past
-stays_past (AtMults left above splits) (AtMults left2 above2 splits2) stays past = absurd past
-stays_past _ _ stays past = absurd stays
-
-stays_form : (standing : Standing) (later : Place) (form : Outcome RowPick) → StaysAt standing.place later → FormAgrees standing form → FormAgrees (record standing { place = later }) form
-stays_form standing later (going stage) stays agree = record { expects = stays_expects standing.place later stage.expected stays agree.expects; splits = agree.splits }
-stays_form standing later (ended part_cap) stays agree = stays_past standing.place later stays agree
-stays_form standing later undefined stays agree = agree
-stays_form standing later misplaced stays agree = agree
-
--- after the last node no item is made whole
-past_item : (limits : Limits) (place : Place) (item : RowItem) → ItemAt limits place item → IsPastProof place → ⊥
-past_item limits (AtValues left above of_claim) (FoundItem found) at past = cc
-past_item limits (AtValues left above of_claim) _ at past = at
-past_item limits AtClaim item at past = at
-past_item limits End item at past = at
-past_item limits Done item at past = at
-past_item limits _ item at past = past
+-- where the form stands at a later place, it stands where the lines do
+stands_form : (version own : ℕ) (place later : Place) (sides : List Bool) (form : Outcome RowPick) → StandsAt place later → FormAgrees (record { version = version; place = place; sides = sides }) form → FormAgrees (record { version = own; place = later; sides = sides }) form
+stands_form version own place later sides (going stage) stands agree = record { expects = stands.expects stage.expected agree.expects; splits = agree.splits }
+stands_form version own place later sides (ended part_cap) stands agree = stands.past agree
+stands_form version own place later sides undefined stands agree = agree
+stands_form version own place later sides misplaced stands agree = agree
 
 -- an item that the lines make whole leads the form where it leads the lines
-item_form : (limits : Limits) (standing : Standing) (items : List RowItem) (item : RowItem) → ItemAt limits standing.place item → FormAgrees standing (form_of items) → FormAgrees (after_step standing (item_step item)) (form_of (items ++ item ∷ []))
-item_form limits standing items item at agree =
+item_form : (standing : Standing) (items : List RowItem) (item : RowItem) → ItemAt standing.place item → FormAgrees standing (form_of items) → FormAgrees (after_step standing (item_step item)) (form_of (items ++ item ∷ []))
+item_form standing items item at agree =
     subst (FormAgrees (after_step standing (item_step item))) (sym (walked-append Rows Area Found any_steps (start []) items (item ∷ []))) (leads (form_of items) agree)
   where
     leads : (form : Outcome RowPick) → FormAgrees standing form → FormAgrees (after_step standing (item_step item)) (after any_steps form item)
-    leads (going stage) agree = rw (item_comes limits standing.place stage.expected item at agree.expects) (taken_agrees standing stage.splits stage.view item agree.splits)
-    leads (ended part_cap) agree = absurd (past_item limits standing.place item at agree)
+    leads (going stage) agree = rw (at.comes stage.expected agree.expects) (taken_agrees standing stage.splits stage.view item agree.splits)
+    leads (ended part_cap) agree = absurd (at.no_claim agree)
     leads undefined agree = absurd agree
     leads misplaced agree = absurd agree
 
@@ -199,16 +129,11 @@ form_may : (standing : Standing) (form : Outcome RowPick) → FormAgrees standin
 form_may standing form agree is = subst (FormAgrees standing) is agree
 
 -- where a claim is made the items are whole
-claim_expects : (place : Place) (expected : Expected) → ClaimAt place → PlaceExpects place expected → ⊥
-claim_expects AtClaim expected at is = is
-claim_expects (AtValues left above of_claim) expected at is = let no : true ≡ false = sym at ∙ is.0 in cc
-claim_expects _ expected at is = at
-
 claim_whole : (standing : Standing) (items : List RowItem) → ClaimAt standing.place → FormAgrees standing (form_of items) → AreWhole items
 claim_whole standing items at agree = by (form_of items) refl agree
   where
     by : (form : Outcome RowPick) → form_of items ≡ form → FormAgrees standing form → AreWhole items
-    by (going stage) is agree = absurd (claim_expects standing.place stage.expected at agree.expects)
+    by (going stage) is agree = absurd (at.no_item stage.expected agree.expects)
     by (ended part_cap) is agree = subst (λ o. Alike o (form_of items)) is (alike any_steps [] items)
     by undefined is agree = absurd agree
     by misplaced is agree = absurd agree
@@ -237,13 +162,12 @@ module _ (before : Standing) (lines : List Line) (items : List RowItem) (claim :
   -- a line of an item or of the claim comes
   pub record BodyComes : Type 0 where
     pub comes : LineComes before lines items claim line g
-    pub is_line : IsLine line
     pub body : IsBody line
     pub few_rows : g.limits.rows < 2 ^ 32
     pub few_slots : g.limits.slots < 2 ^ 32
 
-  written : LineComes before lines items claim line g → IsLine line → All IsLine (lines ++ line ∷ [])
-  written comes is_line = All-next IsLine lines line comes.gathered.written is_line
+  written : LineComes before lines items claim line g → All IsLine (lines ++ line ∷ [])
+  written comes = All-next IsLine lines line comes.gathered.written comes.written
 
   -- what such a line leads to
   record Leads : Type 0 where
@@ -255,7 +179,7 @@ module _ (before : Standing) (lines : List Line) (items : List RowItem) (claim :
   leads : BodyComes → Leads
   leads comes =
       let to = next_steps before g.grammar line comes.comes.moves in
-      let both = line_follows g.limits comes.few_rows comes.few_slots before.version (length before.sides) before.place g.group line to.0 comes.is_line.in_range comes.body comes.comes.gathered.group to.1 comes.comes.fine in
+      let both = line_follows g.limits comes.few_rows comes.few_slots before.version (length before.sides) before.place g.group line to.0 comes.comes.written.in_range comes.body comes.comes.gathered.group to.1 comes.comes.fine in
       record { led = to.0; to = to.2; may = both.0; agrees = both.1 }
 
   pub may_follow : BodyComes → MayFollow g.limits.slots g.group line
@@ -283,56 +207,54 @@ module _ (before : Standing) (lines : List Line) (items : List RowItem) (claim :
   pub made_more : (group : Group) → BodyComes → More group ≡ followed g.limits.slots g.group line → HasGathered (lines ++ line ∷ []) items claim (record g { group = group })
   made_more group comes is =
       let to = more_leads group comes is in
-      let middle = stays_middle before.place to.0 to.2 in
-      let none = unclaimed comes middle.0 in
-      let more = one_more before.version before.place items g.group lines line middle.0 (listed comes middle.0) in
+      let stays : StaysAt before.place to.0 = to.2 in
+      let more = one_more before.version before.place items g.group lines line stays.middle (listed comes stays.middle) in
       let own = lines_of_group g.limits.slots (group_lines g.group ++ line ∷ []) group (followed g.limits.slots g.group line) is (has_lines comes) in
       let later : HasGathered (lines ++ line ∷ []) items None (record g { group = group; grammar = record before { place = to.0 } }) = record {
-        listed = more ∙ (ap (λ t. HeaderLine before.version ∷ (flat_map item_lines items ++ t)) (sym own) ∙ sym (middle_lines before.version to.0 items group middle.1));
-        written = written comes.comes comes.is_line;
+        listed = more ∙ (ap (λ t. HeaderLine before.version ∷ (flat_map item_lines items ++ t)) (sym own) ∙ sym (middle_lines before.version to.0 items group stays.middle_later));
+        written = written comes.comes;
         number = comes.comes.number ∙ counted lines line;
         over = comes.comes.gathered.over;
         claim_over = tt;
-        fresh = middle_fresh to.0 items middle.1;
+        fresh = middle_fresh to.0 items stays.middle_later;
         began = comes.comes.gathered.began;
         group = to.1;
-        claimed = middle_none to.0 middle.1;
-        form = stays_form before to.0 (form_of items) to.2 comes.comes.gathered.form;
+        claimed = middle_none to.0 stays.middle_later;
+        form = stands_form before.version before.version before.place to.0 before.sides (form_of items) stays.stands comes.comes.gathered.form;
       } in
-      subst (λ c. HasGathered (lines ++ line ∷ []) items c (record g { group = group })) (sym none) (subst (λ st. HasGathered (lines ++ line ∷ []) items None (record g { group = group; grammar = st })) to.3 later)
+      subst (λ c. HasGathered (lines ++ line ∷ []) items c (record g { group = group })) (sym (unclaimed comes stays.middle)) (subst (λ st. HasGathered (lines ++ line ∷ []) items None (record g { group = group; grammar = st })) to.3 later)
 
   -- where the lines are an item
   pub made_item : (item : RowItem) (began : ℕ) → BodyComes → Whole (Item item) ≡ followed g.limits.slots g.group line → began ≡ g.number + 1 → HasMade (lines ++ line ∷ []) items claim (record g { group = Nothing; began = began }) (ItemGathered g.began item)
   made_item item began comes is begins =
       let agree = subst (λ grown. GrownAgrees g.limits before.place grown (leads comes).led) (sym is) (leads comes).agrees in
-      let to : after_step before (item_step item) ≡ g.grammar = subst (λ st. after_step before st ≡ g.grammar) agree.1 (leads comes).to in
-      let middle = item_middle g.limits before.place item agree.0 in
+      let to : after_step before (item_step item) ≡ g.grammar = subst (λ st. after_step before st ≡ g.grammar) agree.2 (leads comes).to in
+      let at : ItemAt before.place item = agree.0 in
       let later_st = after_step before (item_step item) in
       let next = after_item g.limits before item in
-      let form : FormAgrees later_st (form_of (items ++ item ∷ [])) = item_form g.limits before items item agree.0 comes.comes.gathered.form in
-      let more = one_more before.version before.place items g.group lines line middle (listed comes middle) in
+      let form : FormAgrees later_st (form_of (items ++ item ∷ [])) = item_form before items item at comes.comes.gathered.form in
+      let more = one_more before.version before.place items g.group lines line at.middle (listed comes at.middle) in
       let own = lines_of_piece g.limits.slots (group_lines g.group ++ line ∷ []) (Item item) (followed g.limits.slots g.group line) is (has_lines comes) in
-      let same = item_version before item in
       let all : lines ++ line ∷ [] ≡ lines_at later_st.version later_st.place (items ++ item ∷ []) Nothing None =
       more ∙ (ap (λ t. HeaderLine before.version ∷ (flat_map item_lines items ++ t)) (sym own.0) ∙ (ap (λ t. HeaderLine before.version ∷ t) (sym flat)
-      ∙ (ap (λ v. HeaderLine v ∷ (flat_map item_lines (items ++ item ∷ []) ++ [])) (sym same) ∙ sym (middle_lines later_st.version later_st.place (items ++ item ∷ []) Nothing next.0)))) in
+      ∙ (ap (λ v. HeaderLine v ∷ (flat_map item_lines (items ++ item ∷ []) ++ [])) (sym next.version) ∙ sym (middle_lines later_st.version later_st.place (items ++ item ∷ []) Nothing next.middle)))) in
       let count = comes.comes.number ∙ counted lines line in
       let later : HasGathered (lines ++ line ∷ []) (items ++ item ∷ []) None (record g { group = Nothing; began = began; grammar = later_st }) = record {
         listed = all;
-        written = written comes.comes comes.is_line;
+        written = written comes.comes;
         number = count;
         over = All-next (IsOver g.limits.slots) items item comes.comes.gathered.over own.1;
         claim_over = tt;
-        fresh = middle_fresh later_st.place (items ++ item ∷ []) next.0;
-        began = begins ∙ (ap (λ n. n + 1) count ∙ next_line later_st.version later_st.place (items ++ item ∷ []) (lines ++ line ∷ []) next.0 all);
-        group = next.1;
-        claimed = middle_none later_st.place next.0;
+        fresh = middle_fresh later_st.place (items ++ item ∷ []) next.middle;
+        began = begins ∙ (ap (λ n. n + 1) count ∙ next_line later_st.version later_st.place (items ++ item ∷ []) (lines ++ line ∷ []) next.middle all);
+        group = next.group;
+        claimed = middle_none later_st.place next.middle;
         form = form;
       } in (
-        unclaimed comes middle,
+        unclaimed comes at.middle,
         comes.comes.gathered.began,
         form_may later_st (form_of (items ++ item ∷ [])) form,
-        item_there g.limits before.place item agree.0,
+        agree.1,
         subst (λ st. HasGathered (lines ++ line ∷ []) (items ++ item ∷ []) None (record g { group = Nothing; began = began; grammar = st })) to later,
       )
     where
@@ -344,14 +266,14 @@ module _ (before : Standing) (lines : List Line) (items : List RowItem) (claim :
   made_claim made comes is =
       let agree = subst (λ grown. GrownAgrees g.limits before.place grown (leads comes).led) (sym is) (leads comes).agrees in
       let to : (record before { place = End }) ≡ g.grammar = subst (λ st. after_step before st ≡ g.grammar) agree.1 (leads comes).to in
-      let middle = claim_middle before.place agree.0 in
-      let whole = claim_whole before items agree.0 comes.comes.gathered.form in
-      let more = one_more before.version before.place items g.group lines line middle (listed comes middle) in
+      let at : ClaimAt before.place = agree.0 in
+      let whole = claim_whole before items at comes.comes.gathered.form in
+      let more = one_more before.version before.place items g.group lines line at.middle (listed comes at.middle) in
       let own = lines_of_piece g.limits.slots (group_lines g.group ++ line ∷ []) (ClaimPiece made) (followed g.limits.slots g.group line) is (has_lines comes) in
       let bare : claim_lines made ++ [] ≡ claim_lines made = grind (arith, common_steps) in
       let later : HasGathered (lines ++ line ∷ []) items (Some made) (record g { group = Nothing; grammar = record before { place = End } }) = record {
         listed = more ∙ ap (λ t. HeaderLine before.version ∷ (flat_map item_lines items ++ t)) (sym (bare ∙ own.0));
-        written = written comes.comes comes.is_line;
+        written = written comes.comes;
         number = comes.comes.number ∙ counted lines line;
         over = comes.comes.gathered.over;
         claim_over = own.1;
@@ -361,15 +283,7 @@ module _ (before : Standing) (lines : List Line) (items : List RowItem) (claim :
         claimed = tt;
         form = subst (FormAgrees (record before { place = End })) (sym whole) tt;
       } in
-      (unclaimed comes middle, comes.comes.gathered.began, whole, subst (λ st. HasGathered (lines ++ line ∷ []) items (Some made) (record g { group = Nothing; grammar = st })) to later)
-
--- the header and the end line, and where they lead
-edge_kind : (version : ℕ) (place : Place) (line : Line) (step : Step) → ¬ IsBody line → step_of version place line ≡ Some step → ((own : ℕ) × (place ≡ AtHeader) × (line ≡ HeaderLine own) × (step ≡ Begins own)) ⊎ ((place ≡ End) × (line ≡ EndLine) × (step ≡ At Done))
-edge_kind version AtHeader (HeaderLine own) step edge is = inl (own, refl, refl, cc)
-edge_kind version End EndLine step edge is = inr (refl, refl, cc)
-edge_kind version _ (HeaderLine own) step edge is = cc
-edge_kind version _ EndLine step edge is = cc
-edge_kind version place _ step edge is = absurd (edge tt)
+      (unclaimed comes at.middle, comes.comes.gathered.began, whole, subst (λ st. HasGathered (lines ++ line ∷ []) items (Some made) (record g { group = Nothing; grammar = st })) to later)
 
 -- at the header and at the end no group is open
 no_group : (limits : Limits) (place : Place) (group : Group) → GroupAgrees limits place group → (IsMiddle place → ⊥) → group ≡ Nothing
@@ -387,22 +301,10 @@ end_claim : (claim : Option Claim) → ClaimAgrees End claim → (made : Claim) 
 end_claim None agree = absurd agree
 end_claim (Some made) agree = (made, refl)
 
-header_form : (version own : ℕ) (sides : List Bool) (form : Outcome RowPick) → FormAgrees (record { version = version; place = AtHeader; sides = sides }) form → FormAgrees (record { version = own; place = AtNode; sides = sides }) form
-header_form version own sides (going stage) agree = record { expects = agree.expects; splits = agree.splits }
-header_form version own sides (ended part_cap) agree = absurd agree
-header_form version own sides undefined agree = agree
-header_form version own sides misplaced agree = agree
-
-end_form : (version : ℕ) (sides : List Bool) (form : Outcome RowPick) → FormAgrees (record { version = version; place = End; sides = sides }) form → FormAgrees (record { version = version; place = Done; sides = sides }) form
-end_form version sides (going stage) agree = absurd agree.expects
-end_form version sides (ended part_cap) agree = tt
-end_form version sides undefined agree = agree
-end_form version sides misplaced agree = agree
-
 module _ (lines : List Line) (items : List RowItem) (claim : Option Claim) (g : Gatherer) where
   -- after the header
-  header_made : (version own : ℕ) (sides : List Bool) → IsLine (HeaderLine own) → LineComes (record { version = version; place = AtHeader; sides = sides }) lines items claim (HeaderLine own) g → HasGathered (lines ++ HeaderLine own ∷ []) items claim (record g { grammar = record { version = own; place = AtNode; sides = sides } })
-  header_made version own sides is_line comes =
+  header_made : (version own : ℕ) (sides : List Bool) → LineComes (record { version = version; place = AtHeader; sides = sides }) lines items claim (HeaderLine own) g → HasGathered (lines ++ HeaderLine own ∷ []) items claim (record g { grammar = record { version = own; place = AtNode; sides = sides } })
+  header_made version own sides comes =
       let had = comes.gathered in
       let none = no_group g.limits AtHeader g.group had.group (λ middle. middle) in
       let unclaimed = header_claim claim had.claimed in
@@ -410,7 +312,7 @@ module _ (lines : List Line) (items : List RowItem) (claim : Option Claim) (g : 
       let fresh : items ≡ [] = had.fresh in
       record {
         listed = ap (λ t. t ++ HeaderLine own ∷ []) empty ∙ sym (ap (λ xs. lines_at own AtNode xs g.group claim) fresh ∙ (ap (λ group. lines_at own AtNode [] group claim) none ∙ ap (λ c. lines_at own AtNode [] Nothing c) unclaimed));
-        written = All-next IsLine lines (HeaderLine own) had.written is_line;
+        written = All-next IsLine lines (HeaderLine own) had.written comes.written;
         number = comes.number ∙ counted lines (HeaderLine own);
         over = had.over;
         claim_over = had.claim_over;
@@ -418,12 +320,12 @@ module _ (lines : List Line) (items : List RowItem) (claim : Option Claim) (g : 
         began = had.began;
         group = subst (GroupAgrees g.limits AtNode) (sym none) tt;
         claimed = subst (ClaimAgrees AtNode) (sym unclaimed) tt;
-        form = header_form version own sides (form_of items) had.form;
+        form = stands_form version own AtHeader AtNode sides (form_of items) (record { expects = λ expected is. is; past = λ past. absurd past }) had.form;
       }
 
   -- after the end line
-  end_made : (version : ℕ) (sides : List Bool) → IsLine EndLine → LineComes (record { version = version; place = End; sides = sides }) lines items claim EndLine g → HasGathered (lines ++ EndLine ∷ []) items claim (record g { grammar = record { version = version; place = Done; sides = sides } })
-  end_made version sides is_line comes =
+  end_made : (version : ℕ) (sides : List Bool) → LineComes (record { version = version; place = End; sides = sides }) lines items claim EndLine g → HasGathered (lines ++ EndLine ∷ []) items claim (record g { grammar = record { version = version; place = Done; sides = sides } })
+  end_made version sides comes =
       let had = comes.gathered in
       let none = no_group g.limits End g.group had.group (λ middle. middle) in
       let made = end_claim claim had.claimed in
@@ -431,7 +333,7 @@ module _ (lines : List Line) (items : List RowItem) (claim : Option Claim) (g : 
       let all : lines ++ EndLine ∷ [] ≡ lines_at version Done items g.group (Some made.0) = ap (λ t. t ++ EndLine ∷ []) was ∙ ap (λ t. HeaderLine version ∷ t) (flat made.0) in
       record {
         listed = subst (λ c. lines ++ EndLine ∷ [] ≡ lines_at version Done items g.group c) (sym made.1) all;
-        written = All-next IsLine lines EndLine had.written is_line;
+        written = All-next IsLine lines EndLine had.written comes.written;
         number = comes.number ∙ counted lines EndLine;
         over = had.over;
         claim_over = had.claim_over;
@@ -439,24 +341,19 @@ module _ (lines : List Line) (items : List RowItem) (claim : Option Claim) (g : 
         began = had.began;
         group = subst (GroupAgrees g.limits Done) (sym none) tt;
         claimed = subst (ClaimAgrees Done) (sym made.1) tt;
-        form = end_form version sides (form_of items) had.form;
+        form = stands_form version version End Done sides (form_of items) (record { expects = λ expected is. absurd is; past = λ past. tt }) had.form;
       }
     where
       flat : (made : Claim) → (flat_map item_lines items ++ (claim_lines made ++ [])) ++ EndLine ∷ [] ≡ flat_map item_lines items ++ (claim_lines made ++ EndLine ∷ [])
       flat made = grind (arith, common_steps)
 
-  place_of : (before : Standing) (place : Place) → before.place ≡ place → before ≡ record { version = before.version; place = place; sides = before.sides }
-  place_of before place is = ap (λ pl. record { version = before.version; place = pl; sides = before.sides }) is
+  moved : (led : Standing) → Some led ≡ Some g.grammar → led ≡ g.grammar
+  moved led is = cc
 
   -- the header and the end line make nothing
-  pub made_edge : (before : Standing) (line : Line) → IsLine line → ¬ IsBody line → LineComes before lines items claim line g → HasGathered (lines ++ line ∷ []) items claim g
-  made_edge before line is_line edge comes =
-      let to = next_steps before g.grammar line comes.moves in
-      ⊎_elim
-      (λ h. subst (λ st. HasGathered (lines ++ line ∷ []) items claim (record g { grammar = st })) (sym (ap (after_step before) h.3) ∙ to.2)
-      (subst (λ l. HasGathered (lines ++ l ∷ []) items claim (record g { grammar = record { version = h.0; place = AtNode; sides = before.sides } })) (sym h.2)
-      (header_made before.version h.0 before.sides (subst IsLine h.2 is_line) (subst (λ st. LineComes st lines items claim (HeaderLine h.0) g) (place_of before AtHeader h.1) (subst (λ l. LineComes before lines items claim l g) h.2 comes)))))
-      (λ e. subst (λ st. HasGathered (lines ++ line ∷ []) items claim (record g { grammar = st })) (sym (ap (after_step before) e.2) ∙ to.2)
-      (subst (λ l. HasGathered (lines ++ l ∷ []) items claim (record g { grammar = record { version = before.version; place = Done; sides = before.sides } })) (sym e.1)
-      (end_made before.version before.sides (subst IsLine e.1 is_line) (subst (λ st. LineComes st lines items claim EndLine g) (place_of before End e.0) (subst (λ l. LineComes before lines items claim l g) e.1 comes)))))
-      (edge_kind before.version before.place line to.0 edge to.1)
+  pub made_edge : (version : ℕ) (place : Place) (sides : List Bool) (line : Line) → ¬ IsBody line → LineComes (record { version = version; place = place; sides = sides }) lines items claim line g → HasGathered (lines ++ line ∷ []) items claim g
+  made_edge version AtHeader sides (HeaderLine own) edge comes = subst (λ st. HasGathered (lines ++ HeaderLine own ∷ []) items claim (record g { grammar = st })) (moved (record { version = own; place = AtNode; sides = sides }) comes.moves) (header_made version own sides comes)
+  made_edge version End sides EndLine edge comes = subst (λ st. HasGathered (lines ++ EndLine ∷ []) items claim (record g { grammar = st })) (moved (record { version = version; place = Done; sides = sides }) comes.moves) (end_made version sides comes)
+  made_edge version _ sides (HeaderLine own) edge comes = let none = comes.moves in cc
+  made_edge version _ sides EndLine edge comes = let none = comes.moves in cc
+  made_edge version place sides _ edge comes = absurd (edge tt)

@@ -56,7 +56,7 @@ GroupAgrees limits End Nothing = ⊤
 GroupAgrees limits Done Nothing = ⊤
 GroupAgrees limits _ _ = ⊥
 
--- which items a walk expects at a place; at a claim it has ended
+-- which items may come at a place; from the claim on there are none
 abbrev pub PlaceExpects : Place → Expected → Type 0
 PlaceExpects Header expected = expected ≡ ExpectNode
 PlaceExpects AtNode expected = expected ≡ ExpectNode
@@ -80,7 +80,7 @@ IsPastProof _ = ⊥
 abbrev pub lefts : List (Opened RowPick) → List Bool
 lefts splits = map (λ split. is_some split.left) splits
 
--- a walk stands where the lines do
+-- where more items have to come they stand where the lines do
 pub record StageAgrees (standing : Standing) (stage : Stage RowPick) : Type 0 where
   pub expects : PlaceExpects standing.place stage.expected
   pub splits : lefts stage.splits ≡ standing.sides

@@ -21,14 +21,14 @@ use Rattle.proof_log.specs.Log.{RowItem, item_lines, claim_lines, line_after}
 use Rattle.proof_log.specs.OneText.{IsOver, IsClaimOver}
 
 -- the end line, where it has come
-abbrev pub end_lines : Place → List Line
-end_lines Done = End ∷ []
-end_lines _ = []
+abbrev pub end_lines_at : Place → List Line
+end_lines_at Done = End ∷ []
+end_lines_at _ = []
 
 -- the lines after those of the items: those of the open group, or those of the claim and the end line where it has come
 abbrev pub tail_lines : Group → Option Claim → Place → List Line
 tail_lines group None place = group_lines group
-tail_lines group (Some claim) place = claim_lines claim ++ end_lines place
+tail_lines group (Some claim) place = claim_lines claim ++ end_lines_at place
 
 -- the lines of a log so far
 abbrev pub lines_at : ℕ → Place → List RowItem → Group → Option Claim → List Line
@@ -53,9 +53,10 @@ pub record HasGathered (lines : List Line) (items : List RowItem) (claim : Optio
   pub claimed : ClaimAgrees g.grammar.place claim
   pub form : FormAgrees g.grammar (form_of items)
 
--- a line comes after these lines, items and this claim: the grammar has taken it and the number counts it, and what is gathered stands as before it
+-- the next line has come: the grammar has taken it and the number counts it, and the rest stands as after the lines before it
 pub record LineComes (before : Standing) (lines : List Line) (items : List RowItem) (claim : Option Claim) (line : Line) (g : Gatherer) : Type 0 where
   pub gathered : HasGathered lines items claim (record g { grammar = before; number = length lines })
+  pub written : IsLine line
   pub number : g.number ≡ length lines + 1
   pub moves : next before line ≡ Some g.grammar
   pub fine : over g.limits before line ≡ None
@@ -75,7 +76,7 @@ HasMade lines items claim g (ItemGathered line item) =
 HasMade lines items claim g (ClaimGathered line made) =
     (claim ≡ None) × (line ≡ line_after items) × AreWhole items × HasGathered lines items (Some made) g
 
--- a line has no defect
+-- what a line has made is no defect
 abbrev pub IsGood : Gathered → Type 0
 IsGood (Bad kind) = ⊥
 IsGood _ = ⊤

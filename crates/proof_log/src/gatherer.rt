@@ -4,7 +4,9 @@ ghost use Rattle.log_lines.specs.declared.line.Line.{Line as AnyLine};
 ghost use Rattle.log_lines.specs.Grammar.{Standing, new_standing};
 ghost use Rattle.log_lines.specs.Line.{IsLine};
 ghost use Rattle.proof_log.specs.Agree.{IsBody};
+ghost use Rattle.proof_log.specs.declared.group.Group.TheVariants as Group;
 ghost use Rattle.proof_log.specs.Gathered.{HasGathered, HasMade, IsGood, LineComes, MovesAs};
+ghost use Rattle.proof_log.specs.Gathering.{followed, MayFollow};
 ghost use Rattle.proof_log.specs.Log.{RowItem};
 
 use crate::claim::Claim;
@@ -59,7 +61,8 @@ impl Gatherer {
     /// Takes the next line of a log.
     pub(crate) fn take(&mut self, alloc: Global, line: Line) -> Result<Gathered, AllocError>
         requires line { IsLine line }
-        requires gathered { (lines : Items AnyLine) × (items : Items RowItem) × (claim : _) × HasGathered lines items claim self.old }
+        requires gathered { (lines : Items AnyLine) × (items : Items RowItem) × (claim : _)
+            × HasGathered lines items claim self.old }
         ensures limits { self.new.limits ≡ self.old.limits }
         ensures moves { IfOk result (λ gathered. MovesAs self.old.limits self.old.grammar line self.new.grammar gathered) }
         ensures made { IfOk result (λ gathered. (lines : Items AnyLine) (items : Items RowItem) (claim : _)
@@ -80,9 +83,9 @@ impl Gatherer {
 
     // Takes a line that the grammar has taken. The header and the end line make nothing.
     fn go_on(&mut self, alloc: Global, line: Line) -> Result<Gathered, AllocError>
-        requires line { IsLine line }
         requires room { self.old.number + 1 < 2 ^ 64 }
-        requires comes { (before : Standing) × (lines : Items AnyLine) × (items : Items RowItem) × (claim : _) × LineComes before lines items claim line self.old }
+        requires comes { (before : Standing) × (lines : Items AnyLine) × (items : Items RowItem) × (claim : _)
+            × LineComes before lines items claim line self.old }
         ensures limits { self.new.limits ≡ self.old.limits }
         ensures grammar { self.new.grammar ≡ self.old.grammar }
         ensures good { IfOk result IsGood }
@@ -97,19 +100,17 @@ impl Gatherer {
 
     // Takes a line of an item or of the claim.
     fn gather(&mut self, alloc: Global, line: Line) -> Result<Gathered, AllocError>
-        requires line { IsLine line }
         requires body { IsBody line }
         requires room { self.old.number + 1 < 2 ^ 64 }
-        requires comes { (before : Standing) × (lines : Items AnyLine) × (items : Items RowItem) × (claim : _) × LineComes before lines items claim line self.old }
+        requires comes { (before : Standing) × (lines : Items AnyLine) × (items : Items RowItem) × (claim : _)
+            × LineComes before lines items claim line self.old }
         ensures limits { self.new.limits ≡ self.old.limits }
         ensures grammar { self.new.grammar ≡ self.old.grammar }
         ensures good { IfOk result IsGood }
         ensures made { IfOk result (λ gathered. (before : Standing) (lines : Items AnyLine) (items : Items RowItem) (claim : _)
             → LineComes before lines items claim line self.old → HasMade (lines ++ line ∷ []) items claim self.new gathered) }
     {
-        let limits = self.limits;
-        let group = std::mem::replace(&mut self.group, Group::Nothing);
-        match follow(alloc, limits.slots as usize, group, line)? {
+        match self.grow(alloc, line)? {
             Grown::More(group) => {
                 self.group = group;
                 Ok(Gathered::On)
@@ -124,6 +125,16 @@ impl Gatherer {
                 claim,
             }),
         }
+    }
+
+    // What a line makes of the open group. After it none is open.
+    fn grow(&mut self, alloc: Global, line: Line) -> Result<Grown, AllocError>
+        requires { MayFollow self.old.limits.slots self.old.group line }
+        ensures same { self.new ≡ record self.old { group = Group.Nothing } }
+        ensures grown { IfOk result (λ grown. grown ≡ followed self.old.limits.slots self.old.group line) }
+    {
+        let group = std::mem::replace(&mut self.group, Group::Nothing);
+        follow(alloc, self.limits.slots as usize, group, line)
     }
 }
 

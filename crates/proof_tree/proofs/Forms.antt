@@ -1,5 +1,5 @@
 -- Where the items of a proof stand, whatever the proof is over: whole items are those of a tree, and a walk stands as the form does.
-use Rattle.std.proofs.Common.{◌≡◌, ◌≢◌, Bool, true, false, List, [], ◌∷◌, map, Option, Some, None, option_map, is_some, if◌then◌else◌, IsTrue, refl, ap, sym, ◌∙◌, subst}
+use Rattle.std.proofs.Common.{◌≡◌, ◌≢◌, Bool, true, false, List, [], ◌∷◌, ◌++◌, map, Option, Some, None, option_map, is_some, if◌then◌else◌, IsTrue, refl, ap, sym, ◌∙◌, subst, append_assoc}
 use Rattle.std.specs.Prelude.{⊤}
 use Rattle.proof_tree.specs.declared.capped.Capped.{Capped}
 use Rattle.proof_tree.specs.declared.capped.Capped.TheVariants.{AtMost, NoPoint, Bad}
@@ -14,12 +14,12 @@ use Rattle.proof_tree.specs.Relaxation.{Steps}
 use Rattle.proof_tree.specs.Tree.{Leaf, no_point, dual, one_point, pending, Tree, leaf, split as two_parts, tree_cap, leaf_cap, after_cuts}
 use Rattle.proof_tree.specs.Views.{View}
 use Rattle.proof_tree.specs.Walk.{Opened, Stage, Outcome, going, ended, undefined, misplaced, may_come, going_to, close, close_split, part_ended, taken, step, after, walked, start, outcome_of}
-use Rattle.proof_tree.proofs.WalkLaw.{walked-append, walked-next, walked-whole}
+use Rattle.proof_tree.proofs.WalkLaw.{walked-append, walked-next, walked-misplaced, walked-whole}
 use Rattle.proof_tree.proofs.WalkTree.{walked-is_tree}
 
 module _ (U C P : Type 0) where
   -- under any steps each cut leads on, and each tree has the cap of no point
-  pub any_steps-cuts : (v : View) (cuts : List U) → after_cuts (any_steps {U = U} {C = C} {P = P}) v cuts ≡ Some v
+  any_steps-cuts : (v : View) (cuts : List U) → after_cuts (any_steps {U = U} {C = C} {P = P}) v cuts ≡ Some v
   any_steps-cuts v [] = refl
   any_steps-cuts v (u ∷ us) = any_steps-cuts v us
 
@@ -143,6 +143,13 @@ module _ {R A U C P F : Type 0} (s : Steps U C P) where
 -- items that an item may come after are themselves in their places
 pub may-so_far : {R A U C P F : Type 0} (items : List (Item R A U C P F)) (item : Item R A U C P F) → MayComeAfter items item → form_of items ≢ misplaced
 may-so_far items item may is = may (walked-append _ _ _ any_steps (start []) items (item ∷ []) ∙ ap (λ o. after any_steps o item) is)
+
+-- each item of whole items may come after those before it
+pub whole-may : {R A U C P F : Type 0} (before : List (Item R A U C P F)) (item : Item R A U C P F) (later : List (Item R A U C P F)) → AreWhole (before ++ item ∷ later) → MayComeAfter before item
+whole-may before item later whole is =
+    let led : form_of ((before ++ item ∷ []) ++ later) ≡ ended NoPoint = ap form_of (append_assoc before (item ∷ []) later) ∙ whole in
+    let wrong : form_of ((before ++ item ∷ []) ++ later) ≡ misplaced = walked-append _ _ _ any_steps (start []) (before ++ item ∷ []) later ∙ ap (λ o. walked any_steps o later) is ∙ walked-misplaced _ _ _ any_steps later in
+    cc
 
 -- an outcome that is not undefined
 abbrev Defined : {P : Type 0} → Outcome P → Type 0

@@ -1,3 +1,4 @@
+pub mod Building
 pub mod Forms
 pub mod Ranges
 pub mod Sound

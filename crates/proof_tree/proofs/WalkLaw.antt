@@ -14,7 +14,7 @@ use Rattle.proof_tree.specs.Views.{View}
 use Rattle.proof_tree.specs.Walk.{Opened, Stage, Outcome, going, ended, undefined, misplaced, may_come, going_to, close, close_split, part_ended, taken, step, after, walked, start, outcome_of, open_count, ComesNext, Tells}
 
 -- the stage where these items may come, with these splits open, over this view
-abbrev stage_at : {P : Type 0} → Expected → List (Opened P) → View → Outcome P
+abbrev pub stage_at : {P : Type 0} → Expected → List (Opened P) → View → Outcome P
 stage_at expected splits v = going (record { expected = expected; splits = splits; view = v })
 
 -- where no split is open, a part that has ended is the proof

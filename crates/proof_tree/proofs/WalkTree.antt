@@ -5,7 +5,6 @@ use Rattle.proof_tree.specs.declared.capped.Capped.{Capped}
 use Rattle.proof_tree.specs.declared.capped.Capped.TheVariants.{AtMost, NoPoint, Bad}
 use Rattle.proof_tree.specs.declared.item.Item.{Item}
 use Rattle.proof_tree.specs.declared.item.Item.TheVariants.{Node, Cut, Found, Empty, Dual, Point, Pending, Split}
-use Rattle.proof_tree.specs.declared.walk.Expected.{Expected}
 use Rattle.proof_tree.specs.declared.walk.Expected.TheVariants.{Node as ExpectNode, Inside, End}
 use Rattle.proof_tree.specs.Items.{leaf_item, tree_items}
 use Rattle.proof_tree.specs.Cap.{Bounds}
@@ -14,11 +13,7 @@ use Rattle.proof_tree.specs.Tree.{Leaf, no_point, dual, one_point, pending, Tree
 use Rattle.proof_tree.specs.Views.{View, Point as ViewPoint}
 use Rattle.proof_tree.specs.Walk.{Opened, Stage, Outcome, going, ended, undefined, misplaced, going_to, part_ended, walked, start}
 use Rattle.proof_tree.proofs.Sound.{tree_cap-bounds}
-use Rattle.proof_tree.proofs.WalkLaw.{walked-append, walked-undefined, walked-misplaced, walked-tree}
-
--- the stage where these items may come, with these splits open, over this view
-abbrev stage_at : {P : Type 0} → Expected → List (Opened P) → View → Outcome P
-stage_at expected splits v = going (record { expected = expected; splits = splits; view = v })
+use Rattle.proof_tree.proofs.WalkLaw.{stage_at, walked-append, walked-undefined, walked-misplaced, walked-tree}
 
 -- how a node ends: with a leaf, or with a split and its parts
 data Tail (U C P F : Type 0) : Type 0 where

@@ -1,15 +1,41 @@
 -- What a builder of a proof has built.
-use Rattle.std.specs.Prelude.{◌≡◌, List}
+use Rattle.std.specs.Prelude.{◌≡◌, List, [], ◌∷◌, ◌++◌, map, Option, Some, None, option_to_list}
 use Rattle.proof_tree.specs.declared.item.Item.{Item}
+use Rattle.proof_tree.specs.declared.item.Item.TheVariants.{Node, Cut, Found, Split}
+use Rattle.proof_tree.specs.declared.builder.BegunNode.{BegunNode}
+use Rattle.proof_tree.specs.declared.builder.SplitNode.{SplitNode}
 use Rattle.proof_tree.specs.declared.builder.TreeBuilder.{TreeBuilder}
 use Rattle.proof_tree.specs.declared.builder.Built.{Built}
 use Rattle.proof_tree.specs.declared.builder.Built.TheVariants.{More, Whole}
+use Rattle.proof_tree.specs.declared.proof.Proof.{Proof}
 use Rattle.proof_tree.specs.Items.{tree_items}
 use Rattle.proof_tree.specs.Tree.{tree_of}
 
--- STUB
+-- the items of what is there, and none of what is not
+abbrev pub items_if : {X I : Type 0} → (X → List I) → Option X → List I
+items_if items_of None = []
+items_if items_of (Some x) = items_of x
+
+-- the items of a proof
+abbrev pub proof_items : {R A U C P F : Type 0} → Proof U C P F → List (Item R A U C P F)
+proof_items proof = tree_items (tree_of proof)
+
+-- the items of a node that has begun: the node, its cuts, and its found point if that has come
+abbrev pub begun_items : {R A U C P F : Type 0} → BegunNode U F → List (Item R A U C P F)
+begun_items node = Node ∷ (map Cut node.cuts ++ map Found (option_to_list node.found))
+
+-- the items of an open split: those of its node, the split, and those of its left part if that has ended
+abbrev pub split_items : {R A U C P F : Type 0} → SplitNode U C P F → List (Item R A U C P F)
+split_items split = begun_items split.node ++ Split split.pick split.cert ∷ items_if proof_items split.left
+
+-- the items of open splits, from the outermost in; the innermost stands first
+abbrev pub splits_items : {R A U C P F : Type 0} → List (SplitNode U C P F) → List (Item R A U C P F)
+splits_items [] = []
+splits_items (split ∷ splits) = splits_items splits ++ split_items split
+
+-- the items are those that the builder holds: those of its open splits, and those of the node that has begun
 pub record HasBuilt {R A U C P F : Type 0} (items : List (Item R A U C P F)) (builder : TreeBuilder R A U C P F) : Type 0 where
-  pub same : items ≡ items
+  pub same : items ≡ splits_items builder.splits ++ items_if begun_items builder.begun
 
 -- what was built of these items: a part of a proof, or the proof whose items they are
 abbrev pub IsBuilt : {R A U C P F : Type 0} → List (Item R A U C P F) → Built R A U C P F → Type 0

@@ -2,6 +2,7 @@ use crate::relaxation::Relaxation;
 
 /// A piece of a proof. The items of a proof are, in prefix order: `Node`, its cuts, its found point if
 /// there is one, its end, and for a split the items of the left and then of the right part.
+#[derive(Drop)]
 pub enum Item<R: Relaxation> {
     /// A node begins.
     Node,
@@ -19,19 +20,4 @@ pub enum Item<R: Relaxation> {
     Pending(R::Cert),
     /// The area has two parts; the certificate shows why it was split.
     Split(R::Pick, R::Cert),
-}
-
-impl<R: Relaxation> Drop for Item<R> {
-    fn drop(self) {
-        match self {
-            Item::Node => {}
-            Item::Cut(_) => {}
-            Item::Found(_) => {}
-            Item::Empty => {}
-            Item::Dual(_) => {}
-            Item::Point => {}
-            Item::Pending(_) => {}
-            Item::Split(_, _) => {}
-        }
-    }
 }

@@ -2,7 +2,8 @@
 //!
 //! This crate knows no rows and no plant: it works over any `Relaxation` that keeps the laws of that
 //! trait. `cap_of` answers the cap of a proof by one walk over its tree, and `Walk` the same cap from
-//! the tree's items, one at a time. Where a cap is answered, no lawful point of the area is worth more.
+//! the tree's items, one at a time. `TreeBuilder` builds a proof from its items, one at a time. Where a
+//! cap is answered, no lawful point of the area is worth more.
 #![tactic(auto)]
 
 mod builder;
@@ -18,7 +19,7 @@ mod taker;
 mod tests;
 mod walk;
 
-pub use builder::{Built, TreeBuilder};
+pub use builder::{BegunNode, Built, SplitNode, TreeBuilder};
 pub use capped::Capped;
 pub use capping::{cap_law, cap_of};
 pub use item::Item;

@@ -29,6 +29,24 @@ impl<T> Stack<T> {
             items: Vec::new(alloc),
         }
     }
+
+    /// Takes the topmost item off, if there is one.
+    pub fn take_top(&mut self) -> Option<T>
+        ensures { MatchOption result ((self.old ≡ []) × (self.new ≡ [])) (λ top. self.old ≡ top ∷ self.new) }
+    {
+        self.items.pop()
+    }
+}
+
+impl<T: Drop> Stack<T> {
+    /// Puts an item on top. After an error the stack is as before, and the item is dropped.
+    pub fn push(&mut self, item: T) -> Result<(), AllocError>
+        ensures ok { OnOk result (self.new ≡ item ∷ self.old) }
+        ensures err { OnErr result (self.new ≡ self.old) }
+    {
+        self.items.push(item)?;
+        Ok(())
+    }
 }
 
 impl<T: Copy> Stack<T> {
@@ -37,15 +55,6 @@ impl<T: Copy> Stack<T> {
         ensures { MatchOption result (self.now ≡ []) (λ top. self.now ≡ top ∷ drop 1 self.now) }
     {
         self.items.last().copied()
-    }
-
-    /// Puts an item on top. After an error the stack is as before.
-    pub fn push(&mut self, item: T) -> Result<(), AllocError>
-        ensures ok { OnOk result (self.new ≡ item ∷ self.old) }
-        ensures err { OnErr result (self.new ≡ self.old) }
-    {
-        self.items.push(item)?;
-        Ok(())
     }
 
     /// Takes the topmost item off, which has to be there.

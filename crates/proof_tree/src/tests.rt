@@ -1,11 +1,15 @@
 ghost use Rattle.std.specs.Prelude.{IfOk, ◌≡◌, ◌+◌, ◌*◌, ◌<◌, ◌≤◌, length, ⊤};
 ghost use Rattle.std.proofs.Common.{arith};
+ghost use Rattle.proof_tree.specs.Form.{AreWhole};
 ghost use Rattle.proof_tree.specs.Items.{tree_items};
 ghost use Rattle.proof_tree.specs.Tree.{Tree, tree_cap};
 ghost use Rattle.proof_tree.specs.Views.{present};
 ghost use Rattle.proof_tree.specs.ByteRange.{IsNumberIn, number_of, range_steps, ranges, range_sound};
 
-use crate::{Capped, End, Item, List, NodeTaker, Proof, Relaxation, TakeStop, Took, Walk, cap_of};
+use crate::{
+    Built, Capped, End, Item, List, NodeTaker, Proof, Relaxation, TakeStop, Took, TreeBuilder,
+    Walk, cap_of,
+};
 use std::alloc::{AllocError, Global};
 use std::test::Fail;
 
@@ -284,4 +288,56 @@ fn counts(rt: HostRuntime) {
         Err(TakeStop::Memory)
     );
     assert_eq!(rt; count, u64::MAX);
+}
+
+/// What is built of the items of a proof, and how many items are left then.
+fn build<R: Relaxation>(
+    alloc: Global,
+    items: Vec<Item<R>>,
+) -> Result<(Proof<R::Trim, R::Cert, R::Pick, R::Found>, usize), AllocError>
+    requires { AreWhole items.items }
+{
+    let mut builder = TreeBuilder::new(alloc);
+    let mut left = items.len();
+    for item in items {
+        left -= 1;
+        match builder.take(item)? {
+            Built::More(more) => builder = more,
+            Built::Whole(proof) => return Ok((proof, left)),
+        }
+    }
+    unreachable!()
+}
+
+#[test]
+fn builds(rt: HostRuntime) -> Result<(), Fail> {
+    let alloc = rt.alloc();
+    let items = Vec::from_array(
+        alloc,
+        [
+            Item::Node,
+            Item::Cut(true),
+            Item::Found(3),
+            Item::Split(7, 0),
+            Item::Node,
+            Item::Dual(9),
+            Item::Node,
+            Item::Split(254, 0),
+            Item::Node,
+            Item::Pending(254),
+            Item::Node,
+            Item::Point,
+        ],
+    )?;
+    let (proof, left) = build::<ByteRange>(alloc, items)?;
+    assert_eq!(rt; left, 0);
+    let pending = closed(alloc, End::Pending(254));
+    let right = parted(alloc, 254, pending, closed(alloc, End::Point))?;
+    let tree = parted(alloc, 7, dual(alloc, 9), right)?;
+    assert_eq!(rt; proof.cuts.len(), 1);
+    assert_eq!(rt; proof.found, Some(3));
+    let cap = cap_over_all(proof);
+    assert_eq!(rt; cap, Capped::AtMost(255));
+    assert_eq!(rt; cap, cap_over_all(tree));
+    Ok(())
 }
