@@ -97,18 +97,18 @@ impl Checker {
 
     /// Takes an item that begins at this line. While the check goes on, it has to be one that may come and names what is there.
     /// After a defect it changes nothing.
-    pub fn take(&mut self, rows: &Rows, line: u64, item: &Item<Rows>) -> Result<(), AllocError>
+    pub fn take(&mut self, rows: &Rows, line: u64, item: Item<Rows>) -> Result<(), AllocError>
         requires fits { Fits rows.now.program (present (map view_of self.old.area)) }
         requires ready { IsReady (row_steps rows.now.program) self.old.course self.old.walk (map view_of self.old.area) }
-        requires may { MayTake (row_steps rows.now.program) self.old.course self.old.walk (present (map view_of self.old.area)) item.now }
+        requires may { MayTake (row_steps rows.now.program) self.old.course self.old.walk (present (map view_of self.old.area)) item }
         ensures fits { Fits rows.now.program (present (map view_of self.new.area)) }
         ensures ready { OnOk result (IsReady (row_steps rows.now.program) self.new.course self.new.walk (map view_of self.new.area)) }
         ensures stands { OnOk result ((root : View) (items : Items RowItem) → line ≡ line_after items
             → StandsAt (row_steps rows.now.program) rows.now.program root items self.old.course self.old.walk (map view_of self.old.area)
-            → StandsAt (row_steps rows.now.program) rows.now.program root (items ++ item.now ∷ []) self.new.course self.new.walk (map view_of self.new.area)) }
+            → StandsAt (row_steps rows.now.program) rows.now.program root (items ++ item ∷ []) self.new.course self.new.walk (map view_of self.new.area)) }
     {
         match self.course {
-            Course::Going => self.advance(rows, line, item),
+            Course::Going => self.advance(rows, line, &item),
             Course::Ended(_) => Ok(()),
             Course::Faulty(_) => Ok(()),
         }

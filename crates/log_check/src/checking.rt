@@ -81,7 +81,7 @@ pub fn check_rows<F: Shelf>(
     let mut claimed = None;
     'parts: for _ in 0..u64::MAX {
         match reader.next(files, name)? {
-            LogPart::Item { line, item } => checker.take(rows, line, &item)?,
+            LogPart::Item { line, item } => checker.take(rows, line, item)?,
             LogPart::Claim { line, claim } => {
                 began = line;
                 claimed = Some(claim);
