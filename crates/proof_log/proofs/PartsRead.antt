@@ -1,5 +1,5 @@
 -- After a line a reader of a log has read more of it, or to a part of it.
-use Rattle.std.proofs.Common.{◌≡◌, ℕ, ◌+◌, List, [], ◌∷◌, ◌++◌, length, flat_map, Option, Some, None, IfSome, MatchOption, refl, ap, sym, ◌∙◌, subst, arith}
+use Rattle.std.proofs.Common.{◌≡◌, ℕ, ◌+◌, List, [], ◌∷◌, ◌++◌, length, Option, Some, None, IfSome, MatchOption, refl, ap, sym, ◌∙◌, subst, arith}
 use Rattle.std.specs.List.{All}
 use Rattle.std.proofs.lemmas.Grind.{common_steps}
 use Rattle.stn_edge.specs.Files.{FileMap, file_of}
@@ -11,7 +11,6 @@ use Rattle.log_lines.specs.declared.grammar.Limits.{Limits}
 use Rattle.log_lines.specs.declared.grammar.Place.{Place}
 use Rattle.log_lines.specs.declared.grammar.Place.TheVariants.{Done}
 use Rattle.log_lines.specs.declared.line.Line.{Line}
-use Rattle.log_lines.specs.declared.line.Line.TheVariants.{Header, End}
 use Rattle.log_lines.specs.declared.reader.LineEnd.{LineEnd}
 use Rattle.log_lines.specs.declared.reader.LineEnd.TheVariants.{Whole}
 use Rattle.log_lines.specs.Grammar.{Standing, new_standing}
@@ -26,7 +25,7 @@ use Rattle.proof_log.specs.declared.log_reader.LogPart.{LogPart}
 use Rattle.proof_log.specs.declared.log_reader.LogPart.TheVariants.{Item as ItemPart, Claim as ClaimPart, End as EndPart, Bad as BadPart}
 use Rattle.proof_log.specs.Agree.{ClaimAgrees, FormAgrees, PlaceExpects}
 use Rattle.proof_log.specs.Gathered.{HasGathered, IsThere, lines_at}
-use Rattle.proof_log.specs.Log.{RowItem, item_lines, claim_lines, lines_text, log_lines, log_text}
+use Rattle.proof_log.specs.Log.{RowItem, lines_text, log_lines, log_text}
 use Rattle.proof_log.specs.LogReading.{HasRead, IsReadTo, IsLeft, IsClean, IsPartAfter}
 use Rattle.proof_log.specs.OneText.{IsOver, IsClaimOver}
 use Rattle.proof_log.specs.Step.{IsStepped, HasStepped}

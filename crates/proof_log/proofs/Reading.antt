@@ -1,17 +1,14 @@
 -- A file that is read line by line, where the store may not tell it.
-use Rattle.std.proofs.Common.{◌≡◌, ℕ, ◌+◌, false, List, [], ◌∷◌, ◌++◌, length, take, drop, Option, Some, None, IfSome, MatchOption, refl, ap, sym, ◌∙◌, subst, append_assoc, arith}
-use Rattle.std.proofs.lemmas.Grind.{common_steps}
+use Rattle.std.proofs.Common.{◌≡◌, ℕ, ◌+◌, List, [], ◌∷◌, ◌++◌, drop, Option, Some, None, IfSome, refl, ap, sym, ◌∙◌, append_assoc}
 use Rattle.std.proofs.lemmas.List.{append-nil}
 use Rattle.stn_edge.specs.Files.{FileMap, file_of}
 use Rattle.log_lines.specs.declared.grammar.Limits.{Limits}
-use Rattle.log_lines.specs.declared.grammar.Place.{Place}
-use Rattle.log_lines.specs.declared.grammar.Place.TheVariants.{Done}
 use Rattle.log_lines.specs.declared.line.Line.{Line}
 use Rattle.log_lines.specs.declared.reader.LineEnd.{LineEnd}
 use Rattle.log_lines.specs.declared.reader.LineEnd.TheVariants.{Whole, Cut, Long, Nothing}
 use Rattle.log_lines.specs.Grammar.{Standing, new_standing}
 use Rattle.log_lines.specs.Line.{line_text}
-use Rattle.log_lines.specs.Reader.{Reading, EndsLine, IsEnd, IsAhead, new_reading}
+use Rattle.log_lines.specs.Reader.{Reading, EndsLine, IsEnd, IsAhead}
 use Rattle.log_lines.specs.TextDefect.{log_text_defect}
 use Rattle.proof_log.specs.Log.{lines_text}
 use Rattle.proof_log.specs.LogReading.{IsReadTo, IsLeft}

@@ -8,3 +8,4 @@ pub mod Text
 pub mod Gathered
 pub mod Step
 pub mod LogReading
+pub mod Reached

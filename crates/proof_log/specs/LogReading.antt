@@ -3,6 +3,8 @@ use Rattle.std.specs.Prelude.{◌≡◌, ◌+◌, ℕ, false, List, [], ◌∷�
 use Rattle.std.specs.List.{All}
 use Rattle.stn_edge.specs.Files.{FileMap, file_of}
 use Rattle.proof_tree.specs.Form.{MayComeAfter, AreWhole}
+use Rattle.proof_tree.specs.Items.{tree_items}
+use Rattle.proof_tree.specs.Tree.{tree_of}
 use Rattle.log_lines.specs.declared.grammar.Limits.{Limits}
 use Rattle.log_lines.specs.declared.line.Line.{Line}
 use Rattle.log_lines.specs.Grammar.{Standing}
@@ -10,12 +12,13 @@ use Rattle.log_lines.specs.Line.{IsLine}
 use Rattle.log_lines.specs.Reader.{IsAhead}
 use Rattle.log_lines.specs.TextDefect.{log_text_defect}
 use Rattle.proof_log.specs.declared.claim.Claim.{Claim}
+use Rattle.proof_log.specs.declared.log.Log.{Log}
 use Rattle.proof_log.specs.declared.log_reader.LogReader.{LogReader}
 use Rattle.proof_log.specs.declared.log_reader.LogPart.{LogPart}
 use Rattle.proof_log.specs.declared.log_reader.LogPart.TheVariants.{Item as ItemPart, Claim as ClaimPart, End as EndPart, Bad as BadPart}
 use Rattle.proof_log.specs.Gathered.{HasGathered, IsThere}
 use Rattle.proof_log.specs.Log.{RowItem, log_lines, log_text, line_after, lines_text}
-use Rattle.proof_log.specs.OneText.{IsOver, IsClaimOver}
+use Rattle.proof_log.specs.OneText.{IsOver, IsClaimOver, IsLogOver}
 use Rattle.proof_log.specs.Text.{rest_defect}
 
 -- the file is the text of the lines and what stands from a place on
@@ -54,3 +57,9 @@ IsPartAfter told name limits items claim r (EndPart version) =
     AreWhole items × ((made : Claim) × (claim ≡ Some made) × IfSome told (λ m. IsClean limits (file_of m name) version items made))
 IsPartAfter told name limits items claim r (BadPart defect) =
     IfSome told (λ m. log_text_defect limits (file_of m name) ≡ Some (defect.line, defect.kind))
+
+-- the bytes are the text of the log, whose points have a value for each slot, and have no text defect
+pub record IsRead (limits : Limits) (bytes : List ℕ) (log : Log) : Type 0 where
+  pub text : bytes ≡ log_text log.version (tree_items (tree_of log.tree)) log.claim
+  pub over : IsLogOver limits.slots log.version (tree_of log.tree) log.claim
+  pub clean : log_text_defect limits bytes ≡ None

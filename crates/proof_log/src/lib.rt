@@ -1,7 +1,12 @@
 //! The text of proofs and of what they claim, as logs of lines.
 //!
-//! `put_proof` and `put_claim` append the lines of a proof and of a claim, and `LogWriter` writes the same lines to a file,
-//! piece by piece.
+//! `put_log` appends the text of a log, `put_proof` and `put_claim` the lines of a proof and of a claim, and `LogWriter` writes
+//! the same lines to a file, piece by piece.
+//!
+//! `LogReader` reads a log from a file, item by item, and holds only the lines of one item and where they stand: each part that
+//! it gives may come after those before it, and the log has come to its end, or the first text defect of the file was met.
+//! `read_log` gives the whole log of which some bytes are the text, or their first text defect: where it gives a log, `put_log`
+//! of that log is those bytes again.
 #![tactic(auto)]
 
 mod claim;
@@ -15,6 +20,7 @@ mod log;
 mod log_reader;
 mod nodes;
 mod parts;
+mod read;
 #[cfg(test)]
 mod tests;
 mod whole;
@@ -27,6 +33,7 @@ pub use laws::{logs_are_accepted, logs_have_no_defect, logs_have_one_text, logs_
 pub use log::{Defect, Log};
 pub use log_reader::{LogPart, LogReader};
 pub use nodes::put_proof;
+pub use read::{LogStop, read_log};
 pub use whole::put_log;
 pub use writer::LogWriter;
 

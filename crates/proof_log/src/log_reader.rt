@@ -14,7 +14,7 @@ use crate::claim::Claim;
 use crate::gatherer::{Gathered, Gatherer};
 use crate::log::Defect;
 use log_lines::kinds::{GRAMMAR, TRAILING, TRUNCATED};
-use log_lines::{LineEnd, LineReader, Limits, read_line};
+use log_lines::{Limits, LineEnd, LineReader, read_line};
 use proof_tree::Item;
 use row_relax::Rows;
 use std::alloc::{AllocError, Global};

@@ -1,5 +1,6 @@
-use crate::{Claim, LogWriter, put_claim, put_item, put_proof};
+use crate::{Claim, Defect, LogStop, LogWriter, put_claim, put_item, put_log, put_proof, read_log};
 use dual_bound::{Cert, Mult};
+use log_lines::Limits;
 use proof_tree::{End, Item, List as Cuts, NodeTaker, Proof, TakeStop};
 use range_prop::RowCut;
 use row_kit::{Found, List};
@@ -126,5 +127,61 @@ fn writes_logs(rt: HostRuntime) -> Result<(), Fail> {
     failing.fail_call(2, 5)?;
     assert_eq!(rt; write_nodes(alloc, &mut failing, 1000), Err(Stop::Failed));
     assert_eq!(rt; log(&failing), b"stn-l".as_slice());
+    Ok(())
+}
+
+/// Texts over 9 rows and 3 slots with at most one split at a node, each with the line and the kind of its first defect, or 0
+/// where it is a log.
+const TEXTS: [(&[u8], u64, u8); 12] = [
+    (b"stn-log 2\nnode\npending 1 0\nclaim below -1\nend\n", 0, 0),
+    (b"stn-log 1\nnode\nempty\nclaim infeasible\nend\n", 0, 0),
+    (
+        b"stn-log 1\nnode\ncut 3 1\ncut 0 2\nfound -34 2\nvalue 0 3\nvalue 2 7\ndual 2 1\nmult 1 5\nclaim optimal -34 1\nvalue 1 9\nend\n",
+        0,
+        0,
+    ),
+    (
+        b"stn-log 2\nnode\nfound -34 0\nsplit 0 0 2 2\nmult 1 5\nmult 4 1099511627776\nnode\ndual 1 0\nnode\ncut 3 1\npoint\nclaim between -34 60 2\nvalue 0 3\nvalue 2 7\nend\n",
+        0,
+        0,
+    ),
+    (b"", 1, 2),
+    (b"stn-log 2\nempty\n", 2, 1),
+    (b"stn-log 1\nnode\npoint\nclaim infeasible\nend\n", 3, 1),
+    (b"stn-log 2\nnode\nfound 1 2\nvalue 0 1\nval", 5, 2),
+    (b"stn-log 2\nnode\nempty\nclaim infeasible\nend\nx", 6, 3),
+    (b"stn-log 2\nnode\ncut 9 0\n", 3, 4),
+    (b"stn-log 2\nnode\nfound 1 1\nvalue 3 1\n", 4, 5),
+    (
+        b"stn-log 2\nnode\nsplit 0 0 1 0\nnode\nsplit 1 0 1 0\nnode\n",
+        6,
+        9,
+    ),
+];
+
+/// The text of the log of which this is the text.
+fn read_back(alloc: Global, text: &[u8]) -> Result<Vec<u8>, LogStop> {
+    let limits = Limits {
+        rows: 9,
+        slots: 3,
+        depth: 1,
+    };
+    let log = read_log(alloc, text, &limits)?;
+    let mut back = Vec::new(alloc);
+    put_log(alloc, &log, &mut back)?;
+    Ok(back)
+}
+
+#[test]
+fn reads_logs(rt: HostRuntime) -> Result<(), Fail> {
+    for (text, line, kind) in TEXTS {
+        match read_back(rt.alloc(), text) {
+            Ok(back) => {
+                assert_eq!(rt; back.as_slice(), text);
+                assert_eq!(rt; line, 0);
+            }
+            Err(stop) => assert_eq!(rt; stop, LogStop::Defect(Defect { line, kind })),
+        }
+    }
     Ok(())
 }

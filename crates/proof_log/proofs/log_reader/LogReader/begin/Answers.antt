@@ -1,4 +1,3 @@
-use Rattle.std.proofs.Common.{[], None}
 use Rattle.proof_log.proofs.PartsRead.{begun}
 use Rattle.proof_log.proofs.log_reader.LogReader.begin.Goals as goal
 

@@ -1,4 +1,4 @@
-use Rattle.std.proofs.Common.{◌≡◌, MatchOption, subst}
+use Rattle.std.proofs.Common.{MatchOption, subst}
 use Rattle.proof_log.specs.LogReading.{HasRead, IsPartAfter}
 use Rattle.proof_log.proofs.log_reader.LogReader.next.Goals as goal
 
