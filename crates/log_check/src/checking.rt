@@ -66,7 +66,8 @@ pub fn check_rows<F: Shelf>(
     name: &str,
 ) -> Result<LogVerdict, CheckStop>
     requires { IsTrue (F.may_read files.old name.now) }
-    ensures verdict { IfOk result (λ verdict. IfSome (F.files files.old) (λ m. IsVerdict rows.now.program depth (file_of m name.now) verdict)) }
+    ensures verdict { IfOk result (λ verdict. IfSome (F.files files.old)
+        (λ m. IsVerdict rows.now.program depth (file_of m name.now) verdict)) }
     ensures holds { IfOk result (YesHolds rows.now.program) }
     ensures fault { result ≡ Err CheckStop.Fault → Rose (F.read_faults files.old) (F.read_faults files.new) }
     ensures same { F.files files.new ≡ F.files files.old }

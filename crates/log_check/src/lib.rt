@@ -19,7 +19,3 @@ pub use bytes::check_bytes;
 pub use checking::check_rows;
 pub use log::check_log;
 pub use verdict::{CheckStop, LogVerdict};
-
-// A crate can name it in a contract only if it is exported.
-#[doc(hidden)]
-pub use course::Course;
