@@ -20,12 +20,12 @@ use Rattle.proof_tree.specs.Walk.{Opened, Stage, Outcome, going, ended, undefine
 use Rattle.proof_tree.proofs.WalkLaw.{walked-next}
 use Rattle.row_relax.specs.declared.pick.RowPick.{RowPick}
 use Rattle.row_relax.specs.declared.rows.Rows.{Rows}
-use Rattle.proof_log.specs.Log.{RowItem}
+use Rattle.proof_log.specs.Log.{RowItem, line_after}
 use Rattle.proof_log.specs.declared.log.Defect.{Defect}
 use Rattle.log_check.specs.declared.course.Course.{Course}
 use Rattle.log_check.specs.declared.course.Course.TheVariants.{Going, Faulty}
-use Rattle.log_check.specs.Meaning.{RowSteps, IsWorth, PointDefect, CapDefect, ItemDefect, HasDefect, HaveNone, IsItemDefect, line_after}
-use Rattle.log_check.specs.Course.{RowWalk, StandsAt, IsReady, IsNamed, MayTake, IsTested, end_kind, course_of, Leads}
+use Rattle.log_check.specs.Meaning.{RowSteps, IsWorth, PointDefect, CapDefect, ItemDefect, HasDefect, HaveNone, IsItemDefect}
+use Rattle.log_check.specs.Course.{RowWalk, StandsAt, IsReady, IsNamed, MayTake, IsTested, end_kind, course_of}
 
 -- the right part of each open split is there
 abbrev RightsNamed : RowSteps → List (Opened RowPick) → Type 0
@@ -93,7 +93,7 @@ leads_nowhere s program splits v (Split pick cert) rights named tested nowhere =
     at (Some w) some e = cc
 
 -- a point that has its worth has no defect
-worth-sound : (program : Program) (value : ℤ) (point : List ℕ) → IsWorth program value point → (kind : ℕ) → ¬ PointDefect program value point kind
+pub worth-sound : (program : Program) (value : ℤ) (point : List ℕ) → IsWorth program value point → (kind : ℕ) → ¬ PointDefect program value point kind
 worth-sound program value point is kind = ⊎_elim (λ x. x.1 is.0) (λ x. x.2 is.1)
 
 cap-sound : (s : RowSteps) (v : View) (cert : Cert) → s.empty v ≡ false → s.cap v cert ≢ Bad → (kind : ℕ) → ¬ CapDefect s v cert kind
@@ -170,9 +170,3 @@ took_ready s walk views TookBad line kind stands = tt
 pub stays_faulty : (s : RowSteps) (program : Program) (root : View) (items : List RowItem) (item : RowItem) (walk : RowWalk) (views : List View) (course : Course) (defect : Defect) → course ≡ Faulty defect → StandsAt s program root items course walk views → StandsAt s program root (items ++ item ∷ []) course walk views
 stays_faulty s program root items item walk views course defect is stand =
     rw is (still_defect s program root items item defect (rw is at stand))
-
--- where the walk took the item it has led the check
-pub took_leads : (s : RowSteps) (item : RowItem) (walk new : RowWalk) (views later : List View) (line kind : ℕ) (took : Took) → IsAnswer took new later (step s (stage_of walk views) item) → Leads s Going walk views item (course_of took line kind) new later
-took_leads s item walk new views later line kind More answer = answer
-took_leads s item walk new views later line kind (Done proof_cap) answer = answer.0
-took_leads s item walk new views later line kind TookBad answer = tt

@@ -1,5 +1,5 @@
 -- The answer on a log that has come to its end.
-use Rattle.std.proofs.Common.{◌≡◌, ◌≢◌, inl, inr, ⊎_elim, ℕ, ℤ, ◌≤ℤ◌, List, length, Option, Some, None, IfSome, refl, ap, sym, ◌∙◌, subst, arith}
+use Rattle.std.proofs.Common.{◌≡◌, ◌≢◌, inl, inr, ⊎_elim, ℕ, ℤ, ◌≤ℤ◌, List, Option, Some, None, IfSome, refl, ap, sym, ◌∙◌, subst, arith}
 use Rattle.std.specs.Prelude.{◌<ℤ◌}
 use Rattle.std.specs.List.{All}
 use Rattle.std.proofs.lemmas.Int.{ints}
@@ -12,44 +12,38 @@ use Rattle.proof_tree.specs.declared.capped.Capped.{Capped}
 use Rattle.proof_tree.specs.declared.capped.Capped.TheVariants.{AtMost, NoPoint, Bad}
 use Rattle.proof_tree.specs.Cap.{Bounds}
 use Rattle.proof_tree.specs.Views.{View}
+use Rattle.proof_tree.specs.Form.{AreWhole}
 use Rattle.proof_tree.specs.Items.{tree_items}
 use Rattle.proof_tree.specs.Tree.{tree_cap}
 use Rattle.proof_tree.specs.Walk.{Outcome, ended, undefined, outcome_of, walked, start, stage_of}
+use Rattle.proof_tree.proofs.Forms.{whole_tree, whole-not_going}
 use Rattle.proof_tree.proofs.WalkLaw.{walked-whole}
 use Rattle.proof_tree.proofs.WalkTree.{walked-bounds, walked-is_tree}
 use Rattle.row_relax.specs.declared.pick.RowPick.{RowPick}
 use Rattle.row_kit.specs.Domain.{IsNormal}
-use Rattle.proof_log.specs.declared.group.Group.{Group}
-use Rattle.proof_log.specs.declared.group.Group.TheVariants.{Nothing, Values, Mults}
 use Rattle.row_relax.specs.declared.rows.Rows.{Rows}
 use Rattle.row_relax.specs.Laws.{rows_sound}
 use Rattle.row_relax.specs.Shown.{domains_of-view_of, fits_of}
 use Rattle.row_relax.specs.Steps.{row_steps}
 use Rattle.row_relax.specs.View.{Fits, IsIn, view_of}
+use Rattle.stn_edge.specs.Files.{FileMap, file_of}
+use Rattle.log_lines.specs.TextDefect.{log_text_defect}
 use Rattle.proof_log.specs.declared.claim.Claim.{Claim}
 use Rattle.proof_log.specs.declared.claim.Claim.TheVariants.{Optimal, Infeasible, Between, Below}
 use Rattle.proof_log.specs.declared.log.Defect.{Defect}
-use Rattle.proof_log.specs.Log.{RowItem, log_lines, lines_text, log_text}
-use Rattle.log_lines.specs.declared.line.Line.{Line}
-use Rattle.log_lines.specs.declared.grammar.Place.TheVariants.{Done}
-use Rattle.log_lines.specs.Grammar.{Standing}
+use Rattle.proof_log.specs.Log.{RowItem, RowTree, line_after}
+use Rattle.proof_log.specs.LogReading.{IsClean}
 use Rattle.log_check.specs.declared.course.Course.{Course}
 use Rattle.log_check.specs.declared.course.Course.TheVariants.{Going, Ended, Faulty}
-use Rattle.log_check.specs.declared.progress.Progress.{Progress}
 use Rattle.log_check.specs.declared.verdict.LogVerdict.{LogVerdict}
 use Rattle.log_check.specs.declared.verdict.LogVerdict.TheVariants.{Yes, No}
-use Rattle.proof_log.specs.Agree.{CourseAgrees, ClaimAgrees, StageAgrees, PlaceExpects}
+use Rattle.log_check.proofs.Items.{worth-sound}
 use Rattle.log_check.specs.Course.{RowWalk, StandsAt}
-use Rattle.proof_log.specs.OneText.{IsOver, IsClaimOver}
-use Rattle.log_check.specs.Meaning.{RowSteps, IsWorth, NoneAbove, Holds, PointDefect, CappedDefect, ClaimDefect, IsSoundClaim, IsAbove, AllowsPoint, IsProved, line_after}
-use Rattle.log_check.specs.Progress.{lines_at, BeganAt, IsAt}
-use Rattle.log_check.specs.Verdict.{IsLog, HasMeaning, IsMeant, YesHolds, JudgedAs}
-
-no_point : (program : Program) (value : ℤ) (point : List ℕ) → IsWorth program value point → (kind : ℕ) → ¬ PointDefect program value point kind
-no_point program value point is kind = ⊎_elim (λ x. x.1 is.0) (λ x. x.2 is.1)
+use Rattle.log_check.specs.Meaning.{RowSteps, IsWorth, NoneAbove, Holds, CappedDefect, ClaimDefect, IsSoundClaim, IsAbove, AllowsPoint, IsProved}
+use Rattle.log_check.specs.Verdict.{IsLog, IsMeant, IsJudged, IsVerdict, YesHolds, Answers, limits_of}
 
 no_capped : (program : Program) (proof_cap : Capped) (value most : ℤ) (point : List ℕ) → IsWorth program value point × (¬ IsAbove proof_cap most) → (kind : ℕ) → ¬ CappedDefect program proof_cap value most point kind
-no_capped program proof_cap value most point sound kind = ⊎_elim (no_point program value point sound.0 kind) (λ x. sound.1 x.2)
+no_capped program proof_cap value most point sound kind = ⊎_elim (worth-sound program value point sound.0 kind) (λ x. sound.1 x.2)
 
 -- a sound claim has no defect
 no_defect : (program : Program) (proof_cap : Capped) (claim : Claim) → IsSoundClaim program proof_cap claim → (kind : ℕ) → ¬ ClaimDefect program proof_cap claim kind
@@ -81,17 +75,13 @@ claim_holds program proof_cap Infeasible real bound sound = none_lawful program 
 claim_holds program proof_cap (Between profit most point) real bound sound = (sound.0, none_above program proof_cap most real bound sound.1)
 claim_holds program proof_cap (Below most) real bound sound = none_above program proof_cap most real bound sound
 
--- the lines of a log that has come to its end are its text
-pub done_log : (program : Program) (lines : List Line) (standing : Standing) (p : Progress) (claim : Claim) (views : List View) → standing.place ≡ Done → p.claim ≡ Some claim → p.slots ≡ length program.root → (at : IsAt (row_steps program) program (view_of program.root) views lines standing p) → IsLog program (lines_text lines) at.items claim
-unfolding log_text log_lines
-done_log program lines standing p claim views done made wide at =
-    let listed : lines ≡ lines_at standing.version Done at.items p.group (Some claim) = subst (λ c. lines ≡ lines_at standing.version Done at.items p.group c) made (subst (λ pl. lines ≡ lines_at standing.version pl at.items p.group p.claim) done at.listed) in
-    record {
-      version = standing.version;
-      text = ap lines_text listed;
-      over = subst (λ n. All (λ item. IsOver n item) at.items) wide at.over;
-      claim_over = subst (λ n. IsClaimOver n claim) wide (subst (λ c. IfSome c (IsClaimOver p.slots)) made at.claim_over);
-    }
+-- a text without a defect is that of a log over the program's slots
+log_of : (program : Program) (depth : ℕ) (bytes : List ℕ) (version : ℕ) (tree : RowTree) (claim : Claim) → IsClean (limits_of program depth) bytes version (tree_items tree) claim → IsLog program bytes tree claim
+log_of program depth bytes version tree claim clean = record {
+  version = version;
+  text = clean.text;
+  over = record { items = clean.over; claim_over = clean.claim_over; lines = clean.lines };
+}
 
 -- a walk does not end without a cap
 ended_real : (s : RowSteps) (v : View) (items : List RowItem) (proof_cap : Capped) → walked s (start v) items ≡ ended proof_cap → proof_cap ≢ Bad
@@ -109,56 +99,58 @@ proved_holds program items proof_cap claim normal' proved sound =
     claim_holds program proof_cap claim (ended_real (row_steps program) (view_of program.root) items proof_cap proved.led)
     (walked-bounds Rows Area Found (row_steps program) (Fits program) IsIn (IsLawful program) (worth_of program) (rows_sound program) (view_of program.root) items proof_cap (fits_of program program.root refl normal') proved.led) sound
 
-module _ (program : Program) (lines : List Line) (standing : Standing) (p : Progress) (views : List View) (done : standing.place ≡ Done) (wide : p.slots ≡ length program.root) (at : IsAt (row_steps program) program (view_of program.root) views lines standing p) where
-  -- a defect of an item is the first of the log
-  pub faulty_meant : (claim : Claim) (defect : Defect) → p.claim ≡ Some claim → p.checker.course ≡ Faulty defect → HasMeaning program (lines_text lines) defect
-  faulty_meant claim defect made is = record {
-    items = at.items;
-    claim = claim;
-    is_log = done_log program lines standing p claim views done made wide at;
-    meaning = inl (subst (λ c. StandsAt (row_steps program) program (view_of program.root) at.items c p.checker.walk views) is at.stands);
-  }
+-- the answer on a log that has come to its end is right of its text, which has no text defect
+meant_of : (program : Program) (depth : ℕ) (bytes : List ℕ) (version : ℕ) (tree : RowTree) (claim : Claim) (course : Course) (walk : RowWalk) (views : List View) (began : ℕ) (verdict : LogVerdict)
+    → IsClean (limits_of program depth) bytes version (tree_items tree) claim
+    → StandsAt (row_steps program) program (view_of program.root) (tree_items tree) course walk views → began ≡ line_after (tree_items tree)
+    → Answers program course began claim verdict → IsMeant program bytes verdict
+meant_of program depth bytes version tree claim Going walk views began verdict clean stand at answer = absurd answer
+meant_of program depth bytes version tree claim (Faulty defect) walk views began verdict clean stand at answer =
+    subst (IsMeant program bytes) (sym answer) (record { tree = tree; claim = claim; is_log = log_of program depth bytes version tree claim clean; meaning = inl stand })
+meant_of program depth bytes version tree claim (Ended proof_cap) walk views began (Yes own) clean stand at answer = record {
+  tree = tree;
+  is_log = subst (IsLog program bytes tree) (sym answer.0) (log_of program depth bytes version tree claim clean);
+  sound_log = record { proof_cap = proof_cap; proved = stand; sound = subst (λ c. (kind : ℕ) → ¬ ClaimDefect program proof_cap c kind) (sym answer.0) (no_defect program proof_cap claim answer.1) };
+}
+meant_of program depth bytes version tree claim (Ended proof_cap) walk views began (No defect) clean stand at answer = record {
+  tree = tree;
+  claim = claim;
+  is_log = log_of program depth bytes version tree claim clean;
+  meaning = inr (record { proof_cap = proof_cap; proved = stand; line = answer.0 ∙ at; has = answer.1 });
+}
 
-  proved_at : (proof_cap : Capped) → p.checker.course ≡ Ended proof_cap → IsProved (row_steps program) program (view_of program.root) at.items proof_cap
-  proved_at proof_cap is = subst (λ c. StandsAt (row_steps program) program (view_of program.root) at.items c p.checker.walk views) is at.stands
+-- the answer on whole items and their claim is the verdict on the file
+pub end_verdict : (told : Option FileMap) (name : List ℕ) (program : Program) (depth version : ℕ) (items : List RowItem) (claim : Claim) (course : Course) (walk : RowWalk) (views : List View) (began : ℕ) (verdict : LogVerdict)
+    → AreWhole items → IfSome told (λ m. IsClean (limits_of program depth) (file_of m name) version items claim)
+    → StandsAt (row_steps program) program (view_of program.root) items course walk views → began ≡ line_after items
+    → Answers program course began claim verdict → IfSome told (λ m. IsVerdict program depth (file_of m name) verdict)
+end_verdict None name program depth version items claim course walk views began verdict whole clean stand at answer = tt
+end_verdict (Some m) name program depth version items claim course walk views began verdict whole clean stand at answer =
+    let own = whole_tree items whole in
+    let bytes = file_of m name in
+    subst (λ o. IsJudged program bytes o verdict) (sym clean.clean)
+    (meant_of program depth bytes version own.0 claim course walk views began verdict
+    (subst (λ xs. IsClean (limits_of program depth) bytes version xs claim) own.1 clean)
+    (subst (λ xs. StandsAt (row_steps program) program (view_of program.root) xs course walk views) own.1 stand)
+    (subst (λ xs. began ≡ line_after xs) own.1 at) answer)
 
-  began_at : (claim : Claim) → p.claim ≡ Some claim → p.began ≡ line_after at.items
-  began_at claim made = at_group p.group (subst (BeganAt p.began at.items p.group) made at.began)
-    where
-      at_group : (group : Group) → BeganAt p.began at.items group (Some claim) → p.began ≡ line_after at.items
-      at_group Nothing is = is
-      at_group (Values head left point) is = is
-      at_group (Mults head left mults) is = is
+-- a text defect is the verdict on the file
+pub bad_verdict : (told : Option FileMap) (name : List ℕ) (program : Program) (depth : ℕ) (defect : Defect)
+    → IfSome told (λ m. log_text_defect (limits_of program depth) (file_of m name) ≡ Some (defect.line, defect.kind)) → IfSome told (λ m. IsVerdict program depth (file_of m name) (No defect))
+bad_verdict None name program depth defect is = tt
+bad_verdict (Some m) name program depth defect is = subst (λ o. IsJudged program (file_of m name) o (No defect)) (sym is) (refl, refl)
 
-  -- the answer on the claim is that on the log
-  pub ended_meant : (claim : Claim) (proof_cap : Capped) (verdict : LogVerdict) → p.claim ≡ Some claim → p.checker.course ≡ Ended proof_cap → JudgedAs program proof_cap p.began claim verdict → IsMeant program (lines_text lines) verdict
-  ended_meant claim proof_cap (Yes own) made is judged = record {
-    items = at.items;
-    is_log = subst (IsLog program (lines_text lines) at.items) (sym judged.0) (done_log program lines standing p claim views done made wide at);
-    proof_cap = proof_cap;
-    proved = proved_at proof_cap is;
-    sound = subst (λ c. (kind : ℕ) → ¬ ClaimDefect program proof_cap c kind) (sym judged.0) (no_defect program proof_cap claim judged.1);
-  }
-  ended_meant claim proof_cap (No defect) made is judged = record {
-    items = at.items;
-    claim = claim;
-    is_log = done_log program lines standing p claim views done made wide at;
-    meaning = inr (record { proof_cap = proof_cap; proved = proved_at proof_cap is; line = judged.0 ∙ began_at claim made; has = judged.1 });
-  }
+-- where the answer is yes, what the claim says holds of all points
+pub end_holds : (program : Program) (items : List RowItem) (claim : Claim) (course : Course) (walk : RowWalk) (views : List View) (began : ℕ) (verdict : LogVerdict)
+    → All IsNormal program.root → StandsAt (row_steps program) program (view_of program.root) items course walk views → Answers program course began claim verdict → YesHolds program verdict
+end_holds program items claim Going walk views began verdict normal' stand answer = absurd answer
+end_holds program items claim (Faulty defect) walk views began verdict normal' stand answer = subst (YesHolds program) (sym answer) tt
+end_holds program items claim (Ended proof_cap) walk views began (Yes own) normal' stand answer = subst (Holds program) (sym answer.0) (proved_holds program items proof_cap claim normal' stand answer.1)
+end_holds program items claim (Ended proof_cap) walk views began (No defect) normal' stand answer = tt
 
-  pub ended_holds : (claim : Claim) (proof_cap : Capped) (verdict : LogVerdict) → All IsNormal program.root → p.checker.course ≡ Ended proof_cap → JudgedAs program proof_cap p.began claim verdict → YesHolds program verdict
-  ended_holds claim proof_cap (Yes own) normal' is judged = subst (Holds program) (sym judged.0) (proved_holds program at.items proof_cap claim normal' (proved_at proof_cap is) judged.1)
-  ended_holds claim proof_cap (No defect) normal' is judged = tt
-
--- at the end a claim is made, and the proof has ended or has a defect
-pub done_claim : (standing : Standing) (claim : Option Claim) → standing.place ≡ Done → ClaimAgrees standing.place claim → (made : Claim) × (claim ≡ Some made)
-done_claim standing claim done agree = at claim (subst (λ pl. ClaimAgrees pl claim) done agree)
-  where
-    at : (claim : Option Claim) → ClaimAgrees Done claim → (made : Claim) × (claim ≡ Some made)
-    at None agree = absurd agree
-    at (Some made) agree = (made, refl)
-
-pub done_course : (standing : Standing) (course : Course) (walk : RowWalk) (views : List View) → standing.place ≡ Done → course ≡ Going → CourseAgrees standing course walk views → ⊥
-done_course standing course walk views done is agree =
-    let stage : StageAgrees standing (stage_of walk views) = subst (λ c. CourseAgrees standing c walk views) is agree in
-    subst (λ pl. PlaceExpects pl walk.expected) done stage.expects
+-- after whole items a check does not go on
+pub not_going : (program : Program) (items : List RowItem) (course : Course) (walk : RowWalk) (views : List View)
+    → AreWhole items → StandsAt (row_steps program) program (view_of program.root) items course walk views → course ≢ Going
+not_going program items Going walk views whole stand is = whole-not_going (row_steps program) (view_of program.root) items (stage_of walk views) whole stand.1
+not_going program items (Ended proof_cap) walk views whole stand is = cc
+not_going program items (Faulty defect) walk views whole stand is = cc

@@ -1,9 +1,5 @@
-pub mod Advancing
-pub mod Agreeing
-pub mod Groups
 pub mod Items
 pub mod Judging
-pub mod Reading
-pub mod Texts
+pub mod OwnLog
+pub mod Taking
 pub mod There
-pub mod ValueLines

@@ -1,4 +1,4 @@
--- What the limits allow to be named is there.
+-- An item that may come after those that a check took may be taken.
 use Rattle.std.proofs.Common.{◌≡◌, ◌≢◌, ℕ, ◌<◌, nat_lt, Bool, true, false, ◌&&◌, List, length, None, arith}
 use Rattle.std.proofs.lemmas.Bool.Decides.{nat_tests}
 use Rattle.row_kit.specs.Row.{row_at}
@@ -6,11 +6,19 @@ use Rattle.row_kit.specs.declared.domain.Domain.{Domain}
 use Rattle.row_kit.specs.declared.program.Program.{Program}
 use Rattle.row_kit.specs.Domain.{up_to}
 use Rattle.range_prop.specs.Cut.{cut_domains}
-use Rattle.proof_tree.specs.Views.{View}
+use Rattle.proof_tree.specs.declared.item.Item.TheVariants.{Node, Cut, Found as FoundItem, Empty, Dual, Point, Pending, Split}
+use Rattle.proof_tree.specs.Form.{MayComeAfter}
+use Rattle.proof_tree.specs.Views.{View, present}
+use Rattle.proof_tree.specs.Walk.{stage_of}
+use Rattle.proof_tree.proofs.Forms.{going-may, ended-none}
 use Rattle.row_relax.specs.Steps.{row_steps, shown_if, kept_at}
 use Rattle.row_relax.specs.View.{Fits, domains_of}
-use Rattle.log_lines.specs.declared.grammar.Limits.{Limits}
-use Rattle.log_check.proofs.Advancing.{IsThere}
+use Rattle.proof_log.specs.Gathered.{IsThere}
+use Rattle.proof_log.specs.Log.{RowItem}
+use Rattle.log_check.specs.declared.course.Course.{Course}
+use Rattle.log_check.specs.declared.course.Course.TheVariants.{Going, Ended, Faulty}
+use Rattle.log_check.specs.Course.{RowWalk, StandsAt, IsNamed, MayTake}
+use Rattle.log_check.specs.Verdict.{limits_of}
 
 test_true : (a b : ℕ) → a < b → nat_lt a b ≡ true
 test_true a b below = grind (arith, nat_tests)
@@ -22,15 +30,28 @@ shown : (test : Bool) (domains : List Domain) → test ≡ true → shown_if tes
 shown true domains is none = cc
 shown false domains is none = cc
 
-pub there_of : (program : Program) (limits : Limits) (v : View) → Fits program v → limits.rows ≡ length program.rows → limits.slots ≡ length program.root → IsThere (row_steps program) limits v
+-- what the limits allow to be named is there
+there_of : (program : Program) (depth : ℕ) (v : View) (item : RowItem) → Fits program v → IsThere (limits_of program depth) item → IsNamed (row_steps program) v item
 unfolding row_steps
-there_of program limits v fit rows slots = record {
-  cuts = λ cut row slot.
-      let row_in : cut.row < length program.rows = omega arith in
-      let slot_in : cut.slot < length (domains_of v) = omega (arith, fit.slots) in
-      shown (nat_lt cut.row (length program.rows) && nat_lt cut.slot (length (domains_of v))) (cut_domains (row_at program.rows cut.row) cut.slot (domains_of v))
-      (both_true (nat_lt cut.row (length program.rows)) (nat_lt cut.slot (length (domains_of v))) (test_true cut.row (length program.rows) row_in) (test_true cut.slot (length (domains_of v)) slot_in));
-  parts = λ pick slot.
-      let slot_in : pick.slot < length (domains_of v) = omega (arith, fit.slots) in
-      shown (nat_lt pick.slot (length (domains_of v))) (kept_at (domains_of v) pick.slot (up_to pick.max)) (test_true pick.slot (length (domains_of v)) slot_in);
-}
+there_of program depth v Node fit there = tt
+there_of program depth v (Cut cut) fit there =
+    let slot_in : cut.slot < length (domains_of v) = omega (arith, fit.slots, there.1) in
+    shown (nat_lt cut.row (length program.rows) && nat_lt cut.slot (length (domains_of v))) (cut_domains (row_at program.rows cut.row) cut.slot (domains_of v))
+    (both_true (nat_lt cut.row (length program.rows)) (nat_lt cut.slot (length (domains_of v))) (test_true cut.row (length program.rows) there.0) (test_true cut.slot (length (domains_of v)) slot_in))
+there_of program depth v (FoundItem found) fit there = tt
+there_of program depth v Empty fit there = tt
+there_of program depth v (Dual cert) fit there = tt
+there_of program depth v Point fit there = tt
+there_of program depth v (Pending cert) fit there = tt
+there_of program depth v (Split pick cert) fit there =
+    let slot_in : pick.slot < length (domains_of v) = omega (arith, fit.slots, there) in
+    shown (nat_lt pick.slot (length (domains_of v))) (kept_at (domains_of v) pick.slot (up_to pick.max)) (test_true pick.slot (length (domains_of v)) slot_in)
+
+pub may_take : (program : Program) (depth : ℕ) (root : View) (items : List RowItem) (item : RowItem) (course : Course) (walk : RowWalk) (views : List View)
+    → Fits program (present views) → StandsAt (row_steps program) program root items course walk views
+    → MayComeAfter items item → IsThere (limits_of program depth) item → MayTake (row_steps program) course walk (present views) item
+may_take program depth root items item Going walk views fit stand may there =
+    (going-may (row_steps program) root items (stage_of walk views) item stand.1 may, there_of program depth (present views) item fit there)
+may_take program depth root items item (Ended proof_cap) walk views fit stand may there =
+    absurd (ended-none (row_steps program) root items proof_cap item stand.led may)
+may_take program depth root items item (Faulty defect) walk views fit stand may there = tt

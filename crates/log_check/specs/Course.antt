@@ -10,7 +10,7 @@ use Rattle.proof_tree.specs.declared.walk.Walk.{Walk}
 use Rattle.proof_tree.specs.declared.walk.Took.{Took}
 use Rattle.proof_tree.specs.declared.walk.Took.TheVariants.{More, Done, Bad as TookBad}
 use Rattle.proof_tree.specs.Views.{View}
-use Rattle.proof_tree.specs.Walk.{going, ended, walked, start, may_come, step, stage_of, Stands}
+use Rattle.proof_tree.specs.Walk.{going, walked, start, may_come, stage_of, Stands}
 use Rattle.row_relax.specs.declared.pick.RowPick.{RowPick}
 use Rattle.row_relax.specs.declared.rows.Rows.{Rows}
 use Rattle.proof_log.specs.Log.{RowItem}
@@ -79,11 +79,3 @@ abbrev pub course_of : Took → ℕ → ℕ → Course
 course_of More line kind = Going
 course_of (Done proof_cap) line kind = Ended proof_cap
 course_of TookBad line kind = Faulty (record { line = line; kind = kind })
-
--- where an item leads a check: its walk makes a step, or a defect is found or stays; none is taken after the end
-abbrev pub Leads : RowSteps → Course → RowWalk → List View → RowItem → Course → RowWalk → List View → Type 0
-Leads s Going walk views item Going new later = step s (stage_of walk views) item ≡ going (stage_of new later)
-Leads s Going walk views item (Ended proof_cap) new later = step s (stage_of walk views) item ≡ ended proof_cap
-Leads s Going walk views item (Faulty defect) new later = ⊤
-Leads s (Ended proof_cap) walk views item course new later = ⊥
-Leads s (Faulty defect) walk views item course new later = course ≡ Faulty defect

@@ -1,6 +1,5 @@
 -- What a log says, and the meaning defects of its proof and of its claim.
-use Rattle.std.specs.Prelude.{◌≡◌, ◌≢◌, ◌⊎◌, ◌+◌, ℕ, ℤ, ◌≤ℤ◌, ◌<ℤ◌, true, false, ⊤, List, [], ◌∷◌, ◌++◌, length}
-use Rattle.std.specs.List.{sum_by}
+use Rattle.std.specs.Prelude.{◌≡◌, ◌≢◌, ◌⊎◌, ℕ, ℤ, ◌≤ℤ◌, ◌<ℤ◌, true, false, ⊤, List, [], ◌∷◌, ◌++◌}
 use Rattle.row_kit.specs.declared.program.Program.{Program}
 use Rattle.row_kit.specs.Point.{IsLawful, worth_of}
 use Rattle.range_prop.specs.declared.row_cut.RowCut.{RowCut}
@@ -15,7 +14,7 @@ use Rattle.row_relax.specs.declared.pick.RowPick.{RowPick}
 use Rattle.proof_log.specs.declared.claim.Claim.{Claim}
 use Rattle.proof_log.specs.declared.claim.Claim.TheVariants.{Optimal, Infeasible, Between, Below}
 use Rattle.proof_log.specs.declared.log.Defect.{Defect}
-use Rattle.proof_log.specs.Log.{RowItem, item_lines}
+use Rattle.proof_log.specs.Log.{RowItem, line_after}
 
 -- what the calls of rows answer
 abbrev pub RowSteps : Type 0

@@ -1,41 +1,50 @@
 -- What the checker of logs answers.
 use Rattle.std.specs.Prelude.{◌≡◌, ⊤, ℕ, List, length, Option, Some, None}
-use Rattle.std.specs.List.{All}
 use Rattle.row_kit.specs.declared.program.Program.{Program}
+use Rattle.stn_edge.specs.declared.stop.Stop.{Stop}
+use Rattle.stn_edge.specs.declared.stop.Stop.TheVariants.{Failed, Memory}
 use Rattle.proof_tree.specs.declared.capped.Capped.{Capped}
+use Rattle.proof_tree.specs.Items.{tree_items}
 use Rattle.row_relax.specs.Steps.{row_steps}
 use Rattle.row_relax.specs.View.{view_of}
 use Rattle.proof_log.specs.declared.claim.Claim.{Claim}
 use Rattle.proof_log.specs.declared.log.Defect.{Defect}
-use Rattle.proof_log.specs.Log.{RowItem, log_text}
+use Rattle.proof_log.specs.Log.{RowTree, log_text}
+use Rattle.proof_log.specs.OneText.{IsLogOver}
 use Rattle.log_lines.specs.declared.grammar.Limits.{Limits}
 use Rattle.log_lines.specs.TextDefect.{log_text_defect}
+use Rattle.log_check.specs.declared.course.Course.{Course}
+use Rattle.log_check.specs.declared.course.Course.TheVariants.{Going, Ended, Faulty}
+use Rattle.log_check.specs.declared.verdict.CheckStop.{CheckStop}
+use Rattle.log_check.specs.declared.verdict.CheckStop.TheVariants.{Fault, Memory as CheckMemory}
 use Rattle.log_check.specs.declared.verdict.LogVerdict.{LogVerdict}
 use Rattle.log_check.specs.declared.verdict.LogVerdict.TheVariants.{Yes, No}
-use Rattle.proof_log.specs.OneText.{IsOver, IsClaimOver}
 use Rattle.log_check.specs.Meaning.{ClaimDefect, IsSoundClaim, IsMeaning, IsProved, Holds}
 
--- the bytes are the text of a log whose points have a value for each slot
-pub record IsLog (program : Program) (bytes : List ℕ) (items : List RowItem) (claim : Claim) : Type 0 where
+-- the bytes are the text of the log of a proof and a claim over the program's slots
+pub record IsLog (program : Program) (bytes : List ℕ) (tree : RowTree) (claim : Claim) : Type 0 where
   pub version : ℕ
-  pub text : bytes ≡ log_text version items claim
-  pub over : All (IsOver (length program.root)) items
-  pub claim_over : IsClaimOver (length program.root) claim
+  pub text : bytes ≡ log_text version (tree_items tree) claim
+  pub over : IsLogOver (length program.root) version tree claim
+
+-- a proof has no defect and gives a cap, under which the claim has none
+pub record IsSoundLog (program : Program) (tree : RowTree) (claim : Claim) : Type 0 where
+  pub proof_cap : Capped
+  pub proved : IsProved (row_steps program) program (view_of program.root) (tree_items tree) proof_cap
+  pub sound : (kind : ℕ) → ¬ ClaimDefect program proof_cap claim kind
 
 -- the bytes are the text of a log of this claim without a meaning defect
 pub record IsValid (program : Program) (bytes : List ℕ) (claim : Claim) : Type 0 where
-  pub items : List RowItem
-  pub is_log : IsLog program bytes items claim
-  pub proof_cap : Capped
-  pub proved : IsProved (row_steps program) program (view_of program.root) items proof_cap
-  pub sound : (kind : ℕ) → ¬ ClaimDefect program proof_cap claim kind
+  pub tree : RowTree
+  pub is_log : IsLog program bytes tree claim
+  pub sound_log : IsSoundLog program tree claim
 
 -- the bytes are the text of a log with this first meaning defect
 pub record HasMeaning (program : Program) (bytes : List ℕ) (defect : Defect) : Type 0 where
-  pub items : List RowItem
+  pub tree : RowTree
   pub claim : Claim
-  pub is_log : IsLog program bytes items claim
-  pub meaning : IsMeaning (row_steps program) program (view_of program.root) items claim defect
+  pub is_log : IsLog program bytes tree claim
+  pub meaning : IsMeaning (row_steps program) program (view_of program.root) (tree_items tree) claim defect
 
 -- the answer for bytes without a text defect
 abbrev pub IsMeant : Program → List ℕ → LogVerdict → Type 0
@@ -65,7 +74,23 @@ abbrev pub YesHolds : Program → LogVerdict → Type 0
 YesHolds program (Yes claim) = Holds program claim
 YesHolds program (No defect) = ⊤
 
+-- the answer for this very proof and claim: yes to the claim where neither has a meaning defect, or their first
+abbrev pub IsMeantOf : Program → RowTree → Claim → LogVerdict → Type 0
+IsMeantOf program tree claim (Yes own) = (own ≡ claim) × IsSoundLog program tree claim
+IsMeantOf program tree claim (No defect) = IsMeaning (row_steps program) program (view_of program.root) (tree_items tree) claim defect
+
 -- the answer on a claim that begins at a line, where the proof has a cap
 abbrev pub JudgedAs : Program → Capped → ℕ → Claim → LogVerdict → Type 0
 JudgedAs program proof_cap began claim (Yes own) = (own ≡ claim) × IsSoundClaim program proof_cap claim
 JudgedAs program proof_cap began claim (No defect) = (defect.line ≡ began) × ClaimDefect program proof_cap claim defect.kind
+
+-- the answer on a log that has come to its end: the first defect of an item, or the answer on its claim, which begins at a line
+abbrev pub Answers : Program → Course → ℕ → Claim → LogVerdict → Type 0
+Answers program Going began claim verdict = ⊥
+Answers program (Ended proof_cap) began claim verdict = JudgedAs program proof_cap began claim verdict
+Answers program (Faulty defect) began claim verdict = verdict ≡ No defect
+
+-- why a log was not checked, where a part of it was not read
+abbrev pub check_stop : Stop → CheckStop
+check_stop Failed = Fault
+check_stop Memory = CheckMemory

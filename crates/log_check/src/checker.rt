@@ -4,9 +4,9 @@ ghost use Rattle.proof_tree.specs.Views.{View, present};
 ghost use Rattle.row_relax.specs.Steps.{row_steps};
 ghost use Rattle.row_relax.specs.View.{Fits, view_of};
 ghost use Rattle.proof_tree.specs.Walk.{Stands};
-ghost use Rattle.proof_log.specs.Log.{RowItem};
-ghost use Rattle.log_check.specs.Meaning.{ItemDefect, line_after};
-ghost use Rattle.log_check.specs.Course.{StandsAt, IsReady, Leads, MayTake, IsTested, end_kind, course_of};
+ghost use Rattle.proof_log.specs.Log.{RowItem, line_after};
+ghost use Rattle.log_check.specs.Meaning.{ItemDefect};
+ghost use Rattle.log_check.specs.Course.{StandsAt, IsReady, MayTake, IsTested, end_kind, course_of};
 
 use crate::course::Course;
 use crate::points::point_defect;
@@ -17,20 +17,11 @@ use row_relax::Rows;
 use std::alloc::{AllocError, Global};
 
 /// Takes the items of a proof and keeps the first meaning defect.
+#[derive(Drop)]
 pub struct Checker {
     pub(crate) area: Area,
     pub(crate) walk: Walk<Rows>,
     pub(crate) course: Course,
-}
-
-impl Drop for Checker {
-    fn drop(self) {
-        let Checker {
-            area: _,
-            walk: _,
-            course: _,
-        } = self;
-    }
 }
 
 /// The defect of an item that shows before the walk takes it: that of a found point, or an empty domain under a certificate.
@@ -97,20 +88,22 @@ impl Checker {
 
     /// Takes an item that begins at this line. While the check goes on, it has to be one that may come and names what is there.
     /// After a defect it changes nothing.
-    pub fn take(&mut self, rows: &Rows, line: u64, item: &Item<Rows>) -> Result<(), AllocError>
+    pub fn take(&mut self, rows: &Rows, line: u64, item: Item<Rows>) -> Result<(), AllocError>
         requires fits { Fits rows.now.program (present (map view_of self.old.area)) }
         requires ready { IsReady (row_steps rows.now.program) self.old.course self.old.walk (map view_of self.old.area) }
-        requires may { MayTake (row_steps rows.now.program) self.old.course self.old.walk (present (map view_of self.old.area)) item.now }
+        requires may { MayTake (row_steps rows.now.program) self.old.course self.old.walk
+            (present (map view_of self.old.area)) item }
         ensures fits { Fits rows.now.program (present (map view_of self.new.area)) }
-        ensures ready { OnOk result (IsReady (row_steps rows.now.program) self.new.course self.new.walk (map view_of self.new.area)) }
-        ensures leads { OnOk result (Leads (row_steps rows.now.program) self.old.course self.old.walk (map view_of self.old.area) item.now
-            self.new.course self.new.walk (map view_of self.new.area)) }
+        ensures ready { OnOk result (IsReady (row_steps rows.now.program) self.new.course self.new.walk
+            (map view_of self.new.area)) }
         ensures stands { OnOk result ((root : View) (items : Items RowItem) → line ≡ line_after items
-            → StandsAt (row_steps rows.now.program) rows.now.program root items self.old.course self.old.walk (map view_of self.old.area)
-            → StandsAt (row_steps rows.now.program) rows.now.program root (items ++ item.now ∷ []) self.new.course self.new.walk (map view_of self.new.area)) }
+            → StandsAt (row_steps rows.now.program) rows.now.program root items self.old.course self.old.walk
+            (map view_of self.old.area)
+            → StandsAt (row_steps rows.now.program) rows.now.program root (items ++ item ∷ []) self.new.course self.new.walk
+            (map view_of self.new.area)) }
     {
         match self.course {
-            Course::Going => self.advance(rows, line, item),
+            Course::Going => self.advance(rows, line, &item),
             Course::Ended(_) => Ok(()),
             Course::Faulty(_) => Ok(()),
         }
@@ -120,14 +113,16 @@ impl Checker {
     fn advance(&mut self, rows: &Rows, line: u64, item: &Item<Rows>) -> Result<(), AllocError>
         requires fits { Fits rows.now.program (present (map view_of self.old.area)) }
         requires ready { Stands (row_steps rows.now.program) self.old.walk (map view_of self.old.area) }
-        requires may { MayTake (row_steps rows.now.program) Course.Going self.old.walk (present (map view_of self.old.area)) item.now }
+        requires may { MayTake (row_steps rows.now.program) Course.Going self.old.walk
+            (present (map view_of self.old.area)) item.now }
         ensures fits { Fits rows.now.program (present (map view_of self.new.area)) }
-        ensures ready { OnOk result (IsReady (row_steps rows.now.program) self.new.course self.new.walk (map view_of self.new.area)) }
-        ensures leads { OnOk result (Leads (row_steps rows.now.program) Course.Going self.old.walk (map view_of self.old.area) item.now
-            self.new.course self.new.walk (map view_of self.new.area)) }
+        ensures ready { OnOk result (IsReady (row_steps rows.now.program) self.new.course self.new.walk
+            (map view_of self.new.area)) }
         ensures stands { OnOk result ((root : View) (items : Items RowItem) → line ≡ line_after items
-            → StandsAt (row_steps rows.now.program) rows.now.program root items Course.Going self.old.walk (map view_of self.old.area)
-            → StandsAt (row_steps rows.now.program) rows.now.program root (items ++ item.now ∷ []) self.new.course self.new.walk (map view_of self.new.area)) }
+            → StandsAt (row_steps rows.now.program) rows.now.program root items Course.Going self.old.walk
+            (map view_of self.old.area)
+            → StandsAt (row_steps rows.now.program) rows.now.program root (items ++ item.now ∷ []) self.new.course self.new.walk
+            (map view_of self.new.area)) }
     {
         if let Some(kind) = defect_before(rows, &self.area, item) {
             self.course = Course::Faulty(Defect { line, kind });

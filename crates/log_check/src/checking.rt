@@ -1,88 +1,60 @@
 //! The check of a log that lies in a file.
-ghost use Rattle.std.specs.Prelude.{◌≡◌, ◌+◌, ◌<◌, ◌≤◌, ℕ, length, map, Err, IfOk, IfSome, IsTrue};
+ghost use Rattle.std.specs.Prelude.{◌≡◌, ◌≢◌, ◌≤◌, Err, IfOk, IfSome, IsSome, IsTrue};
 ghost use Rattle.stn_edge.specs.Count.{Rose};
 ghost use Rattle.stn_edge.specs.Files.{file_of};
-ghost use Rattle.proof_tree.specs.Views.{present};
-ghost use Rattle.row_relax.specs.Steps.{row_steps};
-ghost use Rattle.row_relax.specs.View.{Fits, view_of};
-ghost use Rattle.log_check.specs.Progress.{IsSteady};
-ghost use Rattle.log_check.specs.Step.{IsPartOf, IsStepped, HasStepped};
-ghost use Rattle.log_check.specs.Verdict.{IsVerdict, YesHolds};
+ghost use Rattle.log_check.specs.Verdict.{IsVerdict, YesHolds, JudgedAs, Answers, limits_of};
 
-use crate::progress::Progress;
+use crate::checker::Checker;
+use crate::claims::claim_defect;
+use crate::course::Course;
 use crate::verdict::{CheckStop, LogVerdict};
-use log_lines::kinds::{GRAMMAR, TRAILING, TRUNCATED};
-use log_lines::{LineEnd, LineReader, read_line};
-use proof_log::Defect;
+use log_lines::Limits;
+use proof_log::{Claim, Defect, LogPart, LogReader};
+use proof_tree::Capped;
+use row_kit::Program;
 use row_relax::Rows;
-use std::alloc::{AllocError, Global};
+use std::alloc::Global;
 use stn_edge::Shelf;
 
-/// What the end of a line leads to.
-#[derive(Clone, Copy, PartialEq, Eq, Debug)]
-pub enum Step {
-    /// The log goes on.
-    On,
-    /// The line has a text defect of this kind.
-    Bad(u8),
-    /// The log has come to its end.
-    Over,
+/// The limits of a program's logs.
+fn limits_of(program: &Program, depth: u32) -> Limits
+    ensures { result ≡ limits_of program.now depth }
+{
+    Limits {
+        rows: program.rows.len() as u32,
+        slots: program.root.len() as u32,
+        depth,
+    }
 }
 
-/// Takes the next line of a log as a reader gives it.
-pub(crate) fn advance(
-    progress: &mut Progress,
-    alloc: Global,
-    rows: &Rows,
-    number: u64,
-    end: LineEnd,
-    part: &[u8],
-) -> Result<Step, AllocError>
-    requires fits { Fits rows.now.program (present (map view_of progress.old.checker.area)) }
-    requires steady { IsSteady (row_steps rows.now.program) rows.now.program (map view_of progress.old.checker.area) progress.old.grammar progress.old }
-    requires part { IsPartOf part.now end }
-    ensures fits { Fits rows.now.program (present (map view_of progress.new.checker.area)) }
-    ensures limits { progress.new.limits ≡ progress.old.limits }
-    ensures text { IfOk result (IsStepped progress.old.limits progress.old.grammar number part.now end progress.new.grammar) }
-    ensures steps { IfOk result (HasStepped (row_steps rows.now.program) rows.now.program (map view_of progress.old.checker.area) (map view_of progress.new.checker.area) number part.now end progress.old progress.new) }
+/// The answer on a claim that begins at a line, where the proof has a cap and no defect.
+fn judge(program: &Program, cap: Capped, began: u64, claim: Claim) -> LogVerdict
+    ensures { JudgedAs program.now cap began claim result }
 {
-    let done = progress.is_done();
-    match end {
-        LineEnd::Nothing => {
-            if done {
-                return Ok(Step::Over);
-            }
-            Ok(Step::Bad(TRUNCATED))
-        }
-        LineEnd::Cut => {
-            if done {
-                return Ok(Step::Bad(TRAILING));
-            }
-            Ok(Step::Bad(TRUNCATED))
-        }
-        LineEnd::Long => {
-            if done {
-                return Ok(Step::Bad(TRAILING));
-            }
-            Ok(Step::Bad(GRAMMAR))
-        }
-        LineEnd::Whole => {
-            if done {
-                return Ok(Step::Bad(TRAILING));
-            }
-            match read_line(part) {
-                None => Ok(Step::Bad(GRAMMAR)),
-                Some(line) => match progress.take(alloc, rows, number, line)? {
-                    Some(kind) => Ok(Step::Bad(kind)),
-                    None => Ok(Step::On),
-                },
-            }
-        }
+    match claim_defect(program, cap, &claim) {
+        Some(kind) => LogVerdict::No(Defect { line: began, kind }),
+        None => LogVerdict::Yes(claim),
+    }
+}
+
+/// The answer on a log that has come to its end.
+fn verdict(program: &Program, course: Course, began: u64, claim: Option<Claim>) -> LogVerdict
+    requires ended { course ≢ Course.Going }
+    requires claimed { IsSome claim }
+    ensures { IfSome claim (λ claim. Answers program.now course began claim result) }
+{
+    match course {
+        Course::Going => unreachable!(),
+        Course::Faulty(defect) => LogVerdict::No(defect),
+        Course::Ended(cap) => match claim {
+            None => unreachable!(),
+            Some(claim) => judge(program, cap, began, claim),
+        },
     }
 }
 
 /// Checks the log that lies in a file of the shelf, over the root of the rows, with at most so many splits one in another. It
-/// reads the file once, line by line, and takes memory by the depth of the proof, one certificate and one point.
+/// reads the file once, part by part, and takes memory by the depth of the proof, one certificate and one point.
 ///
 /// The answer is the first text defect of the log, where there is none the first meaning defect, and where there is none its
 /// claim: then what the claim says holds of all points. `Fault` comes only where a read failed.
@@ -94,7 +66,8 @@ pub fn check_rows<F: Shelf>(
     name: &str,
 ) -> Result<LogVerdict, CheckStop>
     requires { IsTrue (F.may_read files.old name.now) }
-    ensures verdict { IfOk result (λ verdict. IfSome (F.files files.old) (λ m. IsVerdict rows.now.program depth (file_of m name.now) verdict)) }
+    ensures verdict { IfOk result (λ verdict. IfSome (F.files files.old)
+        (λ m. IsVerdict rows.now.program depth (file_of m name.now) verdict)) }
     ensures holds { IfOk result (YesHolds rows.now.program) }
     ensures fault { result ≡ Err CheckStop.Fault → Rose (F.read_faults files.old) (F.read_faults files.new) }
     ensures same { F.files files.new ≡ F.files files.old }
@@ -103,18 +76,23 @@ pub fn check_rows<F: Shelf>(
     ensures later { F.read_faults files.old ≤ F.read_faults files.new }
     ensures no_write { F.write_faults files.new ≡ F.write_faults files.old }
 {
-    let mut reader = LineReader::begin(alloc)?;
-    let mut progress = Progress::new(alloc, rows, depth)?;
-    'lines: for number in 1..u64::MAX {
-        let end = reader.next(files, name)?;
-        match advance(&mut progress, alloc, rows, number, end, reader.line())? {
-            Step::On => {}
-            Step::Bad(kind) => {
-                return Ok(LogVerdict::No(Defect { line: number, kind }));
+    let mut reader = LogReader::begin(alloc, limits_of(&rows.program, depth))?;
+    let mut checker = Checker::new(alloc, rows)?;
+    let mut began = 0;
+    let mut claimed = None;
+    'parts: for _ in 0..u64::MAX {
+        match reader.next(files, name)? {
+            LogPart::Item { line, item } => checker.take(rows, line, item)?,
+            LogPart::Claim { line, claim } => {
+                began = line;
+                claimed = Some(claim);
             }
-            Step::Over => return Ok(progress.verdict(rows)),
+            LogPart::End { version: _ } => {
+                return Ok(verdict(&rows.program, checker.course(), began, claimed));
+            }
+            LogPart::Bad(defect) => return Ok(LogVerdict::No(defect)),
         }
     }
-    // No file has as many lines.
+    // No file has as many parts.
     Err(CheckStop::Memory)
 }

@@ -3,7 +3,7 @@ use proof_log::Defect;
 use proof_tree::Capped;
 
 /// Where a check stands after the items that it has taken.
-#[derive(Clone, Copy, PartialEq, Eq, Debug)]
+#[derive(Clone, Copy)]
 pub enum Course {
     /// More items have to come.
     Going,

@@ -1,6 +1,7 @@
-//! The checker of proof logs: it reads a log once, line by line, and says whether its claim is proved.
+//! The checker of proof logs: it says whether the claim of a log is proved.
 //!
-//! Where it says yes, what the claim says holds of all points. Where it says no, it names the first defect.
+//! `check_rows` reads a log in a file once, part by part, `check_bytes` takes one as bytes, and `check_log` as a proof and a claim.
+//! Where they say yes, what the claim says holds of all points. Where they say no, they name the first defect.
 #![tactic(auto)]
 
 mod bytes;
@@ -8,18 +9,13 @@ mod checker;
 mod checking;
 mod claims;
 mod course;
-mod gathering;
-mod group;
+mod log;
 mod points;
-mod progress;
 #[cfg(test)]
 mod tests;
 mod verdict;
 
 pub use bytes::check_bytes;
-pub use checker::Checker;
-pub use checking::{Step, check_rows};
-pub use course::Course;
-pub use group::{Group, Grown, MultHead, Piece, ValueHead};
-pub use progress::Progress;
+pub use checking::check_rows;
+pub use log::check_log;
 pub use verdict::{CheckStop, LogVerdict};

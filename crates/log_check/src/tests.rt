@@ -1,8 +1,9 @@
-use crate::{LogVerdict, check_bytes};
-use proof_log::Defect;
+use crate::{LogVerdict, check_bytes, check_log};
+use log_lines::Limits;
+use proof_log::{Defect, LogStop, read_log};
 use row_kit::{List, Program};
 use row_relax::Rows;
-use std::alloc::Global;
+use std::alloc::{AllocError, Global};
 use std::test::Fail;
 
 // A program without slots and rows: its only point is worth 5.
@@ -49,6 +50,33 @@ fn logs(rt: HostRuntime) -> Result<(), Fail> {
     };
     for (bytes, line, kind) in LOGS {
         let verdict = check_bytes(alloc, &rows, 4_608, bytes)?;
+        assert_eq!(rt; is_verdict(&verdict, line, kind), true);
+    }
+    Ok(())
+}
+
+// The verdict on the log that the bytes are the text of, or their text defect.
+fn check_read(alloc: Global, rows: &Rows, bytes: &[u8]) -> Result<LogVerdict, AllocError> {
+    let limits = Limits {
+        rows: 0,
+        slots: 0,
+        depth: 4_608,
+    };
+    match read_log(alloc, bytes, &limits) {
+        Ok(log) => check_log(alloc, rows, 4_608, &log),
+        Err(LogStop::Defect(defect)) => Ok(LogVerdict::No(defect)),
+        Err(LogStop::Memory) => Err(AllocError),
+    }
+}
+
+#[test]
+fn logs_that_were_read(rt: HostRuntime) -> Result<(), Fail> {
+    let alloc = rt.alloc();
+    let rows = Rows {
+        program: bare(alloc).ok_or("bounds")?,
+    };
+    for (bytes, line, kind) in LOGS {
+        let verdict = check_read(alloc, &rows, bytes)?;
         assert_eq!(rt; is_verdict(&verdict, line, kind), true);
     }
     Ok(())

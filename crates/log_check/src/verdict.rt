@@ -1,10 +1,11 @@
 //! What the checker of logs answers.
 ghost use Rattle.std.specs.Prelude.{◌≡◌};
-ghost use Rattle.log_check.specs.declared.verdict.CheckStop.TheVariants.{Fault as CheckFault, Memory as CheckMemory};
+ghost use Rattle.log_check.specs.declared.verdict.CheckStop.TheVariants.{Memory as CheckMemory};
+ghost use Rattle.log_check.specs.Verdict.{check_stop};
 
 use proof_log::{Claim, Defect};
 use std::alloc::AllocError;
-use stn_edge::Failed;
+use stn_edge::Stop;
 
 /// Whether a log is valid.
 #[derive(Drop)]
@@ -24,11 +25,14 @@ pub enum CheckStop {
     Memory,
 }
 
-impl From<Failed> for CheckStop {
-    ghost from_gives = { λ _ stop. stop ≡ CheckFault };
+impl From<Stop> for CheckStop {
+    ghost from_gives = { λ stop given. given ≡ check_stop stop };
 
-    fn from(_failed: Failed) -> CheckStop {
-        CheckStop::Fault
+    fn from(stop: Stop) -> CheckStop {
+        match stop {
+            Stop::Failed => CheckStop::Fault,
+            Stop::Memory => CheckStop::Memory,
+        }
     }
 }
 

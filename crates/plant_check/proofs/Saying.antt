@@ -51,6 +51,12 @@ checked plant program log verdict sound made means right holds = record {
   holds = yes_says plant program verdict sound means holds;
 }
 
+-- what a check over the plant's rows answers is right of the plant
+pub checked_if : {E : Type 0} (plant : Plant) (program : Program) (log : List ℕ) (r : Result LogVerdict E) → Sound plant → IsMadeOf plant program → IsProgramOf plant program
+    → IfOk r (IsVerdict program MOST_DEPTH log) → IfOk r (YesHolds program) → IfOk r (IsChecked plant log)
+checked_if plant program log (Ok verdict) sound made means right holds = checked plant program log verdict sound made means right holds
+checked_if plant program log (Err e) sound made means right holds = tt
+
 -- what a check over the plant's rows answers is right of the plant, where the files are told
 pub checked_in : {E : Type 0} (plant : Plant) (program : Program) (files : Option FileMap) (name : List ℕ) (r : Result LogVerdict E) → Sound plant → IsMadeOf plant program → IsProgramOf plant program
     → IfOk r (λ verdict. IfSome files (λ m. IsVerdict program MOST_DEPTH (file_of m name) verdict)) → IfOk r (YesHolds program)

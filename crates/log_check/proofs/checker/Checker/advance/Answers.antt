@@ -3,7 +3,7 @@ use Rattle.std.proofs.Common.{map, ◌≡◌, ap, ◌∙◌}
 use Rattle.row_relax.specs.Steps.{row_steps}
 use Rattle.row_relax.specs.View.{view_of}
 use Rattle.log_check.specs.Course.{end_kind, course_of}
-use Rattle.log_check.proofs.Items.{took_item, took_leads}
+use Rattle.log_check.proofs.Items.{took_item}
 use Rattle.log_check.proofs.checker.Checker.advance.Goals as goal
 
 pub returns-clause-stands : goal.returns-clause-stands
@@ -12,8 +12,3 @@ returns-clause-stands c root items at stand =
     let course : c.course_of-self.result ≡ course_of c.in_ok-took.took c.args.line (end_kind c.args.item.now) = c.course_of-self.ensures ∙ ap (course_of c.in_ok-took.took c.args.line) c.end_kind.ensures in
     rw course
     (took_item (row_steps rows.program) rows.program root items c.args.item.now c.args.self.now.walk c.take.new.self (map view_of c.args.self.now.area) (map view_of c.take.new.area) c.args.line c.in_ok-took.took c.requires.ready c.requires.may c.in_default.ensures c.in_ok-took.ensures.step at stand)
-
-pub returns-clause-leads : goal.returns-clause-leads
-returns-clause-leads c =
-    let rows = c.args.rows.now in
-    rw c.course_of-self.ensures (took_leads (row_steps rows.program) c.args.item.now c.args.self.now.walk c.take.new.self (map view_of c.args.self.now.area) (map view_of c.take.new.area) c.args.line c.end_kind.result c.in_ok-took.took c.in_ok-took.ensures.step)
