@@ -8,21 +8,14 @@ use Rattle.log_lines.specs.declared.reader.LineEnd.{LineEnd}
 use Rattle.log_lines.specs.declared.reader.LineEnd.TheVariants.{Whole, Cut, Long, Nothing}
 use Rattle.log_lines.specs.Grammar.{Standing, new_standing}
 use Rattle.log_lines.specs.Line.{line_text}
-use Rattle.log_lines.specs.Reader.{Reading, EndsLine, IsEnd, IsAhead}
+use Rattle.log_lines.specs.Reader.{Reading, EndsLine, IsAhead}
 use Rattle.log_lines.specs.TextDefect.{log_text_defect}
 use Rattle.proof_log.specs.Log.{lines_text}
 use Rattle.proof_log.specs.LogReading.{IsReadTo, IsLeft}
-use Rattle.proof_log.specs.Step.{IsPartOf}
 use Rattle.proof_log.specs.Text.{EndsAs, rest_defect}
 use Rattle.proof_log.proofs.Lines.{lines_text-append, lines_text-one, lines_text-none}
 
--- the bytes of a line that was read
-pub part_of : (old new : Reading) (end : LineEnd) → IsEnd old new end → IsPartOf new.line end
-part_of old new Whole is = (is.1.0, is.1.1)
-part_of old new Cut is = is.1
-part_of old new Long is = tt
-part_of old new Nothing is = tt
-
+-- how the bytes that are left end, where a line of the file does
 pub ends_as : (file : List ℕ) (old new : Reading) (end : LineEnd) → EndsLine file old new end → EndsAs (drop old.place file) new.line end (drop new.place file)
 ends_as file old new Whole is = is.0
 ends_as file old new Cut is = is

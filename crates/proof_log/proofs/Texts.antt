@@ -27,9 +27,6 @@ is_done-false _ other = refl
 pub is_done-true : (place : Place) → place ≡ Done → is_done place ≡ true
 is_done-true place is = ap is_done is
 
-feed : ℕ → Bool
-feed byte = byte == 10
-
 no_feeds : (part : List ℕ) → HasNoFeed part → All (λ b. (b == 10) ≡ false) part
 no_feeds part none = λ k d below. grind (arith, nat_tests, none k d below)
 

@@ -3,10 +3,10 @@
 //! `put_log` appends the text of a log, `put_proof` and `put_claim` the lines of a proof and of a claim, and `LogWriter` writes
 //! the same lines to a file, piece by piece.
 //!
-//! `LogReader` reads a log from a file, item by item, and holds only the lines of one item and where they stand: each part that
-//! it gives may come after those before it, and the log has come to its end, or the first text defect of the file was met.
-//! `read_log` gives the whole log of which some bytes are the text, or their first text defect: where it gives a log, `put_log`
-//! of that log is those bytes again.
+//! `LogReader` reads a log from a file, part by part: items that may come one after another, the claim once they are those of a
+//! whole proof, and the end, with which the file is the text of a log without a defect; or the first text defect of the file. It
+//! holds the lines of one item at most. `read_log` gives the log of which some bytes are the text, so that `put_log` of it is
+//! those bytes again, or their first text defect.
 #![tactic(auto)]
 
 mod claim;

@@ -60,7 +60,8 @@ impl LogReader {
     /// failed. The files are as before.
     pub fn next<F: Shelf>(&mut self, files: &mut F, name: &str) -> Result<LogPart, Stop>
         requires allowed { IsTrue (F.may_read files.old name.now) }
-        requires open { (limits : _) × (items : Items RowItem) × (claim : _) × HasRead (F.files files.old) name.now limits items claim self.old }
+        requires open { (limits : _) × (items : Items RowItem) × (claim : _)
+            × HasRead (F.files files.old) name.now limits items claim self.old }
         ensures part { IfOk result (λ part. (limits : _) (items : Items RowItem) (claim : _)
             → HasRead (F.files files.old) name.now limits items claim self.old
             → IsPartAfter (F.files files.old) name.now limits items claim self.new part) }
@@ -84,10 +85,12 @@ impl LogReader {
     // Reads the next line: the part that it makes whole, or None where the part goes on.
     fn step<F: Shelf>(&mut self, files: &mut F, name: &str) -> Result<Option<LogPart>, Stop>
         requires allowed { IsTrue (F.may_read files.old name.now) }
-        requires open { (limits : _) × (items : Items RowItem) × (claim : _) × HasRead (F.files files.old) name.now limits items claim self.old }
+        requires open { (limits : _) × (items : Items RowItem) × (claim : _)
+            × HasRead (F.files files.old) name.now limits items claim self.old }
         ensures part { IfOk result (λ part. (limits : _) (items : Items RowItem) (claim : _)
             → HasRead (F.files files.old) name.now limits items claim self.old
-            → MatchOption part (HasRead (F.files files.old) name.now limits items claim self.new) (IsPartAfter (F.files files.old) name.now limits items claim self.new)) }
+            → MatchOption part (HasRead (F.files files.old) name.now limits items claim self.new)
+            (IsPartAfter (F.files files.old) name.now limits items claim self.new)) }
         ensures same { F.files files.new ≡ F.files files.old }
         ensures readable { F.may_read files.new ≡ F.may_read files.old }
         ensures writable { F.may_write files.new ≡ F.may_write files.old }
@@ -118,7 +121,8 @@ fn advance(
     requires gathered { (lines : Items Line) × (items : Items RowItem) × (claim : _) × HasGathered lines items claim gatherer.old }
     requires part { IsPartOf part.now end }
     ensures limits { gatherer.new.limits ≡ gatherer.old.limits }
-    ensures text { IfOk result (IsStepped gatherer.old.limits gatherer.old.grammar (gatherer.old.number + 1) part.now end gatherer.new.grammar) }
+    ensures text { IfOk result (IsStepped gatherer.old.limits gatherer.old.grammar (gatherer.old.number + 1)
+        part.now end gatherer.new.grammar) }
     ensures made { IfOk result (HasStepped part.now end gatherer.old gatherer.new) }
 {
     if gatherer.number == u64::MAX {

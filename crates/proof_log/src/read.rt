@@ -41,7 +41,8 @@ impl From<AllocError> for LogStop {
 /// the bytes that it reads.
 pub fn read_log(alloc: Global, bytes: &[u8], limits: &Limits) -> Result<Log, LogStop>
     ensures log { IfOk result (λ log. IsRead limits.now bytes.now log) }
-    ensures defect { (defect : Defect) → result ≡ Err (LogStop.Defect defect) → log_text_defect limits.now bytes.now ≡ Some (defect.line, defect.kind) }
+    ensures defect { (defect : Defect) → result ≡ Err (LogStop.Defect defect)
+        → log_text_defect limits.now bytes.now ≡ Some (defect.line, defect.kind) }
 {
     let mut shelf = FixedShelf::new(alloc);
     shelf.put_file("log", bytes)?;
@@ -92,8 +93,9 @@ pub enum Reached {
 fn take_part(built: Built<Rows>, claim: Option<Claim>, part: LogPart) -> Result<Reached, LogStop>
     requires { (told : Option FileMap) × (name : Items ℕ) × (limits : Limits) × (items : Items RowItem) × (reader : LogReader)
         × IsPartAfter told name limits items claim reader part × IsBuilt items built }
-    ensures reached { IfOk result (λ reached. (told : Option FileMap) (name : Items ℕ) (limits : Limits) (items : Items RowItem) (reader : LogReader)
-        → IsPartAfter told name limits items claim reader part → IsBuilt items built → HasReached told name limits reader reached) }
+    ensures reached { IfOk result (λ reached. (told : Option FileMap) (name : Items ℕ) (limits : Limits)
+        → (items : Items RowItem) (reader : LogReader) → IsPartAfter told name limits items claim reader part → IsBuilt items built
+        → HasReached told name limits reader reached) }
     ensures defect { (defect : Defect) → result ≡ Err (LogStop.Defect defect) → part ≡ LogPart.Bad defect }
 {
     match part {
@@ -116,7 +118,8 @@ fn take_part(built: Built<Rows>, claim: Option<Claim>, part: LogPart) -> Result<
 // Takes the next item into what was built.
 fn grow(built: Built<Rows>, item: Item<Rows>) -> Result<Built<Rows>, AllocError>
     requires { (items : Items RowItem) × IsBuilt items built × MayComeAfter items item }
-    ensures { IfOk result (λ more. (items : Items RowItem) → IsBuilt items built → MayComeAfter items item → IsBuilt (items ++ item ∷ []) more) }
+    ensures { IfOk result (λ more. (items : Items RowItem)
+        → IsBuilt items built → MayComeAfter items item → IsBuilt (items ++ item ∷ []) more) }
 {
     match built {
         Built::More(builder) => builder.take(item),

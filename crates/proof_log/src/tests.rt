@@ -136,12 +136,14 @@ const TEXTS: [(&[u8], u64, u8); 12] = [
     (b"stn-log 2\nnode\npending 1 0\nclaim below -1\nend\n", 0, 0),
     (b"stn-log 1\nnode\nempty\nclaim infeasible\nend\n", 0, 0),
     (
-        b"stn-log 1\nnode\ncut 3 1\ncut 0 2\nfound -34 2\nvalue 0 3\nvalue 2 7\ndual 2 1\nmult 1 5\nclaim optimal -34 1\nvalue 1 9\nend\n",
+        b"stn-log 1\nnode\ncut 3 1\ncut 0 2\nfound -34 2\nvalue 0 3\nvalue 2 7\ndual 2 1\nmult 1 5\n\
+          claim optimal -34 1\nvalue 1 9\nend\n",
         0,
         0,
     ),
     (
-        b"stn-log 2\nnode\nfound -34 0\nsplit 0 0 2 2\nmult 1 5\nmult 4 1099511627776\nnode\ndual 1 0\nnode\ncut 3 1\npoint\nclaim between -34 60 2\nvalue 0 3\nvalue 2 7\nend\n",
+        b"stn-log 2\nnode\nfound -34 0\nsplit 0 0 2 2\nmult 1 5\nmult 4 1099511627776\n\
+          node\ndual 1 0\nnode\ncut 3 1\npoint\nclaim between -34 60 2\nvalue 0 3\nvalue 2 7\nend\n",
         0,
         0,
     ),
