@@ -28,7 +28,7 @@ map_same : (f g : ℕ → ℤ) → ((v : ℕ) → f v ≡ g v) → (vs : List �
 map_same f g h [] = refl
 map_same f g h (v ∷ vs) = ap (λ (x : ℤ). x ∷ map f vs) (h v) ∙ ap (λ (xs : List ℤ). g v ∷ xs) (map_same f g h vs)
 
-greatest_same : (f g : ℕ → ℤ) → ((v : ℕ) → f v ≡ g v) → (vs : List ℕ) → greatest f vs ≡ greatest g vs
+pub greatest_same : (f g : ℕ → ℤ) → ((v : ℕ) → f v ≡ g v) → (vs : List ℕ) → greatest f vs ≡ greatest g vs
 greatest_same f g h [] = refl
 greatest_same f g h (v ∷ vs) = ap (λ (x : ℤ). fold int_max x (map f vs)) (h v) ∙ ap (fold int_max (g v)) (map_same f g h vs)
 

@@ -24,8 +24,8 @@ pub fn cap(program: &Program, area: &Area, cert: &Cert) -> Capped
     }
 }
 
-// The cap that a total and a scale give.
-fn scaled(total: i128, scale: u32) -> Capped
+/// The cap that a total and a scale give.
+pub fn scaled(total: i128, scale: u32) -> Capped
     requires { unsigned_abs total < 2 ^ 118 }
     ensures cap { result ≡ scaled_cap scale (Some total) }
     ensures floor { IsFloor scale (Some total) result }

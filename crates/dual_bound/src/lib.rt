@@ -14,3 +14,13 @@ pub use capping::cap;
 pub use cert::{Cert, Mult};
 pub use limits::{MOST_FACTOR, MOST_MULTS, MOST_SCALE};
 pub use totals::total;
+
+// What dual_climb does with lines; no part of what this crate promises.
+#[doc(hidden)]
+pub use capping::scaled;
+#[doc(hidden)]
+pub use line::Line;
+#[doc(hidden)]
+pub use lines::{add_entries, turn};
+#[doc(hidden)]
+pub use totals::{gain_lines, greatest_in, scaled_limit, usable_total};

@@ -4,7 +4,7 @@ ghost use Rattle.row_kit.specs.Row.{counted};
 
 use row_kit::Entry;
 
-// What a slot counts at a value of 1 or more: `fixed + per * value`, in money. At 0 it counts nothing.
+/// What a slot counts at a value of 1 or more: `fixed + per * value`, in money. At 0 it counts nothing.
 #[derive(Clone, Copy)]
 pub struct Line {
     pub fixed: i128,
@@ -14,7 +14,7 @@ pub struct Line {
 impl Line {
     ghost use Rattle.dual_bound.specs.Line.{line_at, IsLight, IsWithin};
 
-    // The line with a factor times an entry besides.
+    /// The line with a factor times an entry besides.
     pub fn with_entry(&self, entry: &Entry, factor: u64) -> Line
         requires light { IsLight factor entry.now }
         requires within { IsWithin (2 ^ 120) self.now }
@@ -27,7 +27,7 @@ impl Line {
         }
     }
 
-    // The line that counts the opposite.
+    /// The line that counts the opposite.
     pub fn opposite(&self) -> Line
         requires { IsWithin (2 ^ 120) self.now }
         ensures value { (v : ℕ) → line_at result v ≡ neg_ℤ (line_at self.now v) }

@@ -9,7 +9,7 @@ use crate::cert::Mult;
 use crate::line::Line;
 use row_kit::{Entry, Row};
 
-// Adds a factor times the entries to the lines of their slots.
+/// Adds a factor times the entries to the lines of their slots.
 pub fn add_entries(lines: &mut [Line], entries: &[Entry], factor: u64)
     requires named { All (λ e. e.slot < length lines.old) entries.now }
     requires light { All (IsLight factor) entries.now }
@@ -24,7 +24,7 @@ pub fn add_entries(lines: &mut [Line], entries: &[Entry], factor: u64)
     }
 }
 
-// Turns each line into its opposite.
+/// Turns each line into its opposite.
 pub fn turn(lines: &mut [Line])
     requires { All (IsWithin (2 ^ 110)) lines.old }
     ensures value { (slot v : ℕ) → slot < length lines.new → line_at (slot_line lines.new slot) v ≡ neg_ℤ (line_at (slot_line lines.old slot) v) }

@@ -27,8 +27,8 @@ pub fn total(program: &Program, area: &Area, cert: &Cert) -> Option<i128>
     Some(usable_total(program, area, cert))
 }
 
-// The total of a certificate that has one.
-fn usable_total(program: &Program, area: &Area, cert: &Cert) -> i128
+/// The total of a certificate that has one.
+pub fn usable_total(program: &Program, area: &Area, cert: &Cert) -> i128
     requires slots { length (present area.now) ≡ length program.now.root }
     requires usable { IsUsable (length program.now.rows) cert.now }
     requires open_ { All IsOpen (present area.now) }
@@ -107,8 +107,8 @@ fn limits_sum(rows: &[Row], mults: &[Mult]) -> i128
     sum
 }
 
-// A factor times the limit of a row.
-fn scaled_limit(row: &Row, factor: u64) -> i128
+/// A factor times the limit of a row.
+pub fn scaled_limit(row: &Row, factor: u64) -> i128
     requires factor { factor ≤ MOST_FACTOR }
     requires bounded { IsBoundedRow 512 row.now }
     ensures value { result ≡ pos factor *ℤ row.now.limit }
@@ -125,11 +125,22 @@ fn gains(program: &Program, area: &Area, cert: &Cert) -> i128
     ensures value { result ≡ slots_total (gain program.now cert.now) 0 (present area.now) }
     ensures small { unsigned_abs result ≤ 2 ^ 117 }
 {
+    let lines = gain_lines(program, cert);
+    slots_sum(&lines, area)
+}
+
+/// What each slot gains, as lines. It costs the entries of the rows with factors and the slots.
+pub fn gain_lines(program: &Program, cert: &Cert) -> [Line; MOST_SLOTS]
+    requires { IsUsable (length program.now.rows) cert.now }
+    ensures length { length result ≡ 512 }
+    ensures value { (slot v : ℕ) → slot < 512 → line_at (slot_line result slot) v ≡ gain program.now cert.now slot v }
+    ensures within { All (IsWithin (2 ^ 98)) result }
+{
     let mut lines = bare_lines();
     add_rows(&mut lines, program.rows.as_slice(), cert.mults.as_slice());
     turn(&mut lines);
     add_entries(&mut lines, program.profit.as_slice(), u64::from(cert.scale));
-    slots_sum(&lines, area)
+    lines
 }
 
 // A line that counts nothing for each slot that there may be.
@@ -152,13 +163,13 @@ fn slots_sum(lines: &[Line], area: &Area) -> i128
 {
     let mut sum = 0i128;
     for slot in 0..area.slot_count() {
-        sum += greatest(&lines[slot as usize], area.domain(slot));
+        sum += greatest_in(&lines[slot as usize], area.domain(slot));
     }
     sum
 }
 
-// The greatest of a line over the values of a domain.
-fn greatest(line: &Line, domain: Domain) -> i128
+/// The greatest of a line over the values of a domain.
+pub fn greatest_in(line: &Line, domain: Domain) -> i128
     requires within { IsWithin (2 ^ 98) line.now }
     requires normal { IsNormal domain }
     requires open_ { IsOpen domain }

@@ -4,8 +4,8 @@ use Rattle.std.proofs.lemmas.Int.{ints}
 use Rattle.std.proofs.lemmas.Bool.{false≢true}
 use Rattle.dual_bound.specs.Line.{line_at}
 use Rattle.dual_bound.proofs.Greatest.{best_in_range, best_at_zero}
-use Rattle.dual_bound.proofs.totals.greatest.Goals as goal
-use Rattle.dual_bound.proofs.totals.greatest.Goals.{else-domain-2-via-then-domain-2+else-most-lt0, else-domain-2-via-else-domain-2}
+use Rattle.dual_bound.proofs.totals.greatest_in.Goals as goal
+use Rattle.dual_bound.proofs.totals.greatest_in.Goals.{else-domain-2-via-then-domain-2+else-most-lt0, else-domain-2-via-else-domain-2}
 use mir.Syntax.{w128}
 
 pub returns-then-most-lt0-clause-value : goal.returns-then-most-lt0-clause-value

@@ -1,0 +1,9 @@
+pub mod Convex
+pub mod Exchanged
+pub mod Moved
+pub mod Numbering
+pub mod Passes
+pub mod Small
+pub mod Steps
+pub mod Sums
+pub mod Usable

@@ -1,0 +1,4 @@
+pub mod Along
+pub mod Factors
+pub mod Held
+pub mod RowBest

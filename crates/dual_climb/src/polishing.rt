@@ -1,0 +1,126 @@
+ghost use Rattle.std.specs.Prelude.{◌≡◌, ℕ, ◌+◌, ◌≤◌, ◌<◌, ◌^◌, ◌↔◌, ◌⊎◌, length, pos, ◌+ℤ◌, ◌≤ℤ◌, IsTrue, IsSome, IfOk, Some, true, false, unsigned_abs};
+ghost use Rattle.std.specs.List.{All};
+ghost use Rattle.row_kit.specs.Area.{present};
+ghost use Rattle.row_kit.specs.Domain.{IsOpen};
+ghost use Rattle.dual_bound.specs.Cap.{cert_cap, scaled_cap};
+ghost use Rattle.dual_bound.specs.Total.{total_at, IsUsable};
+ghost use Rattle.dual_climb.specs.Factors.{cert_of};
+ghost use Rattle.dual_climb.specs.Held.{IsHeld, CanDescend};
+ghost use Rattle.dual_climb.specs.RowBest.{BestAlong, RowBest, NeverRises, IsReached};
+
+use crate::factors::{gathered, spread};
+use crate::held::{Held, improve};
+use dual_bound::{Cert, gain_lines, scaled, usable_total};
+use proof_tree::Capped;
+use row_kit::{Area, Program};
+use std::alloc::{AllocError, Global};
+
+/// Lowers the total of a certificate by one row's factor at a time, each time to the least along the row, and only where that
+/// takes the scale or more off the total. It ends where no factor of a row is left that does, or where the cap is at most
+/// `stop`. The scale stays; after want of memory the certificate is as before.
+///
+/// A pass over all rows costs their entries some three times, and for a row that changes some eighty times and the slots. There
+/// are at most as many changes as the fall of the total has scales. It takes memory for a factor of each row.
+pub fn polish(
+    alloc: Global,
+    program: &Program,
+    area: &Area,
+    cert: &mut Cert,
+    stop: Option<i128>,
+) -> Result<(), AllocError>
+    requires slots { length (present area.now) ≡ length program.now.root }
+    requires scale { 1 ≤ cert.old.scale }
+    requires total { IsSome (total_at program.now (present area.now) cert.old) }
+    ensures scale { cert.new.scale ≡ cert.old.scale }
+    ensures total { NeverRises (total_at program.now (present area.now) cert.old) (total_at program.now (present area.now) cert.new) }
+    ensures best { IfOk result (λ _. RowBest program.now (present area.now) cert.new ⊎ IsReached stop (cert_cap program.now (present area.now) cert.new)) }
+{
+    let mut held = hold(alloc, program, area, cert)?;
+    descend(program, area, cert.scale, stop, &mut held);
+    cert.mults = gathered(alloc, held.mults.as_slice())?;
+    Ok(())
+}
+
+// A factor for each row, the lines and the total of a certificate.
+fn hold(alloc: Global, program: &Program, area: &Area, cert: &Cert) -> Result<Held, AllocError>
+    requires slots { length (present area.now) ≡ length program.now.root }
+    requires scale { 1 ≤ cert.now.scale }
+    requires total { IsSome (total_at program.now (present area.now) cert.now) }
+    ensures area { CanDescend program.now (present area.now) cert.now.scale }
+    ensures held { IfOk result (λ held. IsHeld program.now (present area.now) cert.now.scale held.mults.items held.lines held.total) }
+    ensures total { IfOk result (λ held. total_at program.now (present area.now) cert.now ≡ Some held.total) }
+{
+    let _ = area.slot_count();
+    let lines = gain_lines(program, cert);
+    let total = usable_total(program, area, cert);
+    let mults = spread(alloc, program.rows.len(), cert.mults.as_slice())?;
+    Ok(Held {
+        mults,
+        lines,
+        total,
+    })
+}
+
+// Passes over the rows until nothing changes or the cap is reached.
+fn descend(program: &Program, area: &Area, scale: u32, stop: Option<i128>, held: &mut Held)
+    requires area { CanDescend program.now (present area.now) scale }
+    requires held { IsHeld program.now (present area.now) scale held.old.mults.items held.old.lines held.old.total }
+    ensures held { IsHeld program.now (present area.now) scale held.new.mults.items held.new.lines held.new.total }
+    ensures fell { held.new.total ≤ℤ held.old.total }
+    ensures best { RowBest program.now (present area.now) (cert_of scale held.new.mults.items) ⊎ IsReached stop (scaled_cap scale (Some held.new.total)) }
+{
+    while pass(program, area, scale, stop, held) {}
+}
+
+// Improves the factor of each row once, until the cap is reached; whether some factor changed.
+fn pass(program: &Program, area: &Area, scale: u32, stop: Option<i128>, held: &mut Held) -> bool
+    requires area { CanDescend program.now (present area.now) scale }
+    requires held { IsHeld program.now (present area.now) scale held.old.mults.items held.old.lines held.old.total }
+    ensures held { IsHeld program.now (present area.now) scale held.new.mults.items held.new.lines held.new.total }
+    ensures never { held.new.total ≤ℤ held.old.total }
+    ensures fell { IsTrue result → (held.new.total +ℤ pos scale) ≤ℤ held.old.total }
+    ensures best { result ≡ false → RowBest program.now (present area.now) (cert_of scale held.new.mults.items) ⊎ IsReached stop (scaled_cap scale (Some held.new.total)) }
+{
+    let mut changed = false;
+    for number in 0..program.rows.len() {
+        if step(program, area, scale, stop, held, number) {
+            changed = true;
+        }
+    }
+    changed
+}
+
+// Improves the factor of a row, unless the cap is reached; whether it changed.
+fn step(
+    program: &Program,
+    area: &Area,
+    scale: u32,
+    stop: Option<i128>,
+    held: &mut Held,
+    number: usize,
+) -> bool
+    requires area { CanDescend program.now (present area.now) scale }
+    requires number { number < length program.now.rows }
+    requires held { IsHeld program.now (present area.now) scale held.old.mults.items held.old.lines held.old.total }
+    ensures held { IsHeld program.now (present area.now) scale held.new.mults.items held.new.lines held.new.total }
+    ensures fell { IsTrue result → (held.new.total +ℤ pos scale) ≤ℤ held.old.total }
+    ensures same { result ≡ false → (held.new.mults.items ≡ held.old.mults.items) × (held.new.total ≡ held.old.total) }
+    ensures best { result ≡ false → BestAlong program.now (present area.now) (cert_of scale held.old.mults.items) number ⊎ IsReached stop (scaled_cap scale (Some held.old.total)) }
+{
+    if is_reached(&held.total, scale, stop) {
+        return false;
+    }
+    improve(program, area, scale, held, number)
+}
+
+// Whether the cap of a total is at most a number, where there is one to stop at.
+fn is_reached(total: &i128, scale: u32, stop: Option<i128>) -> bool
+    requires small { unsigned_abs total.now < 2 ^ 118 }
+    requires scale { 1 ≤ scale }
+    ensures { IsTrue result → IsReached stop (scaled_cap scale (Some total.now)) }
+{
+    match (stop, scaled(*total, scale)) {
+        (Some(stop), Capped::AtMost(cap)) => cap <= stop,
+        _ => false,
+    }
+}
