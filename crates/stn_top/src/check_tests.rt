@@ -212,11 +212,7 @@ fn logs_are_checked(rt: HostRuntime) -> Result<(), Fail> {
 }
 
 // What the check of the log in memory says: of its bytes, and of the log that they are where they are one.
-fn in_memory(
-    alloc: Global,
-    plant: &str,
-    log: &str,
-) -> Result<(LogVerdict, LogVerdict), Fail> {
+fn in_memory(alloc: Global, plant: &str, log: &str) -> Result<(LogVerdict, LogVerdict), Fail> {
     let plant = read_plant(alloc, plant.as_bytes())?;
     let bytes = check_bytes(alloc, &plant, log.as_bytes())?;
     Ok((bytes, check_read(alloc, &plant, log)?))
