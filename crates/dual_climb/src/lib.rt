@@ -5,11 +5,15 @@
 #![tactic(auto)]
 
 mod along;
+mod climbing;
 mod factors;
 mod held;
 mod least;
+mod moving;
+mod pace;
 mod polishing;
 #[cfg(test)]
 mod tests;
 
+pub use climbing::climb;
 pub use polishing::polish;

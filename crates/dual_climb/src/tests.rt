@@ -1,4 +1,4 @@
-use crate::polish;
+use crate::{climb, polish};
 use dual_bound::{Cert, Mult, cap};
 use proof_tree::Capped;
 use row_kit::{Area, Domain, Entry, List, Program, Row, Tag};
@@ -89,6 +89,39 @@ fn certificates_are_polished(rt: HostRuntime) -> Result<(), Fail> {
         let mut cert = cert(alloc, scale, mult)?;
         polish(alloc, &program, &area, &mut cert, stop)?;
         assert_eq!(rt; cap(&program, &area, &cert), expected);
+    }
+    Ok(())
+}
+
+// The least size, the feed, the certificate, and the least and the greatest cap that the climb may give.
+const CLIMBED: [(u8, i128, u32, Option<Mult>, i128, i128); 4] = [
+    (3, 10, 1, None, 50, 57),
+    (3, 10, 1_000, None, 50, 57),
+    (
+        3,
+        10,
+        1,
+        Some(Mult {
+            row: 3,
+            factor: 900,
+        }),
+        50,
+        57,
+    ),
+    (1, 12, 1, None, 60, 60),
+];
+
+#[test]
+fn certificates_climb(rt: HostRuntime) -> Result<(), Fail> {
+    let alloc = rt.alloc();
+    for (least, feed, scale, mult, from, to) in CLIMBED {
+        let program = chain(alloc, least, feed)?.ok_or("bounds")?;
+        let area = Area::new(alloc, &program)?;
+        let better = climb(alloc, &program, &area, &cert(alloc, scale, mult)?)?;
+        match cap(&program, &area, &better) {
+            Capped::AtMost(cap) => assert!(rt; from <= cap && cap <= to),
+            _ => assert!(rt; false),
+        }
     }
     Ok(())
 }
