@@ -15,7 +15,7 @@ pub use cert::{Cert, Mult};
 pub use limits::{MOST_FACTOR, MOST_MULTS, MOST_SCALE};
 pub use totals::total;
 
-// What dual_climb does with lines; no part of what this crate promises.
+// Parts that dual_climb builds on; no part of what this crate promises.
 #[doc(hidden)]
 pub use capping::scaled;
 #[doc(hidden)]

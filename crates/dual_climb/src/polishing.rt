@@ -1,4 +1,4 @@
-ghost use Rattle.std.specs.Prelude.{◌≡◌, ℕ, ◌+◌, ◌≤◌, ◌<◌, ◌^◌, ◌↔◌, ◌⊎◌, length, pos, ◌+ℤ◌, ◌≤ℤ◌, IsTrue, IsSome, IfOk, Some, true, false, unsigned_abs};
+ghost use Rattle.std.specs.Prelude.{◌≡◌, ℕ, ◌+◌, ◌≤◌, ◌<◌, ◌^◌, ◌↔◌, ◌⊎◌, length, pos, ◌+ℤ◌, ◌≤ℤ◌, IsTrue, IsSome, IfOk, OnErr, Some, true, false, unsigned_abs};
 ghost use Rattle.std.specs.List.{All};
 ghost use Rattle.row_kit.specs.Area.{present};
 ghost use Rattle.row_kit.specs.Domain.{IsOpen};
@@ -33,6 +33,7 @@ pub fn polish(
     requires total { IsSome (total_at program.now (present area.now) cert.old) }
     ensures scale { cert.new.scale ≡ cert.old.scale }
     ensures total { NeverRises (total_at program.now (present area.now) cert.old) (total_at program.now (present area.now) cert.new) }
+    ensures err { OnErr result (cert.new ≡ cert.old) }
     ensures best { IfOk result (λ _. RowBest program.now (present area.now) cert.new ⊎ IsReached stop (cert_cap program.now (present area.now) cert.new)) }
 {
     let mut held = hold(alloc, program, area, cert)?;
