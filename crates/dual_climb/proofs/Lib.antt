@@ -3,6 +3,7 @@ pub mod Exchanged
 pub mod Moved
 pub mod Numbering
 pub mod Passes
+pub mod Quotients
 pub mod Small
 pub mod Steps
 pub mod Sums

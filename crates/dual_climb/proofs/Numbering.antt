@@ -1,5 +1,5 @@
 -- Factors of all rows, made from and made into the factors of some.
-use Rattle.std.proofs.Common.{◌≡◌, ◌∙◌, ℕ, zero, suc, ◌+◌, ◌<◌, ◌≤◌, Bool, true, ◌&&◌, cond, eqb, leb, ltb, List, [], ◌∷◌, ◌++◌, length, get_or, drop, append_assoc, refl, sym, ap, subst, ⊎_elim, arith, ℤ, pos, ◌+ℤ◌, ◌*ℤ◌}
+use Rattle.std.proofs.Common.{◌≡◌, ◌∙◌, ℕ, zero, suc, ◌+◌, ◌<◌, ◌≤◌, Bool, true, ◌&&◌, cond, eqb, leb, ltb, List, [], ◌∷◌, ◌++◌, length, get_or, drop, refl, sym, ap, subst, ⊎_elim, arith, ℤ, pos, ◌+ℤ◌, ◌*ℤ◌}
 use Rattle.std.specs.List.{All}
 use Rattle.std.proofs.lemmas.Bool.{and_parts, leb-true, ltb-true, le-leb, lt-ltb, cond-true, cond-false, eq-eqb, ne_eqb, cases_eq, cases_lt}
 use Rattle.std.proofs.lemmas.Int.{ints}
@@ -156,19 +156,7 @@ kept_same (m ∷ ms) worth =
     ap (weighted worth) (kept_some m ms some) ∙ ap (λ (x : ℤ). (pos m.factor *ℤ worth m.row) +ℤ x) (kept_same ms worth))
     (cases_eq m.factor 0)
 
--- one place more, whose factor is kept
-pub kept_more : (list ms : List Mult) (i : ℕ) (m : Mult) → i < length ms → m ≡ get_or ms i no_mult → (m.factor ≡ 0 → ⊥) → list ++ kept (drop i ms) ≡ kept ms → (list ++ m ∷ []) ++ kept (drop (i + 1) ms) ≡ kept ms
-kept_more list ms i m lt is some before =
-    let x = get_or ms i no_mult in
-    let step : kept (drop i ms) ≡ m ∷ kept (drop (i + 1) ms) =
-    at_drop_more kept ms i no_mult lt ∙ subst (λ (y : Mult). kept (y ∷ drop (i + 1) ms) ≡ m ∷ kept (drop (i + 1) ms)) is (kept_some m (drop (i + 1) ms) some) in
-    append_assoc list (m ∷ []) (kept (drop (i + 1) ms)) ∙ ap (λ (ys : List Mult). list ++ ys) (sym step) ∙ before
-
--- one place more, whose factor is not
-pub kept_less : (list ms : List Mult) (i : ℕ) → i < length ms → (get_or ms i no_mult).factor ≡ 0 → list ++ kept (drop i ms) ≡ kept ms → list ++ kept (drop (i + 1) ms) ≡ kept ms
-kept_less list ms i lt none before =
-    ap (λ (ys : List Mult). list ++ ys) (sym (at_drop_more kept ms i no_mult lt ∙ kept_none (get_or ms i no_mult) (drop (i + 1) ms) none)) ∙ before
-
+-- one factor more, of the next row
 pub numbered_push : (start : ℕ) (ms : List Mult) (m : Mult) → AreNumbered start ms → m.row ≡ start + length ms → (place : ℕ) → place < length (ms ++ m ∷ []) → (get_or (ms ++ m ∷ []) place no_mult).row ≡ start + place
 numbered_push start [] m numbered e zero h = omega (arith, e)
 numbered_push start [] m numbered e (suc place) h = absurd (omega arith)

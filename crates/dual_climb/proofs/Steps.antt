@@ -16,9 +16,9 @@ use Rattle.dual_bound.specs.declared.line.Line.{Line}
 use Rattle.dual_bound.specs.Line.{line_at, slot_line}
 use Rattle.dual_bound.specs.Total.{rows_at, total_of, IsFitMult}
 use Rattle.dual_climb.specs.Along.{part_along, IsAlong}
-use Rattle.dual_climb.specs.Factors.{AreNumbered, no_mult, cert_of}
+use Rattle.dual_climb.specs.Factors.{AreNumbered, IsFull, no_mult, cert_of}
 use Rattle.dual_climb.specs.Held.{IsHeld, CanDescend}
-use Rattle.dual_climb.specs.RowBest.{without, with_factor, BestAlong}
+use Rattle.dual_climb.specs.RowBest.{without, with_factor, BestBy}
 use Rattle.dual_climb.proofs.Exchanged.{staying, total_along, total_own}
 use Rattle.dual_climb.proofs.Small.{lines_small}
 use Rattle.dual_climb.proofs.Sums.{gain_same, own_same, rows_same, set_same, total_same}
@@ -53,10 +53,10 @@ total_now p ds n ms lines total k can held lt =
 above : (t s o l f x : ℤ) (n : ℕ) → t ≡ s +ℤ o → x ≡ s +ℤ f → l ≤ℤ f → (o -ℤ l) <ℤ pos n → (t -ℤ pos n) <ℤ x
 above t s o l f x n p q h k = omega (arith, ints)
 
--- where the least along a row is lower by less than the scale, the row's factor is best
-pub stays_best : (p : Program) (ds : List Domain) (n : ℕ) (ms : List Mult) (lines : List Line) (total : ℤ) (k factor : ℕ) → CanDescend p ds n → IsHeld p ds n ms lines total → k < length p.rows → ((f : ℕ) → f ≤ 2 ^ 40 → held_part p ds ms lines k factor ≤ℤ held_part p ds ms lines k f) → (held_part p ds ms lines k (own_of ms k) -ℤ held_part p ds ms lines k factor) <ℤ pos n → BestAlong p ds (cert_of n ms) k
-stays_best p ds n ms lines total k factor can held lt least less = λ f le.
-    above (total_of p ds (cert_of n ms)) (staying p ds n ms k) (held_part p ds ms lines k (own_of ms k)) (held_part p ds ms lines k factor) (held_part p ds ms lines k f) (total_of p ds (with_factor (cert_of n ms) k f)) n
+-- where the least along a row is lower by less than so much, the row's factor is best
+pub stays_best : (fall : ℕ) (p : Program) (ds : List Domain) (n : ℕ) (ms : List Mult) (lines : List Line) (total : ℤ) (k factor : ℕ) → CanDescend p ds n → IsHeld p ds n ms lines total → k < length p.rows → ((f : ℕ) → f ≤ 2 ^ 40 → held_part p ds ms lines k factor ≤ℤ held_part p ds ms lines k f) → (held_part p ds ms lines k (own_of ms k) -ℤ held_part p ds ms lines k factor) <ℤ pos fall → BestBy fall p ds (cert_of n ms) k
+stays_best fall p ds n ms lines total k factor can held lt least less = λ f le.
+    above (total_of p ds (cert_of n ms)) (staying p ds n ms k) (held_part p ds ms lines k (own_of ms k)) (held_part p ds ms lines k factor) (held_part p ds ms lines k f) (total_of p ds (with_factor (cert_of n ms) k f)) fall
     (total_now p ds n ms lines total k can held lt) (total_at_factor p ds n ms lines total k can held lt f) (least f le) less
 
 set_numbered : (ms : List Mult) (k : ℕ) (new : Mult) → AreNumbered 0 ms → k < length ms → new.row ≡ k → AreNumbered 0 (set ms k new)
@@ -67,6 +67,13 @@ set_numbered ms k new numbered lt e = λ place h.
     (λ (apart : place ≡ k → ⊥).
     ap (λ (m : Mult). m.row) (get_or-set_other ms k place new no_mult apart) ∙ numbered place (omega (arith, h, length-set ms k new)))
     (cases_eq place k)
+
+pub set_full : (rows : ℕ) (ms : List Mult) (k : ℕ) (new : Mult) → IsFull rows ms → k < rows → new.row ≡ k → new.factor ≤ 1099511627776 → IsFull rows (set ms k new)
+set_full rows ms k new full lt row range = record {
+  all = length-set ms k new ∙ full.all;
+  numbered = set_numbered ms k new full.numbered (omega (arith, full.all)) row;
+  fit = All-set (IsFitMult rows) ms k new (record { row = omega arith; factor = range }) full.fit;
+}
 
 line_moved : (x l a o r f : ℤ) → x ≡ (l +ℤ o) -ℤ f → l ≡ a -ℤ (o +ℤ r) → x ≡ a -ℤ (f +ℤ r)
 line_moved x l a o r f p q = omega (arith, ints)
@@ -85,11 +92,7 @@ moved_held p ds n ms lines new_lines total k new can held few lt row range moved
     let own : Mult = record { row = k; factor = own_of ms k } in
     let put : Mult = record { row = k; factor = new.factor } in
     record {
-      full = record {
-        all = length-set ms k new ∙ held.full.all;
-        numbered = set_numbered ms k new held.full.numbered in_ms row;
-        fit = All-set (IsFitMult (length p.rows)) ms k new (record { row = omega arith; factor = range }) held.full.fit;
-      };
+      full = set_full (length p.rows) ms k new held.full lt row range;
       slots = few;
       gains = λ slot v h.
           let e = entry_at (row_at p.rows k).entries slot v in

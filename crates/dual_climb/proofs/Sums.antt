@@ -11,7 +11,7 @@ use Rattle.dual_bound.specs.declared.cert.Mult.{Mult}
 use Rattle.dual_bound.specs.Total.{rows_at, limits_sum, gain, slots_total, total_of}
 use Rattle.dual_bound.proofs.Greatest.{slots_total_same}
 use Rattle.dual_climb.specs.Factors.{weighted, HaveSameSums, AreNumbered, no_mult, cert_of}
-use Rattle.dual_climb.specs.RowBest.{without, with_factor, BestAlong}
+use Rattle.dual_climb.specs.RowBest.{without, with_factor, BestBy}
 
 -- what rows with factors count is such a sum, and so is the sum of their limits
 pub rows_weighted : (rows : List Row) (ms : List Mult) (slot v : ℕ) → rows_at rows ms slot v ≡ weighted (λ r. entry_at (row_at rows r).entries slot v) ms
@@ -66,10 +66,10 @@ pub replaced_same : (a b : List Mult) → HaveSameSums a b → (row factor : ℕ
 replaced_same a b h row factor = λ worth.
     ap (λ (x : ℤ). (pos factor *ℤ worth row) +ℤ x) (weighted_without row worth a ∙ h (zeroed row worth) ∙ sym (weighted_without row worth b))
 
-pub best_same : (p : Program) (ds : List Domain) (n : ℕ) (a b : List Mult) → HaveSameSums a b → (row : ℕ) → BestAlong p ds (cert_of n a) row → BestAlong p ds (cert_of n b) row
-best_same p ds n a b h row best = λ factor le.
-    subst (λ (x : ℤ). (x -ℤ pos n) <ℤ total_of p ds (with_factor (cert_of n b) row factor)) (total_same p ds n a b h)
-    (subst (λ (x : ℤ). (total_of p ds (cert_of n a) -ℤ pos n) <ℤ x) (total_same p ds n ((record { row = row; factor = factor }) ∷ without row a) ((record { row = row; factor = factor }) ∷ without row b) (replaced_same a b h row factor)) (best factor le))
+pub best_same : (fall : ℕ) (p : Program) (ds : List Domain) (n : ℕ) (a b : List Mult) → HaveSameSums a b → (row : ℕ) → BestBy fall p ds (cert_of n a) row → BestBy fall p ds (cert_of n b) row
+best_same fall p ds n a b h row best = λ factor le.
+    subst (λ (x : ℤ). (x -ℤ pos fall) <ℤ total_of p ds (with_factor (cert_of n b) row factor)) (total_same p ds n a b h)
+    (subst (λ (x : ℤ). (total_of p ds (cert_of n a) -ℤ pos fall) <ℤ x) (total_same p ds n ((record { row = row; factor = factor }) ∷ without row a) ((record { row = row; factor = factor }) ∷ without row b) (replaced_same a b h row factor)) (best factor le))
 
 -- rows that come later are not that one
 past : (ms : List Mult) (start row : ℕ) (worth : ℕ → ℤ) → AreNumbered start ms → row < start → weighted (zeroed row worth) ms ≡ weighted worth ms

@@ -1,13 +1,14 @@
 -- What the descent holds between two steps.
-use Rattle.std.specs.Prelude.{◌≡◌, ℕ, ◌<◌, ◌≤◌, List, length, ℤ}
+use Rattle.std.specs.Prelude.{◌≡◌, ℕ, ◌<◌, ◌≤◌, List, length, ℤ, IsSome}
 use Rattle.std.specs.List.{All}
 use Rattle.row_kit.specs.declared.domain.Domain.{Domain}
 use Rattle.row_kit.specs.declared.program.Program.{Program}
 use Rattle.dual_bound.specs.declared.line.Line.{Line}
+use Rattle.dual_bound.specs.declared.cert.Cert.{Cert}
 use Rattle.dual_bound.specs.declared.cert.Mult.{Mult}
 use Rattle.dual_bound.specs.Line.{line_at, slot_line}
 use Rattle.row_kit.specs.Domain.{IsNormal, IsOpen}
-use Rattle.dual_bound.specs.Total.{gain, total_of}
+use Rattle.dual_bound.specs.Total.{gain, total_at, total_of}
 use Rattle.dual_bound.specs.declared.limits.TheConstants.{MOST_SCALE}
 use Rattle.dual_climb.specs.Factors.{IsFull, cert_of}
 
@@ -25,3 +26,9 @@ pub record CanDescend (program : Program) (domains : List Domain) (scale : ℕ) 
   pub each_open : All IsOpen domains
   pub least : 1 ≤ scale
   pub most : scale ≤ MOST_SCALE
+
+-- factors of all rows, and a certificate of a scale that has a total
+pub record IsClimbing (program : Program) (domains : List Domain) (scale : ℕ) (mults : List Mult) (best : Cert) : Type 0 where
+  pub full : IsFull (length program.rows) mults
+  pub same_scale : best.scale ≡ scale
+  pub defined : IsSome (total_at program domains best)

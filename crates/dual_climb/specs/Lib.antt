@@ -1,4 +1,5 @@
 pub mod Along
+pub mod Climbed
 pub mod Factors
 pub mod Held
 pub mod RowBest

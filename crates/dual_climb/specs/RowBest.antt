@@ -19,15 +19,19 @@ abbrev pub with_factor : Cert → ℕ → ℕ → Cert
 with_factor cert row factor =
     record { scale = cert.scale; mults = record { row = row; factor = factor } ∷ without row cert.mults }
 
--- with no factor in the place of the row's own is the total lower by the scale or more
-abbrev pub BestAlong : Program → List Domain → Cert → ℕ → Type 0
-BestAlong program domains cert row =
+-- with no factor in the place of the row's own is the total lower by so much or more
+abbrev pub BestBy : ℕ → Program → List Domain → Cert → ℕ → Type 0
+BestBy fall program domains cert row =
     (factor : ℕ) → factor ≤ MOST_FACTOR
-    → (total_of program domains cert -ℤ pos cert.scale) <ℤ total_of program domains (with_factor cert row factor)
+    → (total_of program domains cert -ℤ pos fall) <ℤ total_of program domains (with_factor cert row factor)
 
--- a certificate is row-wise best where it is best along each row
+-- and so along each row
+abbrev pub RowBestBy : ℕ → Program → List Domain → Cert → Type 0
+RowBestBy fall program domains cert = (row : ℕ) → row < length program.rows → BestBy fall program domains cert row
+
+-- a certificate is row-wise best where no change of a single factor lowers its total by the scale or more
 abbrev pub RowBest : Program → List Domain → Cert → Type 0
-RowBest program domains cert = (row : ℕ) → row < length program.rows → BestAlong program domains cert row
+RowBest program domains cert = RowBestBy cert.scale program domains cert
 
 -- both totals are there, and the second is at most the first
 abbrev pub NeverRises : Option ℤ → Option ℤ → Type 0

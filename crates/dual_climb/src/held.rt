@@ -7,11 +7,11 @@ ghost use Rattle.row_kit.specs.Domain.{IsOpen};
 ghost use Rattle.dual_bound.specs.Line.{line_at, slot_line, IsWithin};
 ghost use Rattle.dual_climb.specs.Factors.{cert_of, no_mult};
 ghost use Rattle.dual_climb.specs.Held.{IsHeld, CanDescend};
-ghost use Rattle.dual_climb.specs.RowBest.{BestAlong};
+ghost use Rattle.dual_climb.specs.RowBest.{BestBy};
 
 use crate::along::part_along;
 use crate::least::least;
-use dual_bound::{Line, Mult, add_entries, turn};
+use dual_bound::{Line, MOST_SCALE, Mult, add_entries, turn};
 use row_kit::{Area, MOST_SLOTS, Program, Row};
 
 // A factor for each row, with what the slots gain under them and their total.
@@ -22,22 +22,30 @@ pub struct Held {
     pub total: i128,
 }
 
-// Gives a row the factor at which the total is least, where that is lower by the scale or more; whether it was.
-pub fn improve(program: &Program, area: &Area, scale: u32, held: &mut Held, number: usize) -> bool
+// Gives a row the factor at which the total is least, where that is lower by so much or more; whether it was.
+pub fn improve(
+    program: &Program,
+    area: &Area,
+    scale: u32,
+    least_fall: u32,
+    held: &mut Held,
+    number: usize,
+) -> bool
     requires area { CanDescend program.now (present area.now) scale }
+    requires fall { least_fall ≤ MOST_SCALE }
     requires number { number < length program.now.rows }
     requires held { IsHeld program.now (present area.now) scale held.old.mults.items held.old.lines held.old.total }
     ensures held { IsHeld program.now (present area.now) scale held.new.mults.items held.new.lines held.new.total }
-    ensures fell { IsTrue result → (held.new.total +ℤ pos scale) ≤ℤ held.old.total }
+    ensures fell { IsTrue result → (held.new.total +ℤ pos least_fall) ≤ℤ held.old.total }
     ensures same { result ≡ false → (held.new.mults.items ≡ held.old.mults.items) × (held.new.total ≡ held.old.total) }
-    ensures best { result ≡ false → BestAlong program.now (present area.now) (cert_of scale held.old.mults.items) number }
+    ensures best { result ≡ false → BestBy least_fall program.now (present area.now) (cert_of scale held.old.mults.items) number }
 {
     let row = &program.rows.as_slice()[number];
     let own = held.mults[number].factor;
     let factor = least(&held.lines, area, row, own);
     let fall = part_along(&held.lines, area, row, own, own)
         - part_along(&held.lines, area, row, own, factor);
-    if fall < i128::from(scale) {
+    if fall < i128::from(least_fall) {
         return false;
     }
     move_lines(&mut held.lines, row, own, factor);

@@ -1,16 +1,16 @@
-ghost use Rattle.std.specs.Prelude.{◌≡◌, ℕ, ◌+◌, ◌≤◌, ◌<◌, ◌^◌, ◌↔◌, ◌⊎◌, length, pos, ◌+ℤ◌, ◌≤ℤ◌, IsTrue, IsSome, IfOk, Some, true, false, unsigned_abs};
+ghost use Rattle.std.specs.Prelude.{◌≡◌, ℕ, ◌+◌, ◌≤◌, ◌<◌, ◌^◌, ◌↔◌, ◌⊎◌, length, pos, ◌+ℤ◌, ◌≤ℤ◌, IsTrue, IsSome, IfOk, OnErr, Some, true, false, unsigned_abs};
 ghost use Rattle.std.specs.List.{All};
 ghost use Rattle.row_kit.specs.Area.{present};
 ghost use Rattle.row_kit.specs.Domain.{IsOpen};
 ghost use Rattle.dual_bound.specs.Cap.{cert_cap, scaled_cap};
 ghost use Rattle.dual_bound.specs.Total.{total_at, IsUsable};
-ghost use Rattle.dual_climb.specs.Factors.{cert_of};
+ghost use Rattle.dual_climb.specs.Factors.{cert_of, HaveSameSums};
 ghost use Rattle.dual_climb.specs.Held.{IsHeld, CanDescend};
-ghost use Rattle.dual_climb.specs.RowBest.{BestAlong, RowBest, NeverRises, IsReached};
+ghost use Rattle.dual_climb.specs.RowBest.{BestBy, RowBestBy, RowBest, NeverRises, IsReached};
 
 use crate::factors::{gathered, spread};
 use crate::held::{Held, improve};
-use dual_bound::{Cert, gain_lines, scaled, usable_total};
+use dual_bound::{Cert, MOST_SCALE, gain_lines, scaled, usable_total};
 use proof_tree::Capped;
 use row_kit::{Area, Program};
 use std::alloc::{AllocError, Global};
@@ -33,6 +33,7 @@ pub fn polish(
     requires total { IsSome (total_at program.now (present area.now) cert.old) }
     ensures scale { cert.new.scale ≡ cert.old.scale }
     ensures total { NeverRises (total_at program.now (present area.now) cert.old) (total_at program.now (present area.now) cert.new) }
+    ensures err { OnErr result (cert.new ≡ cert.old) }
     ensures best { IfOk result (λ _. RowBest program.now (present area.now) cert.new ⊎ IsReached stop (cert_cap program.now (present area.now) cert.new)) }
 {
     let mut held = hold(alloc, program, area, cert)?;
@@ -42,13 +43,14 @@ pub fn polish(
 }
 
 // A factor for each row, the lines and the total of a certificate.
-fn hold(alloc: Global, program: &Program, area: &Area, cert: &Cert) -> Result<Held, AllocError>
+pub fn hold(alloc: Global, program: &Program, area: &Area, cert: &Cert) -> Result<Held, AllocError>
     requires slots { length (present area.now) ≡ length program.now.root }
     requires scale { 1 ≤ cert.now.scale }
     requires total { IsSome (total_at program.now (present area.now) cert.now) }
     ensures area { CanDescend program.now (present area.now) cert.now.scale }
     ensures held { IfOk result (λ held. IsHeld program.now (present area.now) cert.now.scale held.mults.items held.lines held.total) }
     ensures total { IfOk result (λ held. total_at program.now (present area.now) cert.now ≡ Some held.total) }
+    ensures same { IfOk result (λ held. HaveSameSums held.mults.items cert.now.mults) }
 {
     let _ = area.slot_count();
     let lines = gain_lines(program, cert);
@@ -69,21 +71,31 @@ fn descend(program: &Program, area: &Area, scale: u32, stop: Option<i128>, held:
     ensures fell { held.new.total ≤ℤ held.old.total }
     ensures best { RowBest program.now (present area.now) (cert_of scale held.new.mults.items) ⊎ IsReached stop (scaled_cap scale (Some held.new.total)) }
 {
-    while pass(program, area, scale, stop, held) {}
+    while pass(program, area, scale, scale, stop, held) {}
 }
 
-// Improves the factor of each row once, until the cap is reached; whether some factor changed.
-fn pass(program: &Program, area: &Area, scale: u32, stop: Option<i128>, held: &mut Held) -> bool
+// Improves the factor of each row once, where that lowers the total by so much or more, until the cap is reached; whether some
+// factor changed.
+pub fn pass(
+    program: &Program,
+    area: &Area,
+    scale: u32,
+    least_fall: u32,
+    stop: Option<i128>,
+    held: &mut Held,
+) -> bool
     requires area { CanDescend program.now (present area.now) scale }
+    requires fall { least_fall ≤ MOST_SCALE }
     requires held { IsHeld program.now (present area.now) scale held.old.mults.items held.old.lines held.old.total }
     ensures held { IsHeld program.now (present area.now) scale held.new.mults.items held.new.lines held.new.total }
     ensures never { held.new.total ≤ℤ held.old.total }
-    ensures fell { IsTrue result → (held.new.total +ℤ pos scale) ≤ℤ held.old.total }
-    ensures best { result ≡ false → RowBest program.now (present area.now) (cert_of scale held.new.mults.items) ⊎ IsReached stop (scaled_cap scale (Some held.new.total)) }
+    ensures fell { IsTrue result → (held.new.total +ℤ pos least_fall) ≤ℤ held.old.total }
+    ensures best { result ≡ false → RowBestBy least_fall program.now (present area.now) (cert_of scale held.new.mults.items) ⊎ IsReached stop (scaled_cap scale (Some held.new.total)) }
+    ensures same { result ≡ false → held.new.mults.items ≡ held.old.mults.items }
 {
     let mut changed = false;
     for number in 0..program.rows.len() {
-        if step(program, area, scale, stop, held, number) {
+        if step(program, area, scale, least_fall, stop, held, number) {
             changed = true;
         }
     }
@@ -95,22 +107,24 @@ fn step(
     program: &Program,
     area: &Area,
     scale: u32,
+    least_fall: u32,
     stop: Option<i128>,
     held: &mut Held,
     number: usize,
 ) -> bool
     requires area { CanDescend program.now (present area.now) scale }
+    requires fall { least_fall ≤ MOST_SCALE }
     requires number { number < length program.now.rows }
     requires held { IsHeld program.now (present area.now) scale held.old.mults.items held.old.lines held.old.total }
     ensures held { IsHeld program.now (present area.now) scale held.new.mults.items held.new.lines held.new.total }
-    ensures fell { IsTrue result → (held.new.total +ℤ pos scale) ≤ℤ held.old.total }
+    ensures fell { IsTrue result → (held.new.total +ℤ pos least_fall) ≤ℤ held.old.total }
     ensures same { result ≡ false → (held.new.mults.items ≡ held.old.mults.items) × (held.new.total ≡ held.old.total) }
-    ensures best { result ≡ false → BestAlong program.now (present area.now) (cert_of scale held.old.mults.items) number ⊎ IsReached stop (scaled_cap scale (Some held.old.total)) }
+    ensures best { result ≡ false → BestBy least_fall program.now (present area.now) (cert_of scale held.old.mults.items) number ⊎ IsReached stop (scaled_cap scale (Some held.old.total)) }
 {
     if is_reached(&held.total, scale, stop) {
         return false;
     }
-    improve(program, area, scale, held, number)
+    improve(program, area, scale, least_fall, held, number)
 }
 
 // Whether the cap of a total is at most a number, where there is one to stop at.

@@ -1,5 +1,5 @@
-use crate::polish;
-use dual_bound::{Cert, Mult, cap};
+use crate::{climb, polish};
+use dual_bound::{Cert, Mult, cap, total};
 use proof_tree::Capped;
 use row_kit::{Area, Domain, Entry, List, Program, Row, Tag};
 use std::alloc::{AllocError, Global};
@@ -53,6 +53,46 @@ fn cert(alloc: Global, scale: u32, mult: Option<Mult>) -> Result<Cert, AllocErro
     Ok(Cert { scale, mults })
 }
 
+// The cap over the root once a certificate has been polished.
+fn polished(
+    alloc: Global,
+    program: &Program,
+    mut cert: Cert,
+    stop: Option<i128>,
+) -> Result<Capped, AllocError> {
+    let area = Area::new(alloc, program)?;
+    if cert.scale == 0 {
+        return Ok(Capped::Bad);
+    }
+    match total(program, &area, &cert) {
+        None => Ok(Capped::Bad),
+        Some(_) => {
+            polish(alloc, program, &area, &mut cert, stop)?;
+            Ok(cap(program, &area, &cert))
+        }
+    }
+}
+
+// The cap over the root of what a climb from a certificate gives.
+fn climbed(alloc: Global, program: &Program, cert: &Cert) -> Result<Capped, AllocError> {
+    let area = Area::new(alloc, program)?;
+    match total(program, &area, cert) {
+        None => Ok(Capped::Bad),
+        Some(_) => {
+            let better = climb(alloc, program, &area, cert)?;
+            Ok(cap(program, &area, &better))
+        }
+    }
+}
+
+// Whether a cap lies between two numbers.
+fn is_between(cap: Capped, from: i128, to: i128) -> bool {
+    match cap {
+        Capped::AtMost(cap) => from <= cap && cap <= to,
+        _ => false,
+    }
+}
+
 // The least size, the feed, the certificate, the number to stop at, and the cap that the polished certificate gives.
 const POLISHED: [(u8, i128, u32, Option<Mult>, Option<i128>, Capped); 6] = [
     (3, 10, 1, None, None, Capped::AtMost(50)),
@@ -85,10 +125,38 @@ fn certificates_are_polished(rt: HostRuntime) -> Result<(), Fail> {
     let alloc = rt.alloc();
     for (least, feed, scale, mult, stop, expected) in POLISHED {
         let program = chain(alloc, least, feed)?.ok_or("bounds")?;
-        let area = Area::new(alloc, &program)?;
-        let mut cert = cert(alloc, scale, mult)?;
-        polish(alloc, &program, &area, &mut cert, stop)?;
-        assert_eq!(rt; cap(&program, &area, &cert), expected);
+        let cert = cert(alloc, scale, mult)?;
+        assert_eq!(rt; polished(alloc, &program, cert, stop)?, expected);
+    }
+    Ok(())
+}
+
+// The least size, the feed, the certificate, and the least and the greatest cap that the climb may give.
+const CLIMBED: [(u8, i128, u32, Option<Mult>, i128, i128); 4] = [
+    (3, 10, 1, None, 50, 57),
+    (3, 10, 1_000, None, 50, 57),
+    (
+        3,
+        10,
+        1,
+        Some(Mult {
+            row: 3,
+            factor: 900,
+        }),
+        50,
+        57,
+    ),
+    (1, 12, 1, None, 60, 60),
+];
+
+#[test]
+fn certificates_climb(rt: HostRuntime) -> Result<(), Fail> {
+    let alloc = rt.alloc();
+    for (least, feed, scale, mult, from, to) in CLIMBED {
+        let program = chain(alloc, least, feed)?.ok_or("bounds")?;
+        let cert = cert(alloc, scale, mult)?;
+        let lies = is_between(climbed(alloc, &program, &cert)?, from, to);
+        assert!(rt; lies);
     }
     Ok(())
 }

@@ -73,11 +73,11 @@ returns-then-fall-from-clause-best c =
     let hp = held_part p ds ms held.lines k in
     let first : c.part_along.result ≡ hp (own_of ms k) = c.part_along.ensures.value ∙ part_is p ds ms held.lines k own row is_row is_own own ∙ ap hp is_own in
     let second : c.part_along-2.result ≡ hp c.least-factor.result = c.part_along-2.ensures.value ∙ part_is p ds ms held.lines k own row is_row is_own c.least-factor.result in
-    let less : (c.part_along.result -ℤ c.part_along-2.result) <ℤ pos c.args.scale = omega (arith, ints, c.part_along.ensures.small, c.part_along-2.ensures.small, c.from.ensures, c.if-fall-from.true, c.requires.area.most) in
-    let less_held : (hp (own_of ms k) -ℤ hp c.least-factor.result) <ℤ pos c.args.scale = subst (λ (x : ℤ). (hp (own_of ms k) -ℤ x) <ℤ pos c.args.scale) second (subst (λ (x : ℤ). (x -ℤ c.part_along-2.result) <ℤ pos c.args.scale) first less) in
+    let less : (c.part_along.result -ℤ c.part_along-2.result) <ℤ pos c.args.least_fall = omega (arith, ints, c.part_along.ensures.small, c.part_along-2.ensures.small, c.from.ensures, c.if-fall-from.true, c.requires.fall) in
+    let less_held : (hp (own_of ms k) -ℤ hp c.least-factor.result) <ℤ pos c.args.least_fall = subst (λ (x : ℤ). (hp (own_of ms k) -ℤ x) <ℤ pos c.args.least_fall) second (subst (λ (x : ℤ). (x -ℤ c.part_along-2.result) <ℤ pos c.args.least_fall) first less) in
     let least : (f : ℕ) → f ≤ 2 ^ 40 → hp c.least-factor.result ≤ℤ hp f =
     λ f le. subst (λ (x : ℤ). x ≤ℤ hp f) (part_is p ds ms held.lines k own row is_row is_own c.least-factor.result) (subst (λ (x : ℤ). part_along held.lines ds row own c.least-factor.result ≤ℤ x) (part_is p ds ms held.lines k own row is_row is_own f) (c.least-factor.ensures.least f le)) in
-    λ _. stays_best p ds c.args.scale ms held.lines held.total k c.least-factor.result c.requires.area c.requires.held c.requires.number least less_held
+    λ _. stays_best c.args.least_fall p ds c.args.scale ms held.lines held.total k c.least-factor.result c.requires.area c.requires.held c.requires.number least less_held
 
 pub move_lines-requires-clause-bounded : goal.move_lines-requires-clause-bounded
 move_lines-requires-clause-bounded c =
@@ -172,5 +172,5 @@ returns-clause-fell c =
     subst (λ (x : ℤ). unsigned_abs x < 2 ^ 117) (sym c.requires.held.is_total) (total_small p ds c.args.scale ms c.requires.area.most c.requires.held.full c.requires.area.normal (omega (arith, c.requires.area.slots, p.few_slots))) in
     let now : to_z w128 (of_z w128 (to_z w128 (of_z w128 held.total) -ℤ to_z w128 (of_z w128 (to_z w128 (of_z w128 c.part_along.result) -ℤ to_z w128 (of_z w128 c.part_along-2.result))))) ≡ held.total -ℤ (c.part_along.result -ℤ c.part_along-2.result) =
     less_fall held.total c.part_along.result c.part_along-2.result was c.part_along.ensures.small c.part_along-2.ensures.small in
-    let fall : pos c.args.scale ≤ℤ (c.part_along.result -ℤ c.part_along-2.result) = fall_shown c.part_along.result c.part_along-2.result c.from.result c.args.scale c.part_along.ensures.small c.part_along-2.ensures.small c.from.ensures (omega (arith, c.requires.area.most)) c.if-fall-from.false in
-    λ _. subst (λ (x : ℤ). (x +ℤ pos c.args.scale) ≤ℤ held.total) (sym now) (fell_by held.total (c.part_along.result -ℤ c.part_along-2.result) (pos c.args.scale) fall)
+    let fall : pos c.args.least_fall ≤ℤ (c.part_along.result -ℤ c.part_along-2.result) = fall_shown c.part_along.result c.part_along-2.result c.from.result c.args.least_fall c.part_along.ensures.small c.part_along-2.ensures.small c.from.ensures (omega (arith, c.requires.fall)) c.if-fall-from.false in
+    λ _. subst (λ (x : ℤ). (x +ℤ pos c.args.least_fall) ≤ℤ held.total) (sym now) (fell_by held.total (c.part_along.result -ℤ c.part_along-2.result) (pos c.args.least_fall) fall)

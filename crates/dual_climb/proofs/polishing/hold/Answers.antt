@@ -43,3 +43,6 @@ returns-clause-total c =
     let ds = present c.args.area.now in
     let exact : to_z w128 (of_z w128 c.usable_total-total.result) ≡ c.usable_total-total.result = omega (arith, ints, c.usable_total-total.ensures.small) in
     total_is p ds c.args.cert.now (keeps p ds c.args.cert.now c.requires.total).has ∙ ap (λ (x : ℤ). Some x) (sym (exact ∙ c.usable_total-total.ensures.value))
+
+pub returns-clause-same : goal.returns-clause-same
+returns-clause-same c = λ worth. c.in_ok-mults.ensures.same worth ∙ ap (weighted worth) c.as_slice.ensures

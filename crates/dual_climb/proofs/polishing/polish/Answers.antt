@@ -36,6 +36,6 @@ returns-clause-best c =
     let has = has_other p ds cert list (keeps p ds cert c.requires.total) fit (omega (arith, rows, c.in_ok-cert.ensures.few)) in
     let total : total_at p ds (cert_of cert.scale list) ≡ Some new.total = total_is p ds (cert_of cert.scale list) has ∙ ap (λ (x : ℤ). Some x) (total_same p ds cert.scale list new.mults.items same ∙ sym c.descend.ensures.held.is_total) in
     elim c.descend.ensures.best [
-      | inl best ↦ inl (λ row lt. best_same p ds cert.scale new.mults.items list (λ worth. sym (same worth)) row (best row lt))
+      | inl best ↦ inl (λ row lt. best_same cert.scale p ds cert.scale new.mults.items list (λ worth. sym (same worth)) row (best row lt))
       | inr reached ↦ inr (subst (λ (o : Option ℤ). IsReached c.args.stop (scaled_cap cert.scale o)) (sym total) reached)
     ]

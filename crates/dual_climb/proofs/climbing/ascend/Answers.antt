@@ -1,0 +1,7 @@
+-- A certificate with a total is usable.
+use Rattle.row_kit.specs.Area.{present}
+use Rattle.dual_climb.proofs.Usable.{keeps}
+use Rattle.dual_climb.proofs.climbing.ascend.Goals as goal
+
+pub usable_total-requires-clause-usable : goal.usable_total-requires-clause-usable
+usable_total-requires-clause-usable c = (keeps c.args.program.now (present c.args.area.now) c.args.start.now c.requires.total).usable
