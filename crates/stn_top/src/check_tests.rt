@@ -1,4 +1,6 @@
 //! Logs of worked plants, and what their check says.
+ghost use Rattle.stn_model.specs.Sound.{Sound};
+
 use crate::run;
 use crate::tests::{DUE, GOLD, ODD, TINT, TINY, answer, edited, repeated};
 use crate::texts::checked;
@@ -219,7 +221,9 @@ fn in_memory(alloc: Global, plant: &str, log: &str) -> Result<(LogVerdict, LogVe
 }
 
 // What the check of the log says that is read first.
-fn check_read(alloc: Global, plant: &Plant, log: &str) -> Result<LogVerdict, Fail> {
+fn check_read(alloc: Global, plant: &Plant, log: &str) -> Result<LogVerdict, Fail>
+    requires { Sound plant.now }
+{
     let rows = Rows {
         program: program_of(alloc, plant)?,
     };
