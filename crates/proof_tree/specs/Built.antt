@@ -1,5 +1,7 @@
 -- What a builder of a proof has built.
 use Rattle.std.specs.Prelude.{◌≡◌, List, [], ◌∷◌, ◌++◌, map, Option, Some, None, option_to_list}
+use Rattle.std.proofs.Common.{refl, subst, sym}
+use Rattle.std.proofs.lemmas.List.{append-nil}
 use Rattle.proof_tree.specs.declared.item.Item.{Item}
 use Rattle.proof_tree.specs.declared.item.Item.TheVariants.{Node, Cut, Found, Split}
 use Rattle.proof_tree.specs.declared.builder.BegunNode.{BegunNode}
@@ -8,6 +10,9 @@ use Rattle.proof_tree.specs.declared.builder.TreeBuilder.{TreeBuilder}
 use Rattle.proof_tree.specs.declared.builder.Built.{Built}
 use Rattle.proof_tree.specs.declared.builder.Built.TheVariants.{More, Whole}
 use Rattle.proof_tree.specs.declared.proof.Proof.{Proof}
+use Rattle.proof_tree.specs.declared.tree_taker.TreeTaker.{TreeTaker}
+use Rattle.proof_tree.specs.Form.{form_of}
+use Rattle.proof_tree.specs.Walk.{misplaced}
 use Rattle.proof_tree.specs.Items.{tree_items}
 use Rattle.proof_tree.specs.Tree.{tree_of}
 
@@ -41,3 +46,20 @@ pub record HasBuilt {R A U C P F : Type 0} (items : List (Item R A U C P F)) (bu
 abbrev pub IsBuilt : {R A U C P F : Type 0} → List (Item R A U C P F) → Built R A U C P F → Type 0
 IsBuilt items (More builder) = HasBuilt items builder
 IsBuilt items (Whole proof) = items ≡ tree_items (tree_of proof)
+
+-- what is held of these items: what was built of them, or nothing, where one of them may not come where it comes
+abbrev pub HoldsBuilt : {R A U C P F : Type 0} → List (Item R A U C P F) → Option (Built R A U C P F) → Type 0
+HoldsBuilt items None = form_of items ≡ misplaced
+HoldsBuilt items (Some built) = IsBuilt items built
+
+-- the items are those that the taker holds
+pub record HoldsItems {R K A U C P F : Type 0} (items : List (Item R A U C P F)) (taker : TreeTaker R K A U C P F) : Type 0 where
+  pub held : HoldsBuilt items taker.built
+
+-- whatever items the taker held, it now holds these besides
+pub record Holding {R K A U C P F : Type 0} (before : TreeTaker R K A U C P F) (items : List (Item R A U C P F)) (after : TreeTaker R K A U C P F) : Type 0 where
+  pub grown : (held : List (Item R A U C P F)) → HoldsItems held before → HoldsItems (held ++ items) after
+
+-- where nothing changed, it holds no item besides
+pub holding-none : {R K A U C P F O : Type 0} (taker : TreeTaker R K A U C P F) (out : O) → Holding taker [] taker × (out ≡ out)
+holding-none taker out = (record { grown = λ held holds. subst (λ items. HoldsItems items taker) (sym (append-nil held)) holds }, refl)

@@ -111,15 +111,7 @@ impl<R: Relaxation> Walk<R> {
     pub fn may_take(&self, item: &Item<R>) -> bool
         ensures { result ≡ may_come self.now.expected item.now }
     {
-        match (self.expected, item) {
-            (Expected::Node, Item::Node) => true,
-            (Expected::Node, _) => false,
-            (Expected::Inside, Item::Node) => false,
-            (Expected::Inside, _) => true,
-            (Expected::End, Item::Node | Item::Cut(_) | Item::Found(_)) => false,
-            (Expected::End, _) => true,
-            (Expected::Nothing, _) => false,
-        }
+        may_come(self.expected, item)
     }
 
     /// Takes an item, which has to be one that may come next, in an area in which the walk stands.
@@ -328,5 +320,20 @@ impl<R: Relaxation> Walk<R> {
         });
         self.expected = Expected::Node;
         Took::More
+    }
+}
+
+// Whether the item may come next, where these items may.
+pub(crate) fn may_come<R: Relaxation>(expected: Expected, item: &Item<R>) -> bool
+    ensures { result ≡ may_come expected item.now }
+{
+    match (expected, item) {
+        (Expected::Node, Item::Node) => true,
+        (Expected::Node, _) => false,
+        (Expected::Inside, Item::Node) => false,
+        (Expected::Inside, _) => true,
+        (Expected::End, Item::Node | Item::Cut(_) | Item::Found(_)) => false,
+        (Expected::End, _) => true,
+        (Expected::Nothing, _) => false,
     }
 }
