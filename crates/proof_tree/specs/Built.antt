@@ -1,7 +1,5 @@
 -- What a builder of a proof has built.
 use Rattle.std.specs.Prelude.{◌≡◌, List, [], ◌∷◌, ◌++◌, map, Option, Some, None, option_to_list}
-use Rattle.std.proofs.Common.{refl, subst, sym}
-use Rattle.std.proofs.lemmas.List.{append-nil}
 use Rattle.proof_tree.specs.declared.item.Item.{Item}
 use Rattle.proof_tree.specs.declared.item.Item.TheVariants.{Node, Cut, Found, Split}
 use Rattle.proof_tree.specs.declared.builder.BegunNode.{BegunNode}
@@ -11,7 +9,7 @@ use Rattle.proof_tree.specs.declared.builder.Built.{Built}
 use Rattle.proof_tree.specs.declared.builder.Built.TheVariants.{More, Whole}
 use Rattle.proof_tree.specs.declared.proof.Proof.{Proof}
 use Rattle.proof_tree.specs.declared.tree_taker.TreeTaker.{TreeTaker}
-use Rattle.proof_tree.specs.Form.{form_of}
+use Rattle.proof_tree.specs.Form.{form_of, MayComeAfter}
 use Rattle.proof_tree.specs.Walk.{misplaced}
 use Rattle.proof_tree.specs.Items.{tree_items}
 use Rattle.proof_tree.specs.Tree.{tree_of}
@@ -42,6 +40,14 @@ splits_items (split ∷ splits) = splits_items splits ++ split_items split
 pub record HasBuilt {R A U C P F : Type 0} (items : List (Item R A U C P F)) (builder : TreeBuilder R A U C P F) : Type 0 where
   pub same : items ≡ splits_items builder.splits ++ items_if begun_items builder.begun
 
+-- an item may come after the items that the builder holds
+abbrev pub MayComeIn : {R A U C P F : Type 0} → TreeBuilder R A U C P F → Item R A U C P F → Type 0
+MayComeIn {R} {A} {U} {C} {P} {F} builder item = (items : List (Item R A U C P F)) → HasBuilt items builder → MayComeAfter items item
+
+-- an item is out of place after the items that the builder holds
+abbrev pub IsOutOfPlace : {R A U C P F : Type 0} → TreeBuilder R A U C P F → Item R A U C P F → Type 0
+IsOutOfPlace {R} {A} {U} {C} {P} {F} builder item = (items : List (Item R A U C P F)) → HasBuilt items builder → form_of (items ++ item ∷ []) ≡ misplaced
+
 -- what was built of these items: a part of a proof, or the proof whose items they are
 abbrev pub IsBuilt : {R A U C P F : Type 0} → List (Item R A U C P F) → Built R A U C P F → Type 0
 IsBuilt items (More builder) = HasBuilt items builder
@@ -59,7 +65,3 @@ pub record HoldsItems {R K A U C P F : Type 0} (items : List (Item R A U C P F))
 -- whatever items the taker held, it now holds these besides
 pub record Holding {R K A U C P F : Type 0} (before : TreeTaker R K A U C P F) (items : List (Item R A U C P F)) (after : TreeTaker R K A U C P F) : Type 0 where
   pub grown : (held : List (Item R A U C P F)) → HoldsItems held before → HoldsItems (held ++ items) after
-
--- where nothing changed, it holds no item besides
-pub holding-none : {R K A U C P F O : Type 0} (taker : TreeTaker R K A U C P F) (out : O) → Holding taker [] taker × (out ≡ out)
-holding-none taker out = (record { grown = λ held holds. subst (λ items. HoldsItems items taker) (sym (append-nil held)) holds }, refl)

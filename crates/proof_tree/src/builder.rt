@@ -1,9 +1,8 @@
 //! A proof that is built from its items.
 ghost use Rattle.std.specs.Prelude.{List as Items, [], ◌∷◌, ◌++◌, ◌≡◌, IfOk, MatchBool};
-ghost use Rattle.proof_tree.specs.Built.{HasBuilt, IsBuilt, begun_items, proof_items, splits_items};
-ghost use Rattle.proof_tree.specs.Form.{form_of, MayComeAfter};
+ghost use Rattle.proof_tree.specs.Built.{HasBuilt, IsBuilt, MayComeIn, IsOutOfPlace, begun_items, proof_items, splits_items};
+ghost use Rattle.proof_tree.specs.Form.{MayComeAfter};
 ghost use Rattle.proof_tree.specs.Tree.{split, tree_of, tree_at};
-ghost use Rattle.proof_tree.specs.Walk.{misplaced};
 ghost use Rattle.proof_tree.specs.declared.item.Item.{Item};
 
 use crate::item::Item;
@@ -83,9 +82,7 @@ impl<R: Relaxation> TreeBuilder<R> {
 
     /// Whether the item may come next.
     pub fn may_take(&self, item: &Item<R>) -> bool
-        ensures { MatchBool result
-            ((items : Items (Item R R.Area R.Trim R.Cert R.Pick R.Found)) → HasBuilt items self.now → MayComeAfter items item.now)
-            ((items : Items (Item R R.Area R.Trim R.Cert R.Pick R.Found)) → HasBuilt items self.now → form_of (items ++ item.now ∷ []) ≡ misplaced) }
+        ensures { MatchBool result (MayComeIn self.now item.now) (IsOutOfPlace self.now item.now) }
     {
         let expected = match &self.begun {
             None => Expected::Node,

@@ -1,10 +1,8 @@
 //! A taker of items that builds the proof whose items they are.
-ghost use Rattle.std.specs.Prelude.{List as Items, [], ◌∷◌, ◌++◌, ◌≡◌, IfOk, IsSomeAnd, MatchBool};
-ghost use Rattle.proof_tree.specs.Built.{HasBuilt, IsBuilt, HoldsItems, HoldsBuilt};
-ghost use Rattle.proof_tree.specs.Form.{form_of, MayComeAfter};
+ghost use Rattle.std.specs.Prelude.{List as Items, [], ◌∷◌, ◌++◌, ◌≡◌, IfOk, IsSomeAnd};
+ghost use Rattle.proof_tree.specs.Built.{IsBuilt, HoldsItems, HoldsBuilt};
 ghost use Rattle.proof_tree.specs.Items.{tree_items};
 ghost use Rattle.proof_tree.specs.Tree.{Tree, tree_of};
-ghost use Rattle.proof_tree.specs.Walk.{misplaced};
 ghost use Rattle.proof_tree.specs.declared.item.Item.{Item};
 
 use crate::builder::{Built, TreeBuilder};
@@ -64,7 +62,8 @@ impl<R: Relaxation, K: ItemCopier<R> + Drop> TreeTaker<R, K> {
 impl<R: Relaxation, O, K: ItemCopier<R> + Drop> NodeTaker<R, O> for TreeTaker<R, K> {
     ghost use Rattle.std.specs.Prelude.{◌≡◌, List as Items, ◌++◌};
     ghost use Rattle.proof_tree.specs.declared.item.Item.{Item};
-    ghost use Rattle.proof_tree.specs.Built.{Holding, holding-none};
+    ghost use Rattle.proof_tree.specs.Built.{Holding};
+    ghost use Rattle.proof_tree.specs.laws.Held.{holding-none};
 
     ghost faults = { λ _. 0 };
 

@@ -3,7 +3,8 @@ ghost use Rattle.proof_tree.specs.Items.{tree_items, depth};
 ghost use Rattle.proof_tree.specs.declared.item.Item.{Item};
 ghost use Rattle.proof_tree.specs.Tree.{Tree, tree_cap};
 ghost use Rattle.proof_tree.specs.Views.{View, present, view_at};
-ghost use Rattle.proof_tree.specs.Walk.{may_come, stage_of, opened, first_mark, innermost_left, StandBelow, Stands, IsAnswer, GoesBack, Led, going_to, step, taken, part_ended, close, walked, start, outcome_of, open_count, ComesNext, Tells};
+ghost use Rattle.proof_tree.specs.Walk.{may_come, stage_of, opened, first_mark, StandBelow, Stands, IsAnswer, GoesBack, going_to, step, taken, part_ended, close, walked, start, outcome_of, open_count, ComesNext, Tells};
+ghost use Rattle.proof_tree.specs.laws.Led.{innermost_left, Led};
 
 use crate::capped::{Capped, greater_cap};
 use crate::capping::empty_cap;

@@ -15,11 +15,11 @@ pub returns : goal.returns
 returns g c =
     let builder = c.args.self.now in
     let expected : c.match-self.expected ≡ next_of builder.begun =
-        elim c.match-self.branch [
-          in-None w ↦ w.expected-is ∙ sym (ap next_of w.in-None.is)
-        | in-Some+then-is_some w ↦ w.expected-is ∙ sym (ap next_of w.in-Some.is ∙ inside-some w.in-Some.node.found (sym w.is_some.ensures ∙ w.if-is_some.true))
-        | in-Some+else-is_some w ↦ w.expected-is ∙ sym (ap next_of w.in-Some.is ∙ inside-none w.in-Some.node.found (sym w.is_some.ensures ∙ w.if-is_some.false))
-        ] in
+    elim c.match-self.branch [
+      | in-None w ↦ w.expected-is ∙ sym (ap next_of w.in-None.is)
+      | in-Some+then-is_some w ↦ w.expected-is ∙ sym (ap next_of w.in-Some.is ∙ inside-some w.in-Some.node.found (sym w.is_some.ensures ∙ w.if-is_some.true))
+      | in-Some+else-is_some w ↦ w.expected-is ∙ sym (ap next_of w.in-Some.is ∙ inside-none w.in-Some.node.found (sym w.is_some.ensures ∙ w.if-is_some.false))
+    ] in
     let is : c.may_come.result ≡ may_come (next_of builder.begun) c.args.item.now = c.may_come.ensures ∙ ap (λ e. may_come e c.args.item.now) expected in
     decided c.may_come.result _ _
     (λ may items has. going-comes items (held_stage builder.splits builder.begun) c.args.item.now (built-form g.row.R.Denot g.row.R-Area.Denot items builder has) (sym is ∙ may))
