@@ -1,5 +1,7 @@
+pub mod Built
 pub mod ByteRange
 pub mod Cap
+pub mod Form
 pub mod Items
 pub mod Nodes
 pub mod Relaxation
@@ -7,5 +9,4 @@ pub mod Taker
 pub mod Tree
 pub mod Views
 pub mod Walk
-pub mod Form
-pub mod Built
+pub mod laws
