@@ -2,7 +2,7 @@ use Rattle.std.proofs.Common.{◌*◌, ◌^◌, arith}
 use Rattle.stn_model.proofs.Totals.{sum_fits, total_step}
 use mir.Val.{to_z}
 use mir.Syntax.{w128}
-use Rattle.plain_plan.proofs.profit.paid.Goals as goal
+use Rattle.stn_model.proofs.outside.paid.Goals as goal
 
 pub loop-delivery-preserved : goal.loop-delivery-preserved
 loop-delivery-preserved c =

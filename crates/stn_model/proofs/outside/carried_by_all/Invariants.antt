@@ -1,6 +1,6 @@
 use Rattle.std.proofs.Common.{◌≡◌, ◌≤◌, ◌*◌, ◌^◌, sum_by, take}
-use Rattle.plain_plan.specs.Summands.{carried_off}
-use Rattle.plain_plan.proofs.stock.delivered.Given as goal
+use Rattle.stn_model.specs.Stock.{carried_off}
+use Rattle.stn_model.proofs.outside.carried_by_all.Given as goal
 
 abbrev pub invariant-loop-delivery : goal.invariant-loop-delivery
 invariant-loop-delivery l = record {

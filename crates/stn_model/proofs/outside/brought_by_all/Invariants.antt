@@ -1,6 +1,6 @@
 use Rattle.std.proofs.Common.{◌≡◌, ◌≤◌, ◌*◌, ◌^◌, sum_by, take}
-use Rattle.plain_plan.specs.Summands.{brought}
-use Rattle.plain_plan.proofs.stock.received.Given as goal
+use Rattle.stn_model.specs.Stock.{brought}
+use Rattle.stn_model.proofs.outside.brought_by_all.Given as goal
 
 abbrev pub invariant-loop-receipt : goal.invariant-loop-receipt
 invariant-loop-receipt l = record {

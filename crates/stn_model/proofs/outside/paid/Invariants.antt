@@ -1,7 +1,7 @@
 use Rattle.std.proofs.Common.{◌≡◌, ◌≤◌, ◌*◌, ◌^◌, take}
 use Rattle.std.specs.Prelude.{unsigned_abs}
 use Rattle.stn_model.specs.Sums.{total}
-use Rattle.plain_plan.proofs.profit.paid.Given as goal
+use Rattle.stn_model.proofs.outside.paid.Given as goal
 
 abbrev pub invariant-loop-delivery : goal.invariant-loop-delivery
 invariant-loop-delivery l = record {
