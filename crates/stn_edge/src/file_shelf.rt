@@ -81,7 +81,8 @@ impl<'a, R: Files> Shelf for FileShelf<'a, R> {
     }
 }
 
-/// Opens the file to write. Each error but want of memory raises the count, and an interrupted call is tried again.
+/// Opens the file to write. Each error but want of memory raises the count, and an interrupted call is
+/// tried again.
 fn open_file<R: Files>(
     rt: &R,
     how: &OpenOptions,
