@@ -11,6 +11,7 @@ use Rattle.std.proofs.lemmas.List.Splits.{length-slice_split}
 use Rattle.std.proofs.lemmas.Bool.Decides.{nat_tests}
 use Rattle.std.proofs.lemmas.Fmt.{decimal_nonempty}
 use Rattle.std.proofs.Math.Seq.{get_or-append_seam, take-append_seam}
+use Rattle.text_words.specs.Faults.{fault_or}
 use Rattle.text_words.specs.Numbers.{number_below}
 use Rattle.text_words.proofs.Cuts.{cut_cases, cut_rejoins}
 use Rattle.text_words.proofs.Printed.{number_below-is, decimal-lacks}
@@ -20,7 +21,7 @@ use Rattle.plan_text.specs.declared.fault.PlanFault.{PlanFault}
 use Rattle.plan_text.specs.Published.{bad_line, too_many_lines, too_long, most_bytes, most_lines, number_limit}
 use Rattle.plan_text.specs.declared.fault.PlanStop.{PlanStop}
 use Rattle.plan_text.specs.declared.fault.PlanStop.TheVariants.{Fault, Memory}
-use Rattle.plan_text.specs.PlanText.{lines_of_parts, text_lines, line_words, is_comment, is_empty, named_start, start_of, start_of_words, line_start, start_count, fault_at, fault_of_lines, said, fault_or, plan_of_lines, plan_of_text, IsStop, ReadsPlan, with_start, after_line}
+use Rattle.plan_text.specs.PlanText.{lines_of_parts, text_lines, line_words, is_comment, is_empty, named_start, start_of, start_of_words, line_start, start_count, fault_at, fault_of_lines, said, plan_of_lines, plan_of_text, IsStop, ReadsPlan, with_start, after_line}
 
 -- a first part that is followed by others is a line
 pub lines_of_parts-cons : (part : List ℕ) (parts : List (List ℕ)) → 0 < length parts → lines_of_parts (part ∷ parts) ≡ part ∷ lines_of_parts parts

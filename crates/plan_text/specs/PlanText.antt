@@ -3,6 +3,7 @@ use Rattle.std.specs.Prelude.{◌≡◌, ℕ, ◌+◌, ◌==◌, ◌||◌, not, 
 use Rattle.std.specs.List.{slice_split, range_with_len}
 use Rattle.std.specs.Option.{option_map_or}
 use Rattle.std.specs.Result.{result_ok, result_err}
+use Rattle.text_words.specs.Faults.{fault_or}
 use Rattle.text_words.specs.Numbers.{number_below}
 use Rattle.stn_model.specs.declared.plant.Plant.{Plant}
 use Rattle.stn_model.specs.declared.start.Start.{Start}
@@ -83,11 +84,6 @@ fault_of_lines plant lines = slice_get (filter_map (fault_at plant lines) (range
 -- the start that a line says, if it is no comment and has no fault
 abbrev pub said : Plant → List ℕ → Option Start
 said plant line = if is_comment line then None else result_ok (line_start plant line)
-
--- the fault, if there is one, and else the plan
-abbrev pub fault_or : Option PlanFault → List Start → Result (List Start) PlanFault
-fault_or None plan = Ok plan
-fault_or (Some fault) plan = Err fault
 
 -- the starts of the lines that are no comments, in their order, or the first fault
 unfoldable pub plan_of_lines : Plant → List (List ℕ) → Result (List Start) PlanFault
