@@ -4,6 +4,7 @@ ghost use Rattle.row_kit.specs.Area.{present, with_domain};
 ghost use Rattle.row_kit.specs.Bounds.{IsBoundedRow};
 ghost use Rattle.row_kit.specs.Domain.{count_of, domain_at, Holds, IsBare, IsNormal};
 ghost use Rattle.row_kit.specs.Point.{LiesIn};
+ghost use Rattle.row_kit.specs.Points.{points_of};
 ghost use Rattle.row_kit.specs.Row.{IsKept, entry_at, row_at};
 ghost use Rattle.range_prop.specs.Cut.{cut_domain, is_bare, least_others, shrinks};
 
@@ -23,7 +24,8 @@ pub fn cut(program: &Program, area: &mut Area, row: u32, slot: u32) -> bool
         ↔ (Holds (domain_at (present area.old) slot) v × ((entry_at cutter.entries slot v +ℤ least_others cutter.entries slot (present area.old)) ≤ℤ cutter.limit)) }
     ensures bare { Any IsBare (present area.old) → area.new ≡ area.old }
     ensures shrank { result ≡ shrinks (row_at program.now.rows row) slot (present area.old) }
-    ensures fewer { IsTrue result → sum_by count_of (present area.new) < sum_by count_of (present area.old) }
+    ensures less { IsTrue result → sum_by count_of (present area.new) < sum_by count_of (present area.old) }
+    ensures fewer { points_of (present area.new) ≤ points_of (present area.old) }
     ensures points { (point : List ℕ) → LiesIn (present area.old) point → IsKept point (row_at program.now.rows row) → LiesIn (present area.new) point }
     ensures slots { length (present area.new) ≡ length (present area.old) }
 {

@@ -1,6 +1,6 @@
 ghost use Rattle.std.specs.Prelude.{◌≡◌, ℕ, ◌+◌, ◌<◌, ◌≤◌, ◌==◌, Bool, true, false, length, slice_index_or, slice_set, IfOk, OnOk, MatchOption};
 ghost use Rattle.std.specs.List.{All, count_by, list_any};
-ghost use Rattle.range_prop.specs.Queue.{waits};
+ghost use Rattle.range_prop.specs.laws.Queue.{waits};
 
 use std::alloc::{AllocError, Global};
 use std::collections::VecDeque;
@@ -16,16 +16,23 @@ pub struct Queue {
 }
 
 impl Queue {
-    // So many rows, all of which wait.
+    // So many rows, none of which waits.
     pub fn new(alloc: Global, count: usize) -> Result<Queue, AllocError>
+        ensures { IfOk result (λ queue. length queue.waiting.items ≡ count) }
+    {
+        Ok(Queue {
+            rows: VecDeque::new(alloc),
+            waiting: vec![in alloc; false; count]?,
+        })
+    }
+
+    // So many rows, all of which wait.
+    pub fn full(alloc: Global, count: usize) -> Result<Queue, AllocError>
         requires { count ≤ 45904 }
         ensures count { IfOk result (λ queue. length queue.waiting.items ≡ count) }
         ensures waits { IfOk result (λ queue. (row : ℕ) → row < count → waits queue.waiting.items row ≡ true) }
     {
-        let mut queue = Queue {
-            rows: VecDeque::with_capacity(alloc, count)?,
-            waiting: vec![in alloc; false; count]?,
-        };
+        let mut queue = Queue::new(alloc, count)?;
         for row in 0..count {
             queue.wake(row as u32)?;
         }

@@ -1,7 +1,7 @@
 ghost use Rattle.std.specs.Prelude.{◌≡◌, ℕ, ◌<◌, ◌≢◌, true, length, OnOk};
 ghost use Rattle.std.specs.List.{All, Contains};
 ghost use Rattle.range_prop.specs.Index.{list_of};
-ghost use Rattle.range_prop.specs.Queue.{waits, AreAwake};
+ghost use Rattle.range_prop.specs.laws.Queue.{waits, AreAwake};
 
 use crate::index::RowIndex;
 use crate::queue::Queue;
@@ -23,6 +23,24 @@ pub fn wake_touched(
 {
     for cut in cuts {
         wake_rows(index.rows_of(cut.slot), cutter, queue)?;
+    }
+    Ok(())
+}
+
+// Lets each row with an entry of these slots wait, but for one number.
+pub fn wake_slots(
+    index: &RowIndex,
+    slots: &[u32],
+    but: u32,
+    queue: &mut Queue,
+) -> Result<(), AllocError>
+    requires slots { All (λ slot. slot < length index.now) slots.now }
+    requires rows { (slot row : ℕ) → Contains (list_of index.now slot) row → row < length queue.old.waiting.items }
+    ensures count { length queue.new.waiting.items ≡ length queue.old.waiting.items }
+    ensures woken { OnOk result (All (λ slot. AreAwake queue.new.waiting.items but (list_of index.now slot)) slots.now) }
+{
+    for slot in slots {
+        wake_rows(index.rows_of(*slot), but, queue)?;
     }
     Ok(())
 }
