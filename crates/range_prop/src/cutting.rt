@@ -19,14 +19,19 @@ pub fn cut(program: &Program, area: &mut Area, row: u32, slot: u32) -> bool
     requires row { row < length program.now.rows }
     requires slot { slot < length (present area.old) }
     requires slots { length (present area.old) ≡ length program.now.root }
-    ensures marks { area.new ≡ with_domain area.old slot (cut_domain (row_at program.now.rows row) slot (present area.old)) }
-    ensures values { let cutter = row_at program.now.rows row in ¬ Any IsBare (present area.old) → (v : ℕ) → Holds (domain_at (present area.new) slot) v
-        ↔ (Holds (domain_at (present area.old) slot) v × ((entry_at cutter.entries slot v +ℤ least_others cutter.entries slot (present area.old)) ≤ℤ cutter.limit)) }
+    ensures marks { area.new ≡ with_domain area.old slot
+        (cut_domain (row_at program.now.rows row) slot (present area.old)) }
+    ensures values { let cutter = row_at program.now.rows row in ¬ Any IsBare (present area.old)
+        → (v : ℕ) → Holds (domain_at (present area.new) slot) v
+        ↔ (Holds (domain_at (present area.old) slot) v × ((entry_at cutter.entries slot v
+        +ℤ least_others cutter.entries slot (present area.old)) ≤ℤ cutter.limit)) }
     ensures bare { Any IsBare (present area.old) → area.new ≡ area.old }
     ensures shrank { result ≡ shrinks (row_at program.now.rows row) slot (present area.old) }
-    ensures less { IsTrue result → sum_by count_of (present area.new) < sum_by count_of (present area.old) }
+    ensures less { IsTrue result → sum_by count_of (present area.new)
+        < sum_by count_of (present area.old) }
     ensures fewer { points_of (present area.new) ≤ points_of (present area.old) }
-    ensures points { (point : List ℕ) → LiesIn (present area.old) point → IsKept point (row_at program.now.rows row) → LiesIn (present area.new) point }
+    ensures points { (point : List ℕ) → LiesIn (present area.old) point
+        → IsKept point (row_at program.now.rows row) → LiesIn (present area.new) point }
     ensures slots { length (present area.new) ≡ length (present area.old) }
 {
     let _slots = area.slot_count();
@@ -43,11 +48,14 @@ fn cut_open(area: &mut Area, row: &Row, slot: u32) -> bool
     requires bounded { IsBoundedRow (length (present area.old)) row.now }
     requires normal { All IsNormal (present area.old) }
     requires open_ { list_any is_bare (present area.old) ≡ false }
-    ensures marks { area.new ≡ with_domain area.old slot (cut_domain row.now slot (present area.old)) }
+    ensures marks { area.new ≡ with_domain area.old slot
+        (cut_domain row.now slot (present area.old)) }
     ensures values { (v : ℕ) → Holds (domain_at (present area.new) slot) v
-        ↔ (Holds (domain_at (present area.old) slot) v × ((entry_at row.now.entries slot v +ℤ least_others row.now.entries slot (present area.old)) ≤ℤ row.now.limit)) }
+        ↔ (Holds (domain_at (present area.old) slot) v × ((entry_at row.now.entries slot v
+        +ℤ least_others row.now.entries slot (present area.old)) ≤ℤ row.now.limit)) }
     ensures shrank { result ≡ shrinks row.now slot (present area.old) }
-    ensures fewer { IsTrue result → sum_by count_of (present area.new) < sum_by count_of (present area.old) }
+    ensures fewer { IsTrue result → sum_by count_of (present area.new)
+        < sum_by count_of (present area.old) }
     ensures slots { length (present area.new) ≡ length (present area.old) }
 {
     let entries = row.entries.as_slice();

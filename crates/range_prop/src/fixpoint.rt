@@ -3,10 +3,8 @@ ghost use Rattle.std.specs.List.{All};
 ghost use Rattle.row_kit.specs.Area.{present};
 ghost use Rattle.row_kit.specs.declared.domain.Domain.{Domain};
 ghost use Rattle.row_kit.specs.Domain.{IsOpen};
-ghost use Rattle.row_kit.specs.Point.{LiesIn};
 ghost use Rattle.row_kit.specs.Points.{points_of};
-ghost use Rattle.row_kit.specs.Row.{IsKept};
-ghost use Rattle.range_prop.specs.Cuts.{AreDone, HasCut, HaveRoom, HaveRoomBut};
+ghost use Rattle.range_prop.specs.Cuts.{AreDone, HasCut, HaveRoom, HaveRoomBut, KeepPoints};
 ghost use Rattle.range_prop.specs.Index.{IsIndex};
 ghost use Rattle.range_prop.specs.laws.Queue.{AreQuiet};
 
@@ -28,10 +26,11 @@ pub fn cut_all(
     cuts: &mut Vec<RowCut>,
 ) -> Result<(), AllocError>
     requires { length (present area.old) ≡ length program.now.root }
-    ensures cut { OnOk result (HasCut program.now.rows area.old area.new cuts.old.items cuts.new.items) }
+    ensures cut { OnOk result (HasCut program.now.rows
+        area.old area.new cuts.old.items cuts.new.items) }
     ensures done { OnOk result (AreDone program.now.rows (present area.new)) }
     ensures room { OnOk result (HaveRoom program.now.rows (present area.new)) }
-    ensures points { (point : List ℕ) → LiesIn (present area.old) point → All (IsKept point) program.now.rows → LiesIn (present area.new) point }
+    ensures points { KeepPoints program.now.rows (present area.old) (present area.new) }
     ensures fewer { points_of (present area.new) ≤ points_of (present area.old) }
     ensures err { OnErr result ((area.new ≡ area.old) × (cuts.new.items ≡ cuts.old.items)) }
     ensures slots { length (present area.new) ≡ length (present area.old) }
@@ -54,10 +53,11 @@ pub fn cut_by_index(
     requires slots { length (present area.old) ≡ length program.now.root }
     requires index { IsIndex program.now.rows index.now }
     requires lists { length index.now ≡ length program.now.root }
-    ensures cut { OnOk result (HasCut program.now.rows area.old area.new cuts.old.items cuts.new.items) }
+    ensures cut { OnOk result (HasCut program.now.rows
+        area.old area.new cuts.old.items cuts.new.items) }
     ensures done { OnOk result (AreDone program.now.rows (present area.new)) }
     ensures room { OnOk result (HaveRoom program.now.rows (present area.new)) }
-    ensures points { (point : List ℕ) → LiesIn (present area.old) point → All (IsKept point) program.now.rows → LiesIn (present area.new) point }
+    ensures points { KeepPoints program.now.rows (present area.old) (present area.new) }
     ensures fewer { points_of (present area.new) ≤ points_of (present area.old) }
     ensures err { OnErr result ((area.new ≡ area.old) × (cuts.new.items ≡ cuts.old.items)) }
     ensures slots { length (present area.new) ≡ length (present area.old) }
@@ -85,10 +85,11 @@ pub fn cut_from(
     requires lists { length index.now ≡ length program.now.root }
     requires named { All (λ slot. slot < length program.now.root) slots.now }
     requires room { HaveRoomBut program.now.rows slots.now (present area.old) }
-    ensures cut { OnOk result (HasCut program.now.rows area.old area.new cuts.old.items cuts.new.items) }
+    ensures cut { OnOk result (HasCut program.now.rows
+        area.old area.new cuts.old.items cuts.new.items) }
     ensures done { OnOk result (AreDone program.now.rows (present area.new)) }
     ensures room { OnOk result (HaveRoom program.now.rows (present area.new)) }
-    ensures points { (point : List ℕ) → LiesIn (present area.old) point → All (IsKept point) program.now.rows → LiesIn (present area.new) point }
+    ensures points { KeepPoints program.now.rows (present area.old) (present area.new) }
     ensures fewer { points_of (present area.new) ≤ points_of (present area.old) }
     ensures err { OnErr result ((area.new ≡ area.old) × (cuts.new.items ≡ cuts.old.items)) }
     ensures slots { length (present area.new) ≡ length (present area.old) }
@@ -110,7 +111,9 @@ fn rows_of_slots(
     requires index { IsIndex program.now.rows index.now }
     requires named { All (λ slot. slot < length index.now) slots.now }
     ensures count { IfOk result (λ queue. length queue.waiting.items ≡ length program.now.rows) }
-    ensures quiet { IfOk result (λ queue. (domains : List Domain) → HaveRoomBut program.now.rows slots.now domains → AreQuiet program.now.rows domains queue.waiting.items) }
+    ensures quiet { IfOk result (λ queue. (domains : List Domain)
+        → HaveRoomBut program.now.rows slots.now domains
+        → AreQuiet program.now.rows domains queue.waiting.items) }
 {
     let count = program.rows.len();
     let mut queue = Queue::new(alloc, count)?;
@@ -133,10 +136,11 @@ fn cut_or_back(
     requires count { length queue.waiting.items ≡ length program.now.rows }
     requires open_ { All IsOpen (present area.old) }
     requires quiet { AreQuiet program.now.rows (present area.old) queue.waiting.items }
-    ensures cut { OnOk result (HasCut program.now.rows area.old area.new cuts.old.items cuts.new.items) }
+    ensures cut { OnOk result (HasCut program.now.rows
+        area.old area.new cuts.old.items cuts.new.items) }
     ensures done { OnOk result (AreDone program.now.rows (present area.new)) }
     ensures room { OnOk result (HaveRoom program.now.rows (present area.new)) }
-    ensures points { (point : List ℕ) → LiesIn (present area.old) point → All (IsKept point) program.now.rows → LiesIn (present area.new) point }
+    ensures points { KeepPoints program.now.rows (present area.old) (present area.new) }
     ensures fewer { points_of (present area.new) ≤ points_of (present area.old) }
     ensures err { OnErr result ((area.new ≡ area.old) × (cuts.new.items ≡ cuts.old.items)) }
     ensures slots { length (present area.new) ≡ length (present area.old) }

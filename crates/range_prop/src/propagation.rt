@@ -30,12 +30,18 @@ fn look_at(
     requires lists { length index.now ≡ length program.now.root }
     requires count { length queue.old.waiting.items ≡ length program.now.rows }
     requires open_ { All IsOpen (present area.old) }
-    requires quiet { (other : ℕ) → other < length program.now.rows → other ≢ row → waits queue.old.waiting.items other ≡ false → HasRoom (present area.old) (row_at program.now.rows other) }
-    ensures cut { OnOk result (HasCut program.now.rows area.old area.new cuts.old.items cuts.new.items) }
+    requires quiet { (other : ℕ) → other < length program.now.rows → other ≢ row
+        → waits queue.old.waiting.items other ≡ false
+        → HasRoom (present area.old) (row_at program.now.rows other) }
+    ensures cut { OnOk result (HasCut program.now.rows
+        area.old area.new cuts.old.items cuts.new.items) }
     ensures bare { IfOk result (λ more. more ≡ false → Any IsBare (present area.new)) }
     ensures open_ { IfOk result (λ more. more ≡ true → All IsOpen (present area.new)) }
-    ensures quiet { IfOk result (λ more. more ≡ true → AreQuiet program.now.rows (present area.new) queue.new.waiting.items) }
-    ensures less { OnOk result (65536 * sum_by count_of (present area.new) + length queue.new.rows.items ≤ 65536 * sum_by count_of (present area.old) + length queue.old.rows.items) }
+    ensures quiet { IfOk result (λ more. more ≡ true
+        → AreQuiet program.now.rows (present area.new) queue.new.waiting.items) }
+    ensures less { OnOk result (65536 * sum_by count_of (present area.new)
+        + length queue.new.rows.items ≤ 65536 * sum_by count_of (present area.old)
+        + length queue.old.rows.items) }
     ensures count { length queue.new.waiting.items ≡ length queue.old.waiting.items }
     ensures keeps { take (length area.old) area.new ≡ area.old }
     ensures lists { take (length cuts.old.items) cuts.new.items ≡ cuts.old.items }
@@ -68,11 +74,16 @@ fn step(
     requires count { length queue.old.waiting.items ≡ length program.now.rows }
     requires open_ { All IsOpen (present area.old) }
     requires quiet { AreQuiet program.now.rows (present area.old) queue.old.waiting.items }
-    ensures cut { OnOk result (HasCut program.now.rows area.old area.new cuts.old.items cuts.new.items) }
-    ensures room { IfOk result (λ more. more ≡ false → HaveRoom program.now.rows (present area.new)) }
+    ensures cut { OnOk result (HasCut program.now.rows
+        area.old area.new cuts.old.items cuts.new.items) }
+    ensures room { IfOk result (λ more. more ≡ false
+        → HaveRoom program.now.rows (present area.new)) }
     ensures open_ { IfOk result (λ more. more ≡ true → All IsOpen (present area.new)) }
-    ensures quiet { IfOk result (λ more. more ≡ true → AreQuiet program.now.rows (present area.new) queue.new.waiting.items) }
-    ensures less { IfOk result (λ more. 65536 * sum_by count_of (present area.new) + length queue.new.rows.items + (if more then 1 else 0) ≤ 65536 * sum_by count_of (present area.old) + length queue.old.rows.items) }
+    ensures quiet { IfOk result (λ more. more ≡ true
+        → AreQuiet program.now.rows (present area.new) queue.new.waiting.items) }
+    ensures less { IfOk result (λ more. 65536 * sum_by count_of (present area.new)
+        + length queue.new.rows.items + (if more then 1 else 0)
+        ≤ 65536 * sum_by count_of (present area.old) + length queue.old.rows.items) }
     ensures count { length queue.new.waiting.items ≡ length queue.old.waiting.items }
     ensures keeps { take (length area.old) area.new ≡ area.old }
     ensures lists { take (length cuts.old.items) cuts.new.items ≡ cuts.old.items }
@@ -100,7 +111,8 @@ pub fn cut_until_done(
     requires count { length queue.old.waiting.items ≡ length program.now.rows }
     requires open_ { All IsOpen (present area.old) }
     requires quiet { AreQuiet program.now.rows (present area.old) queue.old.waiting.items }
-    ensures cut { OnOk result (HasCut program.now.rows area.old area.new cuts.old.items cuts.new.items) }
+    ensures cut { OnOk result (HasCut program.now.rows
+        area.old area.new cuts.old.items cuts.new.items) }
     ensures room { OnOk result (HaveRoom program.now.rows (present area.new)) }
     ensures keeps { take (length area.old) area.new ≡ area.old }
     ensures lists { take (length cuts.old.items) cuts.new.items ≡ cuts.old.items }
