@@ -1,3 +1,4 @@
+-- Stands in specs/ since the law that `Rows` keeps stands on it; no public clause cites it.
 -- Domains and the views that show them.
 use Rattle.std.proofs.Common.{◌≡◌, Bool, true, false, cond, eqb, List, [], ◌∷◌, length, refl, sym, ap, ◌∙◌, subst, Some}
 use Rattle.std.specs.List.{All}

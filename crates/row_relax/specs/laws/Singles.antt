@@ -1,3 +1,4 @@
+-- Stands in specs/ since the law that `Rows` keeps stands on it; no public clause cites it.
 -- Domains with exactly one value each have one point, and others have none or more.
 use Rattle.std.proofs.Common.{◌≡◌, ℕ, zero, suc, ◌+◌, ◌-◌, ◌<◌, ◌≤◌, Bool, true, false, ◌&&◌, cond, eqb, List, [], ◌∷◌, length, get_or, set, refl, sym, ap, ◌∙◌, subst, ⊎_elim, arith}
 use Rattle.std.specs.List.{All}

@@ -1,3 +1,4 @@
+-- Stands in specs/ since clauses of private functions cite it; no public clause does.
 -- Which rows wait for a look.
 use Rattle.std.specs.Prelude.{◌≡◌, ◌≢◌, ◌<◌, length, ℕ, Bool, true, false, List, slice_index_or}
 use Rattle.std.specs.List.{All}

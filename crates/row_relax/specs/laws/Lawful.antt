@@ -1,3 +1,4 @@
+-- Stands in specs/ since the law that `Rows` keeps stands on it; no public clause cites it.
 -- The test of lawful points.
 use Rattle.std.proofs.Common.{◌≡◌, ℕ, zero, suc, ◌<◌, ◌≤◌, Bool, true, ◌&&◌, cond, eqb, leb, List, [], ◌∷◌, length, get_or, refl, arith}
 use Rattle.std.specs.Prelude.{int_le}

@@ -1,7 +1,7 @@
 -- The rows so far wait.
 use Rattle.std.proofs.Common.{◌≡◌, ℕ, ◌<◌, true, length}
-use Rattle.range_prop.specs.Queue.{waits}
-use Rattle.range_prop.proofs.queue.Queue.new.Given as goal
+use Rattle.range_prop.specs.laws.Queue.{waits}
+use Rattle.range_prop.proofs.queue.Queue.full.Given as goal
 
 abbrev pub invariant-loop-row : goal.invariant-loop-row
 invariant-loop-row l = record {

@@ -1,3 +1,4 @@
+-- Stands in specs/ since the relaxation that `Rows` is names it as its law; it is a proof, and no definition.
 -- The rows of a program keep the laws of a relaxation.
 use Rattle.std.proofs.Common.{◌≡◌, ℕ, ◌<◌, ◌≤◌, Bool, true, false, ◌&&◌, cond, ltb, List, length, get_or, set, refl, sym, ap, ◌∙◌, subst, inl, inr, ⊎_elim, arith, Some, None, ℤ, pos, ◌-ℤ◌, ◌≤ℤ◌}
 use Rattle.std.specs.List.{All}
@@ -25,11 +26,11 @@ use Rattle.proof_tree.specs.Views.{View, Point}
 use Rattle.row_relax.specs.Settle.{are_single, is_lawful, only_point, settled}
 use Rattle.row_relax.specs.Steps.{kept_at, row_steps, shown_if}
 use Rattle.row_relax.specs.View.{Fits, IsIn, domains_of}
-use Rattle.row_relax.specs.Lawful.{lawful_true, true_lawful}
+use Rattle.row_relax.specs.laws.Lawful.{lawful_true, true_lawful}
 use Rattle.row_kit.proofs.Parts.{held_byte, over_holds, shared_holds, shared_normal, up_to_holds}
 use Rattle.dual_bound.proofs.Quotients.{cert_cap-holds}
-use Rattle.row_relax.specs.Shown.{domains_there, fits_of, shown_there}
-use Rattle.row_relax.specs.Singles.{no_only_point, single_point}
+use Rattle.row_relax.specs.laws.Shown.{domains_there, fits_of, shown_there}
+use Rattle.row_relax.specs.laws.Singles.{no_only_point, single_point}
 
 -- a step that gives one slot a normal domain leads to a view that fits
 one_fits : (program : Program) (v w : View) (there : Bool) (slot : ℕ) (d : Domain) → Fits program v → IsNormal d → shown_if there (set (domains_of v) slot d) ≡ Some w → Fits program w
