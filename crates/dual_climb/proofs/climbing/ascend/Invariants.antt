@@ -1,6 +1,6 @@
 -- There is a factor for each row, and the best certificate has a total.
 use Rattle.row_kit.specs.Area.{present}
-use Rattle.dual_climb.specs.Held.{IsClimbing}
+use Rattle.dual_climb.specs.laws.Held.{IsClimbing}
 use Rattle.dual_climb.proofs.climbing.ascend.Given as goal
 
 abbrev pub invariant-loop : goal.invariant-loop

@@ -7,7 +7,7 @@ use Rattle.row_kit.specs.Bounds.{IsBoundedRow}
 use Rattle.row_kit.specs.declared.row.Row.{Row}
 use Rattle.dual_climb.proofs.Moved.{wide_row}
 use Rattle.dual_climb.proofs.Usable.{keeps}
-use Rattle.dual_climb.proofs.climbing.advance.Goals as goal
+use Rattle.dual_climb.proofs.moving.Climbing.advance.Goals as goal
 
 pub usable_total-total-requires-clause-usable : goal.usable_total-total-requires-clause-usable
 usable_total-total-requires-clause-usable c = (keeps c.args.program.now (present c.args.area.now) c.in_ok-cert.cert c.in_ok-cert.ensures.defined).usable
