@@ -6,7 +6,6 @@ pub mod Lowered
 pub mod Moved
 pub mod Numbering
 pub mod Passes
-pub mod Quotients
 pub mod Small
 pub mod Steps
 pub mod Sums
