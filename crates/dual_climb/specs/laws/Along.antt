@@ -1,3 +1,4 @@
+-- Stands in specs/ since clauses of private functions cite it; no public clause does.
 -- The part of a total that changes with the factor of one row.
 use Rattle.std.specs.Prelude.{ℕ, ◌≤◌, ◌^◌, length, List, [], ◌∷◌, ℤ, pos, ◌+ℤ◌, ◌-ℤ◌, ◌*ℤ◌}
 use Rattle.std.specs.List.{All}
