@@ -35,7 +35,7 @@ fn is_slot(plant: &Plant, run: &Run, period: u32) -> bool
 
 /// How many periods have a slot of the run.
 fn slots_in(plant: &Plant, run: &Run) -> u64
-    requires { plant.now.periods ≤ MAX_PERIODS }
+    requires { plant.now.periods ≤ 336 }
     ensures count { result ≡ slots_of plant.now run.now }
     ensures small { result ≤ 336 }
 {
@@ -50,9 +50,9 @@ fn slots_in(plant: &Plant, run: &Run) -> u64
 
 /// Whether the plant has more slots than a plant may have.
 pub(crate) fn too_many_slots(plant: &Plant) -> bool
-    requires runs { length plant.now.runs ≤ MAX_RUNS }
-    requires periods { plant.now.periods ≤ MAX_PERIODS }
-    ensures { IsTrue result ↔ (MAX_SLOTS < slot_count plant.now) }
+    requires runs { length plant.now.runs ≤ 64 }
+    requires periods { plant.now.periods ≤ 336 }
+    ensures { IsTrue result ↔ (512 < slot_count plant.now) }
 {
     let mut count = 0;
     for run in plant.runs.as_slice() {
@@ -63,7 +63,7 @@ pub(crate) fn too_many_slots(plant: &Plant) -> bool
 
 /// Which periods have a slot of the run.
 fn slot_row(plant: &Plant, run: &Run) -> [bool; MAX_ROW]
-    requires { plant.now.periods ≤ MAX_PERIODS }
+    requires { plant.now.periods ≤ 336 }
     ensures { IsRow plant.now run.now result }
 {
     let mut row = [false; MAX_ROW];
@@ -75,8 +75,8 @@ fn slot_row(plant: &Plant, run: &Run) -> [bool; MAX_ROW]
 
 /// Which periods have a slot, for each run.
 fn slot_rows(plant: &Plant) -> [[bool; MAX_ROW]; MAX_RUNS]
-    requires runs { length plant.now.runs ≤ MAX_RUNS }
-    requires periods { plant.now.periods ≤ MAX_PERIODS }
+    requires runs { length plant.now.runs ≤ 64 }
+    requires periods { plant.now.periods ≤ 336 }
     ensures { AreRows plant.now plant.now.runs result }
 {
     let mut rows = [[false; MAX_ROW]; MAX_RUNS];
@@ -89,7 +89,7 @@ fn slot_rows(plant: &Plant) -> [[bool; MAX_ROW]; MAX_RUNS]
 /// How many starts of the second run would come too soon after the first run's in the period, which
 /// has a slot of it; the two are on one unit, and `gap` is how long it is cleaned between them.
 fn pairs_at(plant: &Plant, a: &Run, period: u32, b: &Run, row: &[bool], gap: u32) -> u64
-    requires periods { plant.now.periods ≤ MAX_PERIODS }
+    requires periods { plant.now.periods ≤ 336 }
     requires unit { a.now.unit ≡ b.now.unit }
     requires slot { has_slot plant.now a.now period ≡ true }
     requires row { IsRow plant.now b.now row.now }
@@ -109,7 +109,7 @@ fn pairs_at(plant: &Plant, a: &Run, period: u32, b: &Run, row: &[bool], gap: u32
 
 /// How many pairs of slots of the two runs the cleaning keeps apart.
 fn pairs_of(plant: &Plant, a: &Run, b: &Run, row_a: &[bool], row_b: &[bool]) -> u64
-    requires periods { plant.now.periods ≤ MAX_PERIODS }
+    requires periods { plant.now.periods ≤ 336 }
     requires first { IsRow plant.now a.now row_a.now }
     requires second { IsRow plant.now b.now row_b.now }
     ensures count { result ≡ pairs_between plant.now a.now b.now }
@@ -130,8 +130,8 @@ fn pairs_of(plant: &Plant, a: &Run, b: &Run, row_a: &[bool], row_b: &[bool]) -> 
 
 /// How many pairs of slots the cleaning keeps apart whose first is of this run.
 fn pairs_after(plant: &Plant, a: &Run, row: &[bool], rows: &[[bool; MAX_ROW]]) -> u64
-    requires runs { length plant.now.runs ≤ MAX_RUNS }
-    requires periods { plant.now.periods ≤ MAX_PERIODS }
+    requires runs { length plant.now.runs ≤ 64 }
+    requires periods { plant.now.periods ≤ 336 }
     requires first { IsRow plant.now a.now row.now }
     requires rows { AreRows plant.now plant.now.runs rows.now }
     ensures count { result ≡ sum_by (pairs_between plant.now a.now) plant.now.runs }
@@ -146,8 +146,8 @@ fn pairs_after(plant: &Plant, a: &Run, row: &[bool], rows: &[[bool; MAX_ROW]]) -
 
 /// How many pairs of slots the cleaning keeps apart.
 fn all_pairs(plant: &Plant, rows: &[[bool; MAX_ROW]]) -> u64
-    requires runs { length plant.now.runs ≤ MAX_RUNS }
-    requires periods { plant.now.periods ≤ MAX_PERIODS }
+    requires runs { length plant.now.runs ≤ 64 }
+    requires periods { plant.now.periods ≤ 336 }
     requires rows { AreRows plant.now plant.now.runs rows.now }
     ensures { result ≡ gap_pairs plant.now }
 {
@@ -160,9 +160,9 @@ fn all_pairs(plant: &Plant, rows: &[[bool; MAX_ROW]]) -> u64
 
 /// Whether the gaps of the plant concern more pairs of slots than they may.
 pub(crate) fn too_many_gap_pairs(plant: &Plant) -> bool
-    requires runs { length plant.now.runs ≤ MAX_RUNS }
-    requires periods { plant.now.periods ≤ MAX_PERIODS }
-    ensures { IsTrue result ↔ (MAX_GAP_PAIRS < gap_pairs plant.now) }
+    requires runs { length plant.now.runs ≤ 64 }
+    requires periods { plant.now.periods ≤ 336 }
+    ensures { IsTrue result ↔ (8192 < gap_pairs plant.now) }
 {
     let rows = slot_rows(plant);
     (MAX_GAP_PAIRS as u64) < all_pairs(plant, &rows)
