@@ -241,7 +241,7 @@ plant_sound document e =
     }
 
 -- an answer by the tests of the bytes is what reading gives
-pub read_gives : (bytes : List ℕ) (answer : Result Plant PlantStop) → Gives answer (plant_tests bytes) (plant_of bytes) → reading.Gives answer (reading.reading bytes)
+pub read_gives : (bytes : List ℕ) (answer : Result Plant PlantStop) → Gives answer (plant_tests bytes) (plant_of bytes) → reading.ReadsPlant answer (reading.reading bytes)
 unfolding reading.reading
 read_gives bytes (Ok plant) h = rw (h.0, h.1) refl
 read_gives bytes (Err stop.Memory) h = tt

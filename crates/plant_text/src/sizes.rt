@@ -1,36 +1,35 @@
 //! How large a plant is for a search: how many slots it has, and how many pairs of slots its gaps
 //! concern.
 ghost use Rattle.std.specs.Prelude.{◌≡◌, ◌<◌, ◌≤◌, ◌↔◌, IsTrue, true, length, sum_by};
-ghost use Rattle.stn_model.specs.Plant.{end_of, gap_between};
+ghost use Rattle.stn_model.specs.Plant.{gap_between};
 ghost use Rattle.stn_model.specs.Sums.{count_below};
-ghost use Rattle.stn_model.specs.Points.{has_slot, slots_of, slot_count, meets_gap, gap_pairs};
-ghost use Rattle.plant_text.specs.Sizes.{start_of, IsRow, AreRows, pairs_between};
+ghost use Rattle.stn_model.specs.Points.{has_slot, least_start, slots_of, slot_count, meets_gap, gap_pairs};
+ghost use Rattle.plant_text.specs.Sizes.{IsRow, AreRows, pairs_between};
 
 use stn_model::limits::{MAX_GAP_PAIRS, MAX_PERIODS, MAX_RUNS, MAX_SLOTS};
-use stn_model::{Plant, Run, Start, end, gap_of, is_open};
+use stn_model::{Plant, Run, Start, end, fits, gap_of};
 
 /// As many periods as a horizon has at most.
 const MAX_ROW: usize = MAX_PERIODS as usize;
 
-/// When the batch of the run ends that starts in the period.
-fn ending(plant: &Plant, run: &Run, period: u32) -> u64
-    ensures { result ≡ end_of plant.now (start_of run.now period) }
+/// The start of the run in the period with its least batch.
+fn least_start(run: &Run, period: u32) -> Start
+    ensures { result ≡ least_start run.now period }
 {
-    let start = Start {
+    Start {
         period,
         unit: run.unit,
         task: run.task,
         quanta: run.min,
-    };
-    end(plant, &start)
+    }
 }
 
 /// Whether a start of the run fits in the period.
+#[tactic(auto, unfolding(stn_model::specs::Points::has_slot))]
 fn is_slot(plant: &Plant, run: &Run, period: u32) -> bool
     ensures { result ≡ has_slot plant.now run.now period }
 {
-    let to = ending(plant, run, period);
-    to <= u64::from(plant.periods) && is_open(plant, run.unit, u64::from(period), to)
+    fits(plant, &least_start(run, period))
 }
 
 /// How many periods have a slot of the run.
@@ -97,7 +96,7 @@ fn pairs_at(plant: &Plant, a: &Run, period: u32, b: &Run, row: &[bool], gap: u32
     ensures count { result ≡ count_below (meets_gap plant.now a.now period b.now) plant.now.periods }
     ensures small { result ≤ 336 }
 {
-    let to = ending(plant, a, period);
+    let to = end(plant, &least_start(a, period));
     let mut count = 0;
     for next in 0..plant.periods {
         if row[next as usize] && to <= u64::from(next) && u64::from(next) - to < u64::from(gap) {
