@@ -47,7 +47,7 @@ lawful-plan plant program point sound means lawful =
 pub feasible-point : (plant : Plant) (program : Program) → IsProgramOf plant program → Stands (IsLawful program) (worth_of program) (Feasible plant) (profit plant)
 feasible-point plant program means plan feasible =
     let is = (means.feasible plan).0 feasible in
-    (plan_point plant plan, is.1, means.worth plan is.0)
+    (plan_point plant plan, (is.1, means.worth plan is.0))
 
 -- a start that fits in a slot has a size of the slot's run
 choice-fits : (plant : Plant) (slot : ℕ × ℕ) (value : ℕ) → Sound plant → IsSlotOf plant slot → Fits plant (start_in plant slot value) → ((run_at plant slot.0).min ≤ value) × (value ≤ (run_at plant slot.0).max)
