@@ -14,8 +14,6 @@ mod least;
 mod moving;
 mod pace;
 mod polishing;
-#[cfg(test)]
-mod tests;
 
 pub use climbing::climb;
 pub use polishing::polish;

@@ -1,6 +1,5 @@
 pub mod Building
 pub mod Forms
-pub mod Ranges
 pub mod Sound
 pub mod Trees
 pub mod Views

@@ -1,4 +1,3 @@
-pub mod ByteRange
 pub mod Cap
 pub mod Items
 pub mod Nodes

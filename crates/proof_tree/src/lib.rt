@@ -15,8 +15,6 @@ mod proof;
 mod relaxation;
 mod stack;
 mod taker;
-#[cfg(test)]
-mod tests;
 mod walk;
 
 pub use builder::{BegunNode, Built, SplitNode, TreeBuilder};

@@ -70,19 +70,3 @@ impl<T> List<T> {
         Ok(())
     }
 }
-
-#[cfg(test)]
-mod tests {
-    use super::*;
-    use std::test::Fail;
-
-    #[test]
-    fn a_list_grows_at_its_end(rt: HostRuntime) -> Result<(), Fail> {
-        let mut list = List::new(rt.alloc());
-        assert!(rt; list.is_empty());
-        list.push(3)?;
-        list.push(5)?;
-        assert_eq!(rt; list.as_slice(), [3, 5].as_slice());
-        Ok(())
-    }
-}
