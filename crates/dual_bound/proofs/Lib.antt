@@ -5,3 +5,4 @@ pub mod Greatest
 pub mod LineSums
 pub mod Quotients
 pub mod Signed
+pub mod Small

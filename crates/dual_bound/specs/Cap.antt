@@ -1,5 +1,5 @@
 -- The cap of a certificate over an area, and what it says of the lawful points.
-use Rattle.std.specs.Prelude.{ℕ, ◌==◌, if◌then◌else◌, List, Option, Some, None, ℤ, pos, ◌+ℤ◌, ◌*ℤ◌, ◌≤ℤ◌, ◌<ℤ◌, int_lt}
+use Rattle.std.specs.Prelude.{ℕ, ◌==◌, ◌<◌, unsigned_abs, if◌then◌else◌, List, Option, Some, None, ℤ, pos, ◌+ℤ◌, ◌*ℤ◌, ◌≤ℤ◌, ◌<ℤ◌, int_lt}
 use Rattle.std.specs.Int.{int_div_euclid}
 use Rattle.std.specs.List.{All}
 use Rattle.proof_tree.specs.declared.capped.Capped.{Capped}
@@ -27,6 +27,11 @@ cert_cap program domains cert = scaled_cap cert.scale (total_at program domains 
 abbrev pub IsFloor : ℕ → Option ℤ → Capped → Type 0
 IsFloor scale (Some total) (AtMost cap) = ((pos scale *ℤ cap) ≤ℤ total) × (total <ℤ (pos scale *ℤ (cap +ℤ pos 1)))
 IsFloor scale _ _ = Unit {0}
+
+-- a cap is below a bound in absolute value, where it is a number
+abbrev pub IsBelow : ℕ → Capped → Type 0
+IsBelow most (AtMost cap) = unsigned_abs cap < most
+IsBelow most _ = Unit {0}
 
 -- a cap holds of the points of these domains that keep every row
 abbrev pub CapHolds : Program → List Domain → Capped → Type 0

@@ -10,7 +10,6 @@ use Rattle.row_kit.specs.Point.{LiesIn, value_of}
 use Rattle.row_kit.specs.Row.{entry_at, row_at, IsKept}
 use Rattle.dual_bound.specs.declared.cert.Cert.{Cert}
 use Rattle.dual_bound.specs.declared.cert.Mult.{Mult}
-use Rattle.dual_bound.specs.declared.limits.TheConstants.{MOST_FACTOR, MOST_SCALE, MOST_MULTS}
 
 -- what the rows with factors count for a slot at a value: the sum of factor times entry
 abbrev pub rows_at : List Row → List Mult → ℕ → ℕ → ℤ
@@ -45,21 +44,21 @@ total_of program domains cert =
 abbrev pub are_fit : ℕ → ℕ → List Mult → Bool
 are_fit rows least [] = true
 are_fit rows least (mult ∷ mults) =
-    nat_le 1 mult.factor && nat_le mult.factor MOST_FACTOR && nat_le least mult.row && nat_lt mult.row rows && are_fit rows (mult.row + 1) mults
+    nat_le 1 mult.factor && nat_le mult.factor 1099511627776 && nat_le least mult.row && nat_lt mult.row rows && are_fit rows (mult.row + 1) mults
 
 -- a factor in its range, of a row that is there
 pub record IsFitMult (rows : ℕ) (mult : Mult) : Type 0 where
   pub row : mult.row < rows
-  pub factor : mult.factor ≤ MOST_FACTOR
+  pub factor : mult.factor ≤ 1099511627776
 
 -- a certificate keeps its limits, and names rows of a program in ascending order
 abbrev pub is_fit : ℕ → Cert → Bool
-is_fit rows cert = nat_le cert.scale MOST_SCALE && nat_le (length cert.mults) MOST_MULTS && are_fit rows 0 cert.mults
+is_fit rows cert = nat_le cert.scale 1048576 && nat_le (length cert.mults) 50000 && are_fit rows 0 cert.mults
 
 -- what a fit certificate keeps
 pub record IsUsable (rows : ℕ) (cert : Cert) : Type 0 where
-  pub scale : cert.scale ≤ MOST_SCALE
-  pub few : length cert.mults ≤ MOST_MULTS
+  pub scale : cert.scale ≤ 1048576
+  pub few : length cert.mults ≤ 50000
   pub fit : All (IsFitMult rows) cert.mults
 
 -- a certificate has a total over domains where it is fit and no domain is empty

@@ -18,8 +18,9 @@ use row_kit::{Area, Domain, MOST_SLOTS, Program, Row};
 pub fn total(program: &Program, area: &Area, cert: &Cert) -> Option<i128>
     requires { length (present area.now) ≡ length program.now.root }
     ensures total { result ≡ total_at program.now (present area.now) cert.now }
-    ensures small { IfSome result (λ total. unsigned_abs total < 2 ^ 118) }
-    ensures duality { IfSome result (λ total. BoundsScaled program.now (present area.now) cert.now.scale total) }
+    ensures small { IfSome result (λ total. unsigned_abs total < 10 ^ 30) }
+    ensures duality { IfSome result
+        (λ total. BoundsScaled program.now (present area.now) cert.now.scale total) }
 {
     if !has_total(program, area, cert) {
         return None;
@@ -34,15 +35,17 @@ pub fn usable_total(program: &Program, area: &Area, cert: &Cert) -> i128
     requires open_ { All IsOpen (present area.now) }
     ensures value { result ≡ total_of program.now (present area.now) cert.now }
     ensures small { unsigned_abs result < 2 ^ 118 }
+    ensures below { unsigned_abs result < 10 ^ 30 }
     ensures duality { BoundsScaled program.now (present area.now) cert.now.scale result }
 {
+    let _slots = area.slot_count();
     let limits = limits_sum(program.rows.as_slice(), cert.mults.as_slice());
     scaled_base(program, cert) + limits + gains(program, area, cert)
 }
 
 // Scale times the base.
 fn scaled_base(program: &Program, cert: &Cert) -> i128
-    requires { cert.now.scale ≤ MOST_SCALE }
+    requires { cert.now.scale ≤ 1048576 }
     ensures value { result ≡ pos cert.now.scale *ℤ program.now.base }
     ensures small { unsigned_abs result ≤ 2 ^ 100 }
 {
@@ -109,7 +112,7 @@ fn limits_sum(rows: &[Row], mults: &[Mult]) -> i128
 
 /// A factor times the limit of a row.
 pub fn scaled_limit(row: &Row, factor: u64) -> i128
-    requires factor { factor ≤ MOST_FACTOR }
+    requires factor { factor ≤ 1099511627776 }
     requires bounded { IsBoundedRow 512 row.now }
     ensures value { result ≡ pos factor *ℤ row.now.limit }
     ensures small { unsigned_abs result ≤ 2 ^ 80 }
@@ -133,7 +136,8 @@ fn gains(program: &Program, area: &Area, cert: &Cert) -> i128
 pub fn gain_lines(program: &Program, cert: &Cert) -> [Line; MOST_SLOTS]
     requires { IsUsable (length program.now.rows) cert.now }
     ensures length { length result ≡ 512 }
-    ensures value { (slot v : ℕ) → slot < 512 → line_at (slot_line result slot) v ≡ gain program.now cert.now slot v }
+    ensures value { (slot v : ℕ) → slot < 512
+        → line_at (slot_line result slot) v ≡ gain program.now cert.now slot v }
     ensures within { All (IsWithin (2 ^ 98)) result }
 {
     let mut lines = bare_lines();
@@ -158,7 +162,8 @@ fn slots_sum(lines: &[Line], area: &Area) -> i128
     requires few { length lines.now ≡ 512 }
     requires within { All (IsWithin (2 ^ 98)) lines.now }
     requires open_ { All IsOpen (present area.now) }
-    ensures value { result ≡ slots_total (λ slot. line_at (slot_line lines.now slot)) 0 (present area.now) }
+    ensures value { result ≡ slots_total
+        (λ slot. line_at (slot_line lines.now slot)) 0 (present area.now) }
     ensures small { unsigned_abs result ≤ 2 ^ 117 }
 {
     let mut sum = 0i128;

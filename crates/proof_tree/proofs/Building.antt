@@ -1,22 +1,26 @@
 -- Lemmas on what a builder of a proof holds.
-use Rattle.std.proofs.Common.{◌≡◌, true, List, [], ◌∷◌, ◌++◌, map, Option, Some, None, option_map, option_to_list, IsTrue, refl, ap, sym, ◌∙◌, subst, append_assoc}
+use Rattle.std.proofs.Common.{◌≡◌, true, false, is_some, List, [], ◌∷◌, ◌++◌, map, Option, Some, None, option_map, option_to_list, IsTrue, refl, ap, sym, ◌∙◌, subst, append_assoc}
 use Rattle.std.proofs.lemmas.List.{append-nil, map-append}
+use Rattle.std.specs.Option.{IsSomeAnd}
 use Rattle.proof_tree.specs.declared.builder.BegunNode.{BegunNode}
-use Rattle.proof_tree.specs.declared.builder.Built.TheVariants.{Whole}
+use Rattle.proof_tree.specs.declared.builder.Built.{Built}
+use Rattle.proof_tree.specs.declared.builder.Built.TheVariants.{More, Whole}
 use Rattle.proof_tree.specs.declared.builder.SplitNode.{SplitNode}
 use Rattle.proof_tree.specs.declared.builder.TreeBuilder.{TreeBuilder}
 use Rattle.proof_tree.specs.declared.capped.Capped.TheVariants.{NoPoint}
 use Rattle.proof_tree.specs.declared.item.Item.{Item}
 use Rattle.proof_tree.specs.declared.item.Item.TheVariants.{Node, Cut, Found, Empty, Dual, Point, Pending, Split}
 use Rattle.proof_tree.specs.declared.proof.Proof.{Proof}
+use Rattle.proof_tree.specs.declared.tree_taker.TreeTaker.{TreeTaker}
 use Rattle.proof_tree.specs.declared.walk.Expected.{Expected}
 use Rattle.proof_tree.specs.declared.walk.Expected.TheVariants.{Node as ExpectNode, Inside, End}
-use Rattle.proof_tree.specs.Built.{HasBuilt, IsBuilt, items_if, proof_items, begun_items, split_items, splits_items}
+use Rattle.proof_tree.specs.Built.{HasBuilt, IsBuilt, HoldsBuilt, HoldsItems, Holding, items_if, proof_items, begun_items, split_items, splits_items}
 use Rattle.proof_tree.specs.Form.{any_steps, form_of, MayComeAfter, AreWhole}
 use Rattle.proof_tree.specs.Items.{leaf_item, tree_items}
 use Rattle.proof_tree.specs.Tree.{Leaf, Tree, leaf, split as two_parts, tree_of}
-use Rattle.proof_tree.specs.Walk.{Opened, Stage, Outcome, going, may_come, part_ended, walked, start}
+use Rattle.proof_tree.specs.Walk.{Opened, Stage, Outcome, going, ended, misplaced, may_come, part_ended, walked, start}
 use Rattle.proof_tree.proofs.Forms.{any_steps-cap, tree_whole, going-may, whole-not_going}
+use Rattle.proof_tree.proofs.OneTree.{items-one_tree}
 use Rattle.proof_tree.proofs.WalkLaw.{stage_at, walked-append, walked-tree}
 
 -- which items may come in a node that has begun
@@ -28,6 +32,15 @@ inside (Some found) = End
 abbrev pub next_of : {U F : Type 0} → Option (BegunNode U F) → Expected
 next_of None = ExpectNode
 next_of (Some node) = inside node.found
+
+-- after the found point only an end may come
+pub inside-some : {F : Type 0} (found : Option F) → is_some found ≡ true → inside found ≡ End
+inside-some None there = cc
+inside-some (Some f) there = refl
+
+pub inside-none : {F : Type 0} (found : Option F) → is_some found ≡ false → inside found ≡ Inside
+inside-none None there = refl
+inside-none (Some f) there = cc
 
 -- an open split as the form of its items has it
 abbrev pub held_split : {U C P F : Type 0} → SplitNode U C P F → Opened P
@@ -171,13 +184,13 @@ module _ (R A : Type 0) {U C P F : Type 0} where
   -- the innermost split, closed by its right part, leaves the items as they are
   pub items-closed : (all splits : List (SplitNode U C P F)) (split : SplitNode U C P F) (left right proof : Proof U C P F) → all ≡ split ∷ splits → split.left ≡ Some left → tree_of proof ≡ two_parts split.node.cuts split.node.found split.pick split.cert (tree_of left) (tree_of right)
       → splits_items {R = R} {A = A} splits ++ proof_items proof ≡ splits_items all ++ proof_items right
-  items-closed all splits split left right proof here ended whole =
+  items-closed all splits split left right proof here left_ended whole =
       let parts : List (Item R A U C P F) = Split split.pick split.cert ∷ proof_items left in
       ap (λ tree. splits_items splits ++ tree_items tree) whole
       ∙ ap (λ xs. splits_items splits ++ Node ∷ xs) (sym (append_assoc (map Cut split.node.cuts) (map Found (option_to_list split.node.found)) (parts ++ proof_items right)))
       ∙ ap (λ xs. splits_items splits ++ xs) (sym (append_assoc (begun_items split.node) parts (proof_items right)))
       ∙ sym (append_assoc (splits_items splits) (begun_items split.node ++ parts) (proof_items right))
-      ∙ ap (λ other. (splits_items splits ++ (begun_items split.node ++ Split split.pick split.cert ∷ items_if proof_items other)) ++ proof_items right) (sym ended)
+      ∙ ap (λ other. (splits_items splits ++ (begun_items split.node ++ Split split.pick split.cert ∷ items_if proof_items other)) ++ proof_items right) (sym left_ended)
       ∙ ap (λ others. splits_items others ++ proof_items right) (sym here)
 
   -- and so does the innermost split that keeps its left part
@@ -197,3 +210,34 @@ built-whole items proof is = subst AreWhole (sym is) (tree_whole _ _ (tree_of pr
 -- what a builder holds is never the whole of a proof
 pub built-not_whole : {R A U C P F : Type 0} (items : List (Item R A U C P F)) (builder : TreeBuilder R A U C P F) → HasBuilt items builder → ¬ AreWhole items
 built-not_whole items builder built whole = whole-not_going any_steps [] items (held_stage builder.splits builder.begun) whole (built-form _ _ items builder built)
+
+-- the proof that was built, where it is whole
+abbrev pub proof_if : {R A U C P F : Type 0} → Option (Built R A U C P F) → Option (Proof U C P F)
+proof_if None = None
+proof_if (Some (More builder)) = None
+proof_if (Some (Whole proof)) = Some proof
+
+misplaced-not_ended : {P : Type 0} (outcome : Outcome P) → outcome ≡ misplaced → outcome ≡ ended NoPoint → ⊥
+misplaced-not_ended outcome wrong over = cc
+
+-- whole items that a taker holds are those of the proof that was built of them
+pub holds-whole : {R A U C P F : Type 0} (tree : Tree U C P F) (built : Option (Built R A U C P F)) → HoldsBuilt (tree_items tree) built
+    → IsSomeAnd (proof_if built) (λ proof. tree_of proof ≡ tree)
+holds-whole {R = R} {A = A} tree None is = absurd (misplaced-not_ended _ is (tree_whole R A tree))
+holds-whole tree (Some (More builder)) is = absurd (built-not_whole (tree_items tree) builder is (tree_whole _ _ tree))
+holds-whole tree (Some (Whole proof)) is = items-one_tree (tree_of proof) tree (sym is)
+
+-- after the items of a whole proof none may come
+pub whole-wrong : {R A U C P F : Type 0} (items : List (Item R A U C P F)) (proof : Proof U C P F) (item : Item R A U C P F) → IsBuilt items (Whole proof) → form_of (items ++ item ∷ []) ≡ misplaced
+whole-wrong items proof item is =
+    walked-append _ _ _ any_steps (start []) items (item ∷ []) ∙ ap (λ o. walked any_steps o (item ∷ [])) (built-whole items proof is)
+
+-- after an item that may not come none may come
+pub wrong-wrong : {R A U C P F : Type 0} (items : List (Item R A U C P F)) (item : Item R A U C P F) → form_of items ≡ misplaced → form_of (items ++ item ∷ []) ≡ misplaced
+wrong-wrong items item is = walked-append _ _ _ any_steps (start []) items (item ∷ []) ∙ ap (λ o. walked any_steps o (item ∷ [])) is
+
+-- a taker that holds one more item holds it after those before
+pub holding-next : {R K A U C P F : Type 0} (before old new : TreeTaker R K A U C P F) (items : List (Item R A U C P F)) (item : Item R A U C P F) → Holding before items old
+    → ((held : List (Item R A U C P F)) → HoldsItems held old → HoldsItems (held ++ item ∷ []) new) → Holding before (items ++ item ∷ []) new
+holding-next before old new items item so_far next =
+    record { grown = λ held holds. subst (λ xs. HoldsItems xs new) (append_assoc held items (item ∷ [])) (next (held ++ items) (so_far.grown held holds)) }

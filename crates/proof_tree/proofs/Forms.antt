@@ -6,7 +6,7 @@ use Rattle.proof_tree.specs.declared.capped.Capped.TheVariants.{AtMost, NoPoint,
 use Rattle.proof_tree.specs.declared.item.Item.{Item}
 use Rattle.proof_tree.specs.declared.item.Item.TheVariants.{Node, Cut, Found, Empty, Dual, Point, Pending, Split}
 use Rattle.proof_tree.specs.declared.walk.Expected.{Expected}
-use Rattle.proof_tree.specs.declared.walk.Expected.TheVariants.{Node as ExpectNode, Inside}
+use Rattle.proof_tree.specs.declared.walk.Expected.TheVariants.{Node as ExpectNode, Inside, Nothing}
 use Rattle.proof_tree.specs.Cap.{greater}
 use Rattle.proof_tree.specs.Form.{any_steps, form_of, MayComeAfter, AreWhole}
 use Rattle.proof_tree.specs.Items.{tree_items}
@@ -151,45 +151,71 @@ whole-may before item later whole is =
     let wrong : form_of ((before ++ item ∷ []) ++ later) ≡ misplaced = walked-append _ _ _ any_steps (start []) (before ++ item ∷ []) later ∙ ap (λ o. walked any_steps o later) is ∙ walked-misplaced _ _ _ any_steps later in
     cc
 
--- an outcome that is not undefined
-abbrev Defined : {P : Type 0} → Outcome P → Type 0
-Defined (going stage) = ⊤
-Defined (ended part_cap) = ⊤
-Defined undefined = ⊥
-Defined misplaced = ⊤
+-- an outcome that some item led to: a stage where another may come, or a cap
+abbrev Leads : {P : Type 0} → Outcome P → Type 0
+Leads (going stage) = stage.expected ≢ Nothing
+Leads (ended part_cap) = ⊤
+Leads undefined = ⊥
+Leads misplaced = ⊥
 
-Defined-close : (U C : Type 0) {P : Type 0} (splits : List (Opened P)) (part_cap : Capped) → Defined (close (any_steps {U = U} {C = C}) splits part_cap)
-Defined-close U C [] part_cap = tt
-Defined-close U C (split ∷ splits) part_cap = at split.left (Defined-close U C splits)
+Leads-close : (U C : Type 0) {P : Type 0} (splits : List (Opened P)) (part_cap : Capped) → Leads (close (any_steps {U = U} {C = C}) splits part_cap)
+Leads-close U C [] part_cap = tt
+Leads-close U C (split ∷ splits) part_cap = at split.left (Leads-close U C splits)
   where
-    at : (left : Option Capped) → ((c : Capped) → Defined (close (any_steps {U = U} {C = C}) splits c)) → Defined (close_split (any_steps {U = U} {C = C}) split splits part_cap left (close (any_steps {U = U} {C = C}) splits))
-    at None rest = tt
+    at : (left : Option Capped) → ((c : Capped) → Leads (close (any_steps {U = U} {C = C}) splits c)) → Leads (close_split (any_steps {U = U} {C = C}) split splits part_cap left (close (any_steps {U = U} {C = C}) splits))
+    at None rest = λ is. cc
     at (Some left) rest = rest (greater left part_cap)
 
-Defined-taken : {R A U C P F : Type 0} (splits : List (Opened P)) (v : View) (item : Item R A U C P F) → Defined (taken any_steps splits v item)
-Defined-taken splits v Node = tt
-Defined-taken splits v (Cut u) = tt
-Defined-taken splits v (Found found) = tt
-Defined-taken {U = U} {C = C} splits v Empty = Defined-close U C splits NoPoint
-Defined-taken {U = U} {C = C} splits v (Dual cert) = Defined-close U C splits NoPoint
-Defined-taken {U = U} {C = C} splits v Point = Defined-close U C splits NoPoint
-Defined-taken {U = U} {C = C} splits v (Pending cert) = Defined-close U C splits NoPoint
-Defined-taken splits v (Split pick cert) = tt
+Leads-taken : {R A U C P F : Type 0} (splits : List (Opened P)) (v : View) (item : Item R A U C P F) → Leads (taken any_steps splits v item)
+Leads-taken splits v Node = λ is. cc
+Leads-taken splits v (Cut u) = λ is. cc
+Leads-taken splits v (Found f) = λ is. cc
+Leads-taken {U = U} {C = C} splits v Empty = Leads-close U C splits NoPoint
+Leads-taken {U = U} {C = C} splits v (Dual cert) = Leads-close U C splits NoPoint
+Leads-taken {U = U} {C = C} splits v Point = Leads-close U C splits NoPoint
+Leads-taken {U = U} {C = C} splits v (Pending cert) = Leads-close U C splits NoPoint
+Leads-taken splits v (Split pick cert) = λ is. cc
 
-Defined-after : {R A U C P F : Type 0} (outcome : Outcome P) (item : Item R A U C P F) → Defined outcome → Defined (after any_steps outcome item)
-Defined-after (going stage) item is = at (may_come stage.expected item)
+-- where items lead to a stage, an item that may come next may come after them, and any other is out of place
+pub going-comes : {R A U C P F : Type 0} (items : List (Item R A U C P F)) (stage : Stage P) (item : Item R A U C P F) → form_of items ≡ going stage → may_come stage.expected item ≡ true → MayComeAfter items item
+going-comes items stage item so_far may is =
+    let next = walked-next _ _ _ any_steps (start []) items item stage so_far ∙ ap (λ b. if b then taken any_steps stage.splits stage.view item else misplaced) may in
+    subst Leads (sym next ∙ is) (Leads-taken stage.splits stage.view item)
+
+pub going-wrong : {R A U C P F : Type 0} (items : List (Item R A U C P F)) (stage : Stage P) (item : Item R A U C P F) → form_of items ≡ going stage → may_come stage.expected item ≡ false → form_of (items ++ item ∷ []) ≡ misplaced
+going-wrong items stage item so_far may =
+    walked-next _ _ _ any_steps (start []) items item stage so_far ∙ ap (λ b. if b then taken any_steps stage.splits stage.view item else misplaced) may
+
+-- an outcome that items lead to, whether they are in their places or not
+abbrev Formed : {P : Type 0} → Outcome P → Type 0
+Formed (going stage) = stage.expected ≢ Nothing
+Formed (ended part_cap) = ⊤
+Formed undefined = ⊥
+Formed misplaced = ⊤
+
+Leads-formed : {P : Type 0} (outcome : Outcome P) → Leads outcome → Formed outcome
+Leads-formed (going stage) is = is
+Leads-formed (ended part_cap) is = tt
+Leads-formed undefined is = is
+Leads-formed misplaced is = tt
+
+Formed-after : {R A U C P F : Type 0} (outcome : Outcome P) (item : Item R A U C P F) → Formed outcome → Formed (after any_steps outcome item)
+Formed-after (going stage) item is = at (may_come stage.expected item)
   where
-    at : (may : Bool) → Defined (if may then taken any_steps stage.splits stage.view item else misplaced)
-    at true = Defined-taken stage.splits stage.view item
+    at : (may : Bool) → Formed (if may then taken any_steps stage.splits stage.view item else misplaced)
+    at true = Leads-formed (taken any_steps stage.splits stage.view item) (Leads-taken stage.splits stage.view item)
     at false = tt
-Defined-after (ended part_cap) item is = tt
-Defined-after undefined item is = is
-Defined-after misplaced item is = tt
+Formed-after (ended part_cap) item is = tt
+Formed-after undefined item is = is
+Formed-after misplaced item is = tt
 
-Defined-walked : {R A U C P F : Type 0} (outcome : Outcome P) (items : List (Item R A U C P F)) → Defined outcome → Defined (walked any_steps outcome items)
-Defined-walked outcome [] is = is
-Defined-walked outcome (item ∷ items) is = Defined-walked (after any_steps outcome item) items (Defined-after outcome item is)
+Formed-walked : {R A U C P F : Type 0} (outcome : Outcome P) (items : List (Item R A U C P F)) → Formed outcome → Formed (walked any_steps outcome items)
+Formed-walked outcome [] is = is
+Formed-walked outcome (item ∷ items) is = Formed-walked (after any_steps outcome item) items (Formed-after outcome item is)
 
--- a form is never undefined
+-- a form is never undefined, and where it goes on something may come
 pub form-defined : {R A U C P F : Type 0} (items : List (Item R A U C P F)) → form_of items ≢ undefined
-form-defined items is = subst Defined is (Defined-walked (start []) items tt)
+form-defined items is = subst Formed is (Formed-walked (start []) items (λ same. cc))
+
+pub form-awaits : {R A U C P F : Type 0} (items : List (Item R A U C P F)) (stage : Stage P) → form_of items ≡ going stage → stage.expected ≢ Nothing
+form-awaits items stage is = subst Formed is (Formed-walked (start []) items (λ same. cc))

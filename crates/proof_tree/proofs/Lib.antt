@@ -1,5 +1,9 @@
 pub mod Building
+pub mod Completing
+pub mod Folds
 pub mod Forms
+pub mod NodeFacts
+pub mod OneTree
 pub mod Sound
 pub mod Trees
 pub mod Views

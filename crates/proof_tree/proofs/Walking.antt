@@ -9,7 +9,8 @@ use Rattle.proof_tree.specs.declared.walk.Expected.TheVariants.{Node}
 use Rattle.proof_tree.specs.Cap.{greater}
 use Rattle.proof_tree.specs.Relaxation.{Steps}
 use Rattle.proof_tree.specs.Views.{View, view_at, present, KeepsViews}
-use Rattle.proof_tree.specs.Walk.{opened, innermost_left, StandBelow, Led, going, going_to, stage_of, close}
+use Rattle.proof_tree.specs.Walk.{opened, StandBelow, going, going_to, stage_of, close}
+use Rattle.proof_tree.specs.laws.Led.{innermost_left, Led}
 
 -- a view at an earlier mark stays
 pub view_at-kept : (old new : List View) (mark : ℕ) → KeepsViews old new → mark < length old → view_at new mark ≡ view_at old mark

@@ -8,6 +8,9 @@ use Rattle.proof_tree.specs.declared.builder.TreeBuilder.{TreeBuilder}
 use Rattle.proof_tree.specs.declared.builder.Built.{Built}
 use Rattle.proof_tree.specs.declared.builder.Built.TheVariants.{More, Whole}
 use Rattle.proof_tree.specs.declared.proof.Proof.{Proof}
+use Rattle.proof_tree.specs.declared.tree_taker.TreeTaker.{TreeTaker}
+use Rattle.proof_tree.specs.Form.{form_of, MayComeAfter}
+use Rattle.proof_tree.specs.Walk.{misplaced}
 use Rattle.proof_tree.specs.Items.{tree_items}
 use Rattle.proof_tree.specs.Tree.{tree_of}
 
@@ -37,7 +40,28 @@ splits_items (split ∷ splits) = splits_items splits ++ split_items split
 pub record HasBuilt {R A U C P F : Type 0} (items : List (Item R A U C P F)) (builder : TreeBuilder R A U C P F) : Type 0 where
   pub same : items ≡ splits_items builder.splits ++ items_if begun_items builder.begun
 
+-- an item may come after the items that the builder holds
+abbrev pub MayComeIn : {R A U C P F : Type 0} → TreeBuilder R A U C P F → Item R A U C P F → Type 0
+MayComeIn {R} {A} {U} {C} {P} {F} builder item = (items : List (Item R A U C P F)) → HasBuilt items builder → MayComeAfter items item
+
+-- an item is out of place after the items that the builder holds
+abbrev pub IsOutOfPlace : {R A U C P F : Type 0} → TreeBuilder R A U C P F → Item R A U C P F → Type 0
+IsOutOfPlace {R} {A} {U} {C} {P} {F} builder item = (items : List (Item R A U C P F)) → HasBuilt items builder → form_of (items ++ item ∷ []) ≡ misplaced
+
 -- what was built of these items: a part of a proof, or the proof whose items they are
 abbrev pub IsBuilt : {R A U C P F : Type 0} → List (Item R A U C P F) → Built R A U C P F → Type 0
 IsBuilt items (More builder) = HasBuilt items builder
 IsBuilt items (Whole proof) = items ≡ tree_items (tree_of proof)
+
+-- what is held of these items: what was built of them, or nothing, where one of them may not come where it comes
+abbrev pub HoldsBuilt : {R A U C P F : Type 0} → List (Item R A U C P F) → Option (Built R A U C P F) → Type 0
+HoldsBuilt items None = form_of items ≡ misplaced
+HoldsBuilt items (Some built) = IsBuilt items built
+
+-- the items are those that the taker holds
+pub record HoldsItems {R K A U C P F : Type 0} (items : List (Item R A U C P F)) (taker : TreeTaker R K A U C P F) : Type 0 where
+  pub held : HoldsBuilt items taker.built
+
+-- whatever items the taker held, it now holds these besides
+pub record Holding {R K A U C P F : Type 0} (before : TreeTaker R K A U C P F) (items : List (Item R A U C P F)) (after : TreeTaker R K A U C P F) : Type 0 where
+  pub grown : (held : List (Item R A U C P F)) → HoldsItems held before → HoldsItems (held ++ items) after

@@ -1,5 +1,6 @@
 -- The items of a tree, in prefix order, and what may be read off them.
-use Rattle.std.specs.Prelude.{ℕ, ◌+◌, max, List, [], ◌∷◌, ◌++◌, map, option_to_list}
+use Rattle.std.specs.Prelude.{ℕ, ◌+◌, max, List, [], ◌∷◌, ◌++◌, map, Option, Some, None, option_to_list}
+use Rattle.std.specs.List.{filter_map}
 use Rattle.proof_tree.specs.declared.item.Item.{Item}
 use Rattle.proof_tree.specs.declared.item.Item.TheVariants.{Node, Cut, Found, Empty, Dual, Point, Pending, Split}
 use Rattle.proof_tree.specs.Tree.{Leaf, no_point, dual, one_point, pending, Tree, leaf, split}
@@ -21,3 +22,12 @@ tree_items (split cuts found pick cert a b) =
 abbrev pub depth : {U C P F : Type 0} → Tree U C P F → ℕ
 depth (leaf cuts found end) = 1
 depth (split cuts found pick cert a b) = 1 + max (depth a) (depth b)
+
+-- the found point that an item is, if it is one
+abbrev pub found_of : {R A U C P F : Type 0} → Item R A U C P F → Option F
+found_of (Found f) = Some f
+found_of item = None
+
+-- the found points among items, in their order
+abbrev pub found_in : {R A U C P F : Type 0} → List (Item R A U C P F) → List F
+found_in items = filter_map found_of items

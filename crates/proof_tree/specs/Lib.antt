@@ -1,4 +1,6 @@
+pub mod Built
 pub mod Cap
+pub mod Form
 pub mod Items
 pub mod Nodes
 pub mod Relaxation
@@ -6,5 +8,4 @@ pub mod Taker
 pub mod Tree
 pub mod Views
 pub mod Walk
-pub mod Form
-pub mod Built
+pub mod laws

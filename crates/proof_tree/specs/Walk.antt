@@ -142,11 +142,6 @@ StandBelow s views mark first (split ∷ splits) =
 abbrev pub Stands : {R A U C P F : Type 0} → Steps U C P → Walk R A U C P F → List View → Type 0
 Stands s walk views = MatchOption walk.first (walk.splits ≡ []) (λ first. StandBelow s views (length views) first walk.splits)
 
--- the left cap of the innermost open split, if its left part has ended
-abbrev pub innermost_left : {P : Type 0} → List (OpenSplit P) → Option Capped
-innermost_left [] = None
-innermost_left (split ∷ splits) = split.left
-
 -- the mark of the walk's first area: the one that it holds, or the present one before its first item
 abbrev pub first_mark : {R A U C P F : Type 0} → Walk R A U C P F → List View → ℕ
 first_mark walk views = unwrap_or walk.first (length views - 1)
@@ -162,10 +157,3 @@ abbrev pub GoesBack : Took → ℕ → List View → List View → Type 0
 GoesBack More first old new = take (first + 1) new ≡ take (first + 1) old
 GoesBack (Done cap) first old new = new ≡ take (first + 1) old
 GoesBack TookBad first old new = new ≡ old
-
--- what a step of a walk whose first area has this mark leaves behind
-pub record Led {R A U C P F : Type 0} (s : Steps U C P) (first : ℕ) (old : Walk R A U C P F) (views : List View) (took : Took) (new : Walk R A U C P F) (later : List View) (outcome : Outcome P) : Type 0 where
-  pub answer : IsAnswer took new later outcome
-  pub stands : StandBelow s later (length later) first new.splits
-  pub same_first : new.first ≡ old.first
-  pub goes_back : GoesBack took first views later

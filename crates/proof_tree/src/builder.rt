@@ -1,6 +1,6 @@
 //! A proof that is built from its items.
-ghost use Rattle.std.specs.Prelude.{List as Items, [], ◌∷◌, ◌++◌, ◌≡◌, IfOk};
-ghost use Rattle.proof_tree.specs.Built.{HasBuilt, IsBuilt, begun_items, proof_items, splits_items};
+ghost use Rattle.std.specs.Prelude.{List as Items, [], ◌∷◌, ◌++◌, ◌≡◌, IfOk, MatchBool};
+ghost use Rattle.proof_tree.specs.Built.{HasBuilt, IsBuilt, MayComeIn, IsOutOfPlace, begun_items, proof_items, splits_items};
 ghost use Rattle.proof_tree.specs.Form.{MayComeAfter};
 ghost use Rattle.proof_tree.specs.Tree.{split, tree_of, tree_at};
 ghost use Rattle.proof_tree.specs.declared.item.Item.{Item};
@@ -10,6 +10,7 @@ use crate::list::List;
 use crate::proof::{End, Proof};
 use crate::relaxation::Relaxation;
 use crate::stack::Stack;
+use crate::walk::{Expected, may_come};
 use std::alloc::{AllocError, Global};
 
 /// A node that has begun and not ended.
@@ -77,6 +78,21 @@ impl<R: Relaxation> TreeBuilder<R> {
             splits: Stack::new(alloc),
             begun: None,
         }
+    }
+
+    /// Whether the item may come next.
+    pub fn may_take(&self, item: &Item<R>) -> bool
+        ensures { MatchBool result (MayComeIn self.now item.now) (IsOutOfPlace self.now item.now) }
+    {
+        let expected = match &self.begun {
+            None => Expected::Node,
+            Some(node) => if node.found.is_some() {
+                Expected::End
+            } else {
+                Expected::Inside
+            },
+        };
+        may_come(expected, item)
     }
 
     /// Takes the next item of the proof. After the last one the answer is the whole proof, and after any

@@ -4,6 +4,7 @@ ghost use Rattle.proof_tree.specs.declared.item.Item.{Item};
 
 use crate::item::Item;
 use crate::relaxation::Relaxation;
+use std::alloc::AllocError;
 
 /// Why an item was not taken.
 #[derive(Clone, Copy, PartialEq, Eq, Debug)]
@@ -12,6 +13,17 @@ pub enum TakeStop {
     Failed,
     /// There was no memory.
     Memory,
+}
+
+impl From<AllocError> for TakeStop {
+    ghost use Rattle.std.specs.Prelude.{◌≡◌};
+    ghost use Rattle.proof_tree.specs.declared.taker.TakeStop.{TakeStop};
+
+    ghost from_gives = { λ _ stop. stop ≡ TakeStop.Memory };
+
+    fn from(_error: AllocError) -> TakeStop {
+        TakeStop::Memory
+    }
 }
 
 /// What takes the items of a proof one after another, as a log or a tree that is built does. `O` is the

@@ -3,7 +3,8 @@ ghost use Rattle.proof_tree.specs.Items.{tree_items, depth};
 ghost use Rattle.proof_tree.specs.declared.item.Item.{Item};
 ghost use Rattle.proof_tree.specs.Tree.{Tree, tree_cap};
 ghost use Rattle.proof_tree.specs.Views.{View, present, view_at};
-ghost use Rattle.proof_tree.specs.Walk.{may_come, stage_of, opened, first_mark, innermost_left, StandBelow, Stands, IsAnswer, GoesBack, Led, going_to, step, taken, part_ended, close, walked, start, outcome_of, open_count, ComesNext, Tells};
+ghost use Rattle.proof_tree.specs.Walk.{may_come, stage_of, opened, first_mark, StandBelow, Stands, IsAnswer, GoesBack, going_to, step, taken, part_ended, close, walked, start, outcome_of, open_count, ComesNext, Tells};
+ghost use Rattle.proof_tree.specs.laws.Led.{innermost_left, Led};
 
 use crate::capped::{Capped, greater_cap};
 use crate::capping::empty_cap;
@@ -111,15 +112,7 @@ impl<R: Relaxation> Walk<R> {
     pub fn may_take(&self, item: &Item<R>) -> bool
         ensures { result ≡ may_come self.now.expected item.now }
     {
-        match (self.expected, item) {
-            (Expected::Node, Item::Node) => true,
-            (Expected::Node, _) => false,
-            (Expected::Inside, Item::Node) => false,
-            (Expected::Inside, _) => true,
-            (Expected::End, Item::Node | Item::Cut(_) | Item::Found(_)) => false,
-            (Expected::End, _) => true,
-            (Expected::Nothing, _) => false,
-        }
+        may_come(self.expected, item)
     }
 
     /// Takes an item, which has to be one that may come next, in an area in which the walk stands.
@@ -328,5 +321,20 @@ impl<R: Relaxation> Walk<R> {
         });
         self.expected = Expected::Node;
         Took::More
+    }
+}
+
+// Whether the item may come next, where these items may.
+pub(crate) fn may_come<R: Relaxation>(expected: Expected, item: &Item<R>) -> bool
+    ensures { result ≡ may_come expected item.now }
+{
+    match (expected, item) {
+        (Expected::Node, Item::Node) => true,
+        (Expected::Node, _) => false,
+        (Expected::Inside, Item::Node) => false,
+        (Expected::Inside, _) => true,
+        (Expected::End, Item::Node | Item::Cut(_) | Item::Found(_)) => false,
+        (Expected::End, _) => true,
+        (Expected::Nothing, _) => false,
     }
 }

@@ -4,6 +4,7 @@ pub mod Gathered
 pub mod Histories
 pub mod Marks
 pub mod Parts
+pub mod PointCounts
 pub mod Starts
 pub mod Tables
 pub mod Values

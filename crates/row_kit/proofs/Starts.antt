@@ -7,7 +7,8 @@ use Rattle.std.proofs.lemmas.Bool.{cond-true, cond-false, eq-eqb, ne_eqb}
 use Rattle.std.proofs.lemmas.Bool.Decides.{nat_tests}
 use Rattle.row_kit.specs.declared.row.Change.{Change}
 use Rattle.row_kit.specs.declared.row.Tag.{Tag}
-use Rattle.row_kit.specs.Change.{started, is_after, is_between, comes_next, listed_cost, pair_cost, costs_after, changeovers, least_after}
+use Rattle.row_kit.specs.Change.{started, is_after, is_between, comes_next, listed_cost, pair_cost, costs_after, changeovers}
+use Rattle.row_kit.specs.laws.Next.{least_after}
 
 -- the starts from a slot on, where the slot is not started, and where it is
 pub started_skip : (tags : List Tag) (point : List ℕ) (i : ℕ) → i < length tags → length point ≡ length tags → get_or point i 0 ≡ 0 → (d : Tag) → started (drop i tags) (drop i point) ≡ started (drop (i + 1) tags) (drop (i + 1) point)

@@ -4,7 +4,6 @@ use Rattle.std.specs.Bool.{beq}
 use Rattle.std.specs.List.{All, sum_by}
 use Rattle.row_kit.specs.declared.domain.Domain.{Domain}
 use Rattle.row_kit.specs.declared.former.Former.{Former}
-use Rattle.row_kit.specs.declared.limits.TheConstants.{MOST_SLOTS}
 use Rattle.row_kit.specs.Domain.{IsNormal, count_of}
 
 -- the domains at the last mark, the present ones
@@ -39,7 +38,7 @@ LeavesRoom marks room =
 
 -- an area's domains are normal and few, and its trail has room for each change that can come
 pub record IsSound (domains : List Domain) (trail : List Former) (room : ℕ) : Type 0 where
-  pub few : length domains ≤ MOST_SLOTS
+  pub few : length domains ≤ 512
   pub normal : All IsNormal domains
   pub in_range : All (λ change. change.slot < length domains) trail
   pub trail_normal : All (λ change. IsNormal change.domain) trail

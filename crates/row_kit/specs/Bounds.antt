@@ -8,7 +8,6 @@ use Rattle.row_kit.specs.declared.domain.Domain.{Domain}
 use Rattle.row_kit.specs.declared.row.Change.{Change}
 use Rattle.row_kit.specs.declared.row.Tag.{Tag}
 use Rattle.row_kit.specs.Domain.{IsNormal, IsOpen}
-use Rattle.row_kit.specs.declared.limits.TheConstants.{MOST_ROW_ENTRY, MOST_LIMIT, MOST_CHANGE_COST, MOST_PROFIT_ENTRY, MOST_SLOTS, MOST_ROWS, MOST_BASE}
 
 -- the entries name slots of a root with this many, in ascending order, and neither of their parts exceeds a bound
 pub record AreBounded (slots most : ℕ) (entries : List Entry) : Type 0 where
@@ -19,27 +18,27 @@ pub record AreBounded (slots most : ℕ) (entries : List Entry) : Type 0 where
 
 -- a row whose entries and limit keep the bounds of rows
 pub record IsBoundedRow (slots : ℕ) (row : Row) : Type 0 where
-  pub entries : AreBounded slots MOST_ROW_ENTRY row.entries
-  pub limit : unsigned_abs row.limit ≤ MOST_LIMIT
+  pub entries : AreBounded slots 10000000 row.entries
+  pub limit : unsigned_abs row.limit ≤ 1000000000000
 
 -- a change whose cost lies in its range
 pub record IsBoundedChange (change : Change) : Type 0 where
   pub least : pos 0 ≤ℤ change.cost
-  pub most : change.cost ≤ℤ pos MOST_CHANGE_COST
+  pub most : change.cost ≤ℤ pos 1000000
 
 -- an entry whose parts are no greater than those of profit entries may be
 pub record IsSmall (entry : Entry) : Type 0 where
-  pub fixed : unsigned_abs entry.fixed ≤ MOST_PROFIT_ENTRY
-  pub per : unsigned_abs entry.per ≤ MOST_PROFIT_ENTRY
+  pub fixed : unsigned_abs entry.fixed ≤ 2000000000000000
+  pub per : unsigned_abs entry.per ≤ 2000000000000000
 
 -- the parts of a program keep every bound
 pub record KeepsBounds (rows : List Row) (profit : List Entry) (base : ℤ) (root : List Domain) (tags : List Tag) (changes : List Change) : Type 0 where
-  pub few_slots : length root ≤ MOST_SLOTS
+  pub few_slots : length root ≤ 512
   pub root_normal : All IsNormal root
   pub root_open : All IsOpen root
-  pub few_rows : length rows ≤ MOST_ROWS
+  pub few_rows : length rows ≤ 45904
   pub rows_bounded : All (IsBoundedRow (length root)) rows
-  pub profit_bounded : AreBounded (length root) MOST_PROFIT_ENTRY profit
-  pub base_bounded : unsigned_abs base ≤ MOST_BASE
+  pub profit_bounded : AreBounded (length root) 2000000000000000 profit
+  pub base_bounded : unsigned_abs base ≤ 10000000000000000000000
   pub one_tag : length tags ≡ length root
   pub costs_bounded : All IsBoundedChange changes

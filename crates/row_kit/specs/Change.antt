@@ -1,5 +1,5 @@
 -- What the changeovers of a point cost.
-use Rattle.std.specs.Prelude.{ℕ, ◌==◌, nat_lt, Bool, ◌&&◌, not, min, max, if◌then◌else◌, List, [], ◌∷◌, unsigned_abs}
+use Rattle.std.specs.Prelude.{ℕ, ◌==◌, nat_lt, Bool, ◌&&◌, not, max, if◌then◌else◌, List, [], ◌∷◌, unsigned_abs}
 use Rattle.std.specs.List.{list_any, sum_by}
 use Rattle.row_kit.specs.declared.row.Change.{Change}
 use Rattle.row_kit.specs.declared.row.Tag.{Tag}
@@ -45,8 +45,3 @@ costs_after changes starts a = sum_by (pair_cost changes starts a) starts
 -- what the changeovers of a point cost: the sum over all pairs of its starts
 abbrev pub changeovers : List Change → List Tag → List ℕ → ℕ
 changeovers changes tags point = let starts = started tags point in sum_by (costs_after changes starts) starts
-
--- the least place of a start after a in its lane, and 2 to the power 32 where there is none
-abbrev pub least_after : List Tag → Tag → ℕ
-least_after [] a = 4294967296
-least_after (b ∷ bs) a = if is_after a b then min b.place (least_after bs a) else least_after bs a

@@ -3,5 +3,7 @@ pub mod Bounds
 pub mod Change
 pub mod Domain
 pub mod Point
+pub mod Points
 pub mod Row
 pub mod Table
+pub mod laws

@@ -1,10 +1,11 @@
-ghost use Rattle.std.specs.Prelude.{◌≡◌, ℕ, ◌*◌, ◌≤◌, ◌<◌, ◌==◌, ◌&&◌, min, nat_le, length, ◌≤ℤ◌, slice_index, slice_index_or, if◌then◌else◌};
+ghost use Rattle.std.specs.Prelude.{◌≡◌, ℕ, ◌*◌, ◌≤◌, ◌<◌, ◌^◌, unsigned_abs, ◌==◌, ◌&&◌, min, nat_le, length, ◌≤ℤ◌, slice_index, slice_index_or, if◌then◌else◌};
 ghost use Rattle.std.specs.List.{All};
 ghost use Rattle.row_kit.specs.Bounds.{IsBoundedChange};
-ghost use Rattle.row_kit.specs.Change.{started, is_after, is_listed, least_after, listed_cost, costs_after, changeovers};
+ghost use Rattle.row_kit.specs.Change.{started, is_after, is_listed, listed_cost, costs_after, changeovers};
+ghost use Rattle.row_kit.specs.laws.Next.{least_after};
 ghost use Rattle.row_kit.specs.Point.{value_of, worth_of};
 
-use crate::point::value;
+use crate::point::earned;
 use crate::program::Program;
 use crate::row::{Change, Tag};
 
@@ -15,9 +16,10 @@ pub fn worth(program: &Program, point: &[u8]) -> i128
     requires { length point.now ≡ length program.now.root }
     ensures worth { result ≡ worth_of program.now point.now }
     ensures most { result ≤ℤ value_of program.now point.now }
+    ensures small { unsigned_abs result < 10 ^ 30 }
 {
     let cost = changeovers(program.changes.as_slice(), program.tags.as_slice(), point);
-    value(program, point) - i128::from(cost)
+    earned(program, point) - i128::from(cost)
 }
 
 // What the changeovers of a point cost.
@@ -61,7 +63,8 @@ fn costs_after(changes: &[Change], tags: &[Tag], point: &[u8], start: &Tag) -> u
 // What a changeover costs to a start whose place is at most the next one of the lane.
 fn cost_within(changes: &[Change], start: &Tag, tag: &Tag, next: u64) -> u64
     requires { All IsBoundedChange changes.now }
-    ensures cost { result ≡ (if is_after start.now tag.now && nat_le tag.now.place next then listed_cost changes.now start.now.lane start.now.kind tag.now.kind else 0) }
+    ensures cost { result ≡ (if is_after start.now tag.now && nat_le tag.now.place next
+        then listed_cost changes.now start.now.lane start.now.kind tag.now.kind else 0) }
     ensures small { result ≤ 1000000 }
     ensures place { tag.now.place < 4294967296 }
 {

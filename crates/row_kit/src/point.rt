@@ -12,7 +12,16 @@ use crate::row::{Entry, Row};
 pub fn value(program: &Program, point: &[u8]) -> i128
     requires { length point.now ≡ length program.now.root }
     ensures value { result ≡ value_of program.now point.now }
-    ensures small { unsigned_abs result ≤ 2 ^ 125 }
+    ensures small { unsigned_abs result < 10 ^ 30 }
+{
+    earned(program, point)
+}
+
+// The value of a point, with room for what its changeovers cost.
+pub(crate) fn earned(program: &Program, point: &[u8]) -> i128
+    requires { length point.now ≡ length program.now.root }
+    ensures value { result ≡ value_of program.now point.now }
+    ensures small { unsigned_abs result ≤ 2 ^ 75 }
 {
     program.base + entries_sum(program.profit.as_slice(), point)
 }

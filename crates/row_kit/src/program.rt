@@ -2,7 +2,6 @@ ghost use Rattle.std.specs.Prelude.{◌≡◌, ◌≤◌, ◌↔◌, length, uns
 ghost use Rattle.std.specs.List.{All};
 ghost use Rattle.row_kit.specs.Domain.{IsNormal, IsOpen};
 ghost use Rattle.row_kit.specs.Bounds.{AreBounded, IsBoundedRow, IsBoundedChange};
-ghost use Rattle.row_kit.specs.declared.limits.TheConstants.{MOST_SLOTS, MOST_ROWS, MOST_PROFIT_ENTRY, MOST_BASE};
 
 use crate::bounds::keeps_bounds;
 use crate::domain::Domain;
@@ -19,13 +18,13 @@ pub struct Program {
     pub root: List<Domain>,
     pub tags: List<Tag>,
     pub changes: List<Change>,
-    pub ghost few_slots: { length root ≤ MOST_SLOTS },
+    pub ghost few_slots: { length root ≤ 512 },
     pub ghost root_normal: { All IsNormal root },
     pub ghost root_open: { All IsOpen root },
-    pub ghost few_rows: { length rows ≤ MOST_ROWS },
+    pub ghost few_rows: { length rows ≤ 45904 },
     pub ghost rows_bounded: { All (IsBoundedRow (length root)) rows },
-    pub ghost profit_bounded: { AreBounded (length root) MOST_PROFIT_ENTRY profit },
-    pub ghost base_bounded: { unsigned_abs base ≤ MOST_BASE },
+    pub ghost profit_bounded: { AreBounded (length root) 2000000000000000 profit },
+    pub ghost base_bounded: { unsigned_abs base ≤ 10000000000000000000000 },
     pub ghost one_tag: { length tags ≡ length root },
     pub ghost costs_bounded: { All IsBoundedChange changes },
 }

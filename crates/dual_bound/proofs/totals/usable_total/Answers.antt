@@ -1,11 +1,12 @@
 -- What was added up is the total, and weak duality holds of it.
-use Rattle.std.proofs.Common.{ℤ, List, ◌≡◌, ◌∙◌, ◌+ℤ◌, ◌*ℤ◌, pos, to_z, of_z, ap, sym, subst, arith}
+use Rattle.std.proofs.Common.{ℤ, List, ◌≡◌, ◌∙◌, ◌+ℤ◌, ◌*ℤ◌, pos, ◌<◌, ◌^◌, unsigned_abs, to_z, of_z, ap, sym, subst, arith}
 use Rattle.std.proofs.lemmas.Int.{ints}
 use Rattle.row_kit.specs.declared.row.Row.{Row}
 use Rattle.row_kit.specs.Area.{present}
 use Rattle.dual_bound.specs.declared.cert.Mult.{Mult}
 use Rattle.dual_bound.specs.Total.{limits_sum, BoundsScaled}
 use Rattle.dual_bound.proofs.Exchange.{duality}
+use Rattle.dual_bound.proofs.Small.{total_small}
 use Rattle.dual_bound.proofs.totals.usable_total.Goals as goal
 use mir.Syntax.{w128}
 
@@ -24,6 +25,11 @@ returns-clause-value c =
     ∙ ap (λ (x : ℤ). (x +ℤ limits) +ℤ gains) c.scaled_base.ensures.value
     ∙ ap (λ (x : ℤ). ((pos cert.scale *ℤ program.base) +ℤ x) +ℤ gains) limited
     ∙ ap (λ (x : ℤ). ((pos cert.scale *ℤ program.base) +ℤ limits_sum program.rows cert.mults) +ℤ x) c.gains.ensures.value
+
+pub returns-clause-below : goal.returns-clause-below
+returns-clause-below c =
+    subst (λ (x : ℤ). unsigned_abs x < 10 ^ 30) (sym (returns-clause-value c))
+    (total_small c.args.program.now (present c.args.area.now) c.args.cert.now c.requires.usable c.slot_count-slots.ensures.normal c.requires.slots)
 
 pub returns-clause-duality : goal.returns-clause-duality
 returns-clause-duality c =

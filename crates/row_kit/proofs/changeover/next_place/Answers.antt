@@ -1,7 +1,8 @@
 -- One start more: its place is taken where it is the least so far.
 use Rattle.std.proofs.Common.{◌≤◌, ℕ, ◌∙◌, ◌+◌, List, ap, sym, subst, min, drop, get_or, arith}
 use Rattle.row_kit.specs.declared.row.Tag.{Tag}
-use Rattle.row_kit.specs.Change.{started, is_after, least_after}
+use Rattle.row_kit.specs.Change.{started, is_after}
+use Rattle.row_kit.specs.laws.Next.{least_after}
 use Rattle.row_kit.proofs.Starts.{started_skip, started_take, least_after-le, least_moves, least_small, no_tag}
 use Rattle.row_kit.proofs.changeover.next_place.Goals as goal
 use Rattle.row_kit.proofs.changeover.next_place.Goals.{then-point-slot-ne0, else-point-slot-ne0}

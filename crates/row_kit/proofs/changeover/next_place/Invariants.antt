@@ -1,6 +1,7 @@
 -- The least so far and the least of the rest give the least.
 use Rattle.std.proofs.Common.{◌≡◌, ◌≤◌, min, drop}
-use Rattle.row_kit.specs.Change.{started, least_after}
+use Rattle.row_kit.specs.Change.{started}
+use Rattle.row_kit.specs.laws.Next.{least_after}
 use Rattle.row_kit.proofs.changeover.next_place.Given as goal
 
 abbrev pub invariant-loop-slot : goal.invariant-loop-slot

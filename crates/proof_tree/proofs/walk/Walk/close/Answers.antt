@@ -1,6 +1,7 @@
 -- A closed split leaves the others as they stand, with the greater cap.
 use Rattle.std.proofs.Common.{◌≡◌, ◌∷◌, Some, length, map, ap, sym, ◌∙◌, rules}
-use Rattle.proof_tree.specs.Walk.{opened, innermost_left, close}
+use Rattle.proof_tree.specs.Walk.{opened, close}
+use Rattle.proof_tree.specs.laws.Led.{innermost_left}
 use Rattle.proof_tree.proofs.Walking.{close-innermost, StandBelow-rest}
 use Rattle.proof_tree.proofs.walk.Walk.close.Goals as goal
 
