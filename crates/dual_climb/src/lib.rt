@@ -15,8 +15,6 @@ mod least;
 mod moving;
 mod pace;
 mod polishing;
-#[cfg(test)]
-mod tests;
 
 pub use climbing::climb;
 pub use polishing::polish;

@@ -10,6 +10,3 @@ pub mod sum;
 
 pub use fraction_of::{Fraction, MAX_PART};
 pub use sum::sums_to_one;
-
-#[cfg(test)]
-mod tests;

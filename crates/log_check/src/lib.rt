@@ -11,8 +11,6 @@ mod claims;
 mod course;
 mod log;
 mod points;
-#[cfg(test)]
-mod tests;
 mod verdict;
 
 pub use bytes::check_bytes;

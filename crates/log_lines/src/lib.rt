@@ -27,6 +27,3 @@ pub use reader::{LineEnd, LineReader};
 // A crate can name a step in a contract only if it is exported.
 #[doc(hidden)]
 pub use step::Step;
-
-#[cfg(test)]
-mod tests;

@@ -17,6 +17,3 @@ pub use fault::{
 };
 pub use print::put_plan;
 pub use read::read_plan;
-
-#[cfg(test)]
-mod tests;

@@ -15,6 +15,3 @@ mod values;
 
 pub use made::make;
 pub use print::put_plant;
-
-#[cfg(test)]
-mod tests;

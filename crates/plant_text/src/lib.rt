@@ -20,6 +20,3 @@ pub mod word;
 
 pub use fault::{KeyName, Place, PlantFault, PlantStop, TableName};
 pub use read::{MAX_BYTES, read_plant};
-
-#[cfg(test)]
-mod tests;

@@ -21,8 +21,6 @@ mod log_reader;
 mod nodes;
 mod parts;
 mod read;
-#[cfg(test)]
-mod tests;
 mod whole;
 mod writer;
 

@@ -4,7 +4,6 @@ pub mod Folds
 pub mod Forms
 pub mod NodeFacts
 pub mod OneTree
-pub mod Ranges
 pub mod Sound
 pub mod Trees
 pub mod Views

@@ -1,5 +1,4 @@
 pub mod Built
-pub mod ByteRange
 pub mod Cap
 pub mod Form
 pub mod Items

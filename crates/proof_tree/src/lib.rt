@@ -16,8 +16,6 @@ mod proof;
 mod relaxation;
 mod stack;
 mod taker;
-#[cfg(test)]
-mod tests;
 mod tree_taker;
 mod walk;
 

@@ -15,8 +15,6 @@ mod queue;
 mod row_cut;
 mod spread;
 mod sums;
-#[cfg(test)]
-mod tests;
 mod waking;
 
 pub use cutting::cut;

@@ -18,8 +18,6 @@ mod list;
 mod point;
 mod program;
 mod row;
-#[cfg(test)]
-mod tests;
 mod trail;
 
 pub use area::Area;

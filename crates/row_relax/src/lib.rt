@@ -6,8 +6,6 @@
 mod pick;
 mod rows;
 mod settling;
-#[cfg(test)]
-mod tests;
 
 pub use pick::RowPick;
 pub use rows::{RowProof, Rows};

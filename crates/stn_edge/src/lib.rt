@@ -19,8 +19,6 @@ mod shelf;
 mod sink;
 mod std_sink;
 mod stop;
-#[cfg(test)]
-mod tests;
 
 pub use file_shelf::FileShelf;
 pub use fixed_shelf::FixedShelf;

@@ -1,5 +1,6 @@
 pub mod WordLemmas
 pub mod TextLemmas
 pub mod Named
-pub mod ReplyLemmas
+pub mod ReadFiles
+pub mod AnswerLemmas
 pub mod ReadBack

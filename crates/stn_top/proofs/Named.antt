@@ -10,7 +10,7 @@ use Rattle.stn_model.specs.Feasible.{Feasible}
 use Rattle.stn_model.specs.Answers.{IsAnswer}
 use Rattle.stn_model.proofs.Fitting.{placed-Fits}
 use Rattle.plan_text.specs.PlanLines.{IsNamed}
-use Rattle.stn_top.specs.Texts.{IsNamedIn}
+use Rattle.stn_top.specs.Solving.{IsNamedIn}
 
 -- each start of a feasible plan
 pub named-Feasible : (plant : Plant) (plan : List Start) → Sound plant → Feasible plant plan → All (IsNamed plant) plan

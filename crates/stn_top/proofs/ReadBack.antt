@@ -26,7 +26,7 @@ use Rattle.stn_model.specs.Feasible.{Feasible}
 use Rattle.stn_model.specs.declared.answer.Outcome.{Outcome}
 use Rattle.stn_model.specs.Answers.{IsAnswer, IsOutcome}
 use Rattle.stn_top.specs.declared.reply.Reply.{Reply}
-use Rattle.stn_top.specs.Replies.{Solved}
+use Rattle.stn_top.specs.Solving.{Solved}
 use Rattle.std.specs.Prelude.{Result, Err, IfOk}
 use Rattle.time_grid.specs.Slots.{slots}
 use Rattle.time_grid.specs.PlanPoint.{plan_point, point_starts}
@@ -37,7 +37,7 @@ use Rattle.plan_text.specs.PlanLines.{plan_line, plan_lines, start_words, unit_n
 use Rattle.plan_text.specs.PlanText.{plan_of_text}
 use Rattle.plan_text.specs.ReadsBack.{IsRemark, comment_lines, IsWritable, ReadsBack}
 use Rattle.plan_text.proofs.Again.{ReadsBack-lines}
-use Rattle.stn_top.specs.Texts.{answer_text, boxes_line, profit_word, status_of, printed_plan, IsMoney, IsInMoney}
+use Rattle.stn_top.specs.Solving.{answer_text, boxes_line, profit_word, status_of, printed_plan, IsMoney, IsInMoney}
 use Rattle.stn_top.proofs.Named.{named-Feasible}
 
 -- ---- numbers
@@ -275,7 +275,7 @@ reads-back plant budget used answer sound right small few =
 
 -- an outcome that is right and its text are an answer of `solve`
 pub solved : {E : Type 0} (plant : Plant) (budget : ℕ) (outcome : Outcome) (r : Result Reply E) → Sound plant → budget ≤ 100000 → IsOutcome plant budget outcome
-    → IfOk r (λ reply. (reply.status ≡ status_of outcome.answer) × (reply.text.items ≡ answer_text plant outcome.boxes outcome.answer)) → IfOk r (λ reply. IsInMoney outcome.answer)
+    → IfOk r (λ reply. (reply.status ≡ status_of outcome.answer) × (reply.text.items ≡ answer_text plant outcome.boxes outcome.answer)) → IsInMoney outcome.answer
     → IfOk r (λ reply. Solved budget plant reply.status reply.text.items)
 solved plant budget outcome (Ok reply) sound most right is money = record {
   outcome = outcome;

@@ -5,7 +5,7 @@ use Rattle.stn_model.specs.declared.plant.Plant.{Plant}
 use Rattle.stn_model.specs.declared.start.Start.{Start}
 use Rattle.stn_model.specs.declared.answer.Answer.TheVariants.{Optimal, Infeasible, BudgetSpent}
 use Rattle.plan_text.specs.PlanLines.{plan_lines}
-use Rattle.stn_top.specs.Texts.{answer_text, boxes_line}
+use Rattle.stn_top.specs.Solving.{answer_text, boxes_line}
 
 -- of a best plan
 pub optimal_text : (plant : Plant) (used : ℕ) (plan : List Start) (earned : ℤ) (head : List ℕ) → head ≡ codes "# optimal " ++ (signed_decimal earned ++ (codes "\n" ++ boxes_line used)) → head ++ plan_lines plant plan ≡ answer_text plant used (Optimal plan earned)

@@ -6,7 +6,7 @@ use Rattle.std.proofs.Common.{◌≡◌, true, false, ◌∙◌, ap, ℕ, ◌<�
 use Rattle.std.specs.Prelude.{Option, Some, None, MatchOption}
 use Rattle.stn_top.specs.declared.command.Command.{Command}
 use Rattle.stn_top.specs.declared.command.PlanUse.TheVariants.{Simulate, Report}
-use Rattle.stn_top.specs.Words.{texts, Request, Says, HasNoForm, Solving, Carrying, Checking, Upgrading, meaning}
+use Rattle.stn_top.specs.Words.{texts, Request, Says, HasNoForm, Solving, Simulating, Checking, Upgrading, meaning}
 
 -- three words are the list of their texts
 pub three_texts : (words : List (Bor (List ℕ))) (d : Bor (List ℕ)) → 3 ≤ length words → length words < 4 → texts words ≡ (get_or words 0 d).now ∷ (get_or words 1 d).now ∷ (get_or words 2 d).now ∷ []
@@ -42,14 +42,14 @@ abbrev NoFiles : List (List ℕ) → (List ℕ → List ℕ → Request) → Typ
 NoFiles words request = (first second : List ℕ) → ¬ Says words (request first second)
 
 -- words that have none of the forms
-pub has_no_form : (words : List (List ℕ)) → ((plant : List ℕ) (budget : ℕ) → ¬ Says words (Solving plant budget)) → NoFiles words (Carrying Simulate) → NoFiles words (Carrying Report) → NoFiles words Checking → ((plant : List ℕ) → ¬ Says words (Upgrading plant)) → HasNoForm words
+pub has_no_form : (words : List (List ℕ)) → ((plant : List ℕ) (budget : ℕ) → ¬ Says words (Solving plant budget)) → NoFiles words (Simulating Simulate) → NoFiles words (Simulating Report) → NoFiles words Checking → ((plant : List ℕ) → ¬ Says words (Upgrading plant)) → HasNoForm words
 has_no_form words solve simulate report check upgrade (Solving plant budget) = solve plant budget
-has_no_form words solve simulate report check upgrade (Carrying Simulate plant plan) = simulate plant plan
-has_no_form words solve simulate report check upgrade (Carrying Report plant plan) = report plant plan
+has_no_form words solve simulate report check upgrade (Simulating Simulate plant plan) = simulate plant plan
+has_no_form words solve simulate report check upgrade (Simulating Report plant plan) = report plant plan
 has_no_form words solve simulate report check upgrade (Checking plant log) = check plant log
 has_no_form words solve simulate report check upgrade (Upgrading plant) = upgrade plant
 
 -- the last form decides
-pub last_form : (words : List (List ℕ)) (command : Option Command) → ((plant : List ℕ) (budget : ℕ) → ¬ Says words (Solving plant budget)) → NoFiles words (Carrying Simulate) → NoFiles words (Carrying Report) → NoFiles words Checking → MatchOption command ((plant : List ℕ) → ¬ Says words (Upgrading plant)) (λ c. Says words (meaning c)) → MatchOption command (HasNoForm words) (λ c. Says words (meaning c))
+pub last_form : (words : List (List ℕ)) (command : Option Command) → ((plant : List ℕ) (budget : ℕ) → ¬ Says words (Solving plant budget)) → NoFiles words (Simulating Simulate) → NoFiles words (Simulating Report) → NoFiles words Checking → MatchOption command ((plant : List ℕ) → ¬ Says words (Upgrading plant)) (λ c. Says words (meaning c)) → MatchOption command (HasNoForm words) (λ c. Says words (meaning c))
 last_form words None solve simulate report check upgrade = has_no_form words solve simulate report check upgrade
 last_form words (Some command) solve simulate report check upgrade = upgrade

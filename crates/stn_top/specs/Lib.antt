@@ -1,3 +1,9 @@
 pub mod Words
-pub mod Texts
+pub mod Sources
+pub mod Lines
+pub mod Solving
+pub mod Simulation
+pub mod Checking
+pub mod Upgrading
+pub mod Requests
 pub mod Replies

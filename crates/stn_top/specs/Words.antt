@@ -1,7 +1,6 @@
 -- The words of a command.
 use Rattle.std.specs.Prelude.{◌≡◌, ◌≢◌, ℕ, ◌≤◌, List, [], ◌∷◌, map, codes, decimal}
 use Rattle.std.specs.Borrow.{Bor}
-use Rattle.stn_top.specs.declared.command.TheConstants.{MAX_BUDGET}
 use Rattle.stn_top.specs.declared.command.PlanUse.{PlanUse}
 use Rattle.stn_top.specs.declared.command.PlanUse.TheVariants.{Simulate, Report}
 use Rattle.stn_top.specs.declared.command.Command as declared
@@ -10,11 +9,11 @@ use Rattle.stn_top.specs.declared.command.Command.TheVariants as variants
 -- what a planner asks for
 pub data Request : Type 0 where
   Solving : (plant : List ℕ) (budget : ℕ) → Request
-  Carrying : (usage : PlanUse) (plant plan : List ℕ) → Request
-  Upgrading : (plant : List ℕ) → Request
+  Simulating : (usage : PlanUse) (plant plan : List ℕ) → Request
   Checking : (plant log : List ℕ) → Request
+  Upgrading : (plant : List ℕ) → Request
 
--- the first word of a command that carries out a plan
+-- the first word of a command that simulates a plan
 abbrev pub use_word : PlanUse → List ℕ
 use_word Simulate = codes "simulate"
 use_word Report = codes "report"
@@ -27,12 +26,12 @@ texts words = map (λ word. word.now) words
 pub record IsBudget (word : List ℕ) (budget : ℕ) : Type 0 where
   pub digits : word ≡ decimal budget
   pub some : 1 ≤ budget
-  pub most : budget ≤ MAX_BUDGET
+  pub most : budget ≤ 100000
 
 -- the words say the request; no file has an empty name
 abbrev pub Says : List (List ℕ) → Request → Type 0
 Says words (Solving plant budget) = (word : List ℕ) × ((words ≡ codes "solve" ∷ plant ∷ word ∷ []) × (plant ≢ []) × IsBudget word budget)
-Says words (Carrying usage plant plan) = (words ≡ use_word usage ∷ plant ∷ plan ∷ []) × (plant ≢ []) × (plan ≢ [])
+Says words (Simulating usage plant plan) = (words ≡ use_word usage ∷ plant ∷ plan ∷ []) × (plant ≢ []) × (plan ≢ [])
 Says words (Checking plant log) = (words ≡ codes "check" ∷ plant ∷ log ∷ []) × (plant ≢ []) × (log ≢ [])
 Says words (Upgrading plant) = (words ≡ codes "upgrade" ∷ plant ∷ []) × (plant ≢ [])
 
@@ -42,7 +41,7 @@ HasNoForm words = (request : Request) → ¬ Says words request
 
 -- what a command asks for
 abbrev pub meaning : declared.Command → Request
-meaning (variants.Solve plant budget) = Solving plant.now budget
-meaning (variants.Carry usage plant plan) = Carrying usage plant.now plan.now
+meaning (variants.Solve plant budget) = Solving plant.now budget.boxes
+meaning (variants.Simulate usage plant plan) = Simulating usage plant.now plan.now
 meaning (variants.Check plant log) = Checking plant.now log.now
 meaning (variants.Upgrade plant) = Upgrading plant.now

@@ -1,11 +1,9 @@
 //! The words of a command.
 ghost use Rattle.std.specs.Prelude.{◌≡◌, ℕ, List, MatchOption};
-ghost use Rattle.stn_top.specs.Words.{Says, HasNoForm, IsBudget, Solving, Carrying, Checking, Upgrading, texts, meaning, use_word};
+ghost use Rattle.stn_top.specs.Words.{Says, HasNoForm, IsBudget, Solving, Simulating, Checking, Upgrading, texts, meaning, use_word};
 
+use crate::budget::{Budget, MAX_BUDGET};
 use text_words::read_number;
-
-/// The greatest number of boxes that may be asked for.
-pub const MAX_BUDGET: u32 = 100_000;
 
 /// What is done with a plan.
 #[derive(Clone, Copy, Debug, PartialEq, Eq)]
@@ -22,10 +20,10 @@ pub enum Command<'a> {
     /// `solve PLANT BUDGET`: plan, with at most this many boxes.
     Solve {
         plant: &'a str,
-        budget: u32,
+        budget: Budget,
     },
-    /// `simulate PLANT PLAN` and `report PLANT PLAN`: carry out a plan.
-    Carry {
+    /// `simulate PLANT PLAN` and `report PLANT PLAN`: simulate a plan.
+    Simulate {
         usage: PlanUse,
         plant: &'a str,
         plan: &'a str,
@@ -48,10 +46,10 @@ pub fn command_of<'a>(words: &[&'a str]) -> Option<Command<'a>>
     if let Some(command) = solve_of(words) {
         return Some(command);
     }
-    if let Some(command) = carry_of(words, "simulate", PlanUse::Simulate) {
+    if let Some(command) = simulate_of(words, "simulate", PlanUse::Simulate) {
         return Some(command);
     }
-    if let Some(command) = carry_of(words, "report", PlanUse::Report) {
+    if let Some(command) = simulate_of(words, "report", PlanUse::Report) {
         return Some(command);
     }
     if let Some(command) = check_of(words) {
@@ -76,14 +74,14 @@ fn solve_of<'a>(words: &[&'a str]) -> Option<Command<'a>>
 }
 
 // The command on a plan whose first word is this use's.
-fn carry_of<'a>(words: &[&'a str], word: &str, usage: PlanUse) -> Option<Command<'a>>
+fn simulate_of<'a>(words: &[&'a str], word: &str, usage: PlanUse) -> Option<Command<'a>>
     requires { word.now ≡ use_word usage }
-    ensures { MatchOption result ((plant plan : List ℕ) → ¬ Says (texts words.now) (Carrying usage plant plan))
+    ensures { MatchOption result ((plant plan : List ℕ) → ¬ Says (texts words.now) (Simulating usage plant plan))
         (λ command. Says (texts words.now) (meaning command)) }
 {
     match words {
         [first, plant, plan] if *first == word && !plant.is_empty() && !plan.is_empty() => {
-            Some(Command::Carry { usage, plant, plan })
+            Some(Command::Simulate { usage, plant, plan })
         }
         _ => None,
     }
@@ -113,11 +111,13 @@ fn upgrade_of<'a>(words: &[&'a str]) -> Option<Command<'a>>
     }
 }
 
-fn budget_of(word: &str) -> Option<u32>
-    ensures { MatchOption result ((n : ℕ) → ¬ IsBudget word.now n) (IsBudget word.now) }
+fn budget_of(word: &str) -> Option<Budget>
+    ensures { MatchOption result ((n : ℕ) → ¬ IsBudget word.now n) (λ budget. IsBudget word.now budget.boxes) }
 {
     match read_number(word.as_bytes(), MAX_BUDGET as u64 + 1) {
-        Some(number) if 0 < number => Some(number as u32),
+        Some(number) if 0 < number => Some(Budget {
+            boxes: number as u32,
+        }),
         _ => None,
     }
 }

@@ -1,20 +1,23 @@
 //! The commands of `stn`: words, files and a sink in, a status out.
 //!
 //! `run` is the one call that a program needs. It reads the files that the words name, does the work,
-//! and puts its whole answer at once.
+//! and puts its whole answer at once. Each command is a room of its own: a module with one function.
 #![tactic(auto)]
 
-#[cfg(test)]
-mod check_tests;
+pub mod budget;
+pub mod checking;
 pub mod command;
-#[cfg(test)]
-mod program_tests;
+mod lines;
 pub mod reply;
-pub mod sources;
-#[cfg(test)]
-mod tests;
-pub mod texts;
+mod simulation;
+mod solving;
+mod sources;
+pub mod stopped;
 pub mod top;
+mod upgrading;
 
-pub use command::{Command, MAX_BUDGET, command_of};
+pub use budget::{Budget, MAX_BUDGET};
+pub use checking::checked;
+pub use command::{Command, PlanUse, command_of};
+pub use reply::Reply;
 pub use top::run;

@@ -1,29 +1,12 @@
 //! What a command answers.
-ghost use Rattle.stn_top.specs.declared.reply.Stopped.TheVariants.{Memory as OutOfMemory};
-ghost use Rattle.std.specs.Prelude.{◌≡◌};
+ghost use Rattle.std.specs.Prelude.{◌≢◌, ◌<◌};
 
-use std::alloc::AllocError;
-
-/// An answer: the exit status, and the whole text.
+/// What a command answers: the exit status, and the whole text. Statuses from 7 on are those of a run
+/// without a whole answer, and 2 is that of words that ask for no command.
 #[derive(Drop)]
 pub struct Reply {
     pub status: u8,
     pub text: Vec<u8>,
-}
-
-/// Why there is no answer.
-#[derive(Clone, Copy, Debug, PartialEq, Eq)]
-pub enum Stopped {
-    /// A file could not be read.
-    ReadFault,
-    /// Memory ran out.
-    Memory,
-}
-
-impl From<AllocError> for Stopped {
-    ghost from_gives = { λ _ stopped. stopped ≡ OutOfMemory };
-
-    fn from(_error: AllocError) -> Stopped {
-        Stopped::Memory
-    }
+    pub ghost whole: { status < 7 },
+    pub ghost asked: { status ≢ 2 },
 }

@@ -12,6 +12,3 @@ pub mod read;
 pub use cut::cut_at;
 pub use print::put_number;
 pub use read::{read_number, read_wide};
-
-#[cfg(test)]
-mod tests;

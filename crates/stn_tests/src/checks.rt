@@ -1,0 +1,84 @@
+//! Logs over a program without slots.
+use log_check::{LogVerdict, check_bytes, check_log};
+use log_lines::Limits;
+use proof_log::{Defect, LogStop, read_log};
+use row_kit::{List, Program};
+use row_relax::Rows;
+use std::alloc::{AllocError, Global};
+use std::test::Fail;
+
+// A program without slots and rows: its only point is worth 5.
+fn bare(alloc: Global) -> Option<Program> {
+    Program::checked(
+        List::new(alloc),
+        List::new(alloc),
+        5,
+        List::new(alloc),
+        List::new(alloc),
+        List::new(alloc),
+    )
+}
+
+// Logs over that program, each with its first defect, or line 0 where it is valid.
+const LOGS: [(&[u8], u64, u8); 8] = [
+    (b"stn-log 1\nnode\ndual 1 0\nclaim optimal 5 0\nend\n", 0, 0),
+    (b"stn-log 2\nnode\npoint\nclaim below 5\nend\n", 0, 0),
+    (
+        b"stn-log 1\nnode\ndual 1 0\nclaim optimal 6 0\nend\n",
+        4,
+        14,
+    ),
+    (b"stn-log 1\nnode\ndual 1 0\nclaim below 4\nend\n", 4, 15),
+    (b"stn-log 1\nnode\ndual 1 0\nclaim infeasible\nend\n", 4, 16),
+    (b"stn-log 1\nnode\nempty\nclaim infeasible\nend\n", 3, 10),
+    (b"stn-log 1\nnode\nempty\nclaim infeasible\nend\nx", 6, 3),
+    (b"stn-log 1\nnode\npoint\nclaim below 5\nend\n", 3, 1),
+];
+
+// Whether the verdict names this defect, or is yes where the line is 0.
+fn is_verdict(verdict: &LogVerdict, line: u64, kind: u8) -> bool {
+    match verdict {
+        LogVerdict::Yes(_) => line == 0,
+        LogVerdict::No(defect) => *defect == Defect { line, kind },
+    }
+}
+
+#[test]
+fn logs(rt: HostRuntime) -> Result<(), Fail> {
+    let alloc = rt.alloc();
+    let rows = Rows {
+        program: bare(alloc).ok_or("bounds")?,
+    };
+    for (bytes, line, kind) in LOGS {
+        let verdict = check_bytes(alloc, &rows, 4_608, bytes)?;
+        assert_eq!(rt; is_verdict(&verdict, line, kind), true);
+    }
+    Ok(())
+}
+
+// The verdict on the log that the bytes are the text of, or their text defect.
+fn check_read(alloc: Global, rows: &Rows, bytes: &[u8]) -> Result<LogVerdict, AllocError> {
+    let limits = Limits {
+        rows: 0,
+        slots: 0,
+        depth: 4_608,
+    };
+    match read_log(alloc, bytes, &limits) {
+        Ok(log) => check_log(alloc, rows, 4_608, &log),
+        Err(LogStop::Defect(defect)) => Ok(LogVerdict::No(defect)),
+        Err(LogStop::Memory) => Err(AllocError),
+    }
+}
+
+#[test]
+fn logs_that_were_read(rt: HostRuntime) -> Result<(), Fail> {
+    let alloc = rt.alloc();
+    let rows = Rows {
+        program: bare(alloc).ok_or("bounds")?,
+    };
+    for (bytes, line, kind) in LOGS {
+        let verdict = check_read(alloc, &rows, bytes)?;
+        assert_eq!(rt; is_verdict(&verdict, line, kind), true);
+    }
+    Ok(())
+}

@@ -1,0 +1,35 @@
+-- The answer of `check`: its text, and when it is right.
+use Rattle.std.specs.Prelude.{◌≡◌, ℕ, List, ◌++◌, codes, decimal, Option, IfSome}
+use Rattle.std.specs.Fmt.{signed_decimal}
+use Rattle.stn_model.specs.declared.plant.Plant.{Plant}
+use Rattle.proof_log.specs.declared.claim.Claim.{Claim}
+use Rattle.proof_log.specs.declared.claim.Claim.TheVariants as claim
+use Rattle.log_check.specs.declared.verdict.LogVerdict.{LogVerdict}
+use Rattle.log_check.specs.declared.verdict.LogVerdict.TheVariants.{Yes, No}
+use Rattle.plant_check.specs.Claims.{IsChecked, YesSays}
+
+-- the line on a valid log: its claim
+unfoldable pub claim_text : Claim → List ℕ
+claim_text (claim.Optimal earned point) = codes "yes optimal " ++ (signed_decimal earned ++ codes "\n")
+claim_text claim.Infeasible = codes "yes infeasible\n"
+claim_text (claim.Between earned most point) = codes "yes between " ++ (signed_decimal earned ++ (codes " " ++ (signed_decimal most ++ codes "\n")))
+claim_text (claim.Below most) = codes "yes below " ++ (signed_decimal most ++ codes "\n")
+
+-- the line on a log: the claim of a valid one, or the line and the kind of the first defect
+unfoldable pub checked_text : LogVerdict → List ℕ
+checked_text (Yes claim) = claim_text claim
+checked_text (No defect) = codes "no " ++ (decimal defect.line ++ (codes " " ++ (decimal defect.kind ++ codes "\n")))
+
+-- the exit status of a check
+abbrev pub checked_status : LogVerdict → ℕ
+checked_status (Yes claim) = 0
+checked_status (No defect) = 1
+
+-- The answer of `check`: a verdict, with its status and its text. After a yes what the claim says holds of all plans,
+-- and where the log's bytes are told, the verdict is the right one on them.
+pub record Checked (log : Option (List ℕ)) (plant : Plant) (status : ℕ) (text : List ℕ) : Type 0 where
+  pub verdict : LogVerdict
+  pub right : IfSome log (λ bytes. IsChecked plant bytes verdict)
+  pub says : YesSays plant verdict
+  pub status_is : status ≡ checked_status verdict
+  pub text_is : text ≡ checked_text verdict

@@ -1,0 +1,193 @@
+//! `simulate PLANT PLAN` and `report PLANT PLAN`: what a plan earns or breaks first, and its report.
+ghost use Rattle.std.specs.Prelude.{◌≡◌, ◌≤◌, ◌+◌, ◌<◌, ◌^◌, ◌++◌, length, Err, IsTrue, IfOk, codes, decimal};
+ghost use Rattle.stn_edge.specs.Count.{Rose};
+ghost use Rattle.stn_model.specs.Plant.{state_at, utility_at};
+ghost use Rattle.stn_model.specs.Sound.{Sound};
+ghost use Rattle.stn_top.specs.Words.{Simulating};
+ghost use Rattle.stn_top.specs.Requests.{IsAnswer};
+ghost use Rattle.stn_top.specs.Sources.{IfReplied};
+ghost use Rattle.stn_top.specs.Simulation.{
+  pair_line,
+  named_line,
+  violation_text,
+  verdict_text,
+  verdict_status,
+  use_text,
+  IsOfPlant,
+  Simulated,
+};
+
+use crate::command::PlanUse;
+use crate::lines::amount_line;
+use crate::reply::Reply;
+use crate::sources::{plan_in, plant_in};
+use crate::stopped::Stopped;
+use gantt_report::report;
+use plan_sim::{Verdict, simulate};
+use std::alloc::{AllocError, Global};
+use stn_edge::Shelf;
+use stn_model::{Plant, Start, Violation};
+
+/// Simulates the plan in a file on the plant in another, and says what it earns, shows it, or says what
+/// it breaks first. The files are as before.
+pub fn simulate_file<F: Shelf>(
+    alloc: Global,
+    files: &mut F,
+    usage: PlanUse,
+    plant: &str,
+    plan: &str,
+) -> Result<Reply, Stopped>
+    requires plant_readable { IsTrue (F.may_read files.old plant.now) }
+    requires plan_readable { IsTrue (F.may_read files.old plan.now) }
+    ensures answer { IfReplied result (λ reply. IsAnswer (F.files files.old)
+        (Simulating usage plant.now plan.now) reply.status reply.text.items) }
+    ensures fault { result ≡ Err Stopped.ReadFault → Rose (F.read_faults files.old) (F.read_faults files.new) }
+    ensures same { F.files files.new ≡ F.files files.old }
+    ensures readable { F.may_read files.new ≡ F.may_read files.old }
+    ensures writable { F.may_write files.new ≡ F.may_write files.old }
+    ensures later { F.read_faults files.old ≤ F.read_faults files.new }
+    ensures no_write { F.write_faults files.new ≡ F.write_faults files.old }
+{
+    let plant = plant_in(alloc, files, plant)?;
+    let plan = plan_in(alloc, files, &plant, plan)?;
+    Ok(simulate_plan(alloc, usage, &plant, plan.as_slice())?)
+}
+
+// The answer of simulating a plan on a plant.
+fn simulate_plan(
+    alloc: Global,
+    usage: PlanUse,
+    plant: &Plant,
+    plan: &[Start],
+) -> Result<Reply, AllocError>
+    requires sound { Sound plant.now }
+    requires short { length plan.now < 2 ^ 32 }
+    ensures { IfOk result (λ reply. Simulated usage plant.now plan.now reply.status reply.text.items) }
+{
+    let verdict = simulate(alloc, plant, plan)?;
+    match usage {
+        PlanUse::Simulate => simulated(alloc, plant, &verdict),
+        PlanUse::Report => reported(alloc, plant, plan, &verdict),
+    }
+}
+
+// The answer that a simulation found.
+#[tactic(auto, unfolding(crate::specs::Simulation::verdict_text))]
+fn simulated(alloc: Global, plant: &Plant, verdict: &Verdict) -> Result<Reply, AllocError>
+    requires { (v : Violation) → verdict.now ≡ Verdict.Broken v → IsOfPlant plant.now v }
+    ensures { IfOk result (λ reply. (reply.status ≡ verdict_status verdict.now)
+        × (reply.text.items ≡ verdict_text plant.now verdict.now)) }
+{
+    match verdict {
+        Verdict::Feasible { profit } => {
+            let text = amount_line(alloc, "feasible ", profit)?;
+            Ok(Reply { status: 0, text })
+        }
+        Verdict::Broken(violation) => {
+            let text = violation_text(alloc, plant, violation)?;
+            Ok(Reply { status: 1, text })
+        }
+    }
+}
+
+// The report of a plan that was simulated, or what it breaks first.
+fn reported(
+    alloc: Global,
+    plant: &Plant,
+    plan: &[Start],
+    verdict: &Verdict,
+) -> Result<Reply, AllocError>
+    requires sound { Sound plant.now }
+    requires short { length plan.now < 2 ^ 32 }
+    requires named { (v : Violation) → verdict.now ≡ Verdict.Broken v → IsOfPlant plant.now v }
+    ensures { IfOk result (λ reply. (reply.status ≡ verdict_status verdict.now)
+        × (reply.text.items ≡ use_text PlanUse.Report plant.now plan.now verdict.now)) }
+{
+    match verdict {
+        Verdict::Feasible { profit: _ } => {
+            let mut text = Vec::new(alloc);
+            report(alloc, plant, plan, &mut text)?;
+            Ok(Reply { status: 0, text })
+        }
+        Verdict::Broken(violation) => {
+            let text = violation_text(alloc, plant, violation)?;
+            Ok(Reply { status: 1, text })
+        }
+    }
+}
+
+#[tactic(auto, unfolding(crate::specs::Simulation::violation_text))]
+fn violation_text(
+    alloc: Global,
+    plant: &Plant,
+    violation: &Violation,
+) -> Result<Vec<u8>, AllocError>
+    requires { IsOfPlant plant.now violation.now }
+    ensures { IfOk result (λ text. text.items ≡ violation_text plant.now violation.now) }
+{
+    match violation {
+        Violation::Unfit { place } => unfit_text(alloc, *place),
+        Violation::Busy { first, second } => pair_text(alloc, "broken busy ", *first, *second),
+        Violation::Gap { first, second } => pair_text(alloc, "broken gap ", *first, *second),
+        Violation::StockLow { state, time } => {
+            named_text(alloc, "broken stock-low ", state_name(plant, *state), *time)
+        }
+        Violation::StockHigh { state, time } => {
+            named_text(
+                alloc,
+                "broken stock-high ",
+                state_name(plant, *state),
+                *time,
+            )
+        }
+        Violation::Load { utility, period } => {
+            named_text(
+                alloc,
+                "broken load ",
+                utility_name(plant, *utility),
+                *period,
+            )
+        }
+    }
+}
+
+fn state_name(plant: &Plant, state: u32) -> &[u8]
+    requires { state < length plant.now.states }
+    ensures { result.now ≡ (state_at plant.now state).name }
+{
+    plant.states.get(state as usize).name.as_slice()
+}
+
+fn utility_name(plant: &Plant, utility: u32) -> &[u8]
+    requires { utility < length plant.now.utilities }
+    ensures { result.now ≡ (utility_at plant.now utility).name }
+{
+    plant.utilities.get(utility as usize).name.as_slice()
+}
+
+fn unfit_text(alloc: Global, place: u32) -> Result<Vec<u8>, AllocError>
+    ensures { IfOk result (λ text. text.items ≡ codes "broken unfit " ++ (decimal (place + 1) ++ codes "\n")) }
+{
+    let number = place as u64 + 1;
+    let line = format!(in alloc; "broken unfit {number}\n")?;
+    Vec::from_slice(alloc, line.as_bytes())
+}
+
+fn pair_text(alloc: Global, what: &str, first: u32, second: u32) -> Result<Vec<u8>, AllocError>
+    ensures { IfOk result (λ text. text.items ≡ pair_line what.now first second) }
+{
+    let a = first as u64 + 1;
+    let b = second as u64 + 1;
+    let line = format!(in alloc; "{what}{a} {b}\n")?;
+    Vec::from_slice(alloc, line.as_bytes())
+}
+
+fn named_text(alloc: Global, what: &str, name: &[u8], number: u32) -> Result<Vec<u8>, AllocError>
+    ensures { IfOk result (λ text. text.items ≡ named_line what.now name.now number) }
+{
+    let mut text = Vec::from_slice(alloc, what.as_bytes())?;
+    text.extend_from_slice(name)?;
+    let end = format!(in alloc; " {number}\n")?;
+    text.extend_from_slice(end.as_bytes())?;
+    Ok(text)
+}
