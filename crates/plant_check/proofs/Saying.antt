@@ -1,5 +1,5 @@
 -- What holds of all points of a plant's program holds of all its plans.
-use Rattle.std.proofs.Common.{◌≡◌, ℕ, List, sym}
+use Rattle.std.proofs.Common.{ℕ, List, sym}
 use Rattle.std.specs.Prelude.{Option, Some, None, Result, Ok, Err, IfOk, IfSome}
 use Rattle.stn_edge.specs.Files.{FileMap, file_of}
 use Rattle.stn_model.specs.declared.plant.Plant.{Plant}

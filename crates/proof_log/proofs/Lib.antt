@@ -14,3 +14,4 @@ pub mod Texts
 pub mod Reading
 pub mod PartsRead
 pub mod SaidOfOthers
+pub mod CleanTexts
