@@ -14,7 +14,8 @@ use Rattle.row_kit.proofs.Parts.{shared_within}
 use Rattle.row_kit.specs.Points.{kept_at}
 use Rattle.row_kit.specs.Row.{counted, entry_at, no_row, row_at}
 use Rattle.row_kit.proofs.Ascending.{no_entry}
-use Rattle.range_prop.specs.Cut.{cut_domain, has_room, is_bare, least_counted, least_others, least_sum}
+use Rattle.range_prop.specs.Cut.{cut_domain, has_room, is_bare, least_counted, least_others}
+use Rattle.range_prop.specs.laws.Sums.{least_sum}
 use Rattle.range_prop.specs.Cuts.{AreDone, HasRoom, HaveRoom, HaveRoomBut, IsStill}
 use Rattle.range_prop.proofs.Listed.{without_listed}
 use Rattle.range_prop.proofs.CutLaws.{cut_bare, cut_open}

@@ -3,7 +3,7 @@ ghost use Rattle.std.specs.List.{All, Any};
 ghost use Rattle.row_kit.specs.Row.{row_at};
 ghost use Rattle.row_kit.specs.Area.{present};
 ghost use Rattle.row_kit.specs.Domain.{IsBare, IsOpen};
-ghost use Rattle.range_prop.specs.Cut.{least_sum};
+ghost use Rattle.range_prop.specs.laws.Sums.{least_sum};
 ghost use Rattle.range_prop.specs.Cuts.{HasCut, HasRoom};
 
 use crate::cutting::cut;
