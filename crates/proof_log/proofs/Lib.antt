@@ -1,7 +1,6 @@
 pub mod GrammarWalk
 pub mod Lines
 pub mod NoDefect
-pub mod OneTree
 pub mod WrittenLines
 pub mod OneText
 pub mod Writing
