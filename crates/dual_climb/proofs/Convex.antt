@@ -1,8 +1,9 @@
 -- A convex function is least where neither neighbour is less.
-use Rattle.std.proofs.Common.{◌≡◌, ◌∙◌, Bool, true, false, ◌<ℤ◌, ℕ, zero, suc, ◌+◌, ◌-◌, ◌<◌, ◌≤◌, subst, sym, ⊎_elim, arith, ℤ, pos, ◌+ℤ◌, ◌-ℤ◌, ◌*ℤ◌, ◌≤ℤ◌, List, [], ◌∷◌, map, refl}
+use Rattle.std.proofs.Common.{◌≡◌, ◌∙◌, Bool, true, false, ◌<ℤ◌, ℕ, zero, suc, ◌+◌, ◌-◌, ◌<◌, ◌≤◌, ap, subst, sym, ⊎_elim, arith, ℤ, pos, negsuc, ◌+ℤ◌, ◌-ℤ◌, ◌*ℤ◌, ◌≤ℤ◌, List, [], ◌∷◌, map, refl}
 use Rattle.std.proofs.lemmas.Bool.{cases_lt, false≢true}
 use Rattle.std.proofs.lemmas.Int.{ints, by_lt_z, fold-int_max_reached}
 use Rattle.std.proofs.Math.IntN.{suc_ℤ-*ℤ}
+use Rattle.std.proofs.Math.Nat.{mul-le-mul_left}
 use Rattle.row_kit.specs.declared.domain.Domain.{Domain}
 use Rattle.row_kit.specs.declared.row.Entry.{Entry}
 use Rattle.row_kit.specs.declared.row.Row.{Row}
@@ -57,6 +58,102 @@ least_down : (h : ℕ → ℤ) → IsConvex h → (k j m : ℕ) → j + k ≡ m 
 least_down h convex zero j m e down = subst (λ (n : ℕ). h (m + 1) ≤ℤ h n) (omega arith) down
 least_down h convex (suc k) j m e down =
     chain (h (m + 1)) (h (j + 1)) (h j) (least_down h convex k (j + 1) m (omega arith) down) (keeps_down h convex (suc k) j m e down)
+
+less_below : (a b c d : ℤ) → (b +ℤ b) ≤ℤ (a +ℤ c) → (a -ℤ b) ≤ℤ d → (b -ℤ c) ≤ℤ d
+less_below a b c d h k = omega (arith, ints)
+
+-- after a step no later step falls further
+falls_up : (h : ℕ → ℤ) → IsConvex h → (m k : ℕ) → (h (m + k) -ℤ h (m + k + 1)) ≤ℤ (h m -ℤ h (m + 1))
+falls_up h convex m zero = subst (λ (n : ℕ). (h n -ℤ h (n + 1)) ≤ℤ (h m -ℤ h (m + 1))) (omega arith) (same_le (h m -ℤ h (m + 1)))
+falls_up h convex m (suc k) =
+    let e : m + k + 1 ≡ m + suc k = omega arith in
+    let f : m + k + 2 ≡ m + suc k + 1 = omega arith in
+    let d = h m -ℤ h (m + 1) in
+    let next = less_below (h (m + k)) (h (m + k + 1)) (h (m + k + 2)) d (convex (m + k)) (falls_up h convex m k) in
+    subst (λ (n : ℕ). (h (m + suc k) -ℤ h n) ≤ℤ d) f (subst (λ (n : ℕ). (h n -ℤ h (m + k + 2)) ≤ℤ d) e next)
+
+added : (a b c d kd sd : ℤ) → a ≤ℤ (b +ℤ kd) → (b -ℤ c) ≤ℤ d → sd ≡ kd +ℤ d → a ≤ℤ (c +ℤ sd)
+added a b c d kd sd p q e = omega (arith, ints)
+
+nothing : (a b d : ℤ) → a ≡ b → a ≤ℤ (b +ℤ (pos 0 *ℤ d))
+nothing a b d e = omega (arith, ints)
+
+times_more : (k : ℕ) (d : ℤ) → pos (suc k) *ℤ d ≡ (pos k *ℤ d) +ℤ d
+times_more k d = suc_ℤ-*ℤ (pos k) d
+
+-- so steps up fall at most as far as the first each
+pub falls_within_up : (h : ℕ → ℤ) → IsConvex h → (m k : ℕ) → h m ≤ℤ (h (m + k) +ℤ (pos k *ℤ (h m -ℤ h (m + 1))))
+falls_within_up h convex m zero = nothing (h m) (h (m + 0)) (h m -ℤ h (m + 1)) (let e : m ≡ m + 0 = omega arith in ap h e)
+falls_within_up h convex m (suc k) =
+    let e : m + k + 1 ≡ m + suc k = omega arith in
+    let d = h m -ℤ h (m + 1) in
+    subst (λ (n : ℕ). h m ≤ℤ (h n +ℤ (pos (suc k) *ℤ d))) e
+    (added (h m) (h (m + k)) (h (m + k + 1)) d (pos k *ℤ d) (pos (suc k) *ℤ d) (falls_within_up h convex m k) (falls_up h convex m k) (times_more k d))
+
+more_below : (a b c d : ℤ) → (b +ℤ b) ≤ℤ (a +ℤ c) → (c -ℤ b) ≤ℤ d → (b -ℤ a) ≤ℤ d
+more_below a b c d h k = omega (arith, ints)
+
+-- before a step no earlier step falls further
+falls_down : (h : ℕ → ℤ) → IsConvex h → (k j m : ℕ) → j + k ≡ m → (h (j + 1) -ℤ h j) ≤ℤ (h (m + 1) -ℤ h m)
+falls_down h convex zero j m e = subst (λ (n : ℕ). (h (j + 1) -ℤ h j) ≤ℤ (h (n + 1) -ℤ h n)) (let q : j ≡ m = omega arith in q) (same_le (h (j + 1) -ℤ h j))
+falls_down h convex (suc k) j m e =
+    let f : j + 1 + 1 ≡ j + 2 = omega arith in
+    let d = h (m + 1) -ℤ h m in
+    more_below (h j) (h (j + 1)) (h (j + 2)) d (convex j) (subst (λ (n : ℕ). (h n -ℤ h (j + 1)) ≤ℤ d) f (falls_down h convex k (j + 1) m (omega arith)))
+
+-- so steps down fall at most as far as the first each
+pub falls_within_down : (h : ℕ → ℤ) → IsConvex h → (k j m : ℕ) → j + k ≡ m + 1 → h (m + 1) ≤ℤ (h j +ℤ (pos k *ℤ (h (m + 1) -ℤ h m)))
+falls_within_down h convex zero j m e = nothing (h (m + 1)) (h j) (h (m + 1) -ℤ h m) (let q : m + 1 ≡ j = omega arith in ap h q)
+falls_within_down h convex (suc k) j m e =
+    let d = h (m + 1) -ℤ h m in
+    added (h (m + 1)) (h (j + 1)) (h j) d (pos k *ℤ d) (pos (suc k) *ℤ d) (falls_within_down h convex k (j + 1) m (omega arith)) (falls_down h convex k j m (omega arith)) (times_more k d)
+
+-- fewer steps fall less far, or not at all
+pub fewer_steps : (k r n : ℕ) (x : ℤ) → k ≤ r → 1 ≤ n → (pos r *ℤ x) <ℤ pos n → (pos k *ℤ x) <ℤ pos n
+fewer_steps k r n (pos m) h l lt = omega (arith, ints, mul-le-mul_left m h)
+fewer_steps k r n (negsuc m) h l lt = omega (arith, ints)
+
+short : (a b kd : ℤ) (n : ℕ) → a ≤ℤ (b +ℤ kd) → kd <ℤ pos n → (a -ℤ pos n) <ℤ b
+short a b kd n h k = omega (arith, ints)
+
+-- where the first step up falls so little that some steps fall by less than so much, and it does not fall past them, no place above is lower by so much
+pub near_up : (h : ℕ → ℤ) → IsConvex h → (own r end most n : ℕ) (first : ℤ) → first ≡ h own -ℤ h (own + 1) → (pos r *ℤ first) <ℤ pos n → 1 ≤ n → own ≤ end → end ≤ own + r → (end < most → h end ≤ℤ h (end + 1)) → (f : ℕ) → own ≤ f → f ≤ most → (h own -ℤ pos n) <ℤ h f
+near_up h convex own r end most n first is few some low high past f from le =
+    let within : (g : ℕ) → own ≤ g → g ≤ end → (h own -ℤ pos n) <ℤ h g =
+    λ g a b.
+    let k = g - own in
+    let e : own + k ≡ g = omega arith in
+    let fall = subst (λ (j : ℕ). h own ≤ℤ (h j +ℤ (pos k *ℤ (h own -ℤ h (own + 1))))) e (falls_within_up h convex own k) in
+    short (h own) (h g) (pos k *ℤ (h own -ℤ h (own + 1))) n fall (subst (λ (x : ℤ). (pos k *ℤ x) <ℤ pos n) is (fewer_steps k r n first (omega arith) some few)) in
+    ⊎_elim
+    (λ (above : end < f).
+    let e : end + (f - end) ≡ f = omega arith in
+    below_too (h own -ℤ pos n) (h end) (h f) (within end low (omega arith)) (subst (λ (j : ℕ). h end ≤ℤ h j) e (least_up h convex end (f - end) (past (omega arith)))))
+    (λ (under : f ≤ end). within f from under)
+    (cases_lt end f)
+  where
+    below_too : (a b c : ℤ) → a <ℤ b → b ≤ℤ c → a <ℤ c
+    below_too a b c p q = omega (arith, ints)
+
+-- and the same downwards
+pub near_down : (h : ℕ → ℤ) → IsConvex h → (own r end n : ℕ) (first : ℤ) → 0 < own → first ≡ h own -ℤ h (own - 1) → (pos r *ℤ first) <ℤ pos n → 1 ≤ n → end ≤ own → own ≤ end + r → (0 < end → h end ≤ℤ h (end - 1)) → (f : ℕ) → f ≤ own → (h own -ℤ pos n) <ℤ h f
+near_down h convex own r end n first there is few some low high past f le =
+    let back : own - 1 + 1 ≡ own = omega arith in
+    let within : (g : ℕ) → g ≤ own → end ≤ g → (h own -ℤ pos n) <ℤ h g =
+    λ g a b.
+    let k = own - g in
+    let fall = subst (λ (j : ℕ). h j ≤ℤ (h g +ℤ (pos k *ℤ (h j -ℤ h (own - 1))))) back (falls_within_down h convex k g (own - 1) (omega arith)) in
+    short (h own) (h g) (pos k *ℤ (h own -ℤ h (own - 1))) n fall (subst (λ (x : ℤ). (pos k *ℤ x) <ℤ pos n) is (fewer_steps k r n first (omega arith) some few)) in
+    ⊎_elim
+    (λ (under : f < end).
+    let e : end - 1 + 1 ≡ end = omega arith in
+    below_too (h own -ℤ pos n) (h end) (h f) (within end low (omega arith))
+    (subst (λ (j : ℕ). h j ≤ℤ h f) e (least_down h convex (end - 1 - f) f (end - 1) (omega arith) (subst (λ (j : ℕ). h j ≤ℤ h (end - 1)) (sym e) (past (omega arith))))))
+    (λ (above : end ≤ f). within f le above)
+    (cases_lt f end)
+  where
+    below_too : (a b c : ℤ) → a <ℤ b → b ≤ℤ c → a <ℤ c
+    below_too a b c p q = omega (arith, ints)
 
 -- a place that is no greater than its neighbours in a range is least in the range
 pub least_by_neighbours : (h : ℕ → ℤ) → IsConvex h → (m most : ℕ) → (m < most → h m ≤ℤ h (m + 1)) → (0 < m → h m ≤ℤ h (m - 1)) → (f : ℕ) → f ≤ most → h m ≤ℤ h f

@@ -61,6 +61,15 @@ stays_best fall p ds n ms lines k factor can held lt least less = λ f le.
     above (total_of p ds (cert_of n ms)) (staying p ds n ms k) (held_part p ds ms lines k (own_of ms k)) (held_part p ds ms lines k factor) (held_part p ds ms lines k f) (total_of p ds (with_factor (cert_of n ms) k f)) fall
     (total_now p ds n ms lines k can held lt) (total_at_factor p ds n ms lines k can held lt f) (least f le) less
 
+above_all : (t s o f x : ℤ) (n : ℕ) → t ≡ s +ℤ o → x ≡ s +ℤ f → (o -ℤ pos n) <ℤ f → (t -ℤ pos n) <ℤ x
+above_all t s o f x n p q h = omega (arith, ints)
+
+-- and so it is where no factor lowers the part along the row by so much
+pub near_best : (fall : ℕ) (p : Program) (ds : List Domain) (n : ℕ) (ms : List Mult) (lines : List Line) (k : ℕ) → CanMove p ds n → AreLines p n ms lines → k < length p.rows → ((f : ℕ) → f ≤ 2 ^ 40 → (held_part p ds ms lines k (own_of ms k) -ℤ pos fall) <ℤ held_part p ds ms lines k f) → BestBy fall p ds (cert_of n ms) k
+near_best fall p ds n ms lines k can held lt near = λ f le.
+    above_all (total_of p ds (cert_of n ms)) (staying p ds n ms k) (held_part p ds ms lines k (own_of ms k)) (held_part p ds ms lines k f) (total_of p ds (with_factor (cert_of n ms) k f)) fall
+    (total_now p ds n ms lines k can held lt) (total_at_factor p ds n ms lines k can held lt f) (near f le)
+
 set_numbered : (ms : List Mult) (k : ℕ) (new : Mult) → AreNumbered 0 ms → k < length ms → new.row ≡ k → AreNumbered 0 (set ms k new)
 set_numbered ms k new numbered lt e = λ place h.
     ⊎_elim
@@ -166,7 +175,7 @@ moved_read p ds n ms lines new_lines k row own new read held few lt same range m
     ∙ ap (λ (r : Row). (line_at (slot_line lines slot) v +ℤ (pos own *ℤ entry_at r.entries slot v)) -ℤ (pos new.factor *ℤ entry_at r.entries slot v)) read.is_row
     ∙ ap (λ (o : ℕ). (line_at (slot_line lines slot) v +ℤ (pos o *ℤ entry_at (row_at p.rows k).entries slot v)) -ℤ (pos new.factor *ℤ entry_at (row_at p.rows k).entries slot v)) read.is_own)
 
-exact : (x : ℤ) → unsigned_abs x ≤ 2 ^ 118 → to_z w128 (of_z w128 x) ≡ x
+pub exact : (x : ℤ) → unsigned_abs x ≤ 2 ^ 118 → to_z w128 (of_z w128 x) ≡ x
 exact x h = omega (arith, ints)
 
 exact_less : (x y : ℤ) → unsigned_abs x ≤ 2 ^ 118 → unsigned_abs y ≤ 2 ^ 118 → to_z w128 (of_z w128 (to_z w128 (of_z w128 x) -ℤ to_z w128 (of_z w128 y))) ≡ x -ℤ y

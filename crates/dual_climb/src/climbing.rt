@@ -1,7 +1,7 @@
-ghost use Rattle.std.specs.Prelude.{◌≡◌, ℕ, ◌+◌, ◌≤◌, ◌<◌, length, pos, ◌≤ℤ◌, ◌<ℤ◌, IsTrue, IsSome, IfOk, Some, true, false};
+ghost use Rattle.std.specs.Prelude.{◌≡◌, ℕ, ◌+◌, ◌≤◌, ◌<◌, length, IsTrue, IsSome, IfOk, Some, true, false};
 ghost use Rattle.row_kit.specs.Area.{present};
 ghost use Rattle.dual_bound.specs.Total.{total_at, total_of};
-ghost use Rattle.dual_climb.specs.Climbed.{Helps};
+ghost use Rattle.dual_climb.specs.Climbed.{Helps, IsNoWorse, IsBetter};
 ghost use Rattle.dual_climb.specs.Factors.{cert_of};
 ghost use Rattle.dual_climb.specs.laws.Sums.{IsFull};
 
@@ -33,8 +33,8 @@ pub fn climb(
     requires total { IsSome (total_at program.now (present area.now) start.now) }
     ensures total { IfOk result (λ cert. IsSome (total_at program.now (present area.now) cert)) }
     ensures scale { IfOk result (λ cert. cert.scale ≡ start.now.scale) }
-    ensures never { IfOk result (λ cert. 1 ≤ start.now.scale → total_of program.now (present area.now) cert ≤ℤ total_of program.now (present area.now) start.now) }
-    ensures helped { IfOk result (λ cert. 1 ≤ start.now.scale → (row : ℕ) → Helps program.now (present area.now) start.now row → total_of program.now (present area.now) cert <ℤ total_of program.now (present area.now) start.now) }
+    ensures never { IfOk result (λ cert. 1 ≤ start.now.scale → IsNoWorse program.now (present area.now) start.now cert) }
+    ensures helped { IfOk result (λ cert. 1 ≤ start.now.scale → (row : ℕ) → Helps program.now (present area.now) start.now row → IsBetter program.now (present area.now) start.now cert) }
 {
     let best = ascend(alloc, program, area, start)?;
     if start.scale == 0 {
@@ -52,7 +52,7 @@ fn is_lower(program: &Program, area: &Area, cert: &Cert, other: &Cert) -> bool
     requires slots { length (present area.now) ≡ length program.now.root }
     requires cert { IsSome (total_at program.now (present area.now) cert.now) }
     requires other { IsSome (total_at program.now (present area.now) other.now) }
-    ensures { IsTrue result → total_of program.now (present area.now) cert.now <ℤ total_of program.now (present area.now) other.now }
+    ensures { IsTrue result → IsBetter program.now (present area.now) other.now cert.now }
 {
     usable_total(program, area, cert) < usable_total(program, area, other)
 }
@@ -85,8 +85,8 @@ fn eased(alloc: Global, program: &Program, area: &Area, start: &Cert) -> Result<
     requires total { IsSome (total_at program.now (present area.now) start.now) }
     ensures scale { IfOk result (λ cert. cert.scale ≡ start.now.scale) }
     ensures defined { IfOk result (λ cert. IsSome (total_at program.now (present area.now) cert)) }
-    ensures never { IfOk result (λ cert. total_of program.now (present area.now) cert ≤ℤ total_of program.now (present area.now) start.now) }
-    ensures helped { IfOk result (λ cert. (row : ℕ) → Helps program.now (present area.now) start.now row → total_of program.now (present area.now) cert <ℤ total_of program.now (present area.now) start.now) }
+    ensures never { IfOk result (IsNoWorse program.now (present area.now) start.now) }
+    ensures helped { IfOk result (λ cert. (row : ℕ) → Helps program.now (present area.now) start.now row → IsBetter program.now (present area.now) start.now cert) }
 {
     let mut held = hold(alloc, program, area, start)?;
     pass(program, area, start.scale, 1, None, &mut held);

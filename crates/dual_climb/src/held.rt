@@ -8,7 +8,7 @@ ghost use Rattle.dual_climb.specs.laws.Sums.{IsLoweredBy};
 
 use crate::along::fall_to;
 use crate::gains::{Gains, move_gains};
-use crate::least::least;
+use crate::least::{is_near, least};
 use dual_bound::Mult;
 use row_kit::{Area, Program};
 
@@ -42,10 +42,10 @@ pub fn improve(
 {
     let row = &program.rows.as_slice()[number];
     let own = held.mults[number].factor;
-    let factor = least(&held.gains, area, row, own);
-    if factor == own {
+    if is_near(&held.gains, area, row, own, least_fall) {
         return false;
     }
+    let factor = least(&held.gains, area, row, own);
     let fall = fall_to(&held.gains, area, row, own, factor);
     if fall < i128::from(least_fall) {
         return false;

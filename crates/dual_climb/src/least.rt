@@ -1,4 +1,4 @@
-ghost use Rattle.std.specs.Prelude.{◌≡◌, ℕ, ◌+◌, ◌-◌, ◌≤◌, ◌<◌, ◌↔◌, ◌^◌, length, ◌≤ℤ◌, IsTrue, false};
+ghost use Rattle.std.specs.Prelude.{◌≡◌, ℕ, ◌+◌, ◌-◌, ◌≤◌, ◌<◌, ◌↔◌, ◌^◌, length, pos, ◌*ℤ◌, ◌-ℤ◌, ◌≤ℤ◌, ◌<ℤ◌, IsTrue, false};
 ghost use Rattle.row_kit.specs.Area.{present};
 ghost use Rattle.dual_climb.specs.laws.Along.{part_along, IsAlong};
 ghost use Rattle.dual_climb.specs.laws.Held.{AreMost};
@@ -8,21 +8,75 @@ use crate::gains::Gains;
 use dual_bound::MOST_FACTOR;
 use row_kit::{Area, Row};
 
-// A factor of a row at which the total is least. It costs the entries of the row once or twice where that is its own, and else
-// some four times for each time that the distance between the two can be halved.
+// Whether a look at a row beside its own factor, and one further on, show that no factor lowers the total by so much or more. It
+// costs the entries of the row once where it has no factor and twice where it has one, and twice more on a side where the total
+// falls.
+pub fn is_near(gains: &Gains, area: &Area, row: &Row, own: u64, least_fall: u32) -> bool
+    requires along { IsAlong gains.now.lines (present area.now) row.now own }
+    requires most { AreMost (present area.now) gains.now.lines gains.now.most }
+    requires some { 1 ≤ least_fall }
+    ensures { let part = part_along gains.now.lines (present area.now) row.now own in IsTrue result → (f : ℕ) → f ≤ 2 ^ 40 → (part own -ℤ pos least_fall) <ℤ part f }
+{
+    is_near_above(gains, area, row, own, least_fall)
+        && is_near_below(gains, area, row, own, least_fall)
+}
+
+// Whether no factor above a row's own lowers the total by so much or more, by two looks.
+fn is_near_above(gains: &Gains, area: &Area, row: &Row, own: u64, least_fall: u32) -> bool
+    requires along { IsAlong gains.now.lines (present area.now) row.now own }
+    requires most { AreMost (present area.now) gains.now.lines gains.now.most }
+    requires some { 1 ≤ least_fall }
+    ensures { let part = part_along gains.now.lines (present area.now) row.now own in IsTrue result → (f : ℕ) → own ≤ f → f ≤ 2 ^ 40 → (part own -ℤ pos least_fall) <ℤ part f }
+{
+    if own >= MOST_FACTOR {
+        return true;
+    }
+    let first = fall_to(gains, area, row, own, own + 1);
+    let end = own + steps(&first, least_fall).min(MOST_FACTOR - own);
+    end >= MOST_FACTOR || rises(gains, area, row, own, end)
+}
+
+// Whether no factor below a row's own lowers the total by so much or more, by two looks.
+fn is_near_below(gains: &Gains, area: &Area, row: &Row, own: u64, least_fall: u32) -> bool
+    requires along { IsAlong gains.now.lines (present area.now) row.now own }
+    requires most { AreMost (present area.now) gains.now.lines gains.now.most }
+    requires some { 1 ≤ least_fall }
+    ensures { let part = part_along gains.now.lines (present area.now) row.now own in IsTrue result → (f : ℕ) → f ≤ own → (part own -ℤ pos least_fall) <ℤ part f }
+{
+    if own == 0 {
+        return true;
+    }
+    let first = fall_to(gains, area, row, own, own - 1);
+    let end = own - steps(&first, least_fall).min(own);
+    end == 0 || fall_to(gains, area, row, own, end - 1) <= fall_to(gains, area, row, own, end)
+}
+
+// How many steps that each fall at most as far as the first fall by less than so much.
+fn steps(first: &i128, least_fall: u32) -> u64
+    requires { 1 ≤ least_fall }
+    ensures { (pos result *ℤ first.now) <ℤ pos least_fall }
+{
+    if *first <= 0 {
+        return MOST_FACTOR;
+    }
+    if *first >= i128::from(least_fall) {
+        return 0;
+    }
+    u64::from((least_fall - 1) / (*first as u32))
+}
+
+// A factor of a row at which the total is least. It costs the entries of the row some four times for each time that its distance
+// from the row's own can be halved.
 pub fn least(gains: &Gains, area: &Area, row: &Row, own: u64) -> u64
     requires along { IsAlong gains.now.lines (present area.now) row.now own }
     requires most { AreMost (present area.now) gains.now.lines gains.now.most }
     ensures range { result ≤ 2 ^ 40 }
     ensures least { let part = part_along gains.now.lines (present area.now) row.now own in (f : ℕ) → f ≤ 2 ^ 40 → part result ≤ℤ part f }
 {
-    if !rises_after(gains, area, row, own) {
-        return between(gains, area, row, own, own + 1, MOST_FACTOR);
-    }
-    if falls_before(gains, area, row, own) {
-        own
-    } else {
+    if rises_after(gains, area, row, own) {
         between(gains, area, row, own, 0, own)
+    } else {
+        between(gains, area, row, own, own + 1, MOST_FACTOR)
     }
 }
 
@@ -34,15 +88,6 @@ fn rises_after(gains: &Gains, area: &Area, row: &Row, own: u64) -> bool
     ensures no_ { let part = part_along gains.now.lines (present area.now) row.now own in result ≡ false → (own < 2 ^ 40) × (part (own + 1) ≤ℤ part own) }
 {
     own >= MOST_FACTOR || fall_to(gains, area, row, own, own + 1) <= 0
-}
-
-// Whether the total does not rise up to a row's own factor.
-fn falls_before(gains: &Gains, area: &Area, row: &Row, own: u64) -> bool
-    requires along { IsAlong gains.now.lines (present area.now) row.now own }
-    requires most { AreMost (present area.now) gains.now.lines gains.now.most }
-    ensures { let part = part_along gains.now.lines (present area.now) row.now own in IsTrue result → 0 < own → part own ≤ℤ part (own - 1) }
-{
-    own == 0 || fall_to(gains, area, row, own, own - 1) <= 0
 }
 
 // The factor from `low` to `high` at which the total is least, where it falls up to `low` and not past `high`: by steps away from

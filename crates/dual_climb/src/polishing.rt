@@ -20,10 +20,12 @@ use std::alloc::{AllocError, Global};
 
 /// Lowers the total of a certificate by one row's factor at a time, each time to the least along the row, and only where that
 /// takes the scale or more off the total. It ends where no factor of a row is left that does, or where the cap is at most
-/// `stop`. The scale stays; after want of memory the certificate is as before.
+/// `stop`. The scale stays; where no factor changes, and after want of memory, the certificate is as before.
 ///
-/// A pass over all rows costs their entries some three times, and for a row that changes some eighty times and the slots. There
-/// are at most as many changes as the fall of the total has scales. It takes memory for a factor of each row.
+/// A pass looks at the entries of each row once, or twice where the row has a factor, and twice more on a side where the total
+/// falls by less than the scale. A row that changes costs its entries some four times for each time that the distance between
+/// the two factors can be halved. There are at most as many changes as the fall of the total has scales. It takes memory for a
+/// factor of each row.
 pub fn polish(
     alloc: Global,
     program: &Program,

@@ -1,5 +1,5 @@
 -- A change takes the fall along the row off the total.
-use Rattle.std.proofs.Common.{◌≡◌, ◌∙◌, ◌+◌, ◌<◌, ◌≤◌, ◌^◌, ℕ, ℤ, length, ap, sym, subst, pos, ◌+ℤ◌, ◌-ℤ◌, ◌≤ℤ◌, ◌<ℤ◌, unsigned_abs, arith}
+use Rattle.std.proofs.Common.{◌≡◌, ◌∙◌, ◌+◌, ◌<◌, ◌^◌, ℤ, length, ap, sym, subst, pos, ◌+ℤ◌, ◌-ℤ◌, ◌≤ℤ◌, ◌<ℤ◌, unsigned_abs, arith}
 use Rattle.std.proofs.lemmas.Int.{ints}
 use Rattle.std.proofs.lemmas.List.{get_or_read}
 use Rattle.row_kit.specs.Area.{present}
@@ -7,7 +7,7 @@ use Rattle.dual_bound.specs.declared.cert.Mult.{Mult}
 use Rattle.dual_climb.specs.laws.Along.{part_along}
 use Rattle.dual_climb.specs.laws.Sums.{no_mult}
 use Rattle.dual_climb.proofs.Small.{total_small}
-use Rattle.dual_climb.proofs.Steps.{fall_shown, fell_by, held_part, less_fall, lowered_one, moved_read, moved_total, own_of, read_row, stays_best}
+use Rattle.dual_climb.proofs.Steps.{fall_shown, fell_by, held_part, less_fall, lowered_one, moved_read, moved_total, near_best, own_of, read_row, stays_best}
 use Rattle.dual_climb.proofs.held.improve.Goals as goal
 
 pub least-factor-requires-clause-along : goal.least-factor-requires-clause-along
@@ -25,11 +25,13 @@ move_gains-requires-clause-along c =
     let held = c.args.held.now in
     (read_row c.args.program.now (present c.args.area.now) c.args.scale held.mults.items held.gains.lines c.args.number c.as_slice.result.now c.index-as_slice-number.result c.index.result.now c.requires.area c.requires.held.gained c.requires.number c.index-as_slice-number.is c.as_slice.ensures c.index.ensures).along
 
-no_fall : (x : ℤ) (n : ℕ) → 1 ≤ n → (x -ℤ x) <ℤ pos n
-no_fall x n h = omega (arith, ints)
+pub is_near-requires-clause-along : goal.is_near-requires-clause-along
+is_near-requires-clause-along c =
+    let held = c.args.held.now in
+    (read_row c.args.program.now (present c.args.area.now) c.args.scale held.mults.items held.gains.lines c.args.number c.as_slice.result.now c.index-as_slice-number.result c.index.result.now c.requires.area c.requires.held.gained c.requires.number c.index-as_slice-number.is c.as_slice.ensures c.index.ensures).along
 
-pub returns-then-factor-own-clause-best : goal.returns-then-factor-own-clause-best
-returns-then-factor-own-clause-best c = λ _.
+pub returns-then-is_near-clause-best : goal.returns-then-is_near-clause-best
+returns-then-is_near-clause-best c = λ _.
     let p = c.args.program.now in
     let ds = present c.args.area.now in
     let held = c.args.held.now in
@@ -38,10 +40,10 @@ returns-then-factor-own-clause-best c = λ _.
     let k = c.args.number in
     let read = read_row p ds c.args.scale ms lines k c.as_slice.result.now c.index-as_slice-number.result c.index.result.now c.requires.area c.requires.held.gained c.requires.number c.index-as_slice-number.is c.as_slice.ensures c.index.ensures in
     let hp = held_part p ds ms lines k in
-    let found : c.least-factor.result ≡ own_of ms k = c.if-factor-own.true ∙ read.is_own in
-    stays_best c.args.least_fall p ds c.args.scale ms lines k (own_of ms k) c.requires.area c.requires.held.gained c.requires.number
-    (λ f le. subst (λ (x : ℤ). x ≤ℤ hp f) (read.part c.least-factor.result ∙ ap hp found) (subst (λ (x : ℤ). part_along lines ds c.index-as_slice-number.result c.index.result.now.factor c.least-factor.result ≤ℤ x) (read.part f) (c.least-factor.ensures.least f le)))
-    (no_fall (hp (own_of ms k)) c.args.least_fall c.requires.some)
+    let own = c.index.result.now.factor in
+    let part = part_along lines ds c.index-as_slice-number.result own in
+    near_best c.args.least_fall p ds c.args.scale ms lines k c.requires.area c.requires.held.gained c.requires.number
+    (λ f le. subst (λ (x : ℤ). (x -ℤ pos c.args.least_fall) <ℤ hp f) (read.part own ∙ ap hp read.is_own) (subst (λ (x : ℤ). (part own -ℤ pos c.args.least_fall) <ℤ x) (read.part f) (c.is_near.ensures c.if-is_near.true f le)))
 
 pub returns-then-fall-from-clause-best : goal.returns-then-fall-from-clause-best
 returns-then-fall-from-clause-best c = λ _.
