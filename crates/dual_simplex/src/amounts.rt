@@ -26,8 +26,12 @@ pub fn list_amounts(
     Ok(())
 }
 
-// What a slot comes to.
-fn amount_of(dictionary: &Dictionary, slot: u32, domain: &Domain) -> Result<Amount, OutOfRange> {
+/// What a slot comes to.
+pub fn amount_of(
+    dictionary: &Dictionary,
+    slot: u32,
+    domain: &Domain,
+) -> Result<Amount, OutOfRange> {
     let low = dictionary.value(low_variable(slot));
     let high = dictionary.value(high_variable(slot));
     if domain.lo > domain.hi {

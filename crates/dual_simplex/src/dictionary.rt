@@ -1,4 +1,4 @@
-use crate::reserved::{numbered, put_last};
+use crate::reserved::{fill, numbered, put_last};
 use row_kit::Program;
 use std::alloc::{AllocError, Global};
 
@@ -39,6 +39,31 @@ pub struct Line {
     pub parts: Vec<i64>,
 }
 
+impl Line {
+    /// A line without a variable, with room for parts of this many columns.
+    pub fn new(alloc: Global, columns: usize) -> Result<Line, AllocError> {
+        Ok(Line {
+            variable: 0,
+            bound: 0,
+            constant: 0,
+            value: 0,
+            passed: false,
+            parts: Vec::with_capacity(alloc, columns)?,
+        })
+    }
+
+    /// Makes its variable 0, whatever the columns: no constant, and no part of this many columns.
+    pub fn blank(&mut self, columns: usize) {
+        self.constant = 0;
+        self.value = 0;
+        self.passed = false;
+        self.parts.clear();
+        for _ in 0..columns {
+            put_last(&mut self.parts, 0);
+        }
+    }
+}
+
 /// The part of a column in a divided line.
 #[derive(Clone, Copy, PartialEq, Eq, Debug)]
 pub struct Share {
@@ -46,15 +71,21 @@ pub struct Share {
     pub part: i64,
 }
 
-/// A linear program as a dictionary: each line's variable by those of the columns.
+/// A linear program as a dictionary: each line's variable by those of the columns. It has room for all that can come.
+///
+/// `prices` are the profits of the slots' variables as they were before any exchange, `stop` is the profit from which on steps
+/// end, and the counts are those of pivots, of steps since the last gain, and of spreads.
 #[derive(Drop)]
 pub struct Dictionary {
     pub columns: Vec<Column>,
     pub lines: Vec<Line>,
     pub spare: Vec<Line>,
     pub places: Vec<Place>,
+    pub prices: Vec<i64>,
     pub shares: Vec<Share>,
     pub candidates: Vec<(i64, u32)>,
+    pub stop: i64,
+    pub pivots: u32,
     pub still: u32,
     pub spreads: u32,
 }
@@ -75,8 +106,11 @@ impl Dictionary {
             lines: Vec::with_capacity(alloc, lines)?,
             spare: spare_lines(alloc, lines, columns)?,
             places: vec![in alloc; Place::Nowhere; variables]?,
+            prices: vec![in alloc; 0; columns]?,
             shares: Vec::with_capacity(alloc, columns)?,
             candidates: Vec::with_capacity(alloc, columns)?,
+            stop: i64::MIN,
+            pivots: 0,
             still: 0,
             spreads: 0,
         })
@@ -85,12 +119,13 @@ impl Dictionary {
     /// Takes all columns and lines out.
     pub fn clear(&mut self) {
         self.columns.clear();
-        for place in self.places.iter_mut() {
-            *place = Place::Nowhere;
-        }
+        self.stop = i64::MIN;
+        self.pivots = 0;
         self.still = 0;
         self.spreads = 0;
         self.clear_lines();
+        fill(self.places.as_mut_slice(), Place::Nowhere);
+        fill(self.prices.as_mut_slice(), 0);
     }
 
     // Takes all lines out.
@@ -159,15 +194,7 @@ impl Dictionary {
 fn spare_lines(alloc: Global, lines: usize, columns: usize) -> Result<Vec<Line>, AllocError> {
     let mut spare = Vec::with_capacity(alloc, lines)?;
     for _ in 0..lines {
-        let parts = Vec::with_capacity(alloc, columns)?;
-        spare.push(Line {
-            variable: 0,
-            bound: 0,
-            constant: 0,
-            value: 0,
-            passed: false,
-            parts,
-        })?;
+        spare.push(Line::new(alloc, columns)?)?;
     }
     Ok(spare)
 }

@@ -59,14 +59,15 @@ fn put_profits(
     let exponent = scales.up.saturating_add(30);
     let low = raised(&low_amount(entry, domain), exponent)?;
     let high = raised(&high_amount(entry, domain), exponent)?;
-    put_profit(dictionary, low_variable(entry.slot), low);
-    put_profit(dictionary, high_variable(entry.slot), high);
+    put_price(dictionary, low_variable(entry.slot), low);
+    put_price(dictionary, high_variable(entry.slot), high);
     Ok(())
 }
 
 // Writes the profit of a variable that stands in a column, and moves it to the end that brings more.
-fn put_profit(dictionary: &mut Dictionary, variable: u32, profit: i64) {
+fn put_price(dictionary: &mut Dictionary, variable: u32, profit: i64) {
     if let Place::Column(column) = dictionary.place(variable) {
+        put(dictionary.prices.as_mut_slice(), variable as usize, profit);
         let column = column as usize;
         if column < dictionary.columns.len() {
             dictionary.columns[column].profit = profit;
@@ -89,8 +90,8 @@ fn high_amount(entry: &Entry, domain: &Domain) -> i128 {
     }
 }
 
-/// What an entry counts where both variables of its slot are 0.
-pub fn base_amount(entry: &Entry, domain: &Domain) -> i128 {
+// What an entry counts where both variables of its slot are 0.
+fn base_amount(entry: &Entry, domain: &Domain) -> i128 {
     if domain.zero || domain.lo > domain.hi {
         0
     } else {
@@ -105,6 +106,12 @@ fn least_amount(entry: &Entry, domain: &Domain) -> i128 {
     }
     let least = counted(entry, domain.lo).min(counted(entry, domain.hi));
     if domain.zero && least > 0 { 0 } else { least }
+}
+
+/// What slots with these domains bring, beside what their variables do: what they bring where all of these are 0.
+pub fn base_worth(program: &Program, domains: &[Domain]) -> i128 {
+    let (base, _) = totals(program.profit.as_slice(), domains);
+    program.base.saturating_add(base)
 }
 
 /// Puts the line of a row: what the row has left. False where there is no room for it.
@@ -131,8 +138,8 @@ pub fn add_row(
     Ok(true)
 }
 
-// Puts a line at the end.
-fn put_line(dictionary: &mut Dictionary, line: Line) {
+/// Puts a line at the end.
+pub fn put_line(dictionary: &mut Dictionary, line: Line) {
     let place = Place::Line(numbered(dictionary.lines.len()));
     dictionary.put_place(line.variable, place);
     put_last(&mut dictionary.lines, line);
@@ -148,7 +155,7 @@ fn write_row(
 ) -> Result<(), OutOfRange> {
     let (base, least) = totals(row.entries.as_slice(), domains);
     let exponent = 30i32.saturating_sub_unsigned(down);
-    blank(line, dictionary.columns.len());
+    line.blank(dictionary.columns.len());
     line.bound = raised(&row.limit.saturating_sub(least).max(0), exponent)?;
     line.constant = raised(&row.limit.saturating_sub(base), exponent)?;
     line.value = line.constant;
@@ -172,15 +179,6 @@ fn totals(entries: &[Entry], domains: &[Domain]) -> (i128, i128) {
         }
     }
     (base, least)
-}
-
-// Makes a line with no parts of this many columns.
-fn blank(line: &mut Line, columns: usize) {
-    line.passed = false;
-    line.parts.clear();
-    for _ in 0..columns {
-        put_last(&mut line.parts, 0);
-    }
 }
 
 // Takes an entry off a line, for both variables of its slot.

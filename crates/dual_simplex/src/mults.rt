@@ -1,3 +1,6 @@
+ghost use Rattle.std.specs.Prelude.{◌≡◌, ◌+◌, ◌≤◌, length, true};
+ghost use Rattle.dual_bound.specs.Total.{are_fit};
+
 use crate::dictionary::{Dictionary, Line, Place};
 use crate::filling::slack_variable;
 use crate::leaving::Broken;
@@ -10,10 +13,10 @@ use row_kit::Program;
 /// Where factors come from.
 #[derive(Clone, Copy, PartialEq, Eq, Debug)]
 pub enum Source {
-    /// What one unit of each row is worth, times 2 to this power.
-    Profits(i32),
-    /// The line that can't be mended, times 2 to this power: it shows that there is no point.
-    Ray(Broken, i32),
+    /// What one unit of each row is worth, times 2 to the power 14.
+    Profits,
+    /// The line that can't be mended, times 2 to this power: it shows that there is no point. Nothing where there is none.
+    Ray(Option<Broken>, i32),
 }
 
 /// Lists the factors of rows.
@@ -23,22 +26,36 @@ pub fn list_mults(
     scales: &Scales,
     source: Source,
     mults: &mut Vec<Mult>,
-) {
+)
+    ensures fit { are_fit (length program.now.rows) 0 mults.new.items ≡ true }
+    ensures few { length mults.new.items ≤ length program.now.rows }
+{
     mults.clear();
     for row in 0..numbered(program.rows.len()) {
         let weight = weight(dictionary, slack_variable(program, row), source);
         let factor = factor(weight, exponent(scales, row, source));
-        if factor != 0 {
-            put_last(mults, Mult { row, factor });
-        }
+        put_factor(mults, row, factor);
+    }
+}
+
+// Puts the factor of a row that comes after those listed, unless it is 0.
+fn put_factor(mults: &mut Vec<Mult>, row: u32, factor: u64)
+    requires factor { factor ≤ MOST_FACTOR }
+    requires fit { are_fit row 0 mults.old.items ≡ true }
+    ensures fit { are_fit (row + 1) 0 mults.new.items ≡ true }
+    ensures few { length mults.new.items ≤ length mults.old.items + 1 }
+{
+    if factor != 0 {
+        put_last(mults, Mult { row, factor });
     }
 }
 
 // The weight of the variable of a row, not negative where it counts.
 fn weight(dictionary: &Dictionary, variable: u32, source: Source) -> i64 {
     match source {
-        Source::Profits(_) => profit_weight(dictionary, variable),
-        Source::Ray(broken, _) => match dictionary.lines.get(broken.line) {
+        Source::Profits => profit_weight(dictionary, variable),
+        Source::Ray(None, _) => 0,
+        Source::Ray(Some(broken), _) => match dictionary.lines.get(broken.line) {
             None => 0,
             Some(line) => ray_weight(dictionary, line, broken.low, variable),
         },
@@ -74,13 +91,15 @@ fn ray_weight(dictionary: &Dictionary, line: &Line, low: bool, variable: u32) ->
 fn exponent(scales: &Scales, row: u32, source: Source) -> i32 {
     let down = scales.down(row).min(1_000) as i32;
     match source {
-        Source::Profits(power) => power.saturating_sub(scales.up).saturating_sub(30 + down),
+        Source::Profits => 14i32.saturating_sub(scales.up).saturating_sub(30 + down),
         Source::Ray(_, power) => power.saturating_sub(30 + down),
     }
 }
 
 // A weight as a factor: 0 where it is not positive, and at most the greatest factor.
-fn factor(weight: i64, exponent: i32) -> u64 {
+fn factor(weight: i64, exponent: i32) -> u64
+    ensures { result ≤ MOST_FACTOR }
+{
     if weight <= 0 {
         return 0;
     }

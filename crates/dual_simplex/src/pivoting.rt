@@ -15,6 +15,7 @@ pub fn pivot(dictionary: &mut Dictionary, line: usize, column: usize) -> Result<
         &pivot,
     )?;
     swap_variables(dictionary, line, column, &pivot);
+    dictionary.pivots = dictionary.pivots.saturating_add(1);
     Ok(())
 }
 

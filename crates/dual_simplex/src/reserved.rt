@@ -1,7 +1,27 @@
+ghost use Rattle.std.specs.Prelude.{◌≡◌, ◌≤◌, ◌⊎◌, [], ◌∷◌, ◌++◌};
+
 /// Puts an item at the end where there is room, and else drops it. It takes no memory.
-pub fn put_last<T: Drop>(list: &mut Vec<T>, item: T) {
+pub fn put_last<T: Drop>(list: &mut Vec<T>, item: T)
+    ensures { (list.new.items ≡ list.old.items) ⊎ (list.new.items ≡ list.old.items ++ item ∷ []) }
+{
     if list.len() < list.capacity() {
         list.push_reserved(item);
+    }
+}
+
+/// Writes an item in each place.
+pub fn fill<T: Copy>(items: &mut [T], item: T) {
+    for place in items.iter_mut() {
+        *place = item;
+    }
+}
+
+/// Copies items into the places of as many others as there are of both.
+pub fn copy<T: Copy>(items: &mut [T], others: &[T]) {
+    for place in 0..items.len() {
+        if place < others.len() {
+            items[place] = others[place];
+        }
     }
 }
 
@@ -22,7 +42,9 @@ pub fn put(numbers: &mut [i64], place: usize, number: i64) {
 }
 
 /// A place as a number of 32 bits, which is the greatest where it is above that.
-pub fn numbered(place: usize) -> u32 {
+pub fn numbered(place: usize) -> u32
+    ensures { result ≤ place }
+{
     match u32::try_from(place) {
         Ok(number) => number,
         Err(_) => u32::MAX,

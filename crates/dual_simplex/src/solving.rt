@@ -6,7 +6,7 @@ ghost use Rattle.dual_bound.specs.Cap.{cert_cap};
 ghost use Rattle.dual_bound.specs.Total.{total_at};
 ghost use Rattle.dual_simplex.specs.Solved.{plain_cert, IsWithin, IsBelow};
 
-use crate::mults::Source;
+use crate::basis::Basis;
 use crate::workspace::{Outcome, Workspace};
 use dual_bound::{Cert, cap};
 use proof_tree::Capped;
@@ -15,9 +15,6 @@ use std::alloc::{AllocError, Global};
 
 // The most steps: each makes at most one pivot.
 const MOST_PIVOTS: u32 = 2_000;
-
-// The scale of certificates is 2 to this power.
-const SCALE: i32 = 14;
 
 // The powers of two by which a ray is tried.
 const RAY_POWERS: [i32; 4] = [8, 14, 20, 26];
@@ -44,20 +41,22 @@ pub fn solve_dual(alloc: Global, program: &Program, area: &Area) -> Result<Cert,
     }
 }
 
-// The certificate that the simplex finds: one that may show that there is no point, or that of the profits.
+// The certificate that the simplex finds: one that shows that there is no point, or that of where it ends.
 fn found_cert(alloc: Global, program: &Program, area: &Area) -> Result<Cert, AllocError>
     requires { length (present area.now) ≡ length program.now.root }
 {
     let mut workspace = Workspace::new(alloc, program)?;
-    if let Outcome::NoPoint(broken) = workspace.solve(program, area, MOST_PIVOTS) {
+    let start = Basis::new(alloc, program)?;
+    let outcome = workspace.bound(program, area, &start, None, MOST_PIVOTS);
+    if outcome == Outcome::NoPoint {
         for power in RAY_POWERS {
-            let ray = workspace.certificate(alloc, program, Source::Ray(broken, power))?;
+            let ray = workspace.ray(alloc, program, power)?;
             if cap(program, area, &ray) == Capped::NoPoint {
                 return Ok(ray);
             }
         }
     }
-    workspace.certificate(alloc, program, Source::Profits(SCALE))
+    workspace.certificate(alloc, program)
 }
 
 // Whether a cap is below another.

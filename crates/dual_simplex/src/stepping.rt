@@ -1,9 +1,9 @@
 use crate::dictionary::{Column, Dictionary};
 use crate::entering::{Entering, choose};
 use crate::leaving::{Broken, most_broken};
-use crate::number::{ONE, OutOfRange, TINY, difference, over, sum};
+use crate::number::{ONE, OutOfRange, TINY, difference, over, sum, times};
 use crate::pivoting::{pivot, shift_values};
-use crate::reserved::at;
+use crate::reserved::{at, numbered};
 
 /// What a step has found.
 #[derive(Clone, Copy, PartialEq, Eq, Debug)]
@@ -14,6 +14,8 @@ pub enum Stepped {
     Passed,
     /// No line is broken.
     Kept,
+    /// Some line is broken, and the profit is at most that from which on steps end.
+    Reached,
     /// No values of the columns within their bounds mend this line.
     Stuck(Broken),
 }
@@ -28,11 +30,29 @@ const PATIENCE: u32 = 8;
 pub fn step(dictionary: &mut Dictionary) -> Result<Stepped, OutOfRange> {
     match most_broken(dictionary) {
         None => Ok(Stepped::Kept),
-        Some(broken) => match choose(dictionary, &broken) {
-            Ok(entering) => mend(dictionary, &broken, &entering),
-            Err(left) => Ok(give_up(dictionary, &broken, left)),
-        },
+        Some(broken) => {
+            if dictionary.stop != i64::MIN && objective(dictionary)? <= dictionary.stop {
+                return Ok(Stepped::Reached);
+            }
+            match choose(dictionary, &broken) {
+                Ok(entering) => mend(dictionary, &broken, &entering),
+                Err(left) => Ok(give_up(dictionary, &broken, left)),
+            }
+        }
     }
+}
+
+/// The profit at which the dictionary stands, beside what the slots bring where all their variables are 0.
+pub fn objective(dictionary: &Dictionary) -> Result<i64, OutOfRange> {
+    let mut total = 0i64;
+    for variable in 0..dictionary.prices.len() {
+        let price = dictionary.prices[variable];
+        if price != 0 {
+            let value = dictionary.value(numbered(variable));
+            total = sum(total, times(price, value)?)?;
+        }
+    }
+    Ok(total)
 }
 
 // A line that can't be mended: one that is broken by little is passed over from now on.

@@ -1,12 +1,24 @@
-use crate::amounts::{Amount, add_first, list_amounts, list_broken};
-use crate::dictionary::Dictionary;
-use crate::filling::fill_columns;
+ghost use Rattle.std.specs.Prelude.{◌≡◌, ◌≤◌, ℕ, List as Listed, length, true, IfOk, IsSome};
+ghost use Rattle.std.specs.List.{All};
+ghost use Rattle.row_kit.specs.declared.domain.Domain.{Domain as Values};
+ghost use Rattle.row_kit.specs.Area.{present};
+ghost use Rattle.row_kit.specs.Domain.{IsOpen};
+ghost use Rattle.row_kit.specs.Point.{LiesIn};
+ghost use Rattle.dual_bound.specs.Total.{are_fit, total_at};
+
+use crate::amounts::{Amount, add_first, amount_of, list_amounts, list_broken};
+use crate::basis::{Basis, note_basis, start_from};
+use crate::dictionary::{Dictionary, Line};
+use crate::filling::{base_worth, fill_columns, slack_variable};
 use crate::leaving::Broken;
 use crate::mults::{Source, list_mults};
-use crate::number::OutOfRange;
-use crate::reserved::put_last;
+use crate::number::{OutOfRange, difference, raised};
+use crate::reserved::{numbered, put_last};
+use crate::rounding::rounded;
 use crate::scales::Scales;
-use crate::stepping::{Stepped, step};
+use crate::splitting::{Prices, Side, end_of, prices_of, write_stand};
+use crate::stepping::{Stepped, objective, step};
+use crate::trial::{Trial, copy_dictionary, restrict, try_steps};
 use dual_bound::{Cert, Mult};
 use row_kit::{Area, Domain, List, Program};
 use std::alloc::{AllocError, Global};
@@ -14,26 +26,37 @@ use std::alloc::{AllocError, Global};
 // Rows that are put into a dictionary at a time.
 const MOST_ADDED: usize = 20;
 
+// The scale of certificates: 2 to the power 14.
+const SCALE: u32 = 16_384;
+
 /// How a bound ends.
 #[derive(Clone, Copy, PartialEq, Eq, Debug)]
 pub enum Outcome {
     /// Every row is kept, but for what is tiny.
     Settled,
     /// A line can't be mended, which a ray may show.
-    NoPoint(Broken),
+    NoPoint,
+    /// The profit has come down to the one that is aimed at.
+    Reached,
     /// The steps are spent, or a number would have left its range.
     Stopped,
 }
 
-/// What the bounds of a program are computed in. It has room for all that can come.
+/// What the bounds of a program are computed in. It has room for all that can come: no call but `new` takes memory, beside the
+/// certificates that are handed out.
+///
+/// Money is in a unit of its own, 2 to a power that the program's profits tell, with 30 bits of fraction.
 #[derive(Drop)]
 pub struct Workspace {
     scales: Scales,
     dictionary: Dictionary,
+    trial: Dictionary,
+    stand: Line,
     domains: Vec<Domain>,
     amounts: Vec<Amount>,
     broken: Vec<(i64, u32)>,
     mults: Vec<Mult>,
+    stuck: Option<Broken>,
 }
 
 impl Workspace {
@@ -44,24 +67,37 @@ impl Workspace {
         Ok(Workspace {
             scales: Scales::new(alloc, program)?,
             dictionary: Dictionary::new(alloc, program)?,
+            trial: Dictionary::new(alloc, program)?,
+            stand: Line::new(alloc, slots.saturating_mul(2))?,
             domains: Vec::with_capacity(alloc, slots)?,
             amounts: Vec::with_capacity(alloc, slots)?,
             broken: Vec::with_capacity(alloc, rows)?,
             mults: Vec::with_capacity(alloc, rows)?,
+            stuck: None,
         })
     }
 
-    /// Bounds an area by at most this many steps.
-    pub fn solve(&mut self, program: &Program, area: &Area, most: u32) -> Outcome {
+    /// Bounds an area from a basis by at most this many steps, each of which makes at most one pivot beside those that lead to the
+    /// basis. Where there is an aim, it ends once no point of the area may be worth more.
+    pub fn bound(
+        &mut self,
+        program: &Program,
+        area: &Area,
+        start: &Basis,
+        aim: Option<i128>,
+        most: u32,
+    ) -> Outcome {
         self.read_domains(area);
-        let filled = fill_columns(
-            &mut self.dictionary,
-            program,
-            &self.scales,
-            self.domains.as_slice(),
-        );
-        match filled {
-            Ok(()) => self.go_on(program, most),
+        match self.begin(program, start, aim) {
+            Ok(()) => self.run(program, most),
+            Err(OutOfRange) => Outcome::Stopped,
+        }
+    }
+
+    /// Goes on where a bound has ended, with an aim that is a 32nd of a money unit lower than what it has reached.
+    pub fn go_on(&mut self, program: &Program, most: u32) -> Outcome {
+        match self.lower_stop() {
+            Ok(()) => self.run(program, most),
             Err(OutOfRange) => Outcome::Stopped,
         }
     }
@@ -74,8 +110,43 @@ impl Workspace {
         }
     }
 
+    // Puts the slots and the rows of a basis.
+    fn begin(
+        &mut self,
+        program: &Program,
+        start: &Basis,
+        aim: Option<i128>,
+    ) -> Result<(), OutOfRange> {
+        let domains = self.domains.as_slice();
+        fill_columns(&mut self.dictionary, program, &self.scales, domains)?;
+        start_from(&mut self.dictionary, program, &self.scales, domains, start)?;
+        if let Some(aim) = aim {
+            let least = aim
+                .saturating_add(1)
+                .saturating_sub(base_worth(program, domains));
+            self.dictionary.stop = self.in_unit(&least);
+        }
+        Ok(())
+    }
+
+    // Money in the workspace's unit, kept within its range.
+    fn in_unit(&self, money: &i128) -> i64 {
+        match raised(money, self.scales.up.saturating_add(30)) {
+            Ok(number) => number,
+            Err(OutOfRange) => { if *money < 0 { i64::MIN } else { i64::MAX } }
+        }
+    }
+
+    // Lowers the profit from which on steps end below the present one.
+    fn lower_stop(&mut self) -> Result<(), OutOfRange> {
+        let step = self.in_unit(&1) / 32;
+        self.dictionary.stop = difference(objective(&self.dictionary)?, step)?;
+        Ok(())
+    }
+
     // Makes at most this many steps.
-    fn go_on(&mut self, program: &Program, most: u32) -> Outcome {
+    fn run(&mut self, program: &Program, most: u32) -> Outcome {
+        self.stuck = None;
         for _ in 0..most {
             match self.advance(program) {
                 Ok(None) => {}
@@ -89,9 +160,12 @@ impl Workspace {
     // Makes a step, or adds rows that are broken.
     fn advance(&mut self, program: &Program) -> Result<Option<Outcome>, OutOfRange> {
         match step(&mut self.dictionary)? {
-            Stepped::Moved => Ok(None),
-            Stepped::Passed => Ok(None),
-            Stepped::Stuck(broken) => Ok(Some(Outcome::NoPoint(broken))),
+            Stepped::Moved | Stepped::Passed => Ok(None),
+            Stepped::Reached => Ok(Some(Outcome::Reached)),
+            Stepped::Stuck(broken) => {
+                self.stuck = Some(broken);
+                Ok(Some(Outcome::NoPoint))
+            }
             Stepped::Kept => {
                 if self.add_broken(program)? == 0 {
                     Ok(Some(Outcome::Settled))
@@ -124,13 +198,49 @@ impl Workspace {
         )
     }
 
-    /// A certificate with the factors of a source.
-    pub fn certificate(
+    /// The pivots since the last bound has begun, beside those that led to its basis.
+    pub fn pivots(&self) -> u32 {
+        self.dictionary.pivots
+    }
+
+    /// Notes where the last bound has ended.
+    pub fn save(&self, program: &Program, basis: &mut Basis) {
+        note_basis(&self.dictionary, program, basis);
+    }
+
+    /// The certificate of where the last bound has ended, at scale 2 to the power 14. It has a total over each area without an empty
+    /// domain.
+    pub fn certificate(&mut self, alloc: Global, program: &Program) -> Result<Cert, AllocError>
+        ensures scale { IfOk result (λ cert. cert.scale ≡ 16384) }
+        ensures total { IfOk result (λ cert. (domains : Listed Values) → All IsOpen domains → IsSome (total_at program.now domains cert)) }
+    {
+        let mults = self.mults_of(alloc, program, Source::Profits)?;
+        Ok(Cert {
+            scale: SCALE,
+            mults,
+        })
+    }
+
+    /// The ray of the line that could not be mended, times 2 to a power, with scale 0; without multipliers where there is none. It
+    /// has a total over each area without an empty domain.
+    pub fn ray(&mut self, alloc: Global, program: &Program, power: i32) -> Result<Cert, AllocError>
+        ensures scale { IfOk result (λ cert. cert.scale ≡ 0) }
+        ensures total { IfOk result (λ cert. (domains : Listed Values) → All IsOpen domains → IsSome (total_at program.now domains cert)) }
+    {
+        let mults = self.mults_of(alloc, program, Source::Ray(self.stuck, power))?;
+        Ok(Cert { scale: 0, mults })
+    }
+
+    // The multipliers of a source.
+    fn mults_of(
         &mut self,
         alloc: Global,
         program: &Program,
         source: Source,
-    ) -> Result<Cert, AllocError> {
+    ) -> Result<List<Mult>, AllocError>
+        ensures fit { IfOk result (λ mults. are_fit (length program.now.rows) 0 mults ≡ true) }
+        ensures few { IfOk result (λ mults. length mults ≤ 50000) }
+    {
         list_mults(
             &self.dictionary,
             program,
@@ -138,16 +248,112 @@ impl Workspace {
             source,
             &mut self.mults,
         );
-        let mults = List::from_slice(alloc, self.mults.as_slice())?;
-        let scale = match source {
-            Source::Profits(power) => power_of_two(power),
-            Source::Ray(_, _) => 0,
+        List::from_slice(alloc, self.mults.as_slice())
+    }
+
+    /// What a slot comes to, and nothing where a number would leave its range.
+    pub fn amount(&self, slot: u32) -> Amount {
+        let nothing = Amount {
+            started: 0,
+            quanta: 0,
         };
-        Ok(Cert { scale, mults })
+        match self.domains.get(slot as usize) {
+            None => nothing,
+            Some(domain) => match amount_of(&self.dictionary, slot, domain) {
+                Ok(amount) => amount,
+                Err(OutOfRange) => nothing,
+            },
+        }
+    }
+
+    /// Writes a point of an area: for each slot the value nearest to what it comes to.
+    pub fn round(&self, area: &Area, point: &mut [u8])
+        requires slots { length point.old ≡ length (present area.now) }
+        requires open_ { All IsOpen (present area.now) }
+        ensures { LiesIn (present area.now) point.new }
+    {
+        for slot in 0..area.slot_count() {
+            let domain = area.domain(slot);
+            point[slot as usize] = rounded(&self.amount(slot), &domain);
+        }
+    }
+
+    /// The profit at which the last bound has ended, beside what the slots bring at their least; None where a number would leave its
+    /// range.
+    pub fn profit(&self) -> Option<i64> {
+        match objective(&self.dictionary) {
+            Ok(profit) => Some(profit),
+            Err(OutOfRange) => None,
+        }
+    }
+
+    /// How far the profit lies above the one that is aimed at; None where nothing is.
+    pub fn gap(&self) -> Option<i64> {
+        if self.dictionary.stop == i64::MIN {
+            return None;
+        }
+        match objective(&self.dictionary) {
+            Ok(profit) => Some(profit.saturating_sub(self.dictionary.stop)),
+            Err(OutOfRange) => None,
+        }
+    }
+
+    /// What a split of a slot costs by one dual step; None where there is no such slot, or a number would leave its range.
+    pub fn prices(&mut self, slot: u32, max: u8) -> Option<Prices> {
+        match self.domains.get(slot as usize) {
+            None => None,
+            Some(domain) => {
+                let written = write_stand(&self.dictionary, slot, domain, &mut self.stand);
+                match written {
+                    Err(OutOfRange) => None,
+                    Ok(()) => found_prices(&self.dictionary, &self.stand, domain, max),
+                }
+            }
+        }
+    }
+
+    /// Bounds one side of a split by at most this many steps, on a copy; None where there is no such slot, or a number would leave its
+    /// range.
+    pub fn trial(
+        &mut self,
+        program: &Program,
+        slot: u32,
+        max: u8,
+        side: Side,
+        most: u32,
+    ) -> Option<Trial> {
+        match self.try_side(program, slot, max, side, most) {
+            Ok(trial) => Some(trial),
+            Err(OutOfRange) => None,
+        }
+    }
+
+    // Bounds one side of a split on a copy.
+    fn try_side(
+        &mut self,
+        program: &Program,
+        slot: u32,
+        max: u8,
+        side: Side,
+        most: u32,
+    ) -> Result<Trial, OutOfRange> {
+        let domain = match self.domains.get(slot as usize) {
+            None => return Err(OutOfRange),
+            Some(domain) => domain,
+        };
+        write_stand(&self.dictionary, slot, domain, &mut self.stand)?;
+        let end = end_of(domain, max, side)?;
+        copy_dictionary(&mut self.trial, &self.dictionary);
+        let variable = slack_variable(program, numbered(program.rows.len()));
+        restrict(&mut self.trial, &self.stand, end, side, variable)?;
+        try_steps(&mut self.trial, most)
     }
 }
 
-// A power of two as a scale, 2 to the power 20 at most.
-fn power_of_two(power: i32) -> u32 {
-    1u32 << power.clamp(0, 20).unsigned_abs()
+// The prices of a split, where no number would leave its range.
+fn found_prices(dictionary: &Dictionary, stand: &Line, domain: &Domain, max: u8) -> Option<Prices> {
+    match prices_of(dictionary.columns.as_slice(), stand, domain, max) {
+        Ok(prices) => Some(prices),
+        Err(OutOfRange) => None,
+    }
 }

@@ -5,7 +5,7 @@ use Rattle.dual_bound.specs.declared.cert.Mult.{Mult}
 use Rattle.dual_bound.specs.Cap.{cert_cap}
 use Rattle.dual_bound.specs.Total.{total_at}
 use Rattle.dual_simplex.specs.Solved.{plain_cert, IsWithin}
-use Rattle.dual_simplex.proofs.Plain.{plain_some, plain_within}
+use Rattle.dual_simplex.proofs.Totals.{plain_some, plain_within}
 use Rattle.dual_simplex.proofs.solving.solve_dual.Goals as goal
 
 pub returns-else-is_below-clause-total : goal.returns-else-is_below-clause-total

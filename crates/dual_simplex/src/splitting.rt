@@ -1,0 +1,116 @@
+use crate::dictionary::{Column, Dictionary, Line};
+use crate::filling::{high_variable, low_variable, take_variable};
+use crate::number::{ONE, OutOfRange, difference, over, times};
+use crate::reserved::at;
+use row_kit::Domain;
+
+/// The part of a slot's values that a split keeps.
+#[derive(Clone, Copy, PartialEq, Eq, Debug)]
+pub enum Side {
+    /// The values up to the split's.
+    AtMost,
+    /// The values above it.
+    Above,
+}
+
+/// What a split of a slot costs by one dual step, on the side of the values up to the split's and on that of the values above, in
+/// the workspace's unit of money; `DEAREST` where no step leads there.
+#[derive(Clone, Copy, PartialEq, Eq, Debug)]
+pub struct Prices {
+    pub at_most: i64,
+    pub above: i64,
+}
+
+/// The price of a side that no step leads to.
+pub const DEAREST: i64 = 1_152_921_504_606_846_976;
+
+// Parts below this count as none: 2 to the power -14.
+const LEAST_PART: u64 = 65_536;
+
+// Profits up to this count as none: 2 to the power -9.
+const NO_PROFIT: u64 = 2_097_152;
+
+/// Writes how far a slot has come: how far it is started where its domain holds 0, else how far it is from the least to the
+/// greatest of its values.
+pub fn write_stand(
+    dictionary: &Dictionary,
+    slot: u32,
+    domain: &Domain,
+    stand: &mut Line,
+) -> Result<(), OutOfRange> {
+    stand.blank(dictionary.columns.len());
+    if domain.zero {
+        take_variable(dictionary, stand, low_variable(slot), -ONE)?;
+    }
+    take_variable(dictionary, stand, high_variable(slot), -ONE)
+}
+
+/// The end that a side leaves to how far a slot has come: it is at most that of the values up to the split's, and at least that of
+/// the values above.
+pub fn end_of(domain: &Domain, max: u8, side: Side) -> Result<i64, OutOfRange> {
+    let next = match side {
+        Side::AtMost => 0,
+        Side::Above => 1,
+    };
+    if domain.zero {
+        return Ok(next * ONE);
+    }
+    let from = i64::from(domain.lo);
+    over(i64::from(max) + next - from, i64::from(domain.hi) - from)
+}
+
+/// The prices of a split, from how far its slot has come.
+pub fn prices_of(
+    columns: &[Column],
+    stand: &Line,
+    domain: &Domain,
+    max: u8,
+) -> Result<Prices, OutOfRange> {
+    let fall = difference(stand.value, end_of(domain, max, Side::AtMost)?)?;
+    let rise = difference(end_of(domain, max, Side::Above)?, stand.value)?;
+    let parts = stand.parts.as_slice();
+    Ok(Prices {
+        at_most: price(fall, least_rate(columns, parts, false)),
+        above: price(rise, least_rate(columns, parts, true)),
+    })
+}
+
+// A way times what a unit of it costs.
+fn price(way: i64, rate: Option<i64>) -> i64 {
+    match rate {
+        None => DEAREST,
+        Some(rate) => match times(way.max(0), rate) {
+            Ok(price) => price,
+            Err(OutOfRange) => DEAREST,
+        },
+    }
+}
+
+// What a unit of a rise, or of a fall, costs where one column moves alone; None where none leads there.
+fn least_rate(columns: &[Column], parts: &[i64], rise: bool) -> Option<i64> {
+    let mut least = None;
+    for number in 0..columns.len() {
+        if let Some(rate) = rate(&columns[number], at(parts, number), rise) {
+            least = match least {
+                None => Some(rate),
+                Some(other) => Some(rate.min(other)),
+            };
+        }
+    }
+    least
+}
+
+// What a unit of a rise, or of a fall, costs where a column moves; None where that leads elsewhere.
+fn rate(column: &Column, part: i64, rise: bool) -> Option<i64> {
+    let rises = (part < 0) != column.high;
+    if column.bound == 0 || part.unsigned_abs() < LEAST_PART || rises != rise {
+        return None;
+    }
+    if column.profit.unsigned_abs() <= NO_PROFIT {
+        return Some(0);
+    }
+    match over(column.profit.saturating_abs(), part.saturating_abs()) {
+        Ok(rate) => Some(rate),
+        Err(OutOfRange) => None,
+    }
+}
