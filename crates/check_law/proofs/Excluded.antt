@@ -4,7 +4,6 @@ use Rattle.std.specs.Prelude.{◌↔◌}
 use Rattle.row_kit.specs.declared.program.Program.{Program}
 use Rattle.proof_tree.specs.declared.capped.Capped.{Capped}
 use Rattle.proof_tree.specs.Items.{tree_items}
-use Rattle.proof_tree.specs.Views.{View}
 use Rattle.proof_tree.specs.Walk.{Outcome, ended, after, walked, start}
 use Rattle.row_relax.specs.declared.pick.RowPick.{RowPick}
 use Rattle.row_relax.specs.Steps.{row_steps}

@@ -1,14 +1,12 @@
 -- Totals of usable certificates are small, and so are the caps that they give.
-use Rattle.std.proofs.Common.{◌≡◌, ℕ, zero, suc, ◌+◌, ◌*◌, ◌<◌, ◌≤◌, ◌^◌, Bool, true, false, cond, eqb, List, [], ◌∷◌, length, map, get_or, refl, sym, subst, Some, inl, inr, ⊎_elim, arith, ℤ, pos, negsuc, ◌+ℤ◌, ◌-ℤ◌, ◌*ℤ◌, ◌≤ℤ◌, ◌<ℤ◌, unsigned_abs}
+use Rattle.std.proofs.Common.{◌≡◌, ℕ, zero, suc, ◌+◌, ◌*◌, ◌<◌, ◌≤◌, ◌^◌, Bool, true, false, cond, eqb, List, [], ◌∷◌, length, map, get_or, refl, sym, subst, Some, ⊎_elim, arith, ℤ, pos, negsuc, ◌+ℤ◌, ◌-ℤ◌, ◌*ℤ◌, unsigned_abs}
 use Rattle.std.specs.Int.{int_div_euclid}
 use Rattle.std.specs.Prelude.{int_lt}
 use Rattle.std.specs.List.{All, Contains}
-use Rattle.std.specs.List.Sorted.{IsStrictlyIncreasing}
 use Rattle.std.proofs.Math.Nat.{mul-le-mul, div-le_self}
 use Rattle.std.proofs.lemmas.Bool.{cond-true, cond-false, eq-eqb, ne_eqb, cases_eq}
 use Rattle.std.proofs.lemmas.Int.{ints, unsigned_abs-mul, fold-int_max_reached}
 use Rattle.std.proofs.lemmas.List.Elements.{All-head, All-tail}
-use Rattle.proof_tree.specs.declared.capped.Capped.{Capped}
 use Rattle.proof_tree.specs.declared.capped.Capped.TheVariants.{AtMost, NoPoint, Bad}
 use Rattle.row_kit.specs.declared.domain.Domain.{Domain}
 use Rattle.row_kit.specs.declared.program.Program.{Program}
@@ -26,16 +24,16 @@ use Rattle.dual_bound.specs.declared.cert.Mult.{Mult}
 use Rattle.dual_bound.specs.Cap.{IsBelow, scaled_cap}
 use Rattle.dual_bound.specs.Total.{rows_at, limits_sum, gain, greatest, slots_total, total_of, IsFitMult, IsUsable}
 
-abs_sum : (x y : ℤ) (m n : ℕ) → unsigned_abs x ≤ m → unsigned_abs y ≤ n → unsigned_abs (x +ℤ y) ≤ m + n
+pub abs_sum : (x y : ℤ) (m n : ℕ) → unsigned_abs x ≤ m → unsigned_abs y ≤ n → unsigned_abs (x +ℤ y) ≤ m + n
 abs_sum x y m n h k = omega (arith, ints)
 
-abs_less : (x y : ℤ) (m n : ℕ) → unsigned_abs x ≤ m → unsigned_abs y ≤ n → unsigned_abs (x -ℤ y) ≤ m + n
+pub abs_less : (x y : ℤ) (m n : ℕ) → unsigned_abs x ≤ m → unsigned_abs y ≤ n → unsigned_abs (x -ℤ y) ≤ m + n
 abs_less x y m n h k = omega (arith, ints)
 
-times_abs : (n m k : ℕ) (x : ℤ) → n ≤ m → unsigned_abs x ≤ k → unsigned_abs (pos n *ℤ x) ≤ m * k
+pub times_abs : (n m k : ℕ) (x : ℤ) → n ≤ m → unsigned_abs x ≤ k → unsigned_abs (pos n *ℤ x) ≤ m * k
 times_abs n m k x h l = omega (arith, unsigned_abs-mul (pos n) x, mul-le-mul h l)
 
-one_more : (k n : ℕ) → k + k * n ≡ k * suc n
+pub one_more : (k n : ℕ) → k + k * n ≡ k * suc n
 one_more k n = grind arith
 
 counted_small : (e : Entry) (most v : ℕ) → unsigned_abs e.fixed ≤ most → unsigned_abs e.per ≤ most → v ≤ 255 → unsigned_abs (counted e v) ≤ most + most * 255
@@ -99,21 +97,21 @@ limits_small slots rows (m ∷ ms) bounded fit =
     omega (arith, ints, times_abs m.factor 1099511627776 1000000000000 (row_at rows m.row).limit first.factor (bounded m.row no_row first.row).limit, limits_small slots rows ms bounded (All-tail (IsFitMult (length rows)) m ms fit))
 
 -- what a slot gains at a value
-gain_small : (program : Program) (cert : Cert) (slot v : ℕ) → IsUsable (length program.rows) cert → v ≤ 255 → unsigned_abs (gain program cert slot v) ≤ 2 ^ 88
+pub gain_small : (program : Program) (cert : Cert) (slot v : ℕ) → IsUsable (length program.rows) cert → v ≤ 255 → unsigned_abs (gain program cert slot v) ≤ 2 ^ 88
 gain_small program cert slot v usable h =
     let profit = bounded_small (length program.root) 2000000000000000 slot v program.profit program.profit_bounded h in
     let scaled = times_abs cert.scale 1048576 (2000000000000000 + 2000000000000000 * 255) (entry_at program.profit slot v) usable.scale profit in
     let rows = rows_small (length program.root) program.rows cert.mults slot v program.rows_bounded usable.fit h in
     omega (arith, abs_less (pos cert.scale *ℤ entry_at program.profit slot v) (rows_at program.rows cert.mults slot v) _ _ scaled rows, usable.few)
 
-greatest_small : (f : ℕ → ℤ) (vs : List ℕ) (k : ℕ) → ((v : ℕ) → Contains vs v → unsigned_abs (f v) ≤ k) → unsigned_abs (greatest f vs) ≤ k
+pub greatest_small : (f : ℕ → ℤ) (vs : List ℕ) (k : ℕ) → ((v : ℕ) → Contains vs v → unsigned_abs (f v) ≤ k) → unsigned_abs (greatest f vs) ≤ k
 greatest_small f [] k h = omega arith
 greatest_small f (v ∷ vs) k h =
     let most = greatest f (v ∷ vs) in
     let at = reached_at f v vs most (fold-int_max_reached (f v) (map f vs) most refl) in
     subst (λ (x : ℤ). unsigned_abs x ≤ k) at.2 (h at.0 at.1)
 
-slots_small : (f : ℕ → ℕ → ℤ) (k i : ℕ) (ds : List Domain) → All IsNormal ds → ((slot v : ℕ) → v ≤ 255 → unsigned_abs (f slot v) ≤ k) → unsigned_abs (slots_total f i ds) ≤ k * length ds
+pub slots_small : (f : ℕ → ℕ → ℤ) (k i : ℕ) (ds : List Domain) → All IsNormal ds → ((slot v : ℕ) → v ≤ 255 → unsigned_abs (f slot v) ≤ k) → unsigned_abs (slots_total f i ds) ≤ k * length ds
 slots_small f k i [] normal h = omega arith
 slots_small f k i (d ∷ ds) normal h =
     let first = All-head IsNormal d ds normal in

@@ -1,6 +1,5 @@
 -- Changes one after another, and what they give to factors that have the same sums.
-use Rattle.std.proofs.Common.{◌≡◌, ◌∙◌, ℕ, ◌<◌, Bool, List, [], ◌∷◌, ◌++◌, length, get_or, refl, sym, ap, subst, arith, ℤ, pos, ◌+ℤ◌, ◌≤ℤ◌}
-use Rattle.std.specs.List.{All}
+use Rattle.std.proofs.Common.{◌≡◌, ◌∙◌, ℕ, List, [], ◌∷◌, ◌++◌, length, refl, sym, subst, arith, ℤ, pos, ◌+ℤ◌, ◌≤ℤ◌}
 use Rattle.std.proofs.lemmas.List.Elements.{All-append}
 use Rattle.row_kit.specs.declared.domain.Domain.{Domain}
 use Rattle.row_kit.specs.declared.program.Program.{Program}
@@ -24,7 +23,7 @@ each_same fall p ds n a b h (x ∷ xs) each =
     let b2 = (changed (cert_of n b) x).mults in
     let same : HaveSameSums a2 b2 = replaced_same a b h x.row x.factor in (
       subst (λ (t : ℤ). (t +ℤ pos fall) ≤ℤ total_of p ds (cert_of n b)) (total_same p ds n a2 b2 same)
-      (subst (λ (t : ℤ). (total_of p ds (cert_of n a2) +ℤ pos fall) ≤ℤ t) (total_same p ds n a b h) each.0),
+          (subst (λ (t : ℤ). (total_of p ds (cert_of n a2) +ℤ pos fall) ≤ℤ t) (total_same p ds n a b h) each.0),
       each_same fall p ds n a2 b2 same xs each.1,
     )
 

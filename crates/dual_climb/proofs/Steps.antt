@@ -130,9 +130,9 @@ lowered_one fall p ds n ms lines k new can held lt row range falls =
       changes = put ∷ [];
       in_range = one_fit (length p.rows) put (record { row = lt; factor = range });
       lowers = (
-          fallen (total_of p ds (cert_of n ms)) (staying p ds n ms k) (held_part p ds ms lines k (own_of ms k)) (held_part p ds ms lines k new.factor) (total_of p ds (with_factor (cert_of n ms) k new.factor)) fall
-          (total_now p ds n ms lines k can held lt) (total_at_factor p ds n ms lines k can held lt new.factor) falls,
-          tt,
+        fallen (total_of p ds (cert_of n ms)) (staying p ds n ms k) (held_part p ds ms lines k (own_of ms k)) (held_part p ds ms lines k new.factor) (total_of p ds (with_factor (cert_of n ms) k new.factor)) fall
+            (total_now p ds n ms lines k can held lt) (total_at_factor p ds n ms lines k can held lt new.factor) falls,
+        tt,
       );
       gives = set_same ms k new held.full.numbered (omega (arith, held.full.all)) row;
     }

@@ -23,7 +23,11 @@ pub fn fall_to(gains: &Gains, area: &Area, row: &Row, own: u64, factor: u64) -> 
     let mut sum = scaled_limit(row, own) - scaled_limit(row, factor);
     for entry in row.entries.as_slice() {
         let line = with_other(&gains.lines[entry.slot as usize], entry, own, factor);
-        sum += fall_at(&gains.most[entry.slot as usize], &line, area.domain(entry.slot));
+        sum += fall_at(
+            &gains.most[entry.slot as usize],
+            &line,
+            area.domain(entry.slot),
+        );
     }
     sum
 }

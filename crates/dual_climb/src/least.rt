@@ -92,7 +92,11 @@ fn doubled(reach: u64) -> u64
     requires { (1 ≤ reach) × (reach ≤ 2 ^ 41) }
     ensures { (1 ≤ result) × (result ≤ 2 ^ 41) }
 {
-    if reach < MOST_FACTOR { 2 * reach } else { reach }
+    if reach < MOST_FACTOR {
+        2 * reach
+    } else {
+        reach
+    }
 }
 
 // Whether the total is no greater at a factor than at the next one.

@@ -56,7 +56,9 @@ impl Climbing {
     {
         let total = self.total(program, area, scale);
         if pace.notes(&total) {
-            self.best.as_mut_slice().copy_from_slice(self.factors.as_slice());
+            self.best
+                .as_mut_slice()
+                .copy_from_slice(self.factors.as_slice());
         }
         let point = best_point(&self.gains.lines, area);
         note_slacks(program.rows.as_slice(), &point, &mut self.slacks);
@@ -120,7 +122,9 @@ fn limits(rows: &[Row], factors: &[Mult]) -> i128
 {
     let mut sum = 0i128;
     for number in 0..rows.len() {
-        let part = rows[number].limit.saturating_mul(i128::from(factors[number].factor));
+        let part = rows[number]
+            .limit
+            .saturating_mul(i128::from(factors[number].factor));
         sum = sum.saturating_add(part);
     }
     sum

@@ -70,13 +70,7 @@ pub fn hold(alloc: Global, program: &Program, area: &Area, cert: &Cert) -> Resul
 }
 
 // Passes over the rows until nothing changes or the cap is reached; whether some factor changed.
-fn descend(
-    program: &Program,
-    area: &Area,
-    scale: u32,
-    stop: Option<i128>,
-    held: &mut Held,
-) -> bool
+fn descend(program: &Program, area: &Area, scale: u32, stop: Option<i128>, held: &mut Held) -> bool
     requires area { CanMove program.now (present area.now) scale }
     requires scale { 1 ≤ scale }
     requires held { IsHeld program.now (present area.now) scale held.old.mults.items held.old.gains.lines held.old.gains.most held.old.total }

@@ -17,7 +17,7 @@ use Rattle.stn_model.specs.Sound.{Sound}
 use Rattle.plan_sim.specs.declared.verdict.Verdict.{Verdict}
 use Rattle.plan_sim.specs.declared.verdict.Verdict.TheVariants.{Broken, Feasible as FeasibleVerdict}
 use Rattle.plan_sim.specs.Verdicts.{IsVerdict, IsOfLevel, says_feasible}
-use Rattle.plan_sim.proofs.Placed.{takes_time}
+use Rattle.stn_model.proofs.Fitting.{ends_later}
 use Rattle.stn_model.specs.Feasible.{Feasible, StockKept, LoadKept}
 use Rattle.stn_model.specs.Violations.{Breaks, BreaksFirst, Before, order_of, start_at, no_start, TooSoon}
 use Rattle.plan_sim.specs.Units.{FitUntil, IsFirstUnfit, ApartThroughout, IsFirstBusy, CleanedUntil, IsFirstGap, NoTwins, UnitsKept}
@@ -241,8 +241,8 @@ cleaned_all plant plan cleaned = all_from_places (λ a. All (Cleaned plant plan 
 pub no_twins : (plant : Plant) (plan : List Start) → Sound plant → FitUntil plant plan (length plan) → ApartThroughout plant plan → NoTwins plan
 no_twins plant plan sound fit apart i j h l unit period =
     let k : i < length plan = omega arith in
-    let a = takes_time plant (start_at plan i) sound (fit i k) in
-    let b = takes_time plant (start_at plan j) sound (fit j l) in
+    let a = ends_later plant (start_at plan i) sound (fit i k) in
+    let b = ends_later plant (start_at plan j) sound (fit j l) in
     elim (apart i k j h l unit) [ inl x ↦ omega (arith, x, a, period) | inr y ↦ omega (arith, y, b, period) ]
 
 pub feasible_from : (plant : Plant) (plan : List Start) → UnitsKept plant plan → PlanKeptBefore plant plan (plant.periods + 1) → Feasible plant plan

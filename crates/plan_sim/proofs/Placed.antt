@@ -6,7 +6,7 @@ use Rattle.stn_model.specs.declared.start.Start.{Start}
 use Rattle.stn_model.specs.Plant.{end_of, task_at}
 use Rattle.stn_model.specs.Fits.{Fits}
 use Rattle.stn_model.specs.Sound.{Sound}
-use Rattle.stn_model.proofs.Fitting.{delay-within, fit_parts, placed-Fits, sound-task_at, duration_pos}
+use Rattle.stn_model.proofs.Fitting.{delay-within, fit_parts, sound-task_at}
 use Rattle.plan_sim.specs.Moves.{HasRow}
 use Rattle.plan_sim.proofs.Tables.{rows_apart}
 
@@ -50,7 +50,3 @@ module _ (plant : Plant) (start : Start) (sound : Sound plant) (fits : Fits plan
   pub begins_first : start.period ≤ end_of plant start
   unfolding end_of
   begins_first = omega arith
-
-  pub takes_time : start.period < end_of plant start
-  unfolding end_of
-  takes_time = omega (arith, duration_pos plant start.task sound (placed-Fits plant start sound fits).task)

@@ -20,12 +20,12 @@ use Rattle.stn_model.specs.declared.plant.Plant.{Plant}
 use Rattle.stn_model.specs.declared.plant.StnUnit.{StnUnit}
 use Rattle.stn_model.specs.declared.plant.Task.{Task}
 use Rattle.stn_model.specs.declared.start.Start.{Start}
-use Rattle.stn_model.specs.Plant.{no_task}
+use Rattle.stn_model.specs.Plant.{no_task, unit_names, task_names}
 use Rattle.stn_model.specs.Sound.{Sound, is_name, is_name_byte}
 use Rattle.stn_model.specs.declared.limits.TheConstants.{MAX_NAME}
 use Rattle.plan_text.specs.declared.fault.PlanFault.{PlanFault}
 use Rattle.plan_text.specs.Published.{bad_line, unknown_name, most_lines, number_limit}
-use Rattle.plan_text.specs.PlanLines.{unit_names, task_names, start_words, plan_line, plan_lines}
+use Rattle.plan_text.specs.PlanLines.{start_words, plan_line, plan_lines}
 use Rattle.plan_text.specs.PlanText.{lines_of_parts, text_lines, line_words, is_comment, is_empty, unit_named, task_named, start_of, start_of_words, line_start, after_line, with_start}
 use Rattle.plan_text.specs.ReadsBack.{IsRemark, comment_lines, IsWritable, ReadsBack}
 use Rattle.plan_text.proofs.Reading.{lines_of_parts-cons, read_on, plan_of_lines-is, plan_of_text-short, text_lines-nil}

@@ -6,7 +6,8 @@ use Rattle.stn_model.specs.declared.plant.Plant.{Plant}
 use Rattle.stn_model.specs.declared.plant.StnUnit.{StnUnit}
 use Rattle.stn_model.specs.declared.plant.Task.{Task}
 use Rattle.stn_model.specs.declared.start.Start.{Start}
-use Rattle.plan_text.specs.PlanLines.{IsNamed, unit_names, task_names, start_words, plan_line}
+use Rattle.stn_model.specs.Plant.{unit_names, task_names}
+use Rattle.plan_text.specs.PlanLines.{IsNamed, start_words, plan_line}
 
 -- seven parts in a row, one by one
 seven_parts : (text p u t b q e : List ℕ) → (((((text ++ p) ++ u) ++ t) ++ b) ++ q) ++ e ≡ text ++ (p ++ (u ++ (t ++ (b ++ (q ++ e)))))

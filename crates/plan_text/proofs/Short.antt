@@ -8,9 +8,9 @@ use Rattle.std.proofs.lemmas.Fmt.{length-decimal-le}
 use Rattle.std.proofs.lemmas.List.{get_or-map}
 use Rattle.stn_model.specs.declared.plant.Plant.{Plant}
 use Rattle.stn_model.specs.declared.start.Start.{Start}
-use Rattle.stn_model.specs.Plant.{no_task}
+use Rattle.stn_model.specs.Plant.{no_task, unit_names, task_names}
 use Rattle.stn_model.specs.Sound.{Sound, is_name, is_name_byte}
-use Rattle.plan_text.specs.PlanLines.{unit_names, task_names, start_words, plan_line, plan_lines}
+use Rattle.plan_text.specs.PlanLines.{start_words, plan_line, plan_lines}
 use Rattle.plan_text.specs.ReadsBack.{IsWritable, ReadsBack, SaysAgain}
 use Rattle.plan_text.proofs.Again.{ReadsBack-lines}
 

@@ -1,16 +1,9 @@
 -- The lines in which a plan is written.
-use Rattle.std.specs.Prelude.{ℕ, ◌<◌, List, [], ◌∷◌, ◌++◌, map, length, decimal, flat_map, slice_index_or}
+use Rattle.std.specs.Prelude.{ℕ, ◌<◌, List, [], ◌∷◌, ◌++◌, length, decimal, flat_map, slice_index_or}
 use Rattle.std.specs.List.{join_with_byte}
 use Rattle.stn_model.specs.declared.plant.Plant.{Plant}
 use Rattle.stn_model.specs.declared.start.Start.{Start}
-
--- the names of the plant's units, in their order
-abbrev pub unit_names : Plant → List (List ℕ)
-unit_names plant = map (λ unit. unit.name) plant.units
-
--- the names of the plant's tasks, in their order
-abbrev pub task_names : Plant → List (List ℕ)
-task_names plant = map (λ task. task.name) plant.tasks
+use Rattle.stn_model.specs.Plant.{unit_names, task_names}
 
 -- the unit and the task of the start are in the plant
 pub record IsNamed (plant : Plant) (start : Start) : Type 0 where

@@ -1,6 +1,6 @@
 -- Lawful points and the plans of their values.
-use Rattle.std.proofs.Common.{◌≡◌, ℕ, ℤ, ◌≤◌, List, [], ◌∷◌, length, sym, ap, ◌∙◌, subst, refl, arith}
-use Rattle.std.specs.Prelude.{All, ◌≤ℤ◌, IsPermutation, Option, IsSomeAnd}
+use Rattle.std.proofs.Common.{◌≡◌, ℕ, ◌≤◌, List, [], ◌∷◌, length, sym, ap, ◌∙◌, subst, refl, arith}
+use Rattle.std.specs.Prelude.{All, IsPermutation, Option, IsSomeAnd}
 use Rattle.std.specs.List.{AllZip}
 use Rattle.std.proofs.Common.{inl, inr}
 use Rattle.std.proofs.lemmas.List.Elements.{All-head, All-tail}
@@ -14,7 +14,6 @@ use Rattle.time_grid.proofs.PointPlan.{found_run, starts-of_point}
 use Rattle.stn_model.specs.declared.plant.Plant.{Plant}
 use Rattle.stn_model.specs.Sound.{Sound}
 use Rattle.stn_model.specs.Feasible.{Feasible}
-use Rattle.stn_model.specs.Best.{NoPlan}
 use Rattle.stn_model.specs.Profit.{profit}
 use Rattle.row_kit.specs.declared.program.Program.{Program}
 use Rattle.row_kit.specs.Point.{IsLawful, worth_of}
@@ -23,7 +22,8 @@ use Rattle.time_grid.specs.Slots.{slots}
 use Rattle.time_grid.specs.PlanPoint.{HasPoint, plan_point, point_starts}
 use Rattle.time_grid.proofs.OnePlan.{starts-permutation}
 use Rattle.time_grid.proofs.Reordered.{Feasible-permutation, profit-permutation}
-use Rattle.plant_check.specs.Claims.{plan_of_values, NoneEarnsAbove}
+use Rattle.proof_log.proofs.SaidOfOthers.{Stands}
+use Rattle.plant_check.specs.Claims.{plan_of_values}
 
 -- what the plan of a lawful point is
 pub record IsLawfulPlan (plant : Plant) (program : Program) (point : List ℕ) : Type 0 where
@@ -43,15 +43,11 @@ lawful-plan plant program point sound means lawful =
       earns = sym (profit-permutation plant plan (point_starts plant (slots plant) point) same) ∙ sym (means.worth plan has) ∙ ap (worth_of program) found.1.1;
     }
 
--- where no lawful point is worth more than a number, no feasible plan earns more
-pub none_above : (plant : Plant) (program : Program) (most : ℤ) → IsProgramOf plant program → ((point : List ℕ) → IsLawful program point → worth_of program point ≤ℤ most) → NoneEarnsAbove plant most
-none_above plant program most means above plan feasible =
+-- each feasible plan has the worth of a lawful point
+pub feasible-point : (plant : Plant) (program : Program) → IsProgramOf plant program → Stands (IsLawful program) (worth_of program) (Feasible plant) (profit plant)
+feasible-point plant program means plan feasible =
     let is = (means.feasible plan).0 feasible in
-    subst (λ earned. earned ≤ℤ most) (means.worth plan is.0) (above (plan_point plant plan) is.1)
-
--- where no point is lawful, no plan is feasible
-pub no_plan : (plant : Plant) (program : Program) → IsProgramOf plant program → ((point : List ℕ) → ¬ IsLawful program point) → NoPlan plant
-no_plan plant program means none plan feasible = none (plan_point plant plan) ((means.feasible plan).0 feasible).1
+    (plan_point plant plan, (is.1, means.worth plan is.0))
 
 -- a start that fits in a slot has a size of the slot's run
 choice-fits : (plant : Plant) (slot : ℕ × ℕ) (value : ℕ) → Sound plant → IsSlotOf plant slot → Fits plant (start_in plant slot value) → ((run_at plant slot.0).min ≤ value) × (value ≤ (run_at plant slot.0).max)

@@ -1,9 +1,8 @@
 -- What a log says of a plant, and when it is valid.
-use Rattle.std.specs.Prelude.{◌≡◌, ◌↔◌, ℕ, ℤ, ◌≤ℤ◌, ⊤, List, length}
+use Rattle.std.specs.Prelude.{◌≡◌, ◌↔◌, ℕ, List, length}
 use Rattle.stn_model.specs.declared.plant.Plant.{Plant}
 use Rattle.stn_model.specs.declared.start.Start.{Start}
 use Rattle.stn_model.specs.Feasible.{Feasible}
-use Rattle.stn_model.specs.Best.{Best, NoPlan}
 use Rattle.stn_model.specs.Profit.{profit}
 use Rattle.time_grid.specs.Slots.{slots}
 use Rattle.time_grid.specs.PlanPoint.{point_starts}
@@ -11,27 +10,17 @@ use Rattle.row_kit.specs.declared.program.Program.{Program}
 use Rattle.row_kit.specs.Point.{IsLawful, worth_of}
 use Rattle.row_set.specs.PlantProgram.{IsMadeOf}
 use Rattle.proof_log.specs.declared.claim.Claim.{Claim}
-use Rattle.proof_log.specs.declared.claim.Claim.TheVariants.{Optimal, Infeasible, Between, Below}
+use Rattle.proof_log.specs.ClaimSays.{ClaimSays}
 use Rattle.log_check.specs.declared.verdict.LogVerdict.{LogVerdict}
-use Rattle.log_check.specs.declared.verdict.LogVerdict.TheVariants.{Yes, No}
-use Rattle.log_check.specs.Verdict.{IsVerdict}
-use Rattle.plant_check.specs.declared.check.TheConstants.{MOST_DEPTH}
+use Rattle.log_check.specs.Verdict.{IsVerdict, IfYes}
 
 -- the plan of a group of values: a start in each slot whose value is not 0
 unfoldable pub plan_of_values : Plant → List ℕ → List Start
 plan_of_values plant point = point_starts plant (slots plant) point
 
--- no feasible list of starts earns more than this
-abbrev pub NoneEarnsAbove : Plant → ℤ → Type 0
-NoneEarnsAbove plant most = (plan : List Start) → Feasible plant plan → profit plant plan ≤ℤ most
-
--- what a claim says of all plans of the plant
+-- what a claim says of all plans of the plant, where `optimal` says that its plan is feasible, has this profit, and is best
 abbrev pub Says : Plant → Claim → Type 0
-Says plant (Optimal earned point) = Best plant (plan_of_values plant point) × (profit plant (plan_of_values plant point) ≡ earned)
-Says plant Infeasible = NoPlan plant
-Says plant (Between earned most point) =
-    Feasible plant (plan_of_values plant point) × (profit plant (plan_of_values plant point) ≡ earned) × NoneEarnsAbove plant most
-Says plant (Below most) = NoneEarnsAbove plant most
+Says plant claim = ClaimSays (Feasible plant) (profit plant) (plan_of_values plant) claim
 
 -- The program is the plant's, and its lawful points are the plant's plans: values are lawful exactly where
 -- their plan is feasible, and then their worth is its profit.
@@ -42,13 +31,12 @@ pub record IsOfPlant (plant : Plant) (program : Program) : Type 0 where
 
 -- where the answer is yes, what the claim says holds of all plans
 abbrev pub YesSays : Plant → LogVerdict → Type 0
-YesSays plant (Yes claim) = Says plant claim
-YesSays plant (No defect) = ⊤
+YesSays plant verdict = IfYes (Says plant) verdict
 
--- The verdict on a log is right of the plant: it is right over the plant's program, and the claim of a log
--- that is valid holds of all plans.
+-- The verdict on a log is right of the plant: it is right over the plant's program, where at most 4,608 splits may be open, and
+-- the claim of a log that is valid holds of all plans.
 pub record IsChecked (plant : Plant) (log : List ℕ) (verdict : LogVerdict) : Type 0 where
   pub program : Program
   pub of_plant : IsOfPlant plant program
-  pub right : IsVerdict program MOST_DEPTH log verdict
+  pub right : IsVerdict program 4608 log verdict
   pub holds : YesSays plant verdict

@@ -7,8 +7,7 @@ ghost use Rattle.row_set.specs.PlantProgram.{IsMadeOf, IsProgramOf};
 ghost use Rattle.log_lines.specs.TextDefect.{log_text_defect};
 ghost use Rattle.proof_log.specs.Log.{log_text};
 ghost use Rattle.proof_log.specs.OneText.{IsLogOver};
-ghost use Rattle.log_check.specs.Verdict.{IsMeantOf, limits_of};
-ghost use Rattle.plant_check.specs.declared.check.TheConstants.{MOST_DEPTH};
+ghost use Rattle.log_check.specs.Verdict.{IsVerdictOn, limits_of};
 ghost use Rattle.plant_check.specs.Claims.{IsChecked};
 
 use crate::check::MOST_DEPTH;
@@ -34,9 +33,9 @@ pub fn check_log(
 
     // Over the rows' slots, and without a text defect, the answer is that on this very proof and claim.
     ensures meant { IsLogOver (length rows.now.program.root) log.now.version (tree_of log.now.tree) log.now.claim
-        → log_text_defect (limits_of rows.now.program MOST_DEPTH)
+        → log_text_defect (limits_of rows.now.program 4608)
         (log_text log.now.version (tree_items (tree_of log.now.tree)) log.now.claim) ≡ None
-        → IfOk result (IsMeantOf rows.now.program (tree_of log.now.tree) log.now.claim) }
+        → IfOk result (IsVerdictOn rows.now.program (tree_of log.now.tree) log.now.claim) }
 {
     log_check::check_log(alloc, rows, MOST_DEPTH, log)
 }

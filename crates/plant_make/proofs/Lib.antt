@@ -10,6 +10,7 @@ pub mod Reading
 pub mod TaskReading
 pub mod PlantReading
 pub mod Depths
+pub mod Dates
 pub mod Texts
 pub mod Counts
 pub mod MadeSound

@@ -7,7 +7,6 @@ use Rattle.std.proofs.lemmas.Bool.{and_parts}
 use Rattle.std.proofs.lemmas.Bool.Decides.{nat_tests}
 use Rattle.std.proofs.lemmas.Str.{IsUtf8-from_ascii}
 use Rattle.stn_model.specs.Sound.{is_name, is_name_byte}
-use Rattle.stn_model.specs.declared.limits.TheConstants.{MAX_NAME}
 
 byte_small : (byte : ℕ) → is_name_byte byte ≡ true → byte < 128
 byte_small byte is = grind (arith, nat_tests)
@@ -21,6 +20,6 @@ bytes_small (byte ∷ bytes) are (suc i) = bytes_small bytes (and_parts _ _ are)
 pub name_utf8 : (bytes : List ℕ) → IsTrue (is_name bytes) → IsUtf8 bytes
 name_utf8 [] is = absurd cc
 name_utf8 (first ∷ others) is =
-    let named = and_parts (is_ascii_alphabetic first && list_all is_name_byte (first ∷ others)) (nat_le (length (first ∷ others)) MAX_NAME) is in
+    let named = and_parts (is_ascii_alphabetic first && list_all is_name_byte (first ∷ others)) (nat_le (length (first ∷ others)) 32) is in
     let bytes = and_parts (is_ascii_alphabetic first) (list_all is_name_byte (first ∷ others)) named.0 in
     IsUtf8-from_ascii (first ∷ others) (bytes_small (first ∷ others) bytes.1)

@@ -4,9 +4,7 @@ use Rattle.std.proofs.Math.Nat.{mul-mod_left, mul-div_cancel, mul-le-mul_left, m
 use Rattle.std.proofs.lemmas.Bool.{cases_Bool, eqb-true}
 use Rattle.stn_model.specs.Sound.{IsPart}
 use Rattle.fraction.specs.declared.fraction_of.Fraction.{Fraction}
-use Rattle.fraction.specs.declared.fraction_of.TheConstants.{MAX_PART}
-use Rattle.fraction.specs.Fractions.{IsProper, IsLeast}
-use Rattle.plant_text.specs.Tables.{is_whole, amount_in}
+use Rattle.fraction.specs.Fractions.{IsProper, IsLeast, amount_in, is_whole}
 use Rattle.plant_make.specs.Numbers.{least_from, part_of}
 
 -- the search from one denominator on finds the least one that serves
@@ -30,8 +28,8 @@ part_is amount quantum f some is_proper is_least =
     let product : amount * f.under ≡ f.over * quantum = omega (arith, is_least.same) in
     let whole : (amount * f.under) % quantum ≡ 0 = rw product (mul-mod_left f.over quantum) in
     let quotient : (amount * f.under) / quantum ≡ f.over = rw product (mul-div_cancel f.over some) in
-    let found : least_from amount quantum MAX_PART 1 ≡ f.under =
-    least_found amount quantum f.under MAX_PART 1 whole
+    let found : least_from amount quantum 10000 1 ≡ f.under =
+    least_found amount quantum f.under 10000 1 whole
     (λ k there none. is_least.least ((amount * k) / quantum) k there (omega (arith, none, div-add-mod' (amount * k) quantum)))
     (omega arith) (omega (arith, is_proper.some, is_proper.most)) (omega (arith, is_proper.small)) in
     rw (found, quotient) refl
@@ -55,13 +53,13 @@ part_most quantum amount some part =
     grind (arith, above)
 
 -- no denominator is small enough where none is found
-pub part_there : (quantum amount : ℕ) → IsPart quantum amount → ((over under : ℕ) → 0 < under → over * quantum ≡ under * amount → MAX_PART < under) → 1 ≤ quantum → ⊥
+pub part_there : (quantum amount : ℕ) → IsPart quantum amount → ((over under : ℕ) → 0 < under → over * quantum ≡ under * amount → 10000 < under) → 1 ≤ quantum → ⊥
 part_there quantum amount part none some =
     let over_some : 1 ≤ part.0 = part.1.1.0.0 in
     let over_most : part.0 ≤ part.1.0 = part.1.1.0.1 in
-    let small : part.1.0 ≤ MAX_PART = part.1.1.1.1 in
+    let small : part.1.0 ≤ 10000 = part.1.1.1.1 in
     let same : part.0 * quantum ≡ part.1.0 * amount = omega (arith, part.1.1.2) in
-    let large : MAX_PART < part.1.0 = none part.0 part.1.0 (omega arith) same in
+    let large : 10000 < part.1.0 = none part.0 part.1.0 (omega arith) same in
     omega arith
 
 -- the number serves as a denominator, and is at most another one
@@ -104,12 +102,12 @@ over_most amount quantum under over some most same =
 pub part_good : (quantum amount : ℕ) → 1 ≤ quantum → IsPart quantum amount → IsPartOf quantum amount (part_of quantum amount)
 unfolding part_of
 part_good quantum amount some part =
-    let small : part.1.0 ≤ MAX_PART = part.1.1.1.1 in
+    let small : part.1.0 ≤ 10000 = part.1.1.1.1 in
     let there : 1 ≤ part.1.0 = part.1.1.1.0 in
     let product : amount * part.1.0 ≡ part.0 * quantum = omega (arith, part.1.1.2) in
     let whole : (amount * part.1.0) % quantum ≡ 0 = rw product (mul-mod_left part.0 quantum) in
-    let found = serves amount quantum part.1.0 MAX_PART 1 whole there (omega arith) in
-    let under : ℕ = least_from amount quantum MAX_PART 1 in
+    let found = serves amount quantum part.1.0 10000 1 whole there (omega arith) in
+    let under : ℕ = least_from amount quantum 10000 1 in
     let same : amount * under ≡ quantum * ((amount * under) / quantum) = omega (arith, found.whole, div-add-mod' (amount * under) quantum) in
     record {
       proper = record {

@@ -13,7 +13,7 @@ use Rattle.stn_model.specs.declared.plant.Gap.{Gap}
 use Rattle.stn_model.specs.declared.plant.Receipt.{Receipt}
 use Rattle.stn_model.specs.declared.plant.Delivery.{Delivery}
 use Rattle.stn_model.specs.declared.plant.Outage.{Outage}
-use Rattle.stn_model.specs.Plant.{state_at, utility_at, task_at}
+use Rattle.stn_model.specs.Plant.{state_at, utility_at, task_at, unit_at}
 use Rattle.stn_model.specs.Sound.{SoundState, SoundUtility, SoundDraw, SoundRun, SoundGap, SoundReceipt, SoundDelivery, SoundOutage, is_name}
 use Rattle.plant_text.specs.declared.fault.KeyName.TheVariants as key
 use Rattle.plant_text.specs.declared.fault.TableName.TheVariants as table
@@ -27,7 +27,7 @@ use Rattle.plant_text.specs.Tables.{has_run, run_place, outage_place, state_fiel
 use Rattle.plant_text.proofs.Faults.{passes, nothing}
 use Rattle.plant_make.specs.Entries.{table_of, number, numbers}
 use Rattle.plant_make.specs.Numbers.{lone, several}
-use Rattle.plant_make.specs.Printed.{made_of, unit_at, state_name, utility_name, unit_name, task_name, state_entries, utility_entries, unit_entries, run_entries, gap_entries, receipt_entries, delivery_entries, outage_entries, draw_entries}
+use Rattle.plant_make.specs.Printed.{made_of, state_name, utility_name, unit_name, task_name, state_entries, utility_entries, unit_entries, run_entries, gap_entries, receipt_entries, delivery_entries, outage_entries, draw_entries}
 use Rattle.plant_make.proofs.Tables.{held_is, held_maybe, head_ok}
 use Rattle.plant_make.proofs.Passing.{Pass, count_ok, money_ok, name_ok, refers_ok, numbers_ok, numbers_back}
 use Rattle.plant_make.proofs.Limits.{limits_ok, always_some}

@@ -5,7 +5,7 @@ use Rattle.std.proofs.lemmas.List.{length-map, map-id}
 use Rattle.std.proofs.lemmas.List.Elements.{All-from_recursion, recursion_from_All}
 use Rattle.toml.specs.Data.{Data, string}
 use Rattle.fraction.specs.declared.fraction_of.Fraction.{Fraction}
-use Rattle.fraction.specs.Fractions.{IsProper, SumsToOne}
+use Rattle.fraction.specs.Fractions.{IsProper, SumsToOne, sums_to_one}
 use Rattle.fraction.proofs.Amounts.{parts_sum}
 use Rattle.fraction.proofs.Written.{fraction_in-text}
 use Rattle.stn_model.specs.declared.plant.Plant.{Plant}
@@ -24,7 +24,7 @@ use Rattle.plant_text.specs.Words.{key_word}
 use Rattle.plant_text.specs.Tests.{rows_tests}
 use Rattle.plant_text.specs.Fields.{held, needed, optional, items_at}
 use Rattle.plant_text.specs.Scope.{Scope}
-use Rattle.plant_text.specs.Tables.{is_output, side_fields, side_tests, side_of, sums_to_one, output_of, input_of, whole_tests, share_tests, sides_tests, outputs_in, draw_tests, draw_of, owner_in, quantum_in, outputs_of, drawer_in, task_fields, task_tests, task_of}
+use Rattle.plant_text.specs.Tables.{is_output, side_fields, side_tests, side_of, output_of, input_of, whole_tests, share_tests, sides_tests, outputs_in, draw_tests, draw_of, owner_in, quantum_in, outputs_of, drawer_in, task_fields, task_tests, task_of}
 use Rattle.plant_text.proofs.Faults.{passes, nothing}
 use Rattle.plant_make.specs.Entries.{table_of, number, some_items}
 use Rattle.plant_make.specs.Numbers.{part_of}

@@ -2,7 +2,6 @@
 use Rattle.std.specs.Prelude.{ℕ, zero, suc, ◌+◌, ◌*◌, ◌/◌, ◌%◌, ◌==◌, if◌then◌else◌, List, [], ◌∷◌, Option, Some, None}
 use Rattle.std.specs.List.{list_all}
 use Rattle.fraction.specs.declared.fraction_of.Fraction.{Fraction}
-use Rattle.fraction.specs.declared.fraction_of.TheConstants.{MAX_PART}
 
 -- the one number that all numbers of the list are, if there is one
 unfoldable pub lone : List ℕ → Option ℕ
@@ -22,5 +21,5 @@ least_from amount quantum (suc more) under = if (amount * under) % quantum == 0 
 -- the part that the amount is of the quantum, in lowest terms: with the least denominator
 unfoldable pub part_of : ℕ → ℕ → Fraction
 part_of quantum amount =
-    let under = least_from amount quantum MAX_PART 1 in
+    let under = least_from amount quantum 10000 1 in
     record { over = (amount * under) / quantum; under = under }

@@ -1,5 +1,5 @@
 -- What the records of a plant are printed as: the keys of each table, in the order of the field table.
-use Rattle.std.specs.Prelude.{ℕ, List, [], ◌∷◌, map, Some, option_map, slice_index_or}
+use Rattle.std.specs.Prelude.{ℕ, List, [], ◌∷◌, map, Some, option_map}
 use Rattle.toml.specs.Data.{Data, string, integer, table}
 use Rattle.stn_model.specs.declared.plant.Plant.{Plant}
 use Rattle.stn_model.specs.declared.plant.State.{State}
@@ -14,7 +14,7 @@ use Rattle.stn_model.specs.declared.plant.Gap.{Gap}
 use Rattle.stn_model.specs.declared.plant.Receipt.{Receipt}
 use Rattle.stn_model.specs.declared.plant.Delivery.{Delivery}
 use Rattle.stn_model.specs.declared.plant.Outage.{Outage}
-use Rattle.stn_model.specs.Plant.{state_at, utility_at, task_at}
+use Rattle.stn_model.specs.Plant.{state_at, utility_at, task_at, unit_at}
 use Rattle.fraction.specs.Fractions.{fraction_text}
 use Rattle.plant_text.specs.declared.fault.KeyName.TheVariants as key
 use Rattle.plant_make.specs.Entries.{Entry, table_of, number, numbers, some_items}
@@ -23,10 +23,6 @@ use Rattle.plant_make.specs.Numbers.{lone, several, part_of}
 -- the table of some entries as a value
 abbrev pub made_of : List Entry → Data
 made_of entries = table (table_of entries)
-
--- the unit of this number
-abbrev pub unit_at : Plant → ℕ → StnUnit
-unit_at plant unit = slice_index_or plant.units unit (record { name = [] })
 
 -- names of the things that a record names by number
 abbrev pub state_name : Plant → ℕ → Data

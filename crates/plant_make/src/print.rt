@@ -14,6 +14,7 @@ use plant_text::KeyName;
 use std::alloc::{AllocError, Global};
 use stn_model::Plant;
 use toml::Table;
+use toml::ser::Error;
 
 // The document of a plant, of version 2.
 #[tactic(auto, unfolding(crate::specs::Entries::table_of, crate::specs::Printed::plant_entries))]
@@ -50,7 +51,7 @@ fn document(alloc: Global, plant: &Plant) -> Result<Table, AllocError>
     Ok(table)
 }
 
-// The text of a plant's document. The document has no dates, so want of memory is the only error.
+// The text of a plant's document. The document has no date, so want of memory is the only error.
 fn text_of(alloc: Global, plant: &Plant) -> Result<String, AllocError>
     requires { Sound plant.now }
     ensures { IfOk result (λ text. parse_document (string_bytes text) ≡ Some (table_of (plant_entries plant.now))) }
@@ -58,7 +59,8 @@ fn text_of(alloc: Global, plant: &Plant) -> Result<String, AllocError>
     let table = document(alloc, plant)?;
     match toml::table_to_string(alloc, &table) {
         Ok(text) => Ok(text),
-        Err(_) => Err(AllocError),
+        Err(Error::OutOfMemory) => Err(AllocError),
+        Err(Error::DateInvalid) => unreachable!(),
     }
 }
 

@@ -4,7 +4,6 @@ ghost use Rattle.std.specs.List.{list_all};
 ghost use Rattle.toml.specs.Data.{string};
 ghost use Rattle.toml.specs.View.{view};
 ghost use Rattle.stn_model.specs.Sound.{Sound, IsPart, is_name};
-ghost use Rattle.stn_model.specs.declared.limits.TheConstants.{MAX_AMOUNT};
 ghost use Rattle.plant_make.specs.Entries.{number, numbers};
 ghost use Rattle.plant_make.specs.Numbers.{lone, several, part_of};
 ghost use Rattle.plant_make.specs.Printed.{state_name, utility_name, unit_name, task_name, part_text};
@@ -78,7 +77,7 @@ pub fn short_value(n: u32) -> Value
 
 /// An array of whole numbers.
 pub fn numbers_value(alloc: Global, items: &[u64]) -> Result<Value, AllocError>
-    requires { All (λ n. n ≤ MAX_AMOUNT) items.now }
+    requires { All (λ n. n ≤ 1000000000) items.now }
     ensures { IfOk result (λ v. view v ≡ numbers items.now) }
 {
     let mut values = Vec::new(alloc);
@@ -114,7 +113,7 @@ fn are_all(limits: &[u64], n: u64) -> bool
 /// The one number that all limits are, if there is one.
 #[tactic(auto, unfolding(crate::specs::Numbers::lone))]
 pub fn lone_value(limits: &[u64]) -> Option<Value>
-    requires { All (λ n. n ≤ MAX_AMOUNT) limits.now }
+    requires { All (λ n. n ≤ 1000000000) limits.now }
     ensures { option_map view result ≡ option_map number (lone limits.now) }
 {
     if limits.is_empty() {
@@ -131,7 +130,7 @@ pub fn lone_value(limits: &[u64]) -> Option<Value>
 /// The limits, where they are not all the same.
 #[tactic(auto, unfolding(crate::specs::Numbers::several))]
 pub fn several_value(alloc: Global, limits: &[u64]) -> Result<Option<Value>, AllocError>
-    requires { All (λ n. n ≤ MAX_AMOUNT) limits.now }
+    requires { All (λ n. n ≤ 1000000000) limits.now }
     ensures { IfOk result (λ v. option_map view v ≡ option_map numbers (several limits.now)) }
 {
     if limits.is_empty() {

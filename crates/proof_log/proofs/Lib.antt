@@ -1,7 +1,6 @@
 pub mod GrammarWalk
 pub mod Lines
 pub mod NoDefect
-pub mod OneTree
 pub mod WrittenLines
 pub mod OneText
 pub mod Writing
@@ -14,3 +13,4 @@ pub mod Texts
 pub mod Reading
 pub mod PartsRead
 pub mod SaidOfOthers
+pub mod CleanTexts

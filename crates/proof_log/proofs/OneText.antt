@@ -22,7 +22,7 @@ use Rattle.proof_log.specs.declared.claim.Claim.TheVariants.{Optimal, Infeasible
 use Rattle.proof_log.specs.Log.{RowItem, RowTree, started, value_lines, mult_line, item_lines, claim_lines, log_lines, lines_text, log_text}
 use Rattle.proof_log.specs.OneText.{IsOver, IsClaimOver, IsLogOver, LogsHaveOneText}
 use Rattle.proof_log.proofs.GrammarWalk.{started-zero, started-more, value_lines-zero, value_lines-more}
-use Rattle.proof_log.proofs.OneTree.{tree_same}
+use Rattle.proof_tree.proofs.OneTree.{tree_same}
 
 -- two lists of one length in front of others
 fronts_same : {X : Type 0} (a b c d : List X) → length a ≡ length b → a ++ c ≡ b ++ d → (a ≡ b) × (c ≡ d)

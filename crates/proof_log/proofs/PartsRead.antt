@@ -45,12 +45,12 @@ begun told name limits r lines grammar limited gathered = record {
 }
 
 -- a claim has been made where the log has ended
-claim_there : (place : Place) (claim : Option Claim) → place ≡ Done → ClaimAgrees place claim → (made : Claim) × (claim ≡ Some made)
+pub claim_there : (place : Place) (claim : Option Claim) → place ≡ Done → ClaimAgrees place claim → (made : Claim) × (claim ≡ Some made)
 claim_there place None is agrees = absurd (subst (λ p. ClaimAgrees p None) is agrees)
 claim_there place (Some made) is agrees = (made, refl)
 
 -- the items are whole where the log has ended
-items_whole : (standing : Standing) (items : List RowItem) → standing.place ≡ Done → FormAgrees standing (form_of items) → AreWhole items
+pub items_whole : (standing : Standing) (items : List RowItem) → standing.place ≡ Done → FormAgrees standing (form_of items) → AreWhole items
 items_whole standing items is agrees = by (form_of items) refl agrees
   where
     by : (form : Outcome RowPick) → form_of items ≡ form → FormAgrees standing form → AreWhole items
@@ -60,12 +60,12 @@ items_whole standing items is agrees = by (form_of items) refl agrees
     by misplaced e agree = absurd agree
 
 -- and the lines are those of the log
-lines_whole : (version : ℕ) (place : Place) (items : List RowItem) (group : Group) (claim : Option Claim) (made : Claim) → place ≡ Done → claim ≡ Some made → lines_at version place items group claim ≡ log_lines version items made
+pub lines_whole : (version : ℕ) (place : Place) (items : List RowItem) (group : Group) (claim : Option Claim) (made : Claim) → place ≡ Done → claim ≡ Some made → lines_at version place items group claim ≡ log_lines version items made
 unfolding log_lines
 lines_whole version place items group claim made is some = rw (is, some) refl
 
 -- the text of the log, where it has ended and the file with it
-clean : (limits : Limits) (bytes : List ℕ) (lines : List Line) (items : List RowItem) (made : Claim) (g : Gatherer) → HasGathered lines items (Some made) g → g.limits ≡ limits → g.grammar.place ≡ Done → bytes ≡ lines_text lines → log_text_defect limits bytes ≡ None → IsClean limits bytes g.grammar.version items made
+pub clean : (limits : Limits) (bytes : List ℕ) (lines : List Line) (items : List RowItem) (made : Claim) (g : Gatherer) → HasGathered lines items (Some made) g → g.limits ≡ limits → g.grammar.place ≡ Done → bytes ≡ lines_text lines → log_text_defect limits bytes ≡ None → IsClean limits bytes g.grammar.version items made
 unfolding log_text
 clean limits bytes lines items made g is limited done text none =
     let whole : lines ≡ log_lines g.grammar.version items made = is.listed ∙ lines_whole g.grammar.version g.grammar.place items g.group (Some made) made done refl in

@@ -1,5 +1,5 @@
 -- A claim on some things is one on others that stand for them.
-use Rattle.std.proofs.Common.{◌≡◌, ℕ, ℤ, List, ◌∙◌, subst}
+use Rattle.std.proofs.Common.{ℕ, ℤ, List, ◌∙◌, subst}
 use Rattle.std.specs.Prelude.{◌≤ℤ◌}
 use Rattle.proof_log.specs.declared.claim.Claim.{Claim}
 use Rattle.proof_log.specs.declared.claim.Claim.TheVariants.{Optimal, Infeasible, Between, Below}

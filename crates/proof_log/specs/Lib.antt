@@ -10,3 +10,4 @@ pub mod Gathered
 pub mod Step
 pub mod LogReading
 pub mod Reached
+pub mod CleanTexts

@@ -1,6 +1,7 @@
 //! The laws of logs.
 
 ghost use Rattle.proof_log.specs.Accepted.{LogsAreAccepted, LogsHaveNoDefect, LogsMayBeWritten};
+ghost use Rattle.proof_log.specs.CleanTexts.{CleanTextsAreLogs};
 ghost use Rattle.proof_log.specs.OneText.{LogsHaveOneText};
 
 /// The law of written logs: the grammar accepts the lines of a log from the first to the last, where the proof is not too deep
@@ -23,4 +24,9 @@ pub fn logs_have_no_defect()
 /// part of that of another.
 pub fn logs_have_one_text()
     ensures { LogsHaveOneText }
+{}
+
+/// The law of clean texts: bytes without a text defect are the text of a log, whose lines the grammar takes under the limits.
+pub fn clean_texts_are_logs()
+    ensures { CleanTextsAreLogs }
 {}

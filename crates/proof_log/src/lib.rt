@@ -27,7 +27,10 @@ mod writer;
 pub use claim::Claim;
 pub use claims::put_claim;
 pub use items::put_item;
-pub use laws::{logs_are_accepted, logs_have_no_defect, logs_have_one_text, logs_may_be_written};
+pub use laws::{
+    clean_texts_are_logs, logs_are_accepted, logs_have_no_defect, logs_have_one_text,
+    logs_may_be_written,
+};
 pub use log::{Defect, Log};
 pub use log_reader::{LogPart, LogReader};
 pub use nodes::put_proof;

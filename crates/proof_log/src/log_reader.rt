@@ -34,7 +34,7 @@ pub enum LogPart {
 }
 
 /// Reads a log from a file, part by part and once from front to back. It holds a piece of the file, the lines of one item, and
-/// two bits for each open split.
+/// two flags for each open split.
 #[derive(Drop)]
 pub struct LogReader {
     pub(crate) alloc: Global,

@@ -13,7 +13,8 @@ use Rattle.row_kit.specs.Point.{LiesIn}
 use Rattle.row_kit.specs.Row.{counted, entries_sum, entry_at}
 use Rattle.row_kit.proofs.Ascending.{no_entry, other_slots}
 use Rattle.row_kit.proofs.Domains.{values-from_Holds}
-use Rattle.range_prop.specs.Cut.{least, least_counted, least_others, least_sum}
+use Rattle.range_prop.specs.Cut.{least, least_counted, least_others}
+use Rattle.range_prop.specs.laws.Sums.{least_sum}
 use Rattle.range_prop.proofs.Least.{least_bound}
 
 -- no entry is the slot's

@@ -17,7 +17,8 @@ use Rattle.row_kit.specs.Row.{counted, entry_at, row_at}
 use Rattle.row_kit.proofs.Ascending.{no_entry}
 use Rattle.row_kit.proofs.Histories.{is_same_true}
 use Rattle.range_prop.specs.declared.row_cut.RowCut.{RowCut}
-use Rattle.range_prop.specs.Cut.{cut_domain, has_room, is_bare, kept_of, least_counted, least_others, least_sum, shrinks}
+use Rattle.range_prop.specs.Cut.{cut_domain, has_room, is_bare, kept_of, least_counted, least_others, shrinks}
+use Rattle.range_prop.specs.laws.Sums.{least_sum}
 use Rattle.range_prop.specs.Cuts.{HasCut, IsMade, after_cut}
 use Rattle.range_prop.proofs.CutLaws.{cut_is, cut_normal, cut_open}
 use Rattle.range_prop.proofs.Entries.{alone, least_counted-set, others_alone, own_alone}

@@ -11,9 +11,11 @@ use Rattle.row_kit.specs.declared.row.Row.{Row}
 use Rattle.row_kit.specs.Area.{is_same}
 use Rattle.row_kit.specs.Domain.{Holds, IsBare, IsNormal, domain_at, no_values, shared}
 use Rattle.row_kit.proofs.Parts.{shared_within}
+use Rattle.row_kit.specs.Points.{kept_at}
 use Rattle.row_kit.specs.Row.{counted, entry_at, no_row, row_at}
 use Rattle.row_kit.proofs.Ascending.{no_entry}
-use Rattle.range_prop.specs.Cut.{cut_domain, has_room, is_bare, least_counted, least_others, least_sum}
+use Rattle.range_prop.specs.Cut.{cut_domain, has_room, is_bare, least_counted, least_others}
+use Rattle.range_prop.specs.laws.Sums.{least_sum}
 use Rattle.range_prop.specs.Cuts.{AreDone, HasRoom, HaveRoom, HaveRoomBut, IsStill}
 use Rattle.range_prop.proofs.Listed.{without_listed}
 use Rattle.range_prop.proofs.CutLaws.{cut_bare, cut_open}
@@ -124,5 +126,5 @@ HaveRoomBut-narrowed rows ds slot d lt within room number in_rows none =
     HasRoom-without row ds slot d lt without within (length-set ds slot d) (room number no_row in_rows)
 
 -- so after a part of a split has been taken, the rows of its slot alone are left to look at
-pub HaveRoomBut-shared : (rows : List Row) (ds : List Domain) (slot : ℕ) (d : Domain) → slot < length ds → All (HasRoom ds) rows → HaveRoomBut rows (slot ∷ []) (set ds slot (shared (domain_at ds slot) d))
-HaveRoomBut-shared rows ds slot d lt room = HaveRoomBut-narrowed rows ds slot (shared (domain_at ds slot) d) lt (λ v held. shared_within (domain_at ds slot) d v held) room
+pub HaveRoomBut-kept_at : (rows : List Row) (ds : List Domain) (slot : ℕ) (d : Domain) → slot < length ds → All (HasRoom ds) rows → HaveRoomBut rows (slot ∷ []) (kept_at ds slot d)
+HaveRoomBut-kept_at rows ds slot d lt room = HaveRoomBut-narrowed rows ds slot (shared (domain_at ds slot) d) lt (λ v held. shared_within (domain_at ds slot) d v held) room

@@ -1,5 +1,5 @@
 -- What a cut of a row at a slot leaves of the slot's domain.
-use Rattle.std.specs.Prelude.{ℕ, ◌+◌, ◌-◌, ◌≤◌, ◌==◌, Bool, ◌&&◌, not, if◌then◌else◌, List, [], ◌∷◌, length, map, ℤ, pos, ◌+ℤ◌, int_le, unsigned_abs, slice_index_or, slice_set, fold}
+use Rattle.std.specs.Prelude.{ℕ, ◌+◌, ◌-◌, ◌==◌, Bool, ◌&&◌, not, if◌then◌else◌, List, [], ◌∷◌, length, map, ℤ, pos, ◌+ℤ◌, int_le, slice_index_or, slice_set, fold}
 use Rattle.std.specs.Int.{int_min}
 use Rattle.std.specs.List.{filter, list_any, range_with_len}
 use Rattle.row_kit.specs.declared.domain.Domain.{Domain}
@@ -17,11 +17,6 @@ least f (value ∷ values) = fold int_min (f value) (map f values)
 -- the least entry over the domain of its slot
 abbrev pub least_counted : List Domain → Entry → ℤ
 least_counted domains entry = least (counted entry) (values_of (domain_at domains entry.slot))
-
--- the sum of the least entries
-abbrev pub least_sum : List Entry → List Domain → ℤ
-least_sum [] domains = pos 0
-least_sum (entry ∷ entries) domains = least_counted domains entry +ℤ least_sum entries domains
 
 -- the sum over all other slots of the least entry over their domains
 abbrev pub least_others : List Entry → ℕ → List Domain → ℤ
@@ -54,8 +49,3 @@ cut_domains row slot domains = slice_set domains slot (cut_domain row slot domai
 -- a cut shrinks the domain of its slot
 abbrev pub shrinks : Row → ℕ → List Domain → Bool
 shrinks row slot domains = not (is_same (domain_at domains slot) (cut_domain row slot domains))
-
--- an entry keeps the bounds of rows
-pub record IsLight (entry : Entry) : Type 0 where
-  pub fixed : unsigned_abs entry.fixed ≤ 10000000
-  pub per : unsigned_abs entry.per ≤ 10000000

@@ -1,6 +1,6 @@
 ghost use Rattle.std.specs.Prelude.{◌≡◌, ℕ, ◌*◌, ◌<◌, ◌≤◌, ◌^◌, ◌↔◌, ◌&&◌, nat_le, pos, ◌≤ℤ◌, int_le, unsigned_abs};
 ghost use Rattle.row_kit.specs.Row.{counted};
-ghost use Rattle.range_prop.specs.Cut.{IsLight};
+ghost use Rattle.range_prop.specs.laws.Sums.{IsLight};
 
 use row_kit::{Domain, Entry};
 

@@ -3,7 +3,7 @@ ghost use Rattle.std.specs.List.{All, Any};
 ghost use Rattle.row_kit.specs.Row.{row_at};
 ghost use Rattle.row_kit.specs.Area.{present};
 ghost use Rattle.row_kit.specs.Domain.{IsBare, IsOpen};
-ghost use Rattle.range_prop.specs.Cut.{least_sum};
+ghost use Rattle.range_prop.specs.laws.Sums.{least_sum};
 ghost use Rattle.range_prop.specs.Cuts.{HasCut, HasRoom};
 
 use crate::cutting::cut;
@@ -27,7 +27,8 @@ pub fn cut_row(
     ensures cut { OnOk result (HasCut program.now.rows
         area.old area.new cuts.old.items cuts.new.items) }
     ensures done { OnOk result (Any IsBare (present area.new)
-        ⊎ (All IsOpen (present area.new) × HasRoom (present area.new) (row_at program.now.rows row))) }
+        ⊎ (All IsOpen (present area.new)
+        × HasRoom (present area.new) (row_at program.now.rows row))) }
     ensures keeps { take (length area.old) area.new ≡ area.old }
     ensures lists { take (length cuts.old.items) cuts.new.items ≡ cuts.old.items }
     ensures slots { length (present area.new) ≡ length (present area.old) }

@@ -3,7 +3,8 @@ ghost use Rattle.std.specs.List.{sum_by};
 ghost use Rattle.row_kit.specs.Area.{present, with_domain, is_same};
 ghost use Rattle.row_kit.specs.Domain.{count_of, domain_at, Holds, IsNormal, IsOpen};
 ghost use Rattle.row_kit.specs.Row.{counted};
-ghost use Rattle.range_prop.specs.Cut.{kept_of, least_counted, IsLight};
+ghost use Rattle.range_prop.specs.Cut.{kept_of, least_counted};
+ghost use Rattle.range_prop.specs.laws.Sums.{IsLight};
 
 use crate::allowed::allowed;
 use crate::spread::spread_of;

@@ -10,7 +10,8 @@ use std::collections::VecDeque;
 pub struct Queue {
     pub rows: VecDeque<u32>,
     pub waiting: Vec<bool>,
-    pub ghost held: { (row : ℕ) → slice_index_or waiting.items row false ≡ true → list_any (λ other. other == row) rows.items ≡ true },
+    pub ghost held: { (row : ℕ) → slice_index_or waiting.items row false ≡ true
+        → list_any (λ other. other == row) rows.items ≡ true },
     pub ghost named: { All (λ row. row < length waiting.items) rows.items },
     pub ghost few: { length rows.items ≤ count_by (λ b. b) waiting.items },
 }

@@ -1,7 +1,8 @@
 ghost use Rattle.std.specs.Prelude.{◌≡◌, ℕ, ◌*◌, ◌≤◌, ◌^◌, pos, ◌+ℤ◌, ◌*ℤ◌, ◌≤ℤ◌, unsigned_abs, ◌⊎◌};
 ghost use Rattle.row_kit.specs.Domain.{Holds, values_of};
 ghost use Rattle.row_kit.specs.Row.{counted};
-ghost use Rattle.range_prop.specs.Cut.{least, IsLight};
+ghost use Rattle.range_prop.specs.Cut.{least};
+ghost use Rattle.range_prop.specs.laws.Sums.{IsLight};
 
 use row_kit::{Domain, Entry};
 

@@ -3,7 +3,8 @@ ghost use Rattle.std.specs.List.{All};
 ghost use Rattle.std.specs.List.Sorted.{IsStrictlyIncreasing};
 ghost use Rattle.row_kit.specs.Area.{present};
 ghost use Rattle.row_kit.specs.Row.{counted, entry_at};
-ghost use Rattle.range_prop.specs.Cut.{least_counted, least_others, least_sum, IsLight};
+ghost use Rattle.range_prop.specs.Cut.{least_counted, least_others};
+ghost use Rattle.range_prop.specs.laws.Sums.{least_sum, IsLight};
 
 use crate::spread::spread_of;
 use row_kit::{Area, Entry};

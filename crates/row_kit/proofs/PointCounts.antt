@@ -1,13 +1,14 @@
 -- How many points are left where a domain narrows, on the two sides of a split, and where each domain has one value.
-use Rattle.std.proofs.Common.{◌≡◌, ℕ, zero, suc, ◌+◌, ◌-◌, ◌*◌, ◌<◌, ◌≤◌, max, min, Bool, true, false, ◌&&◌, cond, leb, List, [], ◌∷◌, length, set, refl, ap, ⊎_elim, arith}
+use Rattle.std.proofs.Common.{◌≡◌, ℕ, zero, suc, ◌+◌, ◌-◌, ◌*◌, ◌<◌, ◌≤◌, max, min, Bool, true, false, ◌&&◌, cond, leb, List, [], ◌∷◌, length, set, refl, ap, ⊎_elim, arith, sym, ◌∙◌}
 use Rattle.std.specs.List.{All, Any}
 use Rattle.std.proofs.Math.Nat.{mul-le-mul}
 use Rattle.std.proofs.lemmas.Bool.{cases_eq}
 use Rattle.std.proofs.lemmas.Bool.Decides.{nat_tests}
+use Rattle.std.proofs.lemmas.List.{get_or_default}
 use Rattle.std.proofs.lemmas.List.Elements.{All-head, All-tail}
 use Rattle.row_kit.specs.declared.domain.Domain.{Domain}
 use Rattle.row_kit.specs.Domain.{IsNormal, IsBare, IsOpen, IsSingle, count_of, domain_at, no_values, normal, over, shared, up_to}
-use Rattle.row_kit.specs.Points.{points_of}
+use Rattle.row_kit.specs.Points.{kept_at, points_of}
 
 -- a domain with no more values leaves no more points
 pub points-set_le : (ds : List Domain) (slot : ℕ) (d : Domain) → count_of d ≤ count_of (domain_at ds slot) → points_of (set ds slot d) ≤ points_of ds
@@ -32,8 +33,8 @@ pub shared_le : (a b : Domain) → count_of (shared a b) ≤ count_of a
 shared_le a b = omega (arith, normal_count (a.zero && b.zero) (max a.lo b.lo) (min a.hi b.hi), and_le a.zero b.zero)
 
 -- so a slot that keeps what its domain shares with another leaves no more points
-pub points-shared_le : (ds : List Domain) (slot : ℕ) (d : Domain) → points_of (set ds slot (shared (domain_at ds slot) d)) ≤ points_of ds
-points-shared_le ds slot d = points-set_le ds slot (shared (domain_at ds slot) d) (shared_le (domain_at ds slot) d)
+pub points-kept_le : (ds : List Domain) (slot : ℕ) (d : Domain) → points_of (kept_at ds slot d) ≤ points_of ds
+points-kept_le ds slot d = points-set_le ds slot (shared (domain_at ds slot) d) (shared_le (domain_at ds slot) d)
 
 spread_out : (a b c k : ℕ) → a + b ≡ c → a * k + b * k ≡ c * k
 spread_out a b c k e = grind arith
@@ -62,9 +63,9 @@ split_counts d m n =
     omega (arith, up_count d.zero d.lo d.hi m n.positive, over_count d.zero d.lo d.hi m n.positive n.byte)
 
 -- so the points of the two parts of a split sum to those of the whole
-pub points-split : (ds : List Domain) (slot m : ℕ) → All IsNormal ds → slot < length ds → points_of (set ds slot (shared (domain_at ds slot) (up_to m))) + points_of (set ds slot (shared (domain_at ds slot) (over m))) ≡ points_of ds
+pub points-split : (ds : List Domain) (slot m : ℕ) → IsNormal (domain_at ds slot) → slot < length ds → points_of (kept_at ds slot (up_to m)) + points_of (kept_at ds slot (over m)) ≡ points_of ds
 points-split ds slot m normal' lt =
-    points-set_both ds slot (shared (domain_at ds slot) (up_to m)) (shared (domain_at ds slot) (over m)) lt (split_counts (domain_at ds slot) m (normal' slot no_values lt))
+    points-set_both ds slot (shared (domain_at ds slot) (up_to m)) (shared (domain_at ds slot) (over m)) lt (split_counts (domain_at ds slot) m normal')
 
 one_one : (a b : ℕ) → a ≡ 1 → b ≡ 1 → a * b ≡ 1
 one_one a b e h = grind arith
@@ -87,6 +88,11 @@ pub points-bare : (ds : List Domain) (slot : ℕ) → slot < length ds → count
 points-bare [] slot lt none = absurd (omega arith)
 points-bare (d ∷ ds) zero lt none = omega (arith, ap (λ (n : ℕ). n * points_of ds) none)
 points-bare (d ∷ ds) (suc slot) lt none = omega (arith, ap (λ (n : ℕ). count_of d * n) (points-bare ds slot (omega arith) none))
+
+pub points-any_bare : (ds : List Domain) → Any IsBare ds → points_of ds ≡ 0
+points-any_bare ds bare =
+    let at = get_or_default ds bare.0 bare.1 no_values bare.2 in
+    points-bare ds bare.0 bare.2 (omega (arith, bare.4, ap count_of (sym at ∙ bare.3)))
 
 -- and only there
 pub points-none : (ds : List Domain) → points_of ds ≡ 0 → Any IsBare ds

@@ -26,11 +26,6 @@ pub record IsBoundedChange (change : Change) : Type 0 where
   pub least : pos 0 ≤ℤ change.cost
   pub most : change.cost ≤ℤ pos 1000000
 
--- an entry whose parts are no greater than those of profit entries may be
-pub record IsSmall (entry : Entry) : Type 0 where
-  pub fixed : unsigned_abs entry.fixed ≤ 2000000000000000
-  pub per : unsigned_abs entry.per ≤ 2000000000000000
-
 -- the parts of a program keep every bound
 pub record KeepsBounds (rows : List Row) (profit : List Entry) (base : ℤ) (root : List Domain) (tags : List Tag) (changes : List Change) : Type 0 where
   pub few_slots : length root ≤ 512

@@ -35,6 +35,7 @@ impl Model for Area {
 impl Area {
     ghost use Rattle.row_kit.specs.Domain.{domain_at, Holds, IsNormal, IsBare, IsSingle, shared, up_to, over, normal};
     ghost use Rattle.row_kit.specs.Area.{present, with_domain};
+    ghost use Rattle.row_kit.specs.Points.{kept_at, points_of};
 
     /// The domains of the root, at mark 0.
     pub fn new(alloc: Global, program: &Program) -> Result<Area, AllocError>
@@ -62,25 +63,29 @@ impl Area {
         self.domains[slot as usize]
     }
 
-    /// Keeps the values of a slot up to m.
+    /// Keeps the values of a slot up to m. With the values above m that makes two parts, which share out the points.
     pub fn at_most(&mut self, slot: u32, m: u8)
         requires { slot < length (present self.old) }
         ensures values { (v : ℕ) → Holds (domain_at (present self.new) slot) v
             ↔ (Holds (domain_at (present self.old) slot) v × (v ≤ m)) }
         ensures marks { self.new ≡ with_domain self.old slot
             (shared (domain_at (present self.old) slot) (up_to m)) }
+        ensures split { points_of (present self.new)
+            + points_of (kept_at (present self.old) slot (over m)) ≡ points_of (present self.old) }
         ensures slots { length (present self.new) ≡ length (present self.old) }
     {
         self.narrow(slot, Domain::up_to(m));
     }
 
-    /// Keeps the values of a slot above m.
+    /// Keeps the values of a slot above m. With the values up to m that makes two parts, which share out the points.
     pub fn above(&mut self, slot: u32, m: u8)
         requires { slot < length (present self.old) }
         ensures values { (v : ℕ) → Holds (domain_at (present self.new) slot) v
             ↔ (Holds (domain_at (present self.old) slot) v × (m < v)) }
         ensures marks { self.new ≡ with_domain self.old slot
             (shared (domain_at (present self.old) slot) (over m)) }
+        ensures split { points_of (kept_at (present self.old) slot (up_to m))
+            + points_of (present self.new) ≡ points_of (present self.old) }
         ensures slots { length (present self.new) ≡ length (present self.old) }
     {
         self.narrow(slot, Domain::over(m));
@@ -94,6 +99,7 @@ impl Area {
             ↔ (Holds (domain_at (present self.old) slot) v × Holds (normal zero lo hi) v) }
         ensures marks { self.new ≡ with_domain self.old slot
             (shared (domain_at (present self.old) slot) (normal zero lo hi)) }
+        ensures fewer { points_of (present self.new) ≤ points_of (present self.old) }
         ensures slots { length (present self.new) ≡ length (present self.old) }
     {
         self.narrow(slot, Domain::new(zero, lo, hi));
@@ -115,16 +121,18 @@ impl Area {
         undo_to(&mut self.domains, &mut self.trail, mark);
     }
 
-    /// Whether each domain has one value.
+    /// Whether each domain has one value: then there is one point.
     pub fn is_point(&self) -> bool
-        ensures { IsTrue result ↔ All IsSingle (present self.now) }
+        ensures single { IsTrue result ↔ All IsSingle (present self.now) }
+        ensures one { IsTrue result → points_of (present self.now) ≡ 1 }
     {
         are_single(self.domains.as_slice())
     }
 
-    /// Whether some domain has no value.
+    /// Whether some domain has no value: exactly then there is no point.
     pub fn has_empty(&self) -> bool
-        ensures { IsTrue result ↔ Any IsBare (present self.now) }
+        ensures bare { IsTrue result ↔ Any IsBare (present self.now) }
+        ensures none { IsTrue result ↔ (points_of (present self.now) ≡ 0) }
     {
         has_bare(self.domains.as_slice())
     }
@@ -134,6 +142,7 @@ impl Area {
         requires slot { slot < length (present self.old) }
         requires positive { 1 ≤ other.lo }
         ensures normal { IsNormal (domain_at (present self.old) slot) }
+        ensures domains { present self.new ≡ kept_at (present self.old) slot other }
         ensures values { (v : ℕ) → Holds (domain_at (present self.new) slot) v
             ↔ (Holds (domain_at (present self.old) slot) v × Holds other v) }
         ensures marks { self.new ≡ with_domain self.old slot

@@ -1,6 +1,6 @@
 ghost use Rattle.std.specs.Prelude.{◌≡◌, ℕ, ◌*◌, ◌≤◌, ◌<◌, ◌^◌, ◌↔◌, length, IsTrue, pos, ◌+ℤ◌, ◌*ℤ◌, ◌≤ℤ◌, unsigned_abs, if◌then◌else◌};
 ghost use Rattle.std.specs.List.{All};
-ghost use Rattle.row_kit.specs.Bounds.{IsSmall};
+ghost use Rattle.row_kit.specs.laws.Small.{IsSmall};
 ghost use Rattle.row_kit.specs.Row.{counted, entries_sum, IsKept};
 ghost use Rattle.row_kit.specs.Point.{LiesIn, IsLawful, value_of};
 

@@ -1,7 +1,6 @@
 -- How many points the steps leave: a cut never adds one, and the two parts of a split share out those of the whole.
 use Rattle.std.proofs.Common.{◌≡◌, ◌+◌, ◌<◌, ◌≤◌, Bool, true, false, ◌&&◌, cond, eqb, ltb, List, length, get_or, refl, sym, ap, ◌∙◌, subst, arith, Some, ⊎_elim}
 use Rattle.std.specs.List.{Any, list_any}
-use Rattle.std.proofs.lemmas.List.{get_or_default}
 use Rattle.std.proofs.lemmas.Bool.{and_parts, cases_eq, eq-eqb, eqb-true, false≢true, ltb-true}
 use Rattle.std.proofs.lemmas.List.Folds.{Any-from_list_any, list_any-from_Any}
 use Rattle.std.proofs.lemmas.List.Sums.{AllPass-from_list_all}
@@ -9,9 +8,9 @@ use Rattle.row_kit.specs.declared.domain.Domain.{Domain}
 use Rattle.row_kit.specs.declared.program.Program.{Program}
 use Rattle.row_kit.specs.Domain.{IsBare, count_of, no_values, over, up_to}
 use Rattle.row_kit.specs.Point.{worth_of}
-use Rattle.row_kit.specs.Points.{points_of}
+use Rattle.row_kit.specs.Points.{kept_at, points_of}
 use Rattle.row_kit.specs.Row.{row_at}
-use Rattle.row_kit.proofs.PointCounts.{points-bare, points-none, points-single, points-shared_le, points-split}
+use Rattle.row_kit.proofs.PointCounts.{points-any_bare, points-none, points-single, points-kept_le, points-split}
 use Rattle.range_prop.specs.declared.row_cut.RowCut.{RowCut}
 use Rattle.range_prop.specs.Cut.{cut_domains, is_bare}
 use Rattle.range_prop.proofs.CutLaws.{cut_points}
@@ -19,7 +18,7 @@ use Rattle.proof_tree.specs.declared.capped.Capped.TheVariants.{AtMost, NoPoint,
 use Rattle.proof_tree.specs.Views.{View}
 use Rattle.row_relax.specs.declared.pick.RowPick.{RowPick}
 use Rattle.row_relax.specs.Settle.{are_single, is_lawful, only_point, settled}
-use Rattle.row_relax.specs.Steps.{kept_at, row_steps}
+use Rattle.row_relax.specs.Steps.{row_steps}
 use Rattle.row_relax.specs.View.{Fits, domains_of, points_in}
 use Rattle.row_relax.specs.laws.Shown.{domains_there, shown_there}
 
@@ -39,13 +38,13 @@ pub points-left : (program : Program) (v w : View) (pick : RowPick) → (row_ste
 unfolding row_steps
 points-left program v w pick is =
     let ds = domains_of v in
-    subst (λ (xs : List Domain). points_of xs ≤ points_of ds) (sym (domains_there (ltb pick.slot (length ds)) (kept_at ds pick.slot (up_to pick.max)) w is)) (points-shared_le ds pick.slot (up_to pick.max))
+    subst (λ (xs : List Domain). points_of xs ≤ points_of ds) (sym (domains_there (ltb pick.slot (length ds)) (kept_at ds pick.slot (up_to pick.max)) w is)) (points-kept_le ds pick.slot (up_to pick.max))
 
 pub points-right : (program : Program) (v w : View) (pick : RowPick) → (row_steps program).right v pick ≡ Some w → points_in w ≤ points_in v
 unfolding row_steps
 points-right program v w pick is =
     let ds = domains_of v in
-    subst (λ (xs : List Domain). points_of xs ≤ points_of ds) (sym (domains_there (ltb pick.slot (length ds)) (kept_at ds pick.slot (over pick.max)) w is)) (points-shared_le ds pick.slot (over pick.max))
+    subst (λ (xs : List Domain). points_of xs ≤ points_of ds) (sym (domains_there (ltb pick.slot (length ds)) (kept_at ds pick.slot (over pick.max)) w is)) (points-kept_le ds pick.slot (over pick.max))
 
 -- the points of the two parts of a split sum to those of the whole
 pub points-both : (program : Program) (v left right : View) (pick : RowPick) → Fits program v → (row_steps program).left v pick ≡ Some left → (row_steps program).right v pick ≡ Some right → points_in left + points_in right ≡ points_in v
@@ -58,7 +57,7 @@ points-both program v left right pick fit to_left to_right =
     let lt : pick.slot < length ds = ltb-true pick.slot (length ds) (shown_there there low left to_left).0 in
     ap (λ (xs : List Domain). points_of xs + points_in right) (domains_there there low left to_left)
     ∙ ap (λ (xs : List Domain). points_of low + points_of xs) (domains_there there high right to_right)
-    ∙ points-split ds pick.slot pick.max fit.normal lt
+    ∙ points-split ds pick.slot pick.max (fit.normal pick.slot no_values lt) lt
 
 -- a view has no point where some domain is empty
 pub points-empty : (program : Program) (v : View) → (row_steps program).empty v ≡ true → points_in v ≡ 0
@@ -66,9 +65,7 @@ unfolding row_steps
 points-empty program v is =
     let ds = domains_of v in
     let bare = Any-from_list_any is_bare ds is in
-    let none = eqb-true (count_of bare.1) 0 bare.4 in
-    let at = get_or_default ds bare.0 bare.1 no_values bare.2 in
-    points-bare ds bare.0 bare.2 (omega (arith, none, ap count_of (sym at ∙ bare.3)))
+    points-any_bare ds (bare.0, bare.1, bare.2, bare.3, eqb-true (count_of bare.1) 0 bare.4)
 
 -- and has some where none is
 pub points-some : (program : Program) (v : View) → (row_steps program).empty v ≡ false → 0 < points_in v

@@ -1,10 +1,11 @@
 -- What the calls answer on a view, and the view that they lead to.
-use Rattle.std.specs.Prelude.{ℕ, nat_lt, Bool, ◌&&◌, if◌then◌else◌, List, length, Option, Some, None, slice_set}
+use Rattle.std.specs.Prelude.{nat_lt, Bool, ◌&&◌, if◌then◌else◌, List, length, Option, Some, None}
 use Rattle.std.specs.List.{list_any}
 use Rattle.row_kit.specs.Row.{row_at}
 use Rattle.row_kit.specs.declared.domain.Domain.{Domain}
 use Rattle.row_kit.specs.declared.program.Program.{Program}
-use Rattle.row_kit.specs.Domain.{domain_at, over, shared, up_to}
+use Rattle.row_kit.specs.Domain.{over, up_to}
+pub use Rattle.row_kit.specs.Points.{kept_at}
 use Rattle.range_prop.specs.declared.row_cut.RowCut.{RowCut}
 use Rattle.range_prop.specs.Cut.{cut_domains, is_bare}
 use Rattle.dual_bound.specs.declared.cert.Cert.{Cert}
@@ -18,10 +19,6 @@ use Rattle.row_relax.specs.View.{domains_of, view_of}
 -- the view of domains, where what leads to them is there
 abbrev pub shown_if : Bool → List Domain → Option View
 shown_if there domains = if there then Some (view_of domains) else None
-
--- the domains with a slot's values kept that another domain holds
-abbrev pub kept_at : List Domain → ℕ → Domain → List Domain
-kept_at domains slot domain = slice_set domains slot (shared (domain_at domains slot) domain)
 
 -- the calls: a cut names a row and a slot, a pick a slot; left of a pick are the values up to its max, right of it those above
 unfoldable pub row_steps : Program → Steps RowCut Cert RowPick

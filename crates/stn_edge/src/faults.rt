@@ -1,5 +1,5 @@
 //! Counting the errors of the operating system.
-ghost use Rattle.std.specs.Prelude.{◌≡◌, ◌↔◌, ◌≤◌, ℕ, List, IsTrue, Err, OnOk, OnErr};
+ghost use Rattle.std.specs.Prelude.{◌≡◌, ◌↔◌, ◌≤◌, ℕ, List, IsTrue, IsNone, Some, Err, OnOk, OnErr};
 ghost use Rattle.std.specs.Io.KnownBytes.{Appends};
 ghost use Rattle.std.specs.IoError.{error_kind};
 ghost use Rattle.stn_edge.specs.Count.{Rose, next_count};
@@ -24,10 +24,29 @@ pub fn is_interrupted(error: &io::Error) -> bool
 }
 
 /// A call found no memory.
-pub fn is_want_of_memory(error: &io::Error) -> bool
+fn is_want_of_memory(error: &io::Error) -> bool
     ensures { IsTrue result ↔ (error_kind error.now ≡ ErrorKind.OutOfMemory) }
 {
     error.kind() == ErrorKind::OutOfMemory
+}
+
+/// Why an error ends a call, or None where the call was interrupted, and is tried again. Each error but
+/// want of memory raises the count.
+pub fn end_of(error: &io::Error, faults: &mut u64) -> Option<Stop>
+    ensures again { IsNone result ↔ (error_kind error.now ≡ ErrorKind.Interrupted) }
+    ensures memory { (result ≡ Some Stop.Memory) ↔ (error_kind error.now ≡ ErrorKind.OutOfMemory) }
+    ensures later { faults.old ≤ faults.new }
+    ensures cause { result ≡ Some Stop.Failed → Rose faults.old faults.new }
+{
+    if is_want_of_memory(error) {
+        return Some(Stop::Memory);
+    }
+    raise(faults);
+    if is_interrupted(error) {
+        None
+    } else {
+        Some(Stop::Failed)
+    }
 }
 
 /// Writes all of the bytes, piece after piece. An error ends it, but for an interruption, and so does a
@@ -49,13 +68,9 @@ pub fn write_whole<W: Write>(to: &mut W, bytes: &[u8], faults: &mut u64) -> Resu
             Ok(0) => break,
             Ok(count) => rest = &rest[count..],
             Err(error) => {
-                if is_want_of_memory(&error) {
-                    return Err(Stop::Memory);
+                if let Some(stop) = end_of(&error, faults) {
+                    return Err(stop);
                 }
-                if !is_interrupted(&error) {
-                    break;
-                }
-                raise(faults);
             }
         }
     }

@@ -2,7 +2,7 @@
 ghost use Rattle.std.specs.Prelude.{◌≡◌, ◌≤◌, None, true, length, Err, IfOk, OnErr};
 ghost use Rattle.stn_edge.specs.Count.{Rose};
 
-use crate::faults::{is_interrupted, is_want_of_memory, raise, write_whole};
+use crate::faults::{end_of, is_interrupted, raise, write_whole};
 use crate::shelf::Shelf;
 use crate::stop::{Failed, Stop};
 use std::fs::OpenOptions;
@@ -96,13 +96,9 @@ fn open_file<R: Files>(
         match how.open(rt, name) {
             Ok(file) => return Ok(file),
             Err(error) => {
-                if is_want_of_memory(&error) {
-                    return Err(Stop::Memory);
+                if let Some(stop) = end_of(&error, faults) {
+                    return Err(stop);
                 }
-                if !is_interrupted(&error) {
-                    break;
-                }
-                raise(faults);
             }
         }
     }

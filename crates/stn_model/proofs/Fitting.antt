@@ -95,3 +95,8 @@ duration_pos plant task sound there =
     let is : SoundTask plant (task_at plant task) = sound.tasks task no_task there in
     let first : Output = record { state = 0; amount = 0; delay = 0 } in
     omega (arith, delay-within (task_at plant task) 0 first is.outputs.0, (is.output 0 first is.outputs.0).delay.0)
+
+-- a batch that fits ends after it begins
+pub ends_later : (plant : Plant) (start : Start) → Sound plant → Fits plant start → start.period < end_of plant start
+unfolding end_of
+ends_later plant start sound fits = omega (arith, duration_pos plant start.task sound (placed-Fits plant start sound fits).task)

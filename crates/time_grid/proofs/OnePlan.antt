@@ -8,16 +8,16 @@ use Rattle.std.proofs.lemmas.List.Sums.{sum_by-cons}
 use Rattle.std.proofs.lemmas.Bool.{eqb-true, eq-eqb, ne_eqb, and_parts, cases_Bool, cases_eq}
 use Rattle.stn_model.specs.declared.plant.Plant.{Plant}
 use Rattle.stn_model.specs.declared.start.Start.{Start}
-use Rattle.stn_model.specs.Plant.{end_of, no_run, run_at}
+use Rattle.stn_model.specs.Plant.{end_of, run_at}
 use Rattle.stn_model.specs.Fits.{Fits}
 use Rattle.stn_model.specs.Feasible.{Feasible}
-use Rattle.stn_model.specs.Sound.{Sound, SoundRun}
+use Rattle.stn_model.specs.Sound.{Sound}
+use Rattle.stn_model.proofs.Fitting.{ends_later}
 use Rattle.time_grid.specs.Slots.{slots}
 use Rattle.time_grid.specs.PlanPoint.{ShareSlot, is_in, quanta_of, quanta_in, HasPoint, plan_point, point_starts, start_in}
 use Rattle.time_grid.proofs.Lists.{AllPairs-head, AllPairs-tail}
 use Rattle.time_grid.proofs.SlotList.{slots-are}
-use Rattle.stn_model.proofs.Fitting.{duration_pos}
-use Rattle.time_grid.proofs.Fitting.{fits-at, place-of-fits}
+use Rattle.time_grid.proofs.Fitting.{place-of-fits}
 use Rattle.time_grid.proofs.PlanPoints.{share-from_in, same_slot, same_place, quanta_pos}
 
 same_start : (p u t q : ℕ) (a : Start) → p ≡ a.period → u ≡ a.unit → t ≡ a.task → q ≡ a.quanta →
@@ -110,17 +110,6 @@ starts-permutation plant (a ∷ plan) sound has =
     (IsPermutation-cons a plan (point_starts plant (slots plant) (map (quanta_in plant plan) (slots plant))) ih)
     (one_more plant (quanta_in plant plan) (quanta_in plant (a ∷ plan)) a (slots plant) place.0 (0, 0) place.1.within (quanta_pos plant a sound fits)
     (start_in-is plant slot a here) free put others)
-
--- a batch that fits ends after it begins
-pub ends_later : (plant : Plant) (a : Start) → Sound plant → Fits plant a → a.period < end_of plant a
-unfolding end_of
-ends_later plant a sound fits =
-    let at = fits-at plant a sound fits in
-    let of = and_parts _ _ (and_parts _ _ at.holds).1 in
-    let is : SoundRun plant (run_at plant at.run) = sound.runs at.run no_run at.slot.run in
-    let task : (run_at plant at.run).task ≡ a.task = eqb-true _ _ of.0 in
-    let long = duration_pos plant a.task sound (rw task at is.task) in
-    omega (arith, long)
 
 -- every feasible list has a point: no two of its starts share a slot
 pub has_point-feasible : (plant : Plant) (plan : List Start) → Sound plant → Feasible plant plan → HasPoint plant plan

@@ -15,7 +15,7 @@ use Rattle.stn_model.specs.Plant.{is_of, run_on, end_of, no_run, run_at}
 use Rattle.stn_model.specs.Fits.{Fits}
 use Rattle.stn_model.specs.Points.{has_slot, least_start}
 use Rattle.stn_model.specs.Sound.{Sound}
-use Rattle.stn_model.proofs.Fitting.{fit_parts, fits_from_parts}
+use Rattle.stn_model.proofs.Fitting.{ends_later, fit_parts, fits_from_parts}
 use Rattle.time_grid.specs.Slots.{slots, IsSlotOf, Earlier}
 use Rattle.time_grid.specs.PlanPoint.{SomeStartFits, HasAllSlots, ShareSlot, is_in, quanta_of, quanta_in, HasPoint, plan_point, point_starts, start_in, IsPlanOf, IsChoice, IsPoint}
 use Rattle.time_grid.proofs.Lists.{AllPairs-head, AllPairs-tail, AllPairs-nil}
@@ -23,7 +23,7 @@ use Rattle.time_grid.proofs.Fitting.{fits-at, least-fits}
 use Rattle.time_grid.proofs.SlotList.{slots-are, slots-rise, Contains-slots}
 use Rattle.time_grid.proofs.PlanPoints.{share-from_in, in-from_share, same_slot, same_run}
 use Rattle.time_grid.proofs.Reordered.{AllPairs-permutation}
-use Rattle.time_grid.proofs.OnePlan.{quanta_in-cons, quanta_in-none, map-agree, ends_later}
+use Rattle.time_grid.proofs.OnePlan.{quanta_in-cons, quanta_in-none, map-agree}
 
 -- the start of a slot is in it
 pub in_own : (plant : Plant) (slot : ℕ × ℕ) (value : ℕ) → is_in plant slot (start_in plant slot value) ≡ true

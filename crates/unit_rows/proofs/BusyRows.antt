@@ -9,11 +9,10 @@ use Rattle.stn_model.specs.declared.start.Start.{Start}
 use Rattle.stn_model.specs.Plant.{end_of, no_run, run_at}
 use Rattle.stn_model.specs.Batches.{Apart}
 use Rattle.stn_model.specs.Sound.{Sound, SoundRun}
-use Rattle.stn_model.proofs.Fitting.{fit_parts}
+use Rattle.stn_model.proofs.Fitting.{ends_later, fit_parts}
 use Rattle.time_grid.specs.PlanPoint.{HasPoint, plan_point, start_in}
 use Rattle.time_grid.proofs.Lists.{All-flat_map, Contains-flat_map, Contains-map, Contains-range}
 use Rattle.time_grid.proofs.Fitting.{fits-at}
-use Rattle.time_grid.proofs.OnePlan.{ends_later}
 use Rattle.time_grid.proofs.PointSums.{total-pos}
 use Rattle.row_kit.specs.declared.row.Row.{Row}
 use Rattle.row_kit.specs.Row.{entries_sum, IsKept}

@@ -16,10 +16,10 @@ use Rattle.time_grid.specs.Slots.{slots, is_slot, IsSlotOf}
 use Rattle.time_grid.specs.PlanPoint.{HasPoint, plan_point, start_in, is_in}
 use Rattle.time_grid.proofs.Lists.{All-flat_map, Contains-flat_map, Contains-map, Contains-filter, Contains-range}
 use Rattle.time_grid.proofs.SlotList.{slots-are, Contains-slots}
-use Rattle.stn_model.proofs.Fitting.{duration_pos}
+use Rattle.stn_model.proofs.Fitting.{duration_pos, ends_later}
 use Rattle.time_grid.proofs.Fitting.{fits-at}
 use Rattle.time_grid.proofs.PlanPoints.{share-from_in, same_slot}
-use Rattle.time_grid.proofs.OnePlan.{ends_later, sum_by-zero}
+use Rattle.time_grid.proofs.OnePlan.{sum_by-zero}
 use Rattle.time_grid.proofs.PointPlan.{in_own}
 use Rattle.time_grid.proofs.PointSums.{total-minus}
 use Rattle.row_kit.specs.declared.row.Row.{Row}

@@ -24,7 +24,8 @@ use Rattle.proof_tree.specs.Cap.{Bounds, Settles}
 use Rattle.proof_tree.specs.Relaxation.{IsSound}
 use Rattle.proof_tree.specs.Views.{View, Point}
 use Rattle.row_relax.specs.Settle.{are_single, is_lawful, only_point, settled}
-use Rattle.row_relax.specs.Steps.{kept_at, row_steps, shown_if}
+use Rattle.row_kit.specs.Points.{kept_at}
+use Rattle.row_relax.specs.Steps.{row_steps, shown_if}
 use Rattle.row_relax.specs.View.{Fits, IsIn, domains_of}
 use Rattle.row_relax.specs.laws.Lawful.{lawful_true, true_lawful}
 use Rattle.row_kit.proofs.Parts.{held_byte, over_holds, shared_holds, shared_normal, up_to_holds}

@@ -4,4 +4,4 @@ use Rattle.dual_bound.proofs.Fit.{open_decides}
 use Rattle.dual_bound.proofs.totals.each_open.Goals as goal
 
 pub returns-clause-value : goal.returns-clause-value
-returns-clause-value c = open_decides c.has_empty.result (present c.args.area.now) c.has_empty.ensures.0 c.has_empty.ensures.1
+returns-clause-value c = open_decides c.has_empty.result (present c.args.area.now) c.has_empty.ensures.bare.0 c.has_empty.ensures.bare.1

@@ -1,21 +1,19 @@
 -- One entry more is added.
-use Rattle.std.proofs.Common.{◌≡◌, ◌∙◌, ◌+◌, ◌≤◌, ◌^◌, ◌<◌, ℕ, List, length, get_or, drop, ap, sym, subst, ℤ, pos, ◌+ℤ◌, ◌-ℤ◌, ◌*ℤ◌, to_z, of_z, unsigned_abs, arith}
+use Rattle.std.proofs.Common.{◌≡◌, ◌∙◌, ◌+◌, ◌^◌, ◌<◌, ℕ, List, length, get_or, drop, ap, sym, subst, ℤ, pos, ◌+ℤ◌, ◌-ℤ◌, ◌*ℤ◌, to_z, of_z, arith}
 use Rattle.std.proofs.lemmas.Int.{ints}
-use Rattle.std.proofs.lemmas.List.{at_drop_more, get_or_read}
+use Rattle.std.proofs.lemmas.List.{at_drop_more}
 use Rattle.row_kit.specs.Area.{present}
 use Rattle.row_kit.specs.declared.domain.Domain.{Domain}
 use Rattle.row_kit.specs.declared.row.Entry.{Entry}
 use Rattle.row_kit.specs.Domain.{domain_at, values_of}
 use Rattle.row_kit.specs.Row.{counted}
 use Rattle.row_kit.proofs.Ascending.{no_entry}
-use Rattle.dual_bound.specs.declared.line.Line.{Line}
 use Rattle.dual_bound.specs.Line.{line_at, slot_line}
 use Rattle.dual_bound.specs.Total.{greatest}
 use Rattle.dual_bound.proofs.Fit.{few_entries}
 use Rattle.dual_bound.proofs.Greatest.{greatest_same}
 use Rattle.dual_bound.proofs.LineSums.{no_line, within_le}
 use Rattle.dual_climb.specs.laws.Along.{entries_part, freed}
-use Rattle.dual_climb.proofs.Moved.{wide_row}
 use Rattle.dual_climb.proofs.along.fall_to.Goals as goal
 use mir.Syntax.{w128}
 

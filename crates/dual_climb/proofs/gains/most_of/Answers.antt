@@ -1,5 +1,5 @@
 -- One slot more has its most.
-use Rattle.std.proofs.Common.{◌≡◌, ◌∙◌, ◌+◌, ◌<◌, ◌≤◌, ◌^◌, ℕ, length, get_or, set, replicate, sym, ap, subst, ⊎_elim, ℤ, pos, to_z, of_z, unsigned_abs, arith}
+use Rattle.std.proofs.Common.{◌≡◌, ◌∙◌, ◌<◌, ◌≤◌, ◌^◌, ℕ, get_or, set, sym, ap, subst, ⊎_elim, ℤ, pos, to_z, of_z, unsigned_abs, arith}
 use mir.Syntax.{w128}
 use Rattle.std.proofs.lemmas.Bool.{cases_lt}
 use Rattle.std.proofs.lemmas.List.{get_or-set_same, get_or-set_other, length-set}

@@ -1,13 +1,10 @@
 -- A change takes the fall along the row off the total.
-use Rattle.std.proofs.Common.{◌≡◌, ◌∙◌, ◌+◌, ◌<◌, ◌≤◌, ◌^◌, ℕ, ℤ, List, length, get_or, ap, sym, subst, pos, ◌+ℤ◌, ◌-ℤ◌, ◌≤ℤ◌, ◌<ℤ◌, unsigned_abs, set, arith}
+use Rattle.std.proofs.Common.{◌≡◌, ◌∙◌, ◌+◌, ◌<◌, ◌≤◌, ◌^◌, ℕ, ℤ, length, ap, sym, subst, pos, ◌+ℤ◌, ◌-ℤ◌, ◌≤ℤ◌, ◌<ℤ◌, unsigned_abs, arith}
 use Rattle.std.proofs.lemmas.Int.{ints}
 use Rattle.std.proofs.lemmas.List.{get_or_read}
 use Rattle.row_kit.specs.Area.{present}
 use Rattle.dual_bound.specs.declared.cert.Mult.{Mult}
-use Rattle.dual_bound.specs.Total.{total_of}
-use Rattle.dual_climb.specs.Factors.{cert_of}
 use Rattle.dual_climb.specs.laws.Along.{part_along}
-use Rattle.dual_climb.specs.laws.Held.{IsHeld}
 use Rattle.dual_climb.specs.laws.Sums.{no_mult}
 use Rattle.dual_climb.proofs.Small.{total_small}
 use Rattle.dual_climb.proofs.Steps.{fall_shown, fell_by, held_part, less_fall, lowered_one, moved_read, moved_total, own_of, read_row, stays_best}

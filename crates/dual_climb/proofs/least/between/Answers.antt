@@ -1,5 +1,5 @@
 -- The ends have met where neither neighbour is less.
-use Rattle.std.proofs.Common.{◌≡◌, ◌+◌, ◌-◌, ◌<◌, ◌≤◌, ◌^◌, ℕ, sym, subst, arith, ◌≤ℤ◌}
+use Rattle.std.proofs.Common.{◌≡◌, ◌+◌, ◌-◌, ◌<◌, ◌^◌, ℕ, sym, subst, arith, ◌≤ℤ◌}
 use Rattle.row_kit.specs.Area.{present}
 use Rattle.dual_climb.specs.laws.Along.{part_along}
 use Rattle.dual_climb.proofs.Convex.{least_by_neighbours, not_rising, part_convex}

@@ -1,5 +1,5 @@
 -- A pass that changes something lowers the total.
-use Rattle.std.proofs.Common.{◌≡◌, ℕ, ◌<◌, ◌^◌, ℤ, pos, ◌+ℤ◌, ◌≤ℤ◌, subst, sym, unsigned_abs, arith}
+use Rattle.std.proofs.Common.{ℕ, ◌<◌, ◌^◌, ℤ, pos, ◌+ℤ◌, ◌≤ℤ◌, subst, sym, unsigned_abs, arith}
 use Rattle.row_kit.specs.Area.{present}
 use Rattle.std.proofs.lemmas.Bool.{false≢true}
 use Rattle.std.proofs.lemmas.Int.{ints}

@@ -8,7 +8,7 @@ use Rattle.dual_bound.specs.Cap.{scaled_cap}
 use Rattle.dual_climb.specs.Factors.{cert_of}
 use Rattle.dual_climb.specs.Polished.{IsReached}
 use Rattle.dual_climb.specs.RowBest.{BestBy}
-use Rattle.dual_climb.proofs.Lowered.{lowered_more, lowered_none}
+use Rattle.dual_climb.proofs.Lowered.{lowered_more}
 use Rattle.dual_climb.proofs.Passes.{each_or, one_more}
 use Rattle.dual_climb.proofs.polishing.pass.Goals as goal
 use Rattle.dual_climb.proofs.polishing.pass.Goals.{then-step, else-step}

@@ -3,7 +3,6 @@ use Rattle.std.proofs.Common.{◌≡◌, ◌∙◌, ℕ, length, ap, subst, sym,
 use Rattle.row_kit.specs.Area.{present}
 use Rattle.dual_bound.specs.declared.cert.Cert.{Cert}
 use Rattle.dual_bound.specs.Total.{are_fit}
-use Rattle.dual_climb.specs.Factors.{cert_of}
 use Rattle.dual_climb.specs.laws.Sums.{weighted}
 use Rattle.dual_climb.proofs.Ended.{done_changed, done_kept, Descended, IsDone}
 use Rattle.dual_climb.proofs.polishing.polish.Goals as goal

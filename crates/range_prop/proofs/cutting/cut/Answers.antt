@@ -19,18 +19,18 @@ pub returns-then-has_empty-clause-marks : goal.returns-then-has_empty-clause-mar
 returns-then-has_empty-clause-marks c =
     let marks = c.args.area.now in
     let row = row_at c.args.program.now.rows c.args.row in
-    let bare = sym (bare_decides c.has_empty.result (present marks) c.has_empty.ensures.0 c.has_empty.ensures.1) ∙ c.if-has_empty.true in
+    let bare = sym (bare_decides c.has_empty.result (present marks) c.has_empty.ensures.bare.0 c.has_empty.ensures.bare.1) ∙ c.if-has_empty.true in
     sym (ap (with_domain marks c.args.slot) (cut_bare row c.args.slot (present marks) bare) ∙ with_domain_same marks c.args.slot c.requires.slot)
 
 pub returns-then-has_empty-clause-shrank : goal.returns-then-has_empty-clause-shrank
 returns-then-has_empty-clause-shrank c =
     let ds = present c.args.area.now in
     let row = row_at c.args.program.now.rows c.args.row in
-    let bare = sym (bare_decides c.has_empty.result ds c.has_empty.ensures.0 c.has_empty.ensures.1) ∙ c.if-has_empty.true in
+    let bare = sym (bare_decides c.has_empty.result ds c.has_empty.ensures.bare.0 c.has_empty.ensures.bare.1) ∙ c.if-has_empty.true in
     sym (ap (λ (d : Domain). not (is_same (domain_at ds c.args.slot) d)) (cut_bare row c.args.slot ds bare) ∙ ap not (is_same_refl (domain_at ds c.args.slot)))
 
 pub cut_open-requires-clause-open_ : goal.cut_open-requires-clause-open_
-cut_open-requires-clause-open_ c = sym (bare_decides c.has_empty.result (present c.args.area.now) c.has_empty.ensures.0 c.has_empty.ensures.1) ∙ c.if-has_empty.false
+cut_open-requires-clause-open_ c = sym (bare_decides c.has_empty.result (present c.args.area.now) c.has_empty.ensures.bare.0 c.has_empty.ensures.bare.1) ∙ c.if-has_empty.false
 
 -- the domains afterwards
 after : (c : goal.After-cut_open) → present c.cut_open.new.area ≡ set (present c.args.area.now) c.args.slot (cut_domain (row_at c.args.program.now.rows c.args.row) c.args.slot (present c.args.area.now))

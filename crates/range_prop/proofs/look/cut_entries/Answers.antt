@@ -13,7 +13,8 @@ use Rattle.row_kit.specs.Domain.{Holds, domain_at, no_values}
 use Rattle.row_kit.specs.Row.{counted, no_row, row_at}
 use Rattle.row_kit.proofs.Ascending.{no_entry}
 use Rattle.row_kit.proofs.Marks.{take-with_domain}
-use Rattle.range_prop.specs.Cut.{least_counted, least_sum}
+use Rattle.range_prop.specs.Cut.{least_counted}
+use Rattle.range_prop.specs.laws.Sums.{least_sum}
 use Rattle.range_prop.proofs.Looks.{IsCutTo, look_cut, look_kept}
 use Rattle.range_prop.proofs.Rooms.{HasRoom-near}
 use Rattle.range_prop.proofs.Sequences.{HasCut-keeps, HasCut-none, HasCut-slots, take-then}

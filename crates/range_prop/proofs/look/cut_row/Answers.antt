@@ -11,7 +11,8 @@ use Rattle.row_kit.specs.declared.row.Row.{Row}
 use Rattle.row_kit.specs.Area.{present}
 use Rattle.row_kit.proofs.Ascending.{few_entries}
 use Rattle.row_kit.proofs.Marks.{take-with_domain}
-use Rattle.range_prop.specs.Cut.{cut_domain, least_sum}
+use Rattle.range_prop.specs.Cut.{cut_domain}
+use Rattle.range_prop.specs.laws.Sums.{least_sum}
 use Rattle.range_prop.proofs.Looks.{look_none}
 use Rattle.range_prop.proofs.look.cut_row.Goals as goal
 

@@ -49,7 +49,7 @@ returns-clause-quiet c = λ more.
     let new' = c.wake_touched.new.queue.waiting.items in
     let is = new_cuts rows c.args.area.now c.cut_row.new.area c.args.cuts.now.items c.cut_row.new.cuts.items c.deref.result.now c.len-listed.result h (omega (arith, c.len-listed.ensures, c.args.cuts.now.ok.0)) c.deref.ensures.value in
     let woken = subst (All (λ (x : RowCut). AreAwake new' c.args.row (list_of c.args.index.now x.slot))) is c.in_ok-wake_touched.ensures.woken in
-    let own = own_room c.has_empty.result (Any IsBare (present c.cut_row.new.area)) (All IsOpen (present c.cut_row.new.area)) (HasRoom (present c.cut_row.new.area) (row_at rows c.args.row)) c.in_ok-cut_row.ensures.done c.has_empty.ensures.1 c.if-has_empty.false in
+    let own = own_room c.has_empty.result (Any IsBare (present c.cut_row.new.area)) (All IsOpen (present c.cut_row.new.area)) (HasRoom (present c.cut_row.new.area) (row_at rows c.args.row)) c.in_ok-cut_row.ensures.done c.has_empty.ensures.bare.1 c.if-has_empty.false in
     look_quiet rows c.args.index.now c.args.row c.args.area.now c.cut_row.new.area c.args.cuts.now.items c.cut_row.new.cuts.items h old new' c.requires.index c.slot_count-slots.ensures.normal c.requires.quiet c.wake_touched.ensures.kept woken own.1
 
 pub returns-clause-less : goal.returns-clause-less

@@ -1,7 +1,7 @@
 -- The sum so far and the least entries that are left give the whole.
 use Rattle.std.proofs.Common.{◌≡◌, ◌*◌, ◌^◌, ◌≤◌, ◌+ℤ◌, unsigned_abs, drop}
 use Rattle.row_kit.specs.Area.{present}
-use Rattle.range_prop.specs.Cut.{least_sum}
+use Rattle.range_prop.specs.laws.Sums.{least_sum}
 use Rattle.range_prop.proofs.sums.least_sum.Given as goal
 
 abbrev pub invariant-loop-entry : goal.invariant-loop-entry

@@ -45,7 +45,7 @@ settled_worth program ds n e h is =
 pub returns-then-not-is_point : goal.returns-then-not-is_point
 returns-then-not-is_point c =
     let ds = present c.args.area.now in
-    settled_bad c.args.program.now ds (sym (single_decides c.is_point.result ds c.is_point.ensures.0 c.is_point.ensures.1) ∙ c.if-not-is_point.true)
+    settled_bad c.args.program.now ds (sym (single_decides c.is_point.result ds c.is_point.ensures.single.0 c.is_point.ensures.single.1) ∙ c.if-not-is_point.true)
 
 pub returns-then-is_lawful : goal.returns-then-is_lawful
 returns-then-is_lawful c =
@@ -53,7 +53,7 @@ returns-then-is_lawful c =
     let ds = present c.args.area.now in
     let point = take c.slot_count-slots.result c.values_of-values.result in
     let at : point ≡ only_point ds = ap (λ (n : ℕ). take n c.values_of-values.result) c.slot_count-slots.ensures.count ∙ c.values_of-values.ensures.values in
-    let single = sym (single_decides c.is_point.result ds c.is_point.ensures.0 c.is_point.ensures.1) ∙ c.if-not-is_point.false in
+    let single = sym (single_decides c.is_point.result ds c.is_point.ensures.single.0 c.is_point.ensures.single.1) ∙ c.if-not-is_point.false in
     let lawful = sym (ap (is_lawful program) at) ∙ sym (lawful_decides c.is_lawful.result program point c.is_lawful.ensures.0 c.is_lawful.ensures.1) ∙ c.if-is_lawful.true in
     let exact : to_z w128 (of_z w128 c.worth.result) ≡ c.worth.result = omega (arith, ints, c.worth.type_inv) in
     settled_worth program ds (to_z w128 (of_z w128 c.worth.result)) single lawful (exact ∙ c.worth.ensures.worth ∙ ap (worth_of program) at)
@@ -64,5 +64,5 @@ returns-else-is_lawful c =
     let ds = present c.args.area.now in
     let point = take c.slot_count-slots.result c.values_of-values.result in
     let at : point ≡ only_point ds = ap (λ (n : ℕ). take n c.values_of-values.result) c.slot_count-slots.ensures.count ∙ c.values_of-values.ensures.values in
-    let single = sym (single_decides c.is_point.result ds c.is_point.ensures.0 c.is_point.ensures.1) ∙ c.if-not-is_point.false in
+    let single = sym (single_decides c.is_point.result ds c.is_point.ensures.single.0 c.is_point.ensures.single.1) ∙ c.if-not-is_point.false in
     settled_none program ds single (sym (ap (is_lawful program) at) ∙ sym (lawful_decides c.is_lawful.result program point c.is_lawful.ensures.0 c.is_lawful.ensures.1) ∙ c.if-is_lawful.false)

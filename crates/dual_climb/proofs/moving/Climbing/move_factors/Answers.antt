@@ -1,5 +1,5 @@
 -- Each row has a factor.
-use Rattle.std.proofs.Common.{length, arith}
+use Rattle.std.proofs.Common.{arith}
 use Rattle.dual_climb.proofs.moving.Climbing.move_factors.Goals as goal
 
 pub index-requires : goal.index-requires

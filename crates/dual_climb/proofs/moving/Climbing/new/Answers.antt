@@ -1,7 +1,6 @@
 -- The certificate's factors, one for each row.
-use Rattle.std.proofs.Common.{◌≡◌, ◌∙◌, ℕ, List, length, ap, sym, subst, arith}
+use Rattle.std.proofs.Common.{◌∙◌, ℕ, length, ap, sym, subst, arith}
 use Rattle.row_kit.specs.Area.{present}
-use Rattle.dual_bound.specs.declared.cert.Mult.{Mult}
 use Rattle.dual_climb.specs.laws.Sums.{weighted, HaveSameSums, IsFull}
 use Rattle.dual_climb.proofs.Sums.{gain_same}
 use Rattle.dual_climb.proofs.Usable.{keeps}

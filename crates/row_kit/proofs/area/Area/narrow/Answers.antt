@@ -6,6 +6,7 @@ use Rattle.row_kit.specs.Domain.{Holds, IsNormal, count_of, domain_at, no_values
 use Rattle.row_kit.specs.Area.{present, history, is_same, with_domain}
 use Rattle.row_kit.proofs.Domains.{shared_fewer}
 use Rattle.row_kit.proofs.Histories.{present_is, present-history}
+use Rattle.row_kit.proofs.Marks.{present-with_domain}
 use Rattle.row_kit.proofs.area.Area.narrow.Goals as goal
 
 pub index-requires : goal.index-requires
@@ -77,3 +78,8 @@ returns-clause-normal c =
     let is = present_is ds a.trail.items c.args.self.now c.self.view_is in
     let lt : c.args.slot < length ds = omega (arith, ap length is) in
     subst (λ (v : List Domain). IsNormal (domain_at v c.args.slot)) (sym is) (c.self.invariant.normal c.args.slot no_values lt)
+
+pub returns-clause-domains : goal.returns-clause-domains
+returns-clause-domains c =
+    let marks = c.args.self.now in
+    ap present (returns-clause-marks c) ∙ present-with_domain marks c.args.slot (shared (domain_at (present marks) c.args.slot) c.args.other) c.requires.slot

@@ -10,4 +10,4 @@ use Rattle.row_relax.proofs.rows.RowsRelaxation.empty.Goals as goal
 
 pub returns : goal.returns
 unfolding row_steps
-returns c = bare_decides c.has_empty.result (present c.args.area.now) c.has_empty.ensures.0 c.has_empty.ensures.1 ∙ sym (ap (list_any is_bare) (domains-views c.args.area.now))
+returns c = bare_decides c.has_empty.result (present c.args.area.now) c.has_empty.ensures.bare.0 c.has_empty.ensures.bare.1 ∙ sym (ap (list_any is_bare) (domains-views c.args.area.now))

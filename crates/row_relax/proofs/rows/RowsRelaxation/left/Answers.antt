@@ -10,7 +10,8 @@ use Rattle.row_kit.specs.Domain.{IsNormal, domain_at, no_values, up_to, shared}
 use Rattle.row_kit.proofs.Marks.{present-with_domain}
 use Rattle.row_kit.proofs.Parts.{shared_normal}
 use Rattle.proof_tree.specs.Views.{MovesTo}
-use Rattle.row_relax.specs.Steps.{kept_at, row_steps, shown_if}
+use Rattle.row_kit.specs.Points.{kept_at}
+use Rattle.row_relax.specs.Steps.{row_steps, shown_if}
 use Rattle.row_relax.specs.View.{view_of}
 use Rattle.row_relax.proofs.Marks.{domains-views, fits_normal, fits_now, fits_slots, moves_nowhere, moves_there}
 use Rattle.row_relax.proofs.rows.RowsRelaxation.left.Goals as goal
