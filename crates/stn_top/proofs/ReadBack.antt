@@ -1,19 +1,12 @@
 -- The text of an answer, read as plan text, says the answer's plan.
-use Rattle.std.proofs.Common.{◌≡◌, ◌≢◌, ℕ, ℤ, pos, negsuc, suc, true, false, inl, inr, ◌+◌, ◌*◌, ◌%◌, ◌<◌, ◌≤◌, ◌^◌, List, [], ◌∷◌, ◌++◌, length, get_or, map, Option, Some, None, codes, decimal, sym, ap, ◌∙◌, refl, arith, append_assoc, length-append}
-use Rattle.std.specs.Prelude.{All, Ok, slice_index_or}
+use Rattle.std.proofs.Common.{◌≡◌, ◌≢◌, ℕ, ℤ, pos, negsuc, suc, true, false, inl, inr, ◌+◌, ◌%◌, ◌<◌, ◌≤◌, ◌^◌, List, [], ◌∷◌, ◌++◌, length, get_or, Option, Some, None, codes, decimal, sym, ap, ◌∙◌, refl, arith, append_assoc, length-append}
+use Rattle.std.specs.Prelude.{All, Ok}
 use Rattle.std.specs.Fmt.{signed_decimal}
-use Rattle.std.specs.List.{flat_map, list_all}
+use Rattle.std.specs.List.{list_all}
 use Rattle.std.specs.Prelude.{not, ◌==◌}
 use Rattle.std.proofs.lemmas.List.Recursion.{and_at}
 use Rattle.std.proofs.lemmas.List.Sorted.{length_permutation}
 use Rattle.std.proofs.lemmas.Bool.{false≢true, cases_Bool}
-use Rattle.std.proofs.lemmas.Bool.Decides.{nat_tests}
-use Rattle.std.specs.Char.{is_ascii_alphabetic}
-use Rattle.std.specs.Prelude.{Bool, ◌&&◌, nat_le, IsTrue}
-use Rattle.std.proofs.lemmas.List.{get_or-map}
-use Rattle.stn_model.specs.Plant.{no_task}
-use Rattle.stn_model.specs.Sound.{is_name, is_name_byte}
-use Rattle.plan_text.specs.PlanLines.{IsNamed}
 use Rattle.std.proofs.lemmas.List.Elements.{All-append, All-cons}
 use Rattle.std.proofs.lemmas.Fmt.{decimal_by_steps_wide, length-decimal-le_wide}
 use Rattle.stn_model.specs.declared.plant.Plant.{Plant}
@@ -31,12 +24,14 @@ use Rattle.std.specs.Prelude.{Result, Err, IfOk}
 use Rattle.time_grid.specs.Slots.{slots}
 use Rattle.time_grid.specs.PlanPoint.{plan_point, point_starts}
 use Rattle.time_grid.proofs.SlotList.{length-slots}
-use Rattle.time_grid.proofs.OnePlan.{starts-permutation, has_point-feasible, ends_later}
+use Rattle.stn_model.proofs.Fitting.{ends_later, fit_parts}
+use Rattle.time_grid.proofs.OnePlan.{starts-permutation, has_point-feasible}
 use Rattle.time_grid.proofs.PlanPoints.{quanta_most}
-use Rattle.plan_text.specs.PlanLines.{plan_line, plan_lines, start_words, unit_names, task_names}
+use Rattle.plan_text.specs.PlanLines.{plan_lines}
 use Rattle.plan_text.specs.PlanText.{plan_of_text}
 use Rattle.plan_text.specs.ReadsBack.{IsRemark, comment_lines, IsWritable, ReadsBack}
 use Rattle.plan_text.proofs.Again.{ReadsBack-lines}
+use Rattle.plan_text.proofs.Short.{short-lines}
 use Rattle.stn_top.specs.Solving.{answer_text, boxes_line, profit_word, status_of, printed_plan, IsMoney, IsInMoney}
 use Rattle.stn_top.proofs.Named.{named-Feasible}
 
@@ -191,7 +186,7 @@ record IsSmallStart (start : Start) : Type 0 where
 small-start : (plant : Plant) (start : Start) → Sound plant → Fits plant start → IsSmallStart start
 small-start plant start sound fits =
     let later = ends_later plant start sound fits in
-    let ends = fits.ends in
+    let ends = (fit_parts plant start fits).ends in
     let most = sound.counts.periods in
     record { period = omega (arith, later, ends, most.1); quanta = quanta_most plant start sound fits }
 
@@ -201,65 +196,23 @@ writable plant plan sound feasible k d within =
     let small = small-start plant (get_or plan k d) sound (feasible.fits k d within) in
     record { named = named; period = omega (arith, small.period); quanta = omega (arith, small.quanta) }
 
--- the last of two tests that hold
-last_test : (a b : Bool) → (a && b) ≡ true → b ≡ true
-last_test true b holds = holds
-last_test false b holds = absurd (false≢true holds)
-
--- a name has at most 32 bytes
-short-name : (name : List ℕ) → is_name name ≡ true → length name ≤ 32
-short-name [] is = omega arith
-short-name (first ∷ others) is =
-    let most : nat_le (length (first ∷ others)) 32 ≡ true = last_test (is_ascii_alphabetic first && list_all is_name_byte (first ∷ others)) (nat_le (length (first ∷ others)) 32) is in
-    grind (arith, nat_tests)
-
--- the name at a place among names
-short-at : {X : Type 0} (name_of : X → List ℕ) (xs : List X) (i : ℕ) (d : X) → i < length xs → All (λ x. IsTrue (is_name (name_of x))) xs → length (slice_index_or (map name_of xs) i []) ≤ 32
-short-at name_of xs i d within named = rw (get_or-map name_of xs i d [] within) (short-name (name_of (get_or xs i d)) (named i d within))
-
--- the line of a start is short
-short-line : (plant : Plant) (start : Start) → Sound plant → IsNamed plant start → IsSmallStart start → length (plan_line plant start) ≤ 80
-unfolding plan_line start_words
-short-line plant start sound named small =
-    let unit = slice_index_or (unit_names plant) start.unit [] in
-    let task = slice_index_or (task_names plant) start.task [] in
-    let unit_short : length unit ≤ 32 = short-at (λ x. x.name) plant.units start.unit (record { name = [] }) named.unit sound.units in
-    let task_short : length task ≤ 32 = short-at (λ x. x.name) plant.tasks start.task no_task named.task (λ k d w. (sound.tasks k d w).name) in
-    let period = length-decimal-le_wide 3 start.period (omega arith) (omega (arith, small.period)) (omega (arith, small.period)) in
-    let quanta = length-decimal-le_wide 3 start.quanta (omega arith) (omega (arith, small.quanta)) (omega (arith, small.quanta)) in
-    let a = length-append (decimal start.period ++ (32 ∷ (unit ++ (32 ∷ (task ++ (32 ∷ decimal start.quanta)))))) (10 ∷ []) in
-    let b = length-append (decimal start.period) (32 ∷ (unit ++ (32 ∷ (task ++ (32 ∷ decimal start.quanta))))) in
-    let e = length-append unit (32 ∷ (task ++ (32 ∷ decimal start.quanta))) in
-    let f = length-append task (32 ∷ decimal start.quanta) in
-    omega (arith, unit_short, task_short, period, quanta, a, b, e, f)
-
--- pieces of at most 80 bytes
-pieces-short : (f : Start → List ℕ) (xs : List Start) → All (λ x. length (f x) ≤ 80) xs → length (flat_map f xs) ≤ 80 * length xs
-pieces-short f [] short = omega arith
-pieces-short f (x ∷ xs) short =
-    let first : length (f x) ≤ 80 = short 0 x (omega arith) in
-    let others = pieces-short f xs (λ k d within. short (suc k) d (omega arith)) in
-    omega (arith, first, others, length-append (f x) (flat_map f xs))
-
 -- ---- the answer
 
--- the lines of few starts that can be written in short lines, after short remarks, say the plan
-reads-lines : (plant : Plant) (plan : List Start) (lines : List (List ℕ)) → Sound plant → length plan ≤ 512 → All (IsWritable plant) plan → All (λ start. length (plan_line plant start) ≤ 80) plan → AreRemarks lines
+-- the lines of few starts that can be written, after short remarks, say the plan
+reads-lines : (plant : Plant) (plan : List Start) (lines : List (List ℕ)) → Sound plant → length plan ≤ 512 → All (IsWritable plant) plan → AreRemarks lines
     → plan_of_text plant (comment_lines lines ++ plan_lines plant plan) ≡ Ok plan
-unfolding ReadsBack plan_lines
-reads-lines plant plan lines sound few can short are =
-    let long = pieces-short (plan_line plant) plan short in
-    ReadsBack-lines plant plan sound (omega (arith, few)) can lines are.plain (omega (arith, few, long, are.short, length-append (comment_lines lines) (flat_map (plan_line plant) plan)))
+unfolding ReadsBack
+reads-lines plant plan lines sound few can are =
+    let long = short-lines plant plan sound can in
+    ReadsBack-lines plant plan sound (omega (arith, few)) can lines are.plain (omega (arith, few, long, are.short, length-append (comment_lines lines) (plan_lines plant plan)))
 
 -- the lines of a feasible plan
 reads-feasible : (plant : Plant) (plan : List Start) (lines : List (List ℕ)) → Sound plant → Feasible plant plan → AreRemarks lines → plan_of_text plant (comment_lines lines ++ plan_lines plant plan) ≡ Ok plan
-reads-feasible plant plan lines sound feasible are =
-    reads-lines plant plan lines sound (few-starts plant plan sound feasible) (writable plant plan sound feasible)
-    (λ k d within. short-line plant (get_or plan k d) sound (named-Feasible plant plan sound feasible k d within) (small-start plant (get_or plan k d) sound (feasible.fits k d within))) are
+reads-feasible plant plan lines sound feasible are = reads-lines plant plan lines sound (few-starts plant plan sound feasible) (writable plant plan sound feasible) are
 
 -- no lines
 reads-nothing : (plant : Plant) (lines : List (List ℕ)) → Sound plant → AreRemarks lines → plan_of_text plant (comment_lines lines ++ plan_lines plant []) ≡ Ok []
-reads-nothing plant lines sound are = reads-lines plant [] lines sound (omega arith) (λ k d within. absurd (omega arith)) (λ k d within. absurd (omega arith)) are
+reads-nothing plant lines sound are = reads-lines plant [] lines sound (omega arith) (λ k d within. absurd (omega arith)) are
 
 -- what the comments and lines of a right answer say
 reads-answer : (plant : Plant) (budget used : ℕ) (answer : Answer) (lines : List (List ℕ)) → Sound plant → IsAnswer plant budget used answer → AreRemarks lines → plan_of_text plant (comment_lines lines ++ plan_lines plant (printed_plan answer)) ≡ Ok (printed_plan answer)
