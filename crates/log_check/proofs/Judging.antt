@@ -22,8 +22,8 @@ use Rattle.proof_tree.proofs.WalkTree.{walked-bounds, walked-is_tree}
 use Rattle.row_relax.specs.declared.pick.RowPick.{RowPick}
 use Rattle.row_kit.specs.Domain.{IsNormal}
 use Rattle.row_relax.specs.declared.rows.Rows.{Rows}
-use Rattle.row_relax.specs.Laws.{rows_sound}
-use Rattle.row_relax.specs.Shown.{domains_of-view_of, fits_of}
+use Rattle.row_relax.specs.laws.Laws.{rows_sound}
+use Rattle.row_relax.specs.laws.Shown.{domains_of-view_of, fits_of}
 use Rattle.row_relax.specs.Steps.{row_steps}
 use Rattle.row_relax.specs.View.{Fits, IsIn, view_of}
 use Rattle.stn_edge.specs.Files.{FileMap, file_of}

@@ -7,7 +7,9 @@ use Rattle.std.proofs.lemmas.List.Elements.{All-head, All-tail}
 use Rattle.std.proofs.lemmas.Bool.{cases_eq, eq-eqb, ne_eqb}
 use Rattle.stn_model.specs.declared.plant.Run.{Run}
 use Rattle.stn_model.specs.Fits.{Fits}
-use Rattle.time_grid.specs.Slots.{run_at, IsSlotOf}
+use Rattle.stn_model.specs.Plant.{run_at}
+use Rattle.stn_model.proofs.Fitting.{fit_parts}
+use Rattle.time_grid.specs.Slots.{IsSlotOf}
 use Rattle.time_grid.specs.PlanPoint.{start_in, IsChoice}
 use Rattle.time_grid.proofs.SlotList.{slots-are}
 use Rattle.time_grid.proofs.PointPlan.{found_run, starts-of_point}
@@ -52,7 +54,7 @@ feasible-point plant program means plan feasible =
 -- a start that fits in a slot has a size of the slot's run
 choice-fits : (plant : Plant) (slot : ℕ × ℕ) (value : ℕ) → Sound plant → IsSlotOf plant slot → Fits plant (start_in plant slot value) → ((run_at plant slot.0).min ≤ value) × (value ≤ (run_at plant slot.0).max)
 choice-fits plant slot value sound is fits =
-    subst (λ (o : Option Run). IsSomeAnd o (λ run. (run.min ≤ value) × (value ≤ run.max))) (found_run plant slot.0 sound is.run) fits.size
+    subst (λ (o : Option Run). IsSomeAnd o (λ run. (run.min ≤ value) × (value ≤ run.max))) (found_run plant slot.0 sound is.run) (fit_parts plant (start_in plant slot value) fits).size
 
 -- where all starts of some values fit, each value is one that its slot can take
 choices-fit : (plant : Plant) (grid : List (ℕ × ℕ)) (values : List ℕ) → Sound plant → All (IsSlotOf plant) grid → length values ≡ length grid → All (Fits plant) (point_starts plant grid values) → AllZip (IsChoice plant) grid values
