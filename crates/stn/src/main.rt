@@ -1,8 +1,8 @@
 //! The program `stn`: its words, the files of the operating system and standard output, and an exit
 //! status. All of its work is `stn_top::run`.
 //!
-//! Promises: it ends on every input, nothing goes to standard error, and whatever `run` answers is
-//! the exit status.
+//! It is proved to be safe and to end on every input. No clause says that it hands on its words and the
+//! status that `run` answers: a run of it shows that.
 #![tactic(auto)]
 
 use std::alloc::{AllocError, AllocFailed};

@@ -5,7 +5,7 @@ ghost use Rattle.proof_tree.specs.Form.{AreWhole};
 ghost use Rattle.proof_tree.specs.Items.{tree_items};
 ghost use Rattle.proof_tree.specs.Tree.{Tree, tree_cap};
 ghost use Rattle.proof_tree.specs.Views.{present};
-ghost use Rattle.proof_tree.specs.ByteRange.{IsNumberIn, number_of, range_steps, ranges, range_sound};
+ghost use Rattle.stn_tests.specs.ByteRange.{IsNumberIn, number_of, range_steps, ranges, range_sound};
 
 use proof_tree::{
     Built, Capped, End, Item, List, NodeTaker, Proof, Relaxation, TakeStop, Took, TreeBuilder,

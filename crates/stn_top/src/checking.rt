@@ -32,7 +32,8 @@ pub fn check_file<F: Shelf>(
     requires log_readable { IsTrue (F.may_read files.old log.now) }
     ensures answer { IfReplied result (λ reply. IsAnswer (F.files files.old)
         (Checking plant.now log.now) reply.status reply.text.items) }
-    ensures fault { result ≡ Err Stopped.ReadFault → Rose (F.read_faults files.old) (F.read_faults files.new) }
+    ensures fault { result ≡ Err Stopped.ReadFault
+        → Rose (F.read_faults files.old) (F.read_faults files.new) }
     ensures same { F.files files.new ≡ F.files files.old }
     ensures readable { F.may_read files.new ≡ F.may_read files.old }
     ensures writable { F.may_write files.new ≡ F.may_write files.old }
@@ -52,10 +53,12 @@ fn check_log<F: Shelf>(
 ) -> Result<Reply, Stopped>
     requires allowed { IsTrue (F.may_read files.old name.now) }
     requires sound { Sound plant.now }
-    ensures answer { IfOk result (λ reply. Checked (option_map (λ m. file_of m name.now) (F.files files.old))
+    ensures answer { IfOk result (λ reply. Checked (option_map
+        (λ m. file_of m name.now) (F.files files.old))
         plant.now reply.status reply.text.items) }
     ensures none { IfRefused result (λ _. ⊥) }
-    ensures fault { result ≡ Err Stopped.ReadFault → Rose (F.read_faults files.old) (F.read_faults files.new) }
+    ensures fault { result ≡ Err Stopped.ReadFault
+        → Rose (F.read_faults files.old) (F.read_faults files.new) }
     ensures same { F.files files.new ≡ F.files files.old }
     ensures readable { F.may_read files.new ≡ F.may_read files.old }
     ensures writable { F.may_write files.new ≡ F.may_write files.old }
@@ -104,14 +107,18 @@ fn claim_text(alloc: Global, claim: &Claim) -> Result<Vec<u8>, AllocError>
 }
 
 fn between_text(alloc: Global, profit: &i128, cap: &i128) -> Result<Vec<u8>, AllocError>
-    ensures { IfOk result (λ text. text.items ≡ codes "yes between " ++ (signed_decimal profit.now ++ (codes " " ++ (signed_decimal cap.now ++ codes "\n")))) }
+    ensures { IfOk result (λ text. text.items
+        ≡ codes "yes between " ++ (signed_decimal profit.now ++ (codes " "
+        ++ (signed_decimal cap.now ++ codes "\n")))) }
 {
     let line = format!(in alloc; "yes between {profit} {cap}\n")?;
     Vec::from_slice(alloc, line.as_bytes())
 }
 
 fn defect_text(alloc: Global, defect: &Defect) -> Result<Vec<u8>, AllocError>
-    ensures { IfOk result (λ text. text.items ≡ codes "no " ++ (decimal defect.now.line ++ (codes " " ++ (decimal defect.now.kind ++ codes "\n")))) }
+    ensures { IfOk result (λ text. text.items
+        ≡ codes "no " ++ (decimal defect.now.line ++ (codes " " ++ (decimal defect.now.kind
+        ++ codes "\n")))) }
 {
     let line = defect.line;
     let kind = defect.kind;

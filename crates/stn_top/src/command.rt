@@ -41,7 +41,8 @@ pub enum Command<'a> {
 
 /// The command that the words say, if they have the form of one. It takes no memory.
 pub fn command_of<'a>(words: &[&'a str]) -> Option<Command<'a>>
-    ensures { MatchOption result (HasNoForm (texts words.now)) (λ command. Says (texts words.now) (meaning command)) }
+    ensures { MatchOption result (HasNoForm (texts words.now))
+        (λ command. Says (texts words.now) (meaning command)) }
 {
     if let Some(command) = solve_of(words) {
         return Some(command);
@@ -59,7 +60,8 @@ pub fn command_of<'a>(words: &[&'a str]) -> Option<Command<'a>>
 }
 
 fn solve_of<'a>(words: &[&'a str]) -> Option<Command<'a>>
-    ensures { MatchOption result ((plant : List ℕ) (budget : ℕ) → ¬ Says (texts words.now) (Solving plant budget))
+    ensures { MatchOption result ((plant : List ℕ) (budget : ℕ)
+        → ¬ Says (texts words.now) (Solving plant budget))
         (λ command. Says (texts words.now) (meaning command)) }
 {
     match words {
@@ -76,7 +78,8 @@ fn solve_of<'a>(words: &[&'a str]) -> Option<Command<'a>>
 // The command on a plan whose first word is this use's.
 fn simulate_of<'a>(words: &[&'a str], word: &str, usage: PlanUse) -> Option<Command<'a>>
     requires { word.now ≡ use_word usage }
-    ensures { MatchOption result ((plant plan : List ℕ) → ¬ Says (texts words.now) (Simulating usage plant plan))
+    ensures { MatchOption result ((plant plan : List ℕ)
+        → ¬ Says (texts words.now) (Simulating usage plant plan))
         (λ command. Says (texts words.now) (meaning command)) }
 {
     match words {
@@ -88,7 +91,8 @@ fn simulate_of<'a>(words: &[&'a str], word: &str, usage: PlanUse) -> Option<Comm
 }
 
 fn check_of<'a>(words: &[&'a str]) -> Option<Command<'a>>
-    ensures { MatchOption result ((plant log : List ℕ) → ¬ Says (texts words.now) (Checking plant log))
+    ensures { MatchOption result ((plant log : List ℕ)
+        → ¬ Says (texts words.now) (Checking plant log))
         (λ command. Says (texts words.now) (meaning command)) }
 {
     match words {
@@ -112,7 +116,8 @@ fn upgrade_of<'a>(words: &[&'a str]) -> Option<Command<'a>>
 }
 
 fn budget_of(word: &str) -> Option<Budget>
-    ensures { MatchOption result ((n : ℕ) → ¬ IsBudget word.now n) (λ budget. IsBudget word.now budget.boxes) }
+    ensures { MatchOption result ((n : ℕ)
+        → ¬ IsBudget word.now n) (λ budget. IsBudget word.now budget.boxes) }
 {
     match read_number(word.as_bytes(), MAX_BUDGET as u64 + 1) {
         Some(number) if 0 < number => Some(Budget {

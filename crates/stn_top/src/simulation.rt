@@ -41,7 +41,8 @@ pub fn simulate_file<F: Shelf>(
     requires plan_readable { IsTrue (F.may_read files.old plan.now) }
     ensures answer { IfReplied result (λ reply. IsAnswer (F.files files.old)
         (Simulating usage plant.now plan.now) reply.status reply.text.items) }
-    ensures fault { result ≡ Err Stopped.ReadFault → Rose (F.read_faults files.old) (F.read_faults files.new) }
+    ensures fault { result ≡ Err Stopped.ReadFault
+        → Rose (F.read_faults files.old) (F.read_faults files.new) }
     ensures same { F.files files.new ≡ F.files files.old }
     ensures readable { F.may_read files.new ≡ F.may_read files.old }
     ensures writable { F.may_write files.new ≡ F.may_write files.old }
@@ -62,7 +63,8 @@ fn simulate_plan(
 ) -> Result<Reply, AllocError>
     requires sound { Sound plant.now }
     requires short { length plan.now < 2 ^ 32 }
-    ensures { IfOk result (λ reply. Simulated usage plant.now plan.now reply.status reply.text.items) }
+    ensures { IfOk result
+        (λ reply. Simulated usage plant.now plan.now reply.status reply.text.items) }
 {
     let verdict = simulate(alloc, plant, plan)?;
     match usage {
@@ -166,7 +168,8 @@ fn utility_name(plant: &Plant, utility: u32) -> &[u8]
 }
 
 fn unfit_text(alloc: Global, place: u32) -> Result<Vec<u8>, AllocError>
-    ensures { IfOk result (λ text. text.items ≡ codes "broken unfit " ++ (decimal (place + 1) ++ codes "\n")) }
+    ensures { IfOk result (λ text. text.items
+        ≡ codes "broken unfit " ++ (decimal (place + 1) ++ codes "\n")) }
 {
     let number = place as u64 + 1;
     let line = format!(in alloc; "broken unfit {number}\n")?;

@@ -37,7 +37,8 @@ pub fn solve_file<F: Shelf>(
     requires { IsTrue (F.may_read files.old name.now) }
     ensures answer { IfReplied result (λ reply. IsAnswer (F.files files.old)
         (Solving name.now budget.boxes) reply.status reply.text.items) }
-    ensures fault { result ≡ Err Stopped.ReadFault → Rose (F.read_faults files.old) (F.read_faults files.new) }
+    ensures fault { result ≡ Err Stopped.ReadFault
+        → Rose (F.read_faults files.old) (F.read_faults files.new) }
     ensures same { F.files files.new ≡ F.files files.old }
     ensures readable { F.may_read files.new ≡ F.may_read files.old }
     ensures writable { F.may_write files.new ≡ F.may_write files.old }
@@ -117,7 +118,8 @@ fn optimal_text(
     profit: &i128,
 ) -> Result<Vec<u8>, AllocError>
     requires { All (IsNamed plant.now) plan.now }
-    ensures { IfOk result (λ text. text.items ≡ answer_text plant.now boxes (Answer.Optimal plan.now profit.now)) }
+    ensures { IfOk result (λ text. text.items
+        ≡ answer_text plant.now boxes (Answer.Optimal plan.now profit.now)) }
 {
     let head = optimal_head(alloc, profit, boxes)?;
     with_plan(alloc, plant, head.as_str(), plan.as_slice())
@@ -139,27 +141,33 @@ fn spent_text(
     cap: &i128,
 ) -> Result<Vec<u8>, AllocError>
     requires { All (IsNamed plant.now) plan.now }
-    ensures { IfOk result (λ text. text.items ≡ answer_text plant.now boxes (Answer.BudgetSpent (Some plan.now) profit.now cap.now)) }
+    ensures { IfOk result (λ text. text.items
+        ≡ answer_text plant.now boxes (Answer.BudgetSpent (Some plan.now) profit.now cap.now)) }
 {
     let head = spent_head(alloc, profit, cap, boxes)?;
     with_plan(alloc, plant, head.as_str(), plan.as_slice())
 }
 
 fn unsettled_text(alloc: Global, boxes: u32, cap: &i128) -> Result<Vec<u8>, AllocError>
-    ensures { IfOk result (λ text. text.items ≡ codes "# budget-spent - " ++ (signed_decimal cap.now ++ (codes "\n" ++ boxes_line boxes))) }
+    ensures { IfOk result (λ text. text.items
+        ≡ codes "# budget-spent - " ++ (signed_decimal cap.now ++ (codes "\n"
+        ++ boxes_line boxes))) }
 {
     let head = format!(in alloc; "# budget-spent - {cap}\n# boxes {boxes}\n")?;
     Vec::from_slice(alloc, head.as_bytes())
 }
 
 fn optimal_head(alloc: Global, profit: &i128, boxes: u32) -> Result<String, AllocError>
-    ensures { IfOk result (λ head. string_bytes head ≡ codes "# optimal " ++ (signed_decimal profit.now ++ (codes "\n" ++ boxes_line boxes))) }
+    ensures { IfOk result (λ head. string_bytes head
+        ≡ codes "# optimal " ++ (signed_decimal profit.now ++ (codes "\n" ++ boxes_line boxes))) }
 {
     format!(in alloc; "# optimal {profit}\n# boxes {boxes}\n")
 }
 
 fn spent_head(alloc: Global, profit: &i128, cap: &i128, boxes: u32) -> Result<String, AllocError>
-    ensures { IfOk result (λ head. string_bytes head ≡ codes "# budget-spent " ++ (signed_decimal profit.now ++ (codes " " ++ (signed_decimal cap.now ++ (codes "\n" ++ boxes_line boxes))))) }
+    ensures { IfOk result (λ head. string_bytes head
+        ≡ codes "# budget-spent " ++ (signed_decimal profit.now ++ (codes " "
+        ++ (signed_decimal cap.now ++ (codes "\n" ++ boxes_line boxes))))) }
 {
     format!(in alloc; "# budget-spent {profit} {cap}\n# boxes {boxes}\n")
 }

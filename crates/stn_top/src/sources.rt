@@ -28,8 +28,10 @@ pub fn plant_in<F: Shelf>(alloc: Global, files: &mut F, name: &str) -> Result<Pl
     requires { IsTrue (F.may_read files.old name.now) }
     ensures read { IfOk result (λ plant. IsReadOf reading (F.files files.old) name.now (Ok plant)) }
     ensures sound { IfOk result Sound }
-    ensures refused { IfRefused result (Refuses reading IsPlantRefusal (F.files files.old) name.now) }
-    ensures fault { result ≡ Err Stopped.ReadFault → Rose (F.read_faults files.old) (F.read_faults files.new) }
+    ensures refused { IfRefused result
+        (Refuses reading IsPlantRefusal (F.files files.old) name.now) }
+    ensures fault { result ≡ Err Stopped.ReadFault
+        → Rose (F.read_faults files.old) (F.read_faults files.new) }
     ensures same { F.files files.new ≡ F.files files.old }
     ensures readable { F.may_read files.new ≡ F.may_read files.old }
     ensures writable { F.may_write files.new ≡ F.may_write files.old }
@@ -60,7 +62,8 @@ fn plant_of(alloc: Global, bytes: &[u8]) -> Result<Plant, Stopped>
 
 // The refusal of a plant file that is too long.
 fn long_plant(alloc: Global) -> Stopped
-    ensures refused { IfRefusal result (λ reply. IsPlantRefusal too_long reply.status reply.text.items) }
+    ensures refused { IfRefusal result
+        (λ reply. IsPlantRefusal too_long reply.status reply.text.items) }
     ensures memory { result ≢ Stopped.ReadFault }
 {
     let fault = PlantFault {
@@ -82,10 +85,13 @@ pub fn plan_in<F: Shelf>(
 ) -> Result<List<Start>, Stopped>
     requires allowed { IsTrue (F.may_read files.old name.now) }
     requires sound { Sound plant.now }
-    ensures read { IfOk result (λ plan. IsReadOf (plan_of_text plant.now) (F.files files.old) name.now (Ok plan)) }
+    ensures read { IfOk result
+        (λ plan. IsReadOf (plan_of_text plant.now) (F.files files.old) name.now (Ok plan)) }
     ensures few { IfOk result (λ plan. length plan < 2 ^ 32) }
-    ensures refused { IfRefused result (Refuses (plan_of_text plant.now) IsPlanRefusal (F.files files.old) name.now) }
-    ensures fault { result ≡ Err Stopped.ReadFault → Rose (F.read_faults files.old) (F.read_faults files.new) }
+    ensures refused { IfRefused result
+        (Refuses (plan_of_text plant.now) IsPlanRefusal (F.files files.old) name.now) }
+    ensures fault { result ≡ Err Stopped.ReadFault
+        → Rose (F.read_faults files.old) (F.read_faults files.new) }
     ensures same { F.files files.new ≡ F.files files.old }
     ensures readable { F.may_read files.new ≡ F.may_read files.old }
     ensures writable { F.may_write files.new ≡ F.may_write files.old }
@@ -105,7 +111,8 @@ fn plan_of(alloc: Global, plant: &Plant, bytes: &[u8]) -> Result<List<Start>, St
     requires { Sound plant.now }
     ensures read { IfOk result (λ plan. plan_of_text plant.now bytes.now ≡ Ok plan) }
     ensures few { IfOk result (λ plan. length plan < 2 ^ 32) }
-    ensures refused { IfRefused result (IsRefusedAs (plan_of_text plant.now) IsPlanRefusal bytes.now) }
+    ensures refused { IfRefused result
+        (IsRefusedAs (plan_of_text plant.now) IsPlanRefusal bytes.now) }
     ensures memory { result ≢ Err Stopped.ReadFault }
 {
     match read_plan(alloc, plant, bytes) {
@@ -117,7 +124,8 @@ fn plan_of(alloc: Global, plant: &Plant, bytes: &[u8]) -> Result<List<Start>, St
 
 // The refusal of a plan file that is too long.
 fn long_plan(alloc: Global) -> Stopped
-    ensures refused { IfRefusal result (λ reply. IsPlanRefusal plan_too_long reply.status reply.text.items) }
+    ensures refused { IfRefusal result
+        (λ reply. IsPlanRefusal plan_too_long reply.status reply.text.items) }
     ensures memory { result ≢ Stopped.ReadFault }
 {
     let fault = PlanFault {

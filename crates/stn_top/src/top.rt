@@ -114,7 +114,8 @@ fn reply_to<F: Shelf>(alloc: Global, command: Command, files: &mut F) -> Result<
     requires { MayRead (F.may_read files.old) (meaning command) }
     ensures answer { IfReplied result (λ reply. IsAnswer (F.files files.old)
         (meaning command.entry) reply.status reply.text.items) }
-    ensures fault { result ≡ Err Stopped.ReadFault → Rose (F.read_faults files.old) (F.read_faults files.new) }
+    ensures fault { result ≡ Err Stopped.ReadFault
+        → Rose (F.read_faults files.old) (F.read_faults files.new) }
     ensures files { OthersKept (meaning command.entry) (F.files files.old) (F.files files.new) }
     ensures readable { F.may_read files.new ≡ F.may_read files.old }
     ensures writable { F.may_write files.new ≡ F.may_write files.old }

@@ -20,7 +20,8 @@ pub fn upgrade_file<F: Shelf>(alloc: Global, files: &mut F, name: &str) -> Resul
     requires { IsTrue (F.may_read files.old name.now) }
     ensures answer { IfReplied result (λ reply. IsAnswer (F.files files.old)
         (Upgrading name.now) reply.status reply.text.items) }
-    ensures fault { result ≡ Err Stopped.ReadFault → Rose (F.read_faults files.old) (F.read_faults files.new) }
+    ensures fault { result ≡ Err Stopped.ReadFault
+        → Rose (F.read_faults files.old) (F.read_faults files.new) }
     ensures same { F.files files.new ≡ F.files files.old }
     ensures readable { F.may_read files.new ≡ F.may_read files.old }
     ensures writable { F.may_write files.new ≡ F.may_write files.old }
