@@ -1,10 +1,10 @@
-ghost use Rattle.std.specs.Prelude.{◌≡◌, ◌≤◌, ℕ, List as Listed, length, true, IfOk, IsSome};
+ghost use Rattle.std.specs.Prelude.{◌≡◌, ◌≤◌, length, true, IfOk};
 ghost use Rattle.std.specs.List.{All};
-ghost use Rattle.row_kit.specs.declared.domain.Domain.{Domain as Values};
 ghost use Rattle.row_kit.specs.Area.{present};
 ghost use Rattle.row_kit.specs.Domain.{IsOpen};
 ghost use Rattle.row_kit.specs.Point.{LiesIn};
-ghost use Rattle.dual_bound.specs.Total.{are_fit, total_at};
+ghost use Rattle.dual_bound.specs.Total.{are_fit};
+ghost use Rattle.dual_simplex.specs.Solved.{HasTotals};
 
 use crate::amounts::{Amount, add_first, amount_of, list_amounts, list_broken};
 use crate::basis::{Basis, note_basis, start_from};
@@ -213,7 +213,7 @@ impl Workspace {
     /// domain.
     pub fn certificate(&mut self, alloc: Global, program: &Program) -> Result<Cert, AllocError>
         ensures scale { IfOk result (λ cert. cert.scale ≡ 16384) }
-        ensures total { IfOk result (λ cert. (domains : Listed Values) → All IsOpen domains → IsSome (total_at program.now domains cert)) }
+        ensures total { IfOk result (HasTotals program.now) }
     {
         let mults = self.mults_of(alloc, program, Source::Profits)?;
         Ok(Cert {
@@ -226,7 +226,7 @@ impl Workspace {
     /// has a total over each area without an empty domain.
     pub fn ray(&mut self, alloc: Global, program: &Program, power: i32) -> Result<Cert, AllocError>
         ensures scale { IfOk result (λ cert. cert.scale ≡ 0) }
-        ensures total { IfOk result (λ cert. (domains : Listed Values) → All IsOpen domains → IsSome (total_at program.now domains cert)) }
+        ensures total { IfOk result (HasTotals program.now) }
     {
         let mults = self.mults_of(alloc, program, Source::Ray(self.stuck, power))?;
         Ok(Cert { scale: 0, mults })
