@@ -11,7 +11,7 @@ use Rattle.dual_bound.specs.declared.cert.Mult.{Mult}
 use Rattle.dual_bound.specs.Total.{are_fit, total_at, total_of}
 use Rattle.dual_bound.specs.Cap.{cert_cap, scaled_cap}
 use Rattle.std.proofs.lemmas.Int.{ints}
-use Rattle.dual_simplex.specs.Solved.{plain_cert, IsWithin}
+use Rattle.dual_simplex.specs.Solved.{plain_cert, IsNotAbove, IsNoWorseThanPlain}
 
 open_test : (ds : List Domain) → All IsOpen ds → list_all (λ (d : Domain). ltb 0 (count_of d)) ds ≡ true
 open_test ds all = list_all-from_AllPass (λ (d : Domain). ltb 0 (count_of d)) ds (λ k d lt. lt-ltb 0 (count_of (get_or ds k d)) (all k d lt))
@@ -47,8 +47,8 @@ plain_some p ds all = is_some (total_at p ds plain_cert) (total_of p ds plain_ce
 self_le : (a : ℤ) → a ≤ℤ a
 self_le a = omega (arith, ints)
 
-within_self : (o : Option ℤ) (t : ℤ) → o ≡ Some t → IsWithin (scaled_cap 1 o) (scaled_cap 1 o)
-within_self o t e = subst (λ (x : Option ℤ). IsWithin (scaled_cap 1 x) (scaled_cap 1 x)) (sym e) (self_le _)
+within_self : (o : Option ℤ) (t : ℤ) → o ≡ Some t → IsNotAbove (scaled_cap 1 o) (scaled_cap 1 o)
+within_self o t e = subst (λ (x : Option ℤ). IsNotAbove (scaled_cap 1 x) (scaled_cap 1 x)) (sym e) (self_le _)
 
-pub plain_within : (p : Program) (ds : List Domain) → All IsOpen ds → IsWithin (cert_cap p ds plain_cert) (cert_cap p ds plain_cert)
+pub plain_within : (p : Program) (ds : List Domain) → All IsOpen ds → IsNoWorseThanPlain p ds plain_cert
 plain_within p ds all = within_self (total_at p ds plain_cert) (total_of p ds plain_cert) (plain_total p ds all)

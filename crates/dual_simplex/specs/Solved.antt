@@ -1,21 +1,43 @@
--- When the certificate of a simplex is better than none.
-use Rattle.std.specs.Prelude.{[], ◌≤ℤ◌, ◌<ℤ◌}
+-- When the certificate of a simplex is defined, and when it is better than none.
+use Rattle.std.specs.Prelude.{◌≡◌, [], List, ◌⊎◌, ◌≤ℤ◌, ◌<ℤ◌, IsSome}
+use Rattle.std.specs.List.{All}
 use Rattle.proof_tree.specs.declared.capped.Capped.{Capped}
-use Rattle.proof_tree.specs.declared.capped.Capped.TheVariants.{AtMost, NoPoint}
+use Rattle.proof_tree.specs.declared.capped.Capped.TheVariants.{AtMost, NoPoint, Bad}
+use Rattle.row_kit.specs.declared.domain.Domain.{Domain}
+use Rattle.row_kit.specs.declared.program.Program.{Program}
+use Rattle.row_kit.specs.Domain.{IsOpen}
 use Rattle.dual_bound.specs.declared.cert.Cert.{Cert}
+use Rattle.dual_bound.specs.Cap.{cert_cap}
+use Rattle.dual_bound.specs.Total.{total_at}
 
 -- scale 1 without multipliers
 abbrev pub plain_cert : Cert
 plain_cert = record { scale = 1; mults = [] }
 
--- a cap that is not above another: NoPoint, or at most a number that is not above the other's
-abbrev pub IsWithin : Capped → Capped → Type 0
-IsWithin other NoPoint = Unit {0}
-IsWithin (AtMost most) (AtMost cap) = cap ≤ℤ most
-IsWithin _ _ = ⊥
+-- a cap is NoPoint, or AtMost a number that is not above another's
+abbrev pub IsNotAbove : Capped → Capped → Type 0
+IsNotAbove NoPoint other = Unit {0}
+IsNotAbove (AtMost cap) (AtMost other) = cap ≤ℤ other
+IsNotAbove _ _ = ⊥
 
--- a cap that is below another: NoPoint, or at most a number that is below the other's
+-- a cap is NoPoint, or AtMost a number that is below another's
 abbrev pub IsBelow : Capped → Capped → Type 0
-IsBelow other NoPoint = Unit {0}
-IsBelow (AtMost most) (AtMost cap) = cap <ℤ most
+IsBelow NoPoint other = Unit {0}
+IsBelow (AtMost cap) (AtMost other) = cap <ℤ other
 IsBelow _ _ = ⊥
+
+-- a certificate has a total over domains
+abbrev pub HasTotal : Program → List Domain → Cert → Type 0
+HasTotal program domains cert = IsSome (total_at program domains cert)
+
+-- a certificate has a total over all domains none of which is empty
+abbrev pub HasTotals : Program → Cert → Type 0
+HasTotals program cert = (domains : List Domain) → All IsOpen domains → IsSome (total_at program domains cert)
+
+-- over domains the cap of a certificate is NoPoint, or not above that of scale 1 without multipliers
+abbrev pub IsNoWorseThanPlain : Program → List Domain → Cert → Type 0
+IsNoWorseThanPlain program domains cert = IsNotAbove (cert_cap program domains cert) (cert_cap program domains plain_cert)
+
+-- a certificate is scale 1 without multipliers, or its cap over domains is NoPoint or below that one's
+abbrev pub IsPlainOrBetter : Program → List Domain → Cert → Type 0
+IsPlainOrBetter program domains cert = (cert ≡ plain_cert) ⊎ IsBelow (cert_cap program domains cert) (cert_cap program domains plain_cert)

@@ -7,16 +7,20 @@ use crate::scales::Scales;
 use row_kit::{Domain, Program};
 use std::alloc::{AllocError, Global};
 
-/// Where a bound stands: the rows that bind it, and the variables of slots that lie between their ends. It has room for those
-/// of each bound of its program.
+/// Where a bound stands: the rows that bind it, the variables of slots that lie between their ends, and those that stand at their
+/// bounds. It has room for those of each bound of its program.
 #[derive(Drop)]
 pub struct Basis {
     rows: Vec<u32>,
     variables: Vec<u32>,
+    high: Vec<u32>,
 }
 
 // Smaller pivots are not made for a start: 2 to the power -7.
 const LEAST_PIVOT: u64 = 8_388_608;
+
+// Profits up to this are near 0: 2 to the power -8.
+const NEAR: i64 = 4_194_304;
 
 impl Basis {
     /// The basis in which no row binds.
@@ -25,6 +29,7 @@ impl Basis {
         Ok(Basis {
             rows: Vec::with_capacity(alloc, room)?,
             variables: Vec::with_capacity(alloc, room)?,
+            high: Vec::with_capacity(alloc, room)?,
         })
     }
 
@@ -32,17 +37,22 @@ impl Basis {
     pub fn clear(&mut self) {
         self.rows.clear();
         self.variables.clear();
+        self.high.clear();
     }
 
     /// Makes it a copy of another.
     pub fn copy_from(&mut self, other: &Basis) {
-        self.clear();
-        for row in &other.rows {
-            put_last(&mut self.rows, *row);
-        }
-        for variable in &other.variables {
-            put_last(&mut self.variables, *variable);
-        }
+        copy_list(&mut self.rows, other.rows.as_slice());
+        copy_list(&mut self.variables, other.variables.as_slice());
+        copy_list(&mut self.high, other.high.as_slice());
+    }
+}
+
+// Makes a list a copy of another, as far as there is room.
+fn copy_list(list: &mut Vec<u32>, other: &[u32]) {
+    list.clear();
+    for item in other {
+        put_last(list, *item);
     }
 }
 
@@ -55,14 +65,18 @@ pub fn note_basis(dictionary: &Dictionary, program: &Program, basis: &mut Basis)
             put_last(&mut basis.variables, line.variable);
         }
     }
-    note_rows(dictionary, program, slacks, basis);
+    note_columns(dictionary, program, slacks, basis);
 }
 
-// Notes the rows whose variables stand in columns.
-fn note_rows(dictionary: &Dictionary, program: &Program, slacks: u32, basis: &mut Basis) {
+// Notes the rows whose variables stand in columns, and the variables of slots that stand there at their bounds.
+fn note_columns(dictionary: &Dictionary, program: &Program, slacks: u32, basis: &mut Basis) {
     for column in &dictionary.columns {
         let row = column.variable.saturating_sub(slacks);
-        if column.variable >= slacks && (row as usize) < program.rows.len() {
+        if column.variable < slacks {
+            if column.high {
+                put_last(&mut basis.high, column.variable);
+            }
+        } else if (row as usize) < program.rows.len() {
             put_last(&mut basis.rows, row);
         }
     }
@@ -84,7 +98,7 @@ pub fn start_from(
     }
     dictionary.forget_passed();
     dictionary.pivots = 0;
-    rest(dictionary)
+    rest(dictionary, basis)
 }
 
 // Brings a variable of a slot into a line that has not taken one. Where the slot has lost the variable of its least value, that of
@@ -126,12 +140,35 @@ fn free_line(dictionary: &Dictionary, column: usize) -> usize {
     found
 }
 
-// Moves the variable of each column to the end that brings more.
-fn rest(dictionary: &mut Dictionary) -> Result<(), OutOfRange> {
+// Moves the variable of each column to the end that brings more; where both bring nearly the same, to that of the basis.
+fn rest(dictionary: &mut Dictionary, basis: &Basis) -> Result<(), OutOfRange> {
     for column in dictionary.columns.iter_mut() {
-        column.high = column.profit > 0;
+        column.high = column.profit > NEAR;
+    }
+    for variable in &basis.high {
+        raise(dictionary, *variable);
+    }
+    for column in dictionary.columns.iter_mut() {
+        forget_against(column);
     }
     set_values(dictionary)
+}
+
+// Moves a variable that stands in a column to its bound, unless that brings less.
+fn raise(dictionary: &mut Dictionary, variable: u32) {
+    if let Place::Column(column) = dictionary.place(variable) {
+        let column = column as usize;
+        if column < dictionary.columns.len() && dictionary.columns[column].profit >= -NEAR {
+            dictionary.columns[column].high = true;
+        }
+    }
+}
+
+// Makes the profit of a column 0 where its variable stands at the end that brings less.
+fn forget_against(column: &mut Column) {
+    if column.high == (column.profit < 0) {
+        column.profit = 0;
+    }
 }
 
 // Writes the values of the lines, as the columns tell them.

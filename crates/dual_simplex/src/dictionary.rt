@@ -3,7 +3,7 @@ use row_kit::Program;
 use std::alloc::{AllocError, Global};
 
 /// Where a variable stands.
-#[derive(Clone, Copy, PartialEq, Eq, Debug)]
+#[derive(Clone, Copy)]
 pub enum Place {
     Nowhere,
     Column(u32),
@@ -12,7 +12,7 @@ pub enum Place {
 
 /// A variable that stands at one of its ends: at its bound where `high` is true, else at 0. The profit is what one unit more
 /// of it brings.
-#[derive(Clone, Copy, PartialEq, Eq, Debug)]
+#[derive(Clone, Copy)]
 pub struct Column {
     pub variable: u32,
     pub bound: i64,
@@ -65,7 +65,7 @@ impl Line {
 }
 
 /// The part of a column in a divided line.
-#[derive(Clone, Copy, PartialEq, Eq, Debug)]
+#[derive(Clone, Copy)]
 pub struct Share {
     pub column: u32,
     pub part: i64,

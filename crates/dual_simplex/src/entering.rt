@@ -10,7 +10,7 @@ const LEAST_PART: u64 = 65_536;
 const LEAST_PIVOT: u64 = 2_097_152;
 
 /// How a broken line is mended: the first candidates go to their other ends, then the variable of the column enters.
-#[derive(Clone, Copy, PartialEq, Eq, Debug)]
+#[derive(Clone, Copy)]
 pub struct Entering {
     pub flips: usize,
     pub column: usize,

@@ -2,7 +2,7 @@ use crate::dictionary::{Dictionary, Line};
 use crate::number::TINY;
 
 /// A line that is broken: its variable is below 0 where `low` is true, else above its bound.
-#[derive(Clone, Copy, PartialEq, Eq, Debug)]
+#[derive(Clone, Copy)]
 pub struct Broken {
     pub line: usize,
     pub low: bool,

@@ -11,7 +11,7 @@ use dual_bound::{MOST_FACTOR, Mult};
 use row_kit::Program;
 
 /// Where factors come from.
-#[derive(Clone, Copy, PartialEq, Eq, Debug)]
+#[derive(Clone, Copy)]
 pub enum Source {
     /// What one unit of each row is worth, times 2 to the power 14.
     Profits,

@@ -1,7 +1,7 @@
 ghost use Rattle.std.specs.Prelude.{◌≡◌, ◌≤◌, ◌^◌, ◌*ℤ◌, unsigned_abs, IfOk};
 
 /// A number would leave the range of the fixed point, 2 to the power 30 in absolute value.
-#[derive(Clone, Copy, PartialEq, Eq, Debug)]
+#[derive(Clone, Copy)]
 pub struct OutOfRange;
 
 /// The number 1.
@@ -100,6 +100,18 @@ pub fn raised(number: &i128, exponent: i32) -> Result<i64, OutOfRange> {
         within(&(number.saturating_add(half) >> down))
     } else {
         Err(OutOfRange)
+    }
+}
+
+/// About the whole number that a number is once it is divided by a power of two.
+pub fn whole(number: i64, exponent: i32) -> i128 {
+    let number = i128::from(number);
+    if exponent >= 0 && exponent < 120 {
+        number >> (exponent as u32)
+    } else if exponent < 0 && exponent > -60 {
+        number.saturating_mul(1i128 << exponent.unsigned_abs())
+    } else {
+        0
     }
 }
 

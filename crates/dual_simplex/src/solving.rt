@@ -1,10 +1,8 @@
-ghost use Rattle.std.specs.Prelude.{◌≡◌, ◌⊎◌, ◌↔◌, length, IfOk, IsSome, IsTrue};
+ghost use Rattle.std.specs.Prelude.{◌≡◌, ◌↔◌, length, IfOk, IsTrue};
 ghost use Rattle.std.specs.List.{All};
 ghost use Rattle.row_kit.specs.Area.{present};
 ghost use Rattle.row_kit.specs.Domain.{IsOpen};
-ghost use Rattle.dual_bound.specs.Cap.{cert_cap};
-ghost use Rattle.dual_bound.specs.Total.{total_at};
-ghost use Rattle.dual_simplex.specs.Solved.{plain_cert, IsWithin, IsBelow};
+ghost use Rattle.dual_simplex.specs.Solved.{HasTotal, IsNoWorseThanPlain, IsPlainOrBetter, IsBelow};
 
 use crate::basis::Basis;
 use crate::workspace::{Outcome, Workspace};
@@ -25,16 +23,16 @@ const RAY_POWERS: [i32; 4] = [8, 14, 20, 26];
 pub fn solve_dual(alloc: Global, program: &Program, area: &Area) -> Result<Cert, AllocError>
     requires slots { length (present area.now) ≡ length program.now.root }
     requires open_ { All IsOpen (present area.now) }
-    ensures total { IfOk result (λ cert. IsSome (total_at program.now (present area.now) cert)) }
-    ensures cap { IfOk result (λ cert. IsWithin (cert_cap program.now (present area.now) plain_cert) (cert_cap program.now (present area.now) cert)) }
-    ensures better { IfOk result (λ cert. (cert ≡ plain_cert) ⊎ IsBelow (cert_cap program.now (present area.now) plain_cert) (cert_cap program.now (present area.now) cert)) }
+    ensures total { IfOk result (HasTotal program.now (present area.now)) }
+    ensures cap { IfOk result (IsNoWorseThanPlain program.now (present area.now)) }
+    ensures better { IfOk result (IsPlainOrBetter program.now (present area.now)) }
 {
     let found = found_cert(alloc, program, area)?;
     let plain = Cert {
         scale: 1,
         mults: List::new(alloc),
     };
-    if is_below(&cap(program, area, &plain), &cap(program, area, &found)) {
+    if is_below(&cap(program, area, &found), &cap(program, area, &plain)) {
         Ok(found)
     } else {
         Ok(plain)
@@ -60,12 +58,12 @@ fn found_cert(alloc: Global, program: &Program, area: &Area) -> Result<Cert, All
 }
 
 // Whether a cap is below another.
-fn is_below(other: &Capped, cap: &Capped) -> bool
-    ensures { IsTrue result ↔ IsBelow other.now cap.now }
+fn is_below(cap: &Capped, other: &Capped) -> bool
+    ensures { IsTrue result ↔ IsBelow cap.now other.now }
 {
-    match (*other, *cap) {
-        (_, Capped::NoPoint) => true,
-        (Capped::AtMost(most), Capped::AtMost(cap)) => cap < most,
+    match (*cap, *other) {
+        (Capped::NoPoint, _) => true,
+        (Capped::AtMost(cap), Capped::AtMost(other)) => cap < other,
         _ => false,
     }
 }

@@ -6,7 +6,7 @@ use crate::pivoting::{pivot, shift_values};
 use crate::reserved::{at, numbered};
 
 /// What a step has found.
-#[derive(Clone, Copy, PartialEq, Eq, Debug)]
+#[derive(Clone, Copy)]
 pub enum Stepped {
     /// A line and a column have been exchanged.
     Moved,

@@ -1,10 +1,10 @@
-ghost use Rattle.std.specs.Prelude.{◌≡◌, ◌≤◌, ℕ, List as Listed, length, true, IfOk, IsSome};
+ghost use Rattle.std.specs.Prelude.{◌≡◌, ◌≤◌, length, true, IfOk};
 ghost use Rattle.std.specs.List.{All};
-ghost use Rattle.row_kit.specs.declared.domain.Domain.{Domain as Values};
 ghost use Rattle.row_kit.specs.Area.{present};
 ghost use Rattle.row_kit.specs.Domain.{IsOpen};
 ghost use Rattle.row_kit.specs.Point.{LiesIn};
-ghost use Rattle.dual_bound.specs.Total.{are_fit, total_at};
+ghost use Rattle.dual_bound.specs.Total.{are_fit};
+ghost use Rattle.dual_simplex.specs.Solved.{HasTotals};
 
 use crate::amounts::{Amount, add_first, amount_of, list_amounts, list_broken};
 use crate::basis::{Basis, note_basis, start_from};
@@ -12,7 +12,7 @@ use crate::dictionary::{Dictionary, Line};
 use crate::filling::{base_worth, fill_columns, slack_variable};
 use crate::leaving::Broken;
 use crate::mults::{Source, list_mults};
-use crate::number::{OutOfRange, difference, raised};
+use crate::number::{OutOfRange, difference, raised, whole};
 use crate::reserved::{numbered, put_last};
 use crate::rounding::rounded;
 use crate::scales::Scales;
@@ -56,6 +56,7 @@ pub struct Workspace {
     amounts: Vec<Amount>,
     broken: Vec<(i64, u32)>,
     mults: Vec<Mult>,
+    base: i128,
     stuck: Option<Broken>,
 }
 
@@ -73,6 +74,7 @@ impl Workspace {
             amounts: Vec::with_capacity(alloc, slots)?,
             broken: Vec::with_capacity(alloc, rows)?,
             mults: Vec::with_capacity(alloc, rows)?,
+            base: 0,
             stuck: None,
         })
     }
@@ -120,10 +122,9 @@ impl Workspace {
         let domains = self.domains.as_slice();
         fill_columns(&mut self.dictionary, program, &self.scales, domains)?;
         start_from(&mut self.dictionary, program, &self.scales, domains, start)?;
+        self.base = base_worth(program, domains);
         if let Some(aim) = aim {
-            let least = aim
-                .saturating_add(1)
-                .saturating_sub(base_worth(program, domains));
+            let least = aim.saturating_add(1).saturating_sub(self.base);
             self.dictionary.stop = self.in_unit(&least);
         }
         Ok(())
@@ -212,7 +213,7 @@ impl Workspace {
     /// domain.
     pub fn certificate(&mut self, alloc: Global, program: &Program) -> Result<Cert, AllocError>
         ensures scale { IfOk result (λ cert. cert.scale ≡ 16384) }
-        ensures total { IfOk result (λ cert. (domains : Listed Values) → All IsOpen domains → IsSome (total_at program.now domains cert)) }
+        ensures total { IfOk result (HasTotals program.now) }
     {
         let mults = self.mults_of(alloc, program, Source::Profits)?;
         Ok(Cert {
@@ -225,7 +226,7 @@ impl Workspace {
     /// has a total over each area without an empty domain.
     pub fn ray(&mut self, alloc: Global, program: &Program, power: i32) -> Result<Cert, AllocError>
         ensures scale { IfOk result (λ cert. cert.scale ≡ 0) }
-        ensures total { IfOk result (λ cert. (domains : Listed Values) → All IsOpen domains → IsSome (total_at program.now domains cert)) }
+        ensures total { IfOk result (HasTotals program.now) }
     {
         let mults = self.mults_of(alloc, program, Source::Ray(self.stuck, power))?;
         Ok(Cert { scale: 0, mults })
@@ -278,11 +279,13 @@ impl Workspace {
         }
     }
 
-    /// The profit at which the last bound has ended, beside what the slots bring at their least; None where a number would leave its
-    /// range.
-    pub fn profit(&self) -> Option<i64> {
+    /// About the worth at which the last bound has ended, in money, rounded down; None where a number would leave its range.
+    pub fn worth(&self) -> Option<i128> {
         match objective(&self.dictionary) {
-            Ok(profit) => Some(profit),
+            Ok(profit) => {
+                let profit = whole(profit, self.scales.up.saturating_add(30));
+                Some(self.base.saturating_add(profit))
+            }
             Err(OutOfRange) => None,
         }
     }
