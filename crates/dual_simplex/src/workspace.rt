@@ -89,6 +89,7 @@ impl Workspace {
         aim: Option<i128>,
         most: u32,
     ) -> Outcome {
+        self.stuck = None;
         self.read_domains(area);
         match self.begin(program, start, aim) {
             Ok(()) => self.run(program, most),
@@ -96,7 +97,8 @@ impl Workspace {
         }
     }
 
-    /// Goes on where a bound has ended, with an aim that is a 32nd of a money unit lower than what it has reached.
+    /// Goes on where a bound has ended, with an aim that is a 32nd of a money unit lower than what it has reached. After a stop by a
+    /// number that would have left its range it says nothing.
     pub fn go_on(&mut self, program: &Program, most: u32) -> Outcome {
         match self.lower_stop() {
             Ok(()) => self.run(program, most),
