@@ -327,21 +327,20 @@ impl Workspace {
         side: Side,
         most: u32,
     ) -> Option<Trial> {
-        match self.try_side(program, slot, max, side, most) {
-            Ok(trial) => Some(trial),
+        match self.restrict_copy(program, slot, max, side) {
+            Ok(()) => found_trial(&mut self.trial, most),
             Err(OutOfRange) => None,
         }
     }
 
-    // Bounds one side of a split on a copy.
-    fn try_side(
+    // Makes the copy one of the dictionary, with one side of a split as one more line.
+    fn restrict_copy(
         &mut self,
         program: &Program,
         slot: u32,
         max: u8,
         side: Side,
-        most: u32,
-    ) -> Result<Trial, OutOfRange> {
+    ) -> Result<(), OutOfRange> {
         let domain = match self.domains.get(slot as usize) {
             None => return Err(OutOfRange),
             Some(domain) => domain,
@@ -350,8 +349,15 @@ impl Workspace {
         let end = end_of(domain, max, side)?;
         copy_dictionary(&mut self.trial, &self.dictionary);
         let variable = slack_variable(program, numbered(program.rows.len()));
-        restrict(&mut self.trial, &self.stand, end, side, variable)?;
-        try_steps(&mut self.trial, most)
+        restrict(&mut self.trial, &self.stand, end, side, variable)
+    }
+}
+
+// What a trial finds in at most this many steps, where no number would leave its range.
+fn found_trial(dictionary: &mut Dictionary, most: u32) -> Option<Trial> {
+    match try_steps(dictionary, most) {
+        Ok(trial) => Some(trial),
+        Err(OutOfRange) => None,
     }
 }
 
