@@ -6,8 +6,9 @@ ghost use Rattle.row_kit.specs.Point.{LiesIn};
 ghost use Rattle.dual_bound.specs.Total.{are_fit};
 ghost use Rattle.dual_simplex.specs.Solved.{HasTotals};
 
-use crate::amounts::{Amount, add_first, amount_of, list_amounts, list_broken};
+use crate::amounts::{Amount, amount_of, list_amounts};
 use crate::basis::{Basis, note_basis, start_from};
+use crate::broken_rows::{add_first, list_broken};
 use crate::dictionary::{Dictionary, Line};
 use crate::filling::{base_worth, fill_columns, slack_variable};
 use crate::leaving::Broken;
