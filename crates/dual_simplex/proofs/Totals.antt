@@ -9,7 +9,7 @@ use Rattle.row_kit.specs.declared.program.Program.{Program}
 use Rattle.row_kit.specs.Domain.{count_of, IsOpen}
 use Rattle.dual_bound.specs.declared.cert.Mult.{Mult}
 use Rattle.dual_bound.specs.Total.{are_fit, total_at, total_of}
-use Rattle.dual_bound.specs.Cap.{cert_cap, scaled_cap}
+use Rattle.dual_bound.specs.Cap.{scaled_cap}
 use Rattle.std.proofs.lemmas.Int.{ints}
 use Rattle.dual_simplex.specs.Solved.{plain_cert, IsNotAbove, IsNoWorseThanPlain}
 

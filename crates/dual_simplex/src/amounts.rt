@@ -1,11 +1,10 @@
-use crate::dictionary::{Dictionary, Place};
-use crate::filling::{add_row, high_variable, low_variable, slack_variable};
-use crate::number::{ONE, OutOfRange, TINY, lowered, wide};
+use crate::dictionary::Dictionary;
+use crate::filling::{high_variable, low_variable};
+use crate::number::{ONE, OutOfRange, lowered, wide};
 use crate::reserved::{numbered, put_last};
-use crate::scales::Scales;
-use row_kit::{Domain, Entry, Program, Row};
+use row_kit::Domain;
 
-/// How far a slot is started, from 0 to 1, and how many quanta it makes.
+/// How far a slot is started, from 0 to 1, and how many quanta it makes, each with 30 bits of fraction.
 #[derive(Clone, Copy, PartialEq, Eq, Debug)]
 pub struct Amount {
     pub started: i64,
@@ -59,67 +58,4 @@ fn mixed(one: i64, value: u8, other: i64, other_value: u8) -> Result<i64, OutOfR
         &first.saturating_add(wide(other, i64::from(other_value))),
         0,
     )
-}
-
-/// The rows that are not in a dictionary and are broken, the most broken first.
-pub fn list_broken(
-    dictionary: &Dictionary,
-    program: &Program,
-    scales: &Scales,
-    amounts: &[Amount],
-    broken: &mut Vec<(i64, u32)>,
-) -> Result<(), OutOfRange> {
-    broken.clear();
-    let rows = program.rows.as_slice();
-    for number in 0..rows.len() {
-        let row = numbered(number);
-        if let Place::Nowhere = dictionary.place(slack_variable(program, row)) {
-            let excess = excess(&rows[number], amounts, scales.down(row))?;
-            if excess > 8 * TINY {
-                put_last(broken, (0i64.saturating_sub(excess), row));
-            }
-        }
-    }
-    broken.sort_unstable();
-    Ok(())
-}
-
-// How far a row is above its limit, scaled.
-fn excess(row: &Row, amounts: &[Amount], down: u32) -> Result<i64, OutOfRange> {
-    let limit = row.limit.saturating_mul(i128::from(ONE));
-    lowered(
-        &activity(row.entries.as_slice(), amounts).saturating_sub(limit),
-        down,
-    )
-}
-
-// What entries sum to.
-fn activity(entries: &[Entry], amounts: &[Amount]) -> i128 {
-    let mut sum = 0i128;
-    for entry in entries {
-        if let Some(amount) = amounts.get(entry.slot as usize) {
-            sum = sum
-                .saturating_add(wide(amount.started, entry.fixed))
-                .saturating_add(wide(amount.quanta, entry.per));
-        }
-    }
-    sum
-}
-
-/// Puts lines for the first of these rows, at most this many; how many there were.
-pub fn add_first(
-    dictionary: &mut Dictionary,
-    program: &Program,
-    scales: &Scales,
-    domains: &[Domain],
-    rows: &[(i64, u32)],
-    most: usize,
-) -> Result<usize, OutOfRange> {
-    let mut count = 0usize;
-    for row in rows {
-        if count < most && add_row(dictionary, program, scales, domains, row.1)? {
-            count += 1;
-        }
-    }
-    Ok(count)
 }

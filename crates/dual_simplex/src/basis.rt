@@ -19,8 +19,8 @@ pub struct Basis {
 // Smaller pivots are not made for a start: 2 to the power -7.
 const LEAST_PIVOT: u64 = 8_388_608;
 
-// Profits up to this are near 0: 2 to the power -8.
-const NEAR: i64 = 4_194_304;
+// Profits up to this are near 0: 2 to the power -6.
+const NEAR: i64 = 16_777_216;
 
 impl Basis {
     /// The basis in which no row binds.

@@ -6,6 +6,7 @@
 
 mod amounts;
 mod basis;
+mod broken_rows;
 mod dictionary;
 mod entering;
 mod filling;

@@ -75,11 +75,12 @@ pub fn prices_of(
     })
 }
 
-// A way times what a unit of it costs.
+// A way times what a unit of it costs; nothing where there is no way to go.
 fn price(way: i64, rate: Option<i64>) -> i64 {
     match rate {
+        _ if way <= 0 => 0,
         None => DEAREST,
-        Some(rate) => match times(way.max(0), rate) {
+        Some(rate) => match times(way, rate) {
             Ok(price) => price,
             Err(OutOfRange) => DEAREST,
         },

@@ -6,8 +6,9 @@ ghost use Rattle.row_kit.specs.Point.{LiesIn};
 ghost use Rattle.dual_bound.specs.Total.{are_fit};
 ghost use Rattle.dual_simplex.specs.Solved.{HasTotals};
 
-use crate::amounts::{Amount, add_first, amount_of, list_amounts, list_broken};
+use crate::amounts::{Amount, amount_of, list_amounts};
 use crate::basis::{Basis, note_basis, start_from};
+use crate::broken_rows::{add_first, list_broken};
 use crate::dictionary::{Dictionary, Line};
 use crate::filling::{base_worth, fill_columns, slack_variable};
 use crate::leaving::Broken;
@@ -89,6 +90,7 @@ impl Workspace {
         aim: Option<i128>,
         most: u32,
     ) -> Outcome {
+        self.stuck = None;
         self.read_domains(area);
         match self.begin(program, start, aim) {
             Ok(()) => self.run(program, most),
@@ -96,7 +98,8 @@ impl Workspace {
         }
     }
 
-    /// Goes on where a bound has ended, with an aim that is a 32nd of a money unit lower than what it has reached.
+    /// Goes on where a bound has ended, with an aim that is a 32nd of a money unit lower than what it has reached. After a stop by a
+    /// number that would have left its range it says nothing.
     pub fn go_on(&mut self, program: &Program, most: u32) -> Outcome {
         match self.lower_stop() {
             Ok(()) => self.run(program, most),
@@ -325,21 +328,20 @@ impl Workspace {
         side: Side,
         most: u32,
     ) -> Option<Trial> {
-        match self.try_side(program, slot, max, side, most) {
-            Ok(trial) => Some(trial),
+        match self.restrict_copy(program, slot, max, side) {
+            Ok(()) => found_trial(&mut self.trial, most),
             Err(OutOfRange) => None,
         }
     }
 
-    // Bounds one side of a split on a copy.
-    fn try_side(
+    // Makes the copy one of the dictionary, with one side of a split as one more line.
+    fn restrict_copy(
         &mut self,
         program: &Program,
         slot: u32,
         max: u8,
         side: Side,
-        most: u32,
-    ) -> Result<Trial, OutOfRange> {
+    ) -> Result<(), OutOfRange> {
         let domain = match self.domains.get(slot as usize) {
             None => return Err(OutOfRange),
             Some(domain) => domain,
@@ -348,8 +350,15 @@ impl Workspace {
         let end = end_of(domain, max, side)?;
         copy_dictionary(&mut self.trial, &self.dictionary);
         let variable = slack_variable(program, numbered(program.rows.len()));
-        restrict(&mut self.trial, &self.stand, end, side, variable)?;
-        try_steps(&mut self.trial, most)
+        restrict(&mut self.trial, &self.stand, end, side, variable)
+    }
+}
+
+// What a trial finds in at most this many steps, where no number would leave its range.
+fn found_trial(dictionary: &mut Dictionary, most: u32) -> Option<Trial> {
+    match try_steps(dictionary, most) {
+        Ok(trial) => Some(trial),
+        Err(OutOfRange) => None,
     }
 }
 
