@@ -6,10 +6,10 @@ use Rattle.std.proofs.lemmas.List.{length-map, length-append}
 use Rattle.std.proofs.lemmas.List.Elements.{All-map, All-append}
 use Rattle.std.proofs.lemmas.List.Sums.{sum_by-le, sum_by-le-sum_by}
 use Rattle.stn_model.specs.declared.plant.Plant.{Plant}
-use Rattle.stn_model.specs.Plant.{state_at, no_state, task_at, no_task}
+use Rattle.stn_model.specs.Plant.{state_at, no_state, task_at, no_task, no_run, run_at}
 use Rattle.stn_model.specs.Stock.{received, delivered, taken, given}
 use Rattle.stn_model.specs.Sound.{Sound}
-use Rattle.time_grid.specs.Slots.{no_run, run_at, slots, IsSlotOf}
+use Rattle.time_grid.specs.Slots.{slots, IsSlotOf}
 use Rattle.time_grid.proofs.SlotList.{slots-are}
 use Rattle.row_kit.specs.declared.row.Row.{Row}
 use Rattle.row_kit.specs.Bounds.{AreBounded, IsBoundedRow}

@@ -1,2 +1,1 @@
 pub mod StockRows
-pub mod Summands

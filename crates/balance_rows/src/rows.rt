@@ -64,7 +64,8 @@ fn push_low(
     requires grid { IsGrid plant.now grid.now }
     requires state { state < length plant.now.states }
     requires room { length parts.old ≡ length grid.now }
-    ensures { OnOk result (rows.new.items ≡ rows.old.items ++ rows_below (low_row plant.now state) (plant.now.periods + 1)) }
+    ensures { OnOk result (rows.new.items
+        ≡ rows.old.items ++ rows_below (low_row plant.now state) (plant.now.periods + 1)) }
 {
     for time in 0..plant.periods + 1 {
         rows.push(low_row(alloc, plant, grid, state, time, parts)?)?;
@@ -137,7 +138,8 @@ fn push_high(
     requires grid { IsGrid plant.now grid.now }
     requires state { state < length plant.now.states }
     requires room { length parts.old ≡ length grid.now }
-    ensures { OnOk result (rows.new.items ≡ rows.old.items ++ rows_below (high_row plant.now state) (limit_count plant.now state)) }
+    ensures { OnOk result (rows.new.items
+        ≡ rows.old.items ++ rows_below (high_row plant.now state) (limit_count plant.now state)) }
 {
     let limits = plant.states.get(state as usize).limits.as_slice();
     for time in 0..limits.len() {
@@ -174,7 +176,8 @@ fn room_left(plant: &Plant, state: u32, time: u32) -> i128
     requires sound { Sound plant.now }
     requires state { state < length plant.now.states }
     requires time { time < length (state_at plant.now state).limits }
-    ensures { result ≡ pos (slice_index (state_at plant.now state).limits time) -ℤ supply plant.now state time }
+    ensures { result ≡ pos (slice_index (state_at plant.now state).limits time)
+        -ℤ supply plant.now state time }
 {
     let limit = *plant.states.get(state as usize).limits.get(time as usize);
     limit as i128 - supply(plant, state, time)

@@ -17,8 +17,8 @@ use Rattle.proof_log.specs.OneText.{SameLog}
 use Rattle.proof_log.proofs.OneText.{logs_same}
 use Rattle.log_check.specs.declared.verdict.LogVerdict.{LogVerdict}
 use Rattle.log_check.specs.declared.verdict.LogVerdict.TheVariants.{Yes, No}
-use Rattle.log_check.specs.Meaning.{RowSteps, HasDefect, HaveNone, IsItemDefect, IsClaimDefect, IsMeaning, ClaimDefect}
-use Rattle.log_check.specs.Verdict.{IsLog, IsSoundLog, IsValid, IsMeant, IsJudged, IsVerdict, limits_of}
+use Rattle.log_check.specs.Meaning.{RowSteps, HasDefect, HaveNone, IsItemDefect, IsClaimDefect, IsMeaningDefect, ClaimDefect}
+use Rattle.log_check.specs.Verdict.{IsLog, IsSoundLog, IsValid, IsMeaningVerdict, IsVerdictGiven, IsVerdict, limits_of}
 use Rattle.check_law.specs.Exact.{IsValidLog}
 
 -- where no item has a defect, none among them has
@@ -31,7 +31,7 @@ one_cap : (outcome : Outcome RowPick) (a b : Capped) → outcome ≡ ended a →
 one_cap outcome a b first second = cc
 
 -- a proof and a claim without a meaning defect have none
-excluded : (program : Program) (tree : RowTree) (claim : Claim) (defect : Defect) → IsSoundLog program tree claim → IsMeaning (row_steps program) program (view_of program.root) (tree_items tree) claim defect → ⊥
+excluded : (program : Program) (tree : RowTree) (claim : Claim) (defect : Defect) → IsSoundLog program tree claim → IsMeaningDefect (row_steps program) program (view_of program.root) (tree_items tree) claim defect → ⊥
 excluded program tree claim defect sound meaning =
     ⊎_elim
     (λ (item : IsItemDefect (row_steps program) program (view_of program.root) (tree_items tree) defect).
@@ -49,15 +49,15 @@ same_text program bytes tree other_tree claim other is_log other_log =
     (sym is_log.text ∙ other_log.text ∙ sym (append-nil (log_text other_log.version (tree_items other_tree) other)))
 
 -- the answer for a valid log without a text defect is yes with its claim
-valid_yes : (program : Program) (bytes : List ℕ) (verdict : LogVerdict) (claim : Claim) → IsValid program bytes claim → IsMeant program bytes verdict → verdict ≡ Yes claim
+valid_yes : (program : Program) (bytes : List ℕ) (verdict : LogVerdict) (claim : Claim) → IsValid program bytes claim → IsMeaningVerdict program bytes verdict → verdict ≡ Yes claim
 valid_yes program bytes (Yes own) claim valid is = ap Yes (sym (same_text program bytes valid.tree is.tree claim own valid.is_log is.is_log).claim_same)
 valid_yes program bytes (No defect) claim valid is =
     let same = same_text program bytes valid.tree is.tree claim is.claim valid.is_log is.is_log in
-    let meaning = subst (λ c. IsMeaning (row_steps program) program (view_of program.root) (tree_items is.tree) c defect) (sym same.claim_same) is.meaning in
-    absurd (excluded program valid.tree claim defect valid.sound_log (subst (λ t. IsMeaning (row_steps program) program (view_of program.root) (tree_items t) claim defect) (sym same.tree_same) meaning))
+    let meaning = subst (λ c. IsMeaningDefect (row_steps program) program (view_of program.root) (tree_items is.tree) c defect) (sym same.claim_same) is.meaning in
+    absurd (excluded program valid.tree claim defect valid.sound_log (subst (λ t. IsMeaningDefect (row_steps program) program (view_of program.root) (tree_items t) claim defect) (sym same.tree_same) meaning))
 
 -- a yes is that on a valid log
-yes_valid : (program : Program) (depth : ℕ) (bytes : List ℕ) (claim : Claim) (found : Option (ℕ × ℕ)) → log_text_defect (limits_of program depth) bytes ≡ found → IsJudged program bytes found (Yes claim) → IsValidLog program depth bytes claim
+yes_valid : (program : Program) (depth : ℕ) (bytes : List ℕ) (claim : Claim) (found : Option (ℕ × ℕ)) → log_text_defect (limits_of program depth) bytes ≡ found → IsVerdictGiven program bytes found (Yes claim) → IsValidLog program depth bytes claim
 yes_valid program depth bytes claim None is judged = record { clean = is; valid = judged }
 yes_valid program depth bytes claim (Some at) is judged = absurd judged
 
@@ -65,5 +65,5 @@ yes_valid program depth bytes claim (Some at) is judged = absurd judged
 pub exact : (program : Program) (depth : ℕ) (bytes : List ℕ) (verdict : LogVerdict) (claim : Claim) → IsVerdict program depth bytes verdict → (verdict ≡ Yes claim) ↔ IsValidLog program depth bytes claim
 exact program depth bytes verdict claim right = (
   λ is. yes_valid program depth bytes claim (log_text_defect (limits_of program depth) bytes) refl (subst (IsVerdict program depth bytes) is right),
-  λ is. valid_yes program bytes verdict claim is.valid (subst (λ o. IsJudged program bytes o verdict) is.clean right),
+  λ is. valid_yes program bytes verdict claim is.valid (subst (λ o. IsVerdictGiven program bytes o verdict) is.clean right),
 )

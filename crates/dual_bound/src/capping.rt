@@ -15,7 +15,8 @@ use row_kit::{Area, Program};
 pub fn cap(program: &Program, area: &Area, cert: &Cert) -> Capped
     requires { length (present area.now) ≡ length program.now.root }
     ensures cap { result ≡ cert_cap program.now (present area.now) cert.now }
-    ensures floor { IsFloor cert.now.scale (total_at program.now (present area.now) cert.now) result }
+    ensures floor { IsFloor cert.now.scale
+        (total_at program.now (present area.now) cert.now) result }
     ensures small { IsBelow (10 ^ 30) result }
     ensures holds { CapHolds program.now (present area.now) result }
 {

@@ -18,7 +18,8 @@ impl Line {
     pub fn with_entry(&self, entry: &Entry, factor: u64) -> Line
         requires light { IsLight factor entry.now }
         requires within { IsWithin (2 ^ 120) self.now }
-        ensures value { (v : ℕ) → line_at result v ≡ line_at self.now v +ℤ (pos factor *ℤ counted entry.now v) }
+        ensures value { (v : ℕ) → line_at result v
+            ≡ line_at self.now v +ℤ (pos factor *ℤ counted entry.now v) }
         ensures within { (most : ℕ) → IsWithin most self.now → IsWithin (most + 2 ^ 71) result }
     {
         Line {

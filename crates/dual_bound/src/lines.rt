@@ -15,8 +15,11 @@ pub fn add_entries(lines: &mut [Line], entries: &[Entry], factor: u64)
     requires light { All (IsLight factor) entries.now }
     requires within { All (IsWithin (2 ^ 110)) lines.old }
     requires few { length entries.now ≤ 512 }
-    ensures value { (slot v : ℕ) → slot < length lines.new → line_at (slot_line lines.new slot) v ≡ line_at (slot_line lines.old slot) v +ℤ (pos factor *ℤ entry_at entries.now slot v) }
-    ensures within { (most : ℕ) → All (IsWithin most) lines.old → All (IsWithin (most + 2 ^ 71 * length entries.now)) lines.new }
+    ensures value { (slot v : ℕ) → slot < length lines.new
+        → line_at (slot_line lines.new slot) v
+        ≡ line_at (slot_line lines.old slot) v +ℤ (pos factor *ℤ entry_at entries.now slot v) }
+    ensures within { (most : ℕ) → All (IsWithin most) lines.old
+        → All (IsWithin (most + 2 ^ 71 * length entries.now)) lines.new }
 {
     for entry in entries {
         let line = lines[entry.slot as usize];
@@ -27,7 +30,8 @@ pub fn add_entries(lines: &mut [Line], entries: &[Entry], factor: u64)
 /// Turns each line into its opposite.
 pub fn turn(lines: &mut [Line])
     requires { All (IsWithin (2 ^ 110)) lines.old }
-    ensures value { (slot v : ℕ) → slot < length lines.new → line_at (slot_line lines.new slot) v ≡ neg_ℤ (line_at (slot_line lines.old slot) v) }
+    ensures value { (slot v : ℕ) → slot < length lines.new
+        → line_at (slot_line lines.new slot) v ≡ neg_ℤ (line_at (slot_line lines.old slot) v) }
     ensures within { (most : ℕ) → All (IsWithin most) lines.old → All (IsWithin most) lines.new }
 {
     for line in lines.iter_mut() {
@@ -42,7 +46,9 @@ pub fn add_rows(lines: &mut [Line], rows: &[Row], mults: &[Mult])
     requires few { length mults.now ≤ 50000 }
     requires bounded { All (IsBoundedRow 512) rows.now }
     requires bare { All (IsWithin 0) lines.old }
-    ensures value { (slot v : ℕ) → slot < length lines.new → line_at (slot_line lines.new slot) v ≡ line_at (slot_line lines.old slot) v +ℤ rows_at rows.now mults.now slot v }
+    ensures value { (slot v : ℕ) → slot < length lines.new
+        → line_at (slot_line lines.new slot) v
+        ≡ line_at (slot_line lines.old slot) v +ℤ rows_at rows.now mults.now slot v }
     ensures within { All (IsWithin (2 ^ 96)) lines.new }
 {
     for mult in mults {
@@ -56,8 +62,11 @@ fn add_row(lines: &mut [Line], row: &Row, factor: u64)
     requires factor { factor ≤ 2 ^ 40 }
     requires bounded { IsBoundedRow 512 row.now }
     requires within { All (IsWithin (2 ^ 110)) lines.old }
-    ensures value { (slot v : ℕ) → slot < length lines.new → line_at (slot_line lines.new slot) v ≡ line_at (slot_line lines.old slot) v +ℤ (pos factor *ℤ entry_at row.now.entries slot v) }
-    ensures within { (most : ℕ) → All (IsWithin most) lines.old → All (IsWithin (most + 2 ^ 80)) lines.new }
+    ensures value { (slot v : ℕ) → slot < length lines.new
+        → line_at (slot_line lines.new slot) v
+        ≡ line_at (slot_line lines.old slot) v +ℤ (pos factor *ℤ entry_at row.now.entries slot v) }
+    ensures within { (most : ℕ) → All (IsWithin most) lines.old
+        → All (IsWithin (most + 2 ^ 80)) lines.new }
 {
     add_entries(lines, row.entries.as_slice(), factor);
 }

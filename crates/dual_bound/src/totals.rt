@@ -19,7 +19,8 @@ pub fn total(program: &Program, area: &Area, cert: &Cert) -> Option<i128>
     requires { length (present area.now) ≡ length program.now.root }
     ensures total { result ≡ total_at program.now (present area.now) cert.now }
     ensures small { IfSome result (λ total. unsigned_abs total < 10 ^ 30) }
-    ensures duality { IfSome result (λ total. BoundsScaled program.now (present area.now) cert.now.scale total) }
+    ensures duality { IfSome result
+        (λ total. BoundsScaled program.now (present area.now) cert.now.scale total) }
 {
     if !has_total(program, area, cert) {
         return None;
@@ -135,7 +136,8 @@ fn gains(program: &Program, area: &Area, cert: &Cert) -> i128
 pub fn gain_lines(program: &Program, cert: &Cert) -> [Line; MOST_SLOTS]
     requires { IsUsable (length program.now.rows) cert.now }
     ensures length { length result ≡ 512 }
-    ensures value { (slot v : ℕ) → slot < 512 → line_at (slot_line result slot) v ≡ gain program.now cert.now slot v }
+    ensures value { (slot v : ℕ) → slot < 512
+        → line_at (slot_line result slot) v ≡ gain program.now cert.now slot v }
     ensures within { All (IsWithin (2 ^ 98)) result }
 {
     let mut lines = bare_lines();
@@ -160,7 +162,8 @@ fn slots_sum(lines: &[Line], area: &Area) -> i128
     requires few { length lines.now ≡ 512 }
     requires within { All (IsWithin (2 ^ 98)) lines.now }
     requires open_ { All IsOpen (present area.now) }
-    ensures value { result ≡ slots_total (λ slot. line_at (slot_line lines.now slot)) 0 (present area.now) }
+    ensures value { result ≡ slots_total
+        (λ slot. line_at (slot_line lines.now slot)) 0 (present area.now) }
     ensures small { unsigned_abs result ≤ 2 ^ 117 }
 {
     let mut sum = 0i128;

@@ -12,7 +12,7 @@ use Rattle.row_kit.proofs.Values.{reached_at}
 use Rattle.dual_bound.specs.declared.line.Line.{Line}
 use Rattle.dual_bound.specs.Total.{greatest}
 use Rattle.dual_bound.proofs.Greatest.{greatest_bound}
-use Rattle.dual_climb.specs.Along.{entries_part, freed, part_along}
+use Rattle.dual_climb.specs.laws.Along.{entries_part, freed, part_along}
 
 -- twice the middle of three neighbours is at most the sum of the outer ones
 abbrev pub IsConvex : (ℕ → ℤ) → Type 0

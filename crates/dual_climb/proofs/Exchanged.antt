@@ -17,9 +17,9 @@ use Rattle.dual_bound.specs.declared.line.Line.{Line}
 use Rattle.dual_bound.specs.Line.{line_at, slot_line}
 use Rattle.dual_bound.specs.Total.{rows_at, limits_sum, gain, greatest, slots_total, total_of}
 use Rattle.dual_bound.proofs.Greatest.{greatest_same}
-use Rattle.dual_climb.specs.Along.{entries_part, freed, part_along}
-use Rattle.dual_climb.specs.Factors.{IsFull, no_mult, cert_of}
-use Rattle.dual_climb.specs.RowBest.{without, with_factor}
+use Rattle.dual_climb.specs.laws.Along.{entries_part, freed, part_along}
+use Rattle.dual_climb.specs.Factors.{cert_of, without, with_factor}
+use Rattle.dual_climb.specs.laws.Sums.{IsFull, no_mult}
 use Rattle.dual_climb.proofs.Sums.{own_same, rows_same, total_same}
 
 -- no two entries have one slot

@@ -1,10 +1,13 @@
 pub mod Convex
+pub mod Ended
 pub mod Exchanged
+pub mod Gained
+pub mod Lowered
 pub mod Moved
 pub mod Numbering
 pub mod Passes
-pub mod Quotients
 pub mod Small
 pub mod Steps
 pub mod Sums
+pub mod Told
 pub mod Usable

@@ -8,7 +8,7 @@ use Rattle.std.proofs.lemmas.List.Elements.{All-head, All-tail}
 use Rattle.std.proofs.Math.IntN.{zero-*ℤ, +ℤ_idl}
 use Rattle.dual_bound.specs.declared.cert.Mult.{Mult}
 use Rattle.dual_bound.specs.Total.{are_fit, IsFitMult}
-use Rattle.dual_climb.specs.Factors.{weighted, AreNumbered, no_mult, factor_first}
+use Rattle.dual_climb.specs.laws.Sums.{weighted, AreNumbered, no_mult, factor_first}
 
 -- what the first of fit factors keeps
 pub record FitHead (rows least : ℕ) (m : Mult) (ms : List Mult) : Type 0 where
@@ -18,7 +18,7 @@ pub record FitHead (rows least : ℕ) (m : Mult) (ms : List Mult) : Type 0 where
   pub there : m.row < rows
   pub rest : are_fit rows (m.row + 1) ms ≡ true
 
-fit_head : (rows least : ℕ) (m : Mult) (ms : List Mult) → are_fit rows least (m ∷ ms) ≡ true → FitHead rows least m ms
+pub fit_head : (rows least : ℕ) (m : Mult) (ms : List Mult) → are_fit rows least (m ∷ ms) ≡ true → FitHead rows least m ms
 fit_head rows least m ms e =
     let p = and_parts (leb 1 m.factor && leb m.factor 1099511627776 && leb least m.row && ltb m.row rows) (are_fit rows (m.row + 1) ms) e in
     let q = and_parts (leb 1 m.factor && leb m.factor 1099511627776 && leb least m.row) (ltb m.row rows) p.0 in

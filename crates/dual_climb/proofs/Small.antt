@@ -18,7 +18,8 @@ use Rattle.dual_bound.specs.declared.cert.Mult.{Mult}
 use Rattle.dual_bound.specs.declared.line.Line.{Line}
 use Rattle.dual_bound.specs.Line.{line_at, slot_line, IsWithin}
 use Rattle.dual_bound.specs.Total.{rows_at, limits_sum, gain, greatest, slots_total, total_of, IsFitMult}
-use Rattle.dual_climb.specs.Factors.{weighted, IsFull, cert_of}
+use Rattle.dual_climb.specs.Factors.{cert_of}
+use Rattle.dual_climb.specs.laws.Sums.{weighted, IsFull}
 use Rattle.dual_climb.proofs.Sums.{rows_weighted, limits_weighted}
 
 abs_sum : (x y : ℤ) (m n : ℕ) → unsigned_abs x ≤ m → unsigned_abs y ≤ n → unsigned_abs (x +ℤ y) ≤ m + n

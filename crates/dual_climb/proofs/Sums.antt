@@ -10,8 +10,9 @@ use Rattle.row_kit.specs.Row.{entry_at, row_at}
 use Rattle.dual_bound.specs.declared.cert.Mult.{Mult}
 use Rattle.dual_bound.specs.Total.{rows_at, limits_sum, gain, slots_total, total_of}
 use Rattle.dual_bound.proofs.Greatest.{slots_total_same}
-use Rattle.dual_climb.specs.Factors.{weighted, HaveSameSums, AreNumbered, no_mult, cert_of}
-use Rattle.dual_climb.specs.RowBest.{without, with_factor, BestBy}
+use Rattle.dual_climb.specs.Factors.{cert_of, without, with_factor}
+use Rattle.dual_climb.specs.RowBest.{BestBy}
+use Rattle.dual_climb.specs.laws.Sums.{weighted, HaveSameSums, AreNumbered, no_mult}
 
 -- what rows with factors count is such a sum, and so is the sum of their limits
 pub rows_weighted : (rows : List Row) (ms : List Mult) (slot v : ℕ) → rows_at rows ms slot v ≡ weighted (λ r. entry_at (row_at rows r).entries slot v) ms
@@ -38,10 +39,10 @@ total_same p ds n a b h =
 abbrev pub zeroed : ℕ → (ℕ → ℤ) → ℕ → ℤ
 zeroed row worth r = cond (eqb r row) (pos 0) (worth r)
 
-zeroed_here : (row : ℕ) (worth : ℕ → ℤ) (r : ℕ) → r ≡ row → zeroed row worth r ≡ pos 0
+pub zeroed_here : (row : ℕ) (worth : ℕ → ℤ) (r : ℕ) → r ≡ row → zeroed row worth r ≡ pos 0
 zeroed_here row worth r e = cond-true (eqb r row) (pos 0) (worth r) (eq-eqb r row e)
 
-zeroed_other : (row : ℕ) (worth : ℕ → ℤ) (r : ℕ) → (r ≡ row → ⊥) → zeroed row worth r ≡ worth r
+pub zeroed_other : (row : ℕ) (worth : ℕ → ℤ) (r : ℕ) → (r ≡ row → ⊥) → zeroed row worth r ≡ worth r
 zeroed_other row worth r h = cond-false (eqb r row) (pos 0) (worth r) (ne_eqb r row h)
 
 nothing_more : (n : ℕ) (x w : ℤ) → x ≡ pos 0 → (pos n *ℤ x) +ℤ w ≡ w

@@ -11,7 +11,7 @@ use Rattle.dual_bound.specs.declared.cert.Mult.{Mult}
 use Rattle.dual_bound.specs.Total.{are_fit, is_fit, has_total, total_at, total_of, IsUsable}
 use Rattle.dual_bound.proofs.Fit.{fit_all, open_all}
 use Rattle.dual_climb.specs.Factors.{cert_of}
-use Rattle.dual_climb.specs.RowBest.{NeverRises}
+use Rattle.dual_climb.specs.Polished.{NeverRises}
 
 some_test : (b : Bool) (t : ℤ) → IsSome (cond b (Some t) None) → b ≡ true
 some_test true t h = refl

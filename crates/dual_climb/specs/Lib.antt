@@ -1,5 +1,5 @@
-pub mod Along
 pub mod Climbed
 pub mod Factors
-pub mod Held
+pub mod Polished
 pub mod RowBest
+pub mod laws

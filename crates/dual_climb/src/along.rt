@@ -1,40 +1,54 @@
-ghost use Rattle.std.specs.Prelude.{◌≡◌, ℕ, ◌+◌, ◌*◌, ◌-◌, ◌≤◌, ◌<◌, ◌^◌, length, pos, ◌+ℤ◌, ◌*ℤ◌, ◌-ℤ◌, ◌≤ℤ◌, unsigned_abs, IsTrue};
+ghost use Rattle.std.specs.Prelude.{◌≡◌, ℕ, ◌+◌, ◌*◌, ◌≤◌, ◌<◌, ◌^◌, length, pos, ◌+ℤ◌, ◌*ℤ◌, ◌-ℤ◌, unsigned_abs};
 ghost use Rattle.std.specs.List.{All};
 ghost use Rattle.row_kit.specs.Area.{present};
-ghost use Rattle.row_kit.specs.Bounds.{IsBoundedRow};
-ghost use Rattle.row_kit.specs.Domain.{IsOpen, domain_at, values_of};
+ghost use Rattle.row_kit.specs.Domain.{IsNormal, IsOpen, values_of};
 ghost use Rattle.row_kit.specs.Row.{counted};
-ghost use Rattle.dual_bound.specs.Line.{line_at, slot_line, IsWithin};
+ghost use Rattle.dual_bound.specs.Line.{line_at, IsWithin};
 ghost use Rattle.dual_bound.specs.Total.{greatest};
-ghost use Rattle.dual_climb.specs.Along.{part_along, IsAlong};
+ghost use Rattle.dual_climb.specs.laws.Along.{part_along, IsAlong};
+ghost use Rattle.dual_climb.specs.laws.Held.{AreMost};
 
+use crate::gains::Gains;
 use dual_bound::{Line, greatest_in, scaled_limit};
-use row_kit::{Area, Entry, Row};
+use row_kit::{Area, Domain, Entry, Row};
 
-// The part of a total that changes with the factor of a row, at a factor. It costs the entries of the row.
-pub fn part_along(lines: &[Line], area: &Area, row: &Row, own: u64, factor: u64) -> i128
-    requires along { IsAlong lines.now (present area.now) row.now own }
+// How far the total falls from a row's own factor to another one. It costs the entries of the row.
+pub fn fall_to(gains: &Gains, area: &Area, row: &Row, own: u64, factor: u64) -> i128
+    requires along { IsAlong gains.now.lines (present area.now) row.now own }
+    requires most { AreMost (present area.now) gains.now.lines gains.now.most }
     requires factor { factor ≤ 2 ^ 40 }
-    ensures value { result ≡ part_along lines.now (present area.now) row.now own factor }
-    ensures small { unsigned_abs result ≤ 2 ^ 117 }
+    ensures value { let part = part_along gains.now.lines (present area.now) row.now own in result ≡ part own -ℤ part factor }
+    ensures small { unsigned_abs result ≤ 2 ^ 118 }
 {
-    let mut sum = scaled_limit(row, factor);
+    let mut sum = scaled_limit(row, own) - scaled_limit(row, factor);
     for entry in row.entries.as_slice() {
-        let line = with_other(&lines[entry.slot as usize], entry, own, factor);
-        sum += greatest_in(&line, area.domain(entry.slot));
+        let line = with_other(&gains.lines[entry.slot as usize], entry, own, factor);
+        sum += fall_at(&gains.most[entry.slot as usize], &line, area.domain(entry.slot));
     }
     sum
 }
 
+// How far the most that a slot gains falls where it gains another line.
+fn fall_at(most: &i128, line: &Line, domain: Domain) -> i128
+    requires small { unsigned_abs most.now ≤ 2 ^ 107 }
+    requires within { IsWithin (2 ^ 98) line.now }
+    requires normal { IsNormal domain }
+    requires open_ { IsOpen domain }
+    ensures value { result ≡ most.now -ℤ greatest (line_at line.now) (values_of domain) }
+    ensures small { unsigned_abs result ≤ 2 ^ 108 }
+{
+    *most - greatest_in(line, domain)
+}
+
 // The line of an entry's slot with another factor of the row than its own.
-fn with_other(line: &Line, entry: &Entry, own: u64, factor: u64) -> Line
-    requires within { IsWithin (2 ^ 97) line.now }
+pub fn with_other(line: &Line, entry: &Entry, own: u64, factor: u64) -> Line
+    requires within { IsWithin (2 ^ 97 + 2 ^ 81) line.now }
     requires fixed { unsigned_abs entry.now.fixed ≤ 10000000 }
     requires per { unsigned_abs entry.now.per ≤ 10000000 }
     requires own { own ≤ 2 ^ 40 }
     requires factor { factor ≤ 2 ^ 40 }
     ensures value { (v : ℕ) → line_at result v ≡ (line_at line.now v +ℤ (pos own *ℤ counted entry.now v)) -ℤ (pos factor *ℤ counted entry.now v) }
-    ensures within { IsWithin (2 ^ 98) result }
+    ensures within { (most : ℕ) → IsWithin most line.now → IsWithin (most + 2 ^ 72) result }
 {
     line.with_entry(entry, own)
         .opposite()

@@ -1,6 +1,6 @@
 ghost use Rattle.std.specs.Prelude.{◌≡◌, ℕ, ◌≤◌, ◌<◌, ◌^◌, length, drop, true, IfOk};
 ghost use Rattle.dual_bound.specs.Total.{are_fit};
-ghost use Rattle.dual_climb.specs.Factors.{HaveSameSums, IsFull, factor_first};
+ghost use Rattle.dual_climb.specs.laws.Sums.{HaveSameSums, IsFull, factor_first};
 
 use dual_bound::Mult;
 use row_kit::List;
@@ -9,7 +9,7 @@ use std::alloc::{AllocError, Global};
 // A factor for each row: its own, or 0 where it has none.
 pub fn spread(alloc: Global, rows: usize, mults: &[Mult]) -> Result<Vec<Mult>, AllocError>
     requires fit { are_fit rows 0 mults.now ≡ true }
-    requires few { rows ≤ 45904 }
+    requires few { rows < 2 ^ 32 }
     ensures full { IfOk result (λ all. IsFull rows all.items) }
     ensures same { IfOk result (λ all. HaveSameSums all.items mults.now) }
 {

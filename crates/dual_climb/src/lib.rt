@@ -9,6 +9,7 @@
 mod along;
 mod climbing;
 mod factors;
+mod gains;
 mod held;
 mod least;
 mod moving;

@@ -4,13 +4,16 @@ ghost use Rattle.row_kit.specs.Area.{present};
 ghost use Rattle.row_kit.specs.Domain.{IsOpen};
 ghost use Rattle.dual_bound.specs.Cap.{cert_cap, scaled_cap};
 ghost use Rattle.dual_bound.specs.Total.{total_at, IsUsable};
-ghost use Rattle.dual_climb.specs.Factors.{cert_of, HaveSameSums};
-ghost use Rattle.dual_climb.specs.Held.{IsHeld, CanDescend};
-ghost use Rattle.dual_climb.specs.RowBest.{BestBy, RowBestBy, RowBest, NeverRises, IsReached};
+ghost use Rattle.dual_climb.specs.Factors.{cert_of};
+ghost use Rattle.dual_climb.specs.Polished.{IsPolished, IsKeptOrLower, NeverRises, IsReached};
+ghost use Rattle.dual_climb.specs.RowBest.{BestBy, RowBestBy, RowBest};
+ghost use Rattle.dual_climb.specs.laws.Held.{IsHeld, CanMove};
+ghost use Rattle.dual_climb.specs.laws.Sums.{HaveSameSums, IsLoweredBy};
 
 use crate::factors::{gathered, spread};
+use crate::gains::gains_under;
 use crate::held::{Held, improve};
-use dual_bound::{Cert, MOST_SCALE, gain_lines, scaled, usable_total};
+use dual_bound::{Cert, scaled, usable_total};
 use proof_tree::Capped;
 use row_kit::{Area, Program};
 use std::alloc::{AllocError, Global};
@@ -33,12 +36,15 @@ pub fn polish(
     requires total { IsSome (total_at program.now (present area.now) cert.old) }
     ensures scale { cert.new.scale ≡ cert.old.scale }
     ensures total { NeverRises (total_at program.now (present area.now) cert.old) (total_at program.now (present area.now) cert.new) }
+    ensures changes { IsPolished program.now (present area.now) cert.old cert.new }
+    ensures kept { IsKeptOrLower program.now (present area.now) cert.old cert.new }
     ensures err { OnErr result (cert.new ≡ cert.old) }
     ensures best { IfOk result (λ _. RowBest program.now (present area.now) cert.new ⊎ IsReached stop (cert_cap program.now (present area.now) cert.new)) }
 {
     let mut held = hold(alloc, program, area, cert)?;
-    descend(program, area, cert.scale, stop, &mut held);
-    cert.mults = gathered(alloc, held.mults.as_slice())?;
+    if descend(program, area, cert.scale, stop, &mut held) {
+        cert.mults = gathered(alloc, held.mults.as_slice())?;
+    }
     Ok(())
 }
 
@@ -47,31 +53,45 @@ pub fn hold(alloc: Global, program: &Program, area: &Area, cert: &Cert) -> Resul
     requires slots { length (present area.now) ≡ length program.now.root }
     requires scale { 1 ≤ cert.now.scale }
     requires total { IsSome (total_at program.now (present area.now) cert.now) }
-    ensures area { CanDescend program.now (present area.now) cert.now.scale }
-    ensures held { IfOk result (λ held. IsHeld program.now (present area.now) cert.now.scale held.mults.items held.lines held.total) }
+    ensures area { CanMove program.now (present area.now) cert.now.scale }
+    ensures held { IfOk result (λ held. IsHeld program.now (present area.now) cert.now.scale held.mults.items held.gains.lines held.gains.most held.total) }
     ensures total { IfOk result (λ held. total_at program.now (present area.now) cert.now ≡ Some held.total) }
     ensures same { IfOk result (λ held. HaveSameSums held.mults.items cert.now.mults) }
 {
     let _ = area.slot_count();
-    let lines = gain_lines(program, cert);
+    let gains = gains_under(program, area, cert);
     let total = usable_total(program, area, cert);
     let mults = spread(alloc, program.rows.len(), cert.mults.as_slice())?;
     Ok(Held {
         mults,
-        lines,
+        gains,
         total,
     })
 }
 
-// Passes over the rows until nothing changes or the cap is reached.
-fn descend(program: &Program, area: &Area, scale: u32, stop: Option<i128>, held: &mut Held)
-    requires area { CanDescend program.now (present area.now) scale }
-    requires held { IsHeld program.now (present area.now) scale held.old.mults.items held.old.lines held.old.total }
-    ensures held { IsHeld program.now (present area.now) scale held.new.mults.items held.new.lines held.new.total }
-    ensures fell { held.new.total ≤ℤ held.old.total }
+// Passes over the rows until nothing changes or the cap is reached; whether some factor changed.
+fn descend(
+    program: &Program,
+    area: &Area,
+    scale: u32,
+    stop: Option<i128>,
+    held: &mut Held,
+) -> bool
+    requires area { CanMove program.now (present area.now) scale }
+    requires scale { 1 ≤ scale }
+    requires held { IsHeld program.now (present area.now) scale held.old.mults.items held.old.gains.lines held.old.gains.most held.old.total }
+    ensures held { IsHeld program.now (present area.now) scale held.new.mults.items held.new.gains.lines held.new.gains.most held.new.total }
+    ensures never { held.new.total ≤ℤ held.old.total }
+    ensures fell { IsTrue result → (held.new.total +ℤ pos scale) ≤ℤ held.old.total }
+    ensures same { result ≡ false → held.new.mults.items ≡ held.old.mults.items }
+    ensures changes { IsLoweredBy scale program.now (present area.now) scale held.old.mults.items held.new.mults.items }
     ensures best { RowBest program.now (present area.now) (cert_of scale held.new.mults.items) ⊎ IsReached stop (scaled_cap scale (Some held.new.total)) }
 {
-    while pass(program, area, scale, scale, stop, held) {}
+    let mut changed = false;
+    while pass(program, area, scale, scale, stop, held) {
+        changed = true;
+    }
+    changed
 }
 
 // Improves the factor of each row once, where that lowers the total by so much or more, until the cap is reached; whether some
@@ -84,12 +104,15 @@ pub fn pass(
     stop: Option<i128>,
     held: &mut Held,
 ) -> bool
-    requires area { CanDescend program.now (present area.now) scale }
-    requires fall { least_fall ≤ MOST_SCALE }
-    requires held { IsHeld program.now (present area.now) scale held.old.mults.items held.old.lines held.old.total }
-    ensures held { IsHeld program.now (present area.now) scale held.new.mults.items held.new.lines held.new.total }
+    requires area { CanMove program.now (present area.now) scale }
+    requires scale { 1 ≤ scale }
+    requires some { 1 ≤ least_fall }
+    requires fall { least_fall ≤ 2 ^ 20 }
+    requires held { IsHeld program.now (present area.now) scale held.old.mults.items held.old.gains.lines held.old.gains.most held.old.total }
+    ensures held { IsHeld program.now (present area.now) scale held.new.mults.items held.new.gains.lines held.new.gains.most held.new.total }
     ensures never { held.new.total ≤ℤ held.old.total }
     ensures fell { IsTrue result → (held.new.total +ℤ pos least_fall) ≤ℤ held.old.total }
+    ensures changes { IsLoweredBy least_fall program.now (present area.now) scale held.old.mults.items held.new.mults.items }
     ensures best { result ≡ false → RowBestBy least_fall program.now (present area.now) (cert_of scale held.new.mults.items) ⊎ IsReached stop (scaled_cap scale (Some held.new.total)) }
     ensures same { result ≡ false → held.new.mults.items ≡ held.old.mults.items }
 {
@@ -112,12 +135,15 @@ fn step(
     held: &mut Held,
     number: usize,
 ) -> bool
-    requires area { CanDescend program.now (present area.now) scale }
-    requires fall { least_fall ≤ MOST_SCALE }
+    requires area { CanMove program.now (present area.now) scale }
+    requires scale { 1 ≤ scale }
+    requires some { 1 ≤ least_fall }
+    requires fall { least_fall ≤ 2 ^ 20 }
     requires number { number < length program.now.rows }
-    requires held { IsHeld program.now (present area.now) scale held.old.mults.items held.old.lines held.old.total }
-    ensures held { IsHeld program.now (present area.now) scale held.new.mults.items held.new.lines held.new.total }
+    requires held { IsHeld program.now (present area.now) scale held.old.mults.items held.old.gains.lines held.old.gains.most held.old.total }
+    ensures held { IsHeld program.now (present area.now) scale held.new.mults.items held.new.gains.lines held.new.gains.most held.new.total }
     ensures fell { IsTrue result → (held.new.total +ℤ pos least_fall) ≤ℤ held.old.total }
+    ensures changes { IsLoweredBy least_fall program.now (present area.now) scale held.old.mults.items held.new.mults.items }
     ensures same { result ≡ false → (held.new.mults.items ≡ held.old.mults.items) × (held.new.total ≡ held.old.total) }
     ensures best { result ≡ false → BestBy least_fall program.now (present area.now) (cert_of scale held.old.mults.items) number ⊎ IsReached stop (scaled_cap scale (Some held.old.total)) }
 {
@@ -133,8 +159,11 @@ fn is_reached(total: &i128, scale: u32, stop: Option<i128>) -> bool
     requires scale { 1 ≤ scale }
     ensures { IsTrue result → IsReached stop (scaled_cap scale (Some total.now)) }
 {
-    match (stop, scaled(*total, scale)) {
-        (Some(stop), Capped::AtMost(cap)) => cap <= stop,
+    let Some(stop) = stop else {
+        return false;
+    };
+    match scaled(*total, scale) {
+        Capped::AtMost(cap) => cap <= stop,
         _ => false,
     }
 }

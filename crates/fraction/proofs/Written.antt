@@ -1,5 +1,5 @@
 -- What is written of a fraction, and what is read of it.
-use Rattle.std.proofs.Common.{◌≡◌, ◌≢◌, ℕ, ◌+◌, ◌<◌, ◌≤◌, ◌^◌, Bool, true, false, ◌&&◌, nat_le, eqb, if◌then◌else◌, Option, Some, None, MatchOption, option_and_then, List, ◌∷◌, ◌++◌, length, decimal, le-leb, sym, ap, ◌∙◌, refl, arith}
+use Rattle.std.proofs.Common.{◌≡◌, ◌≢◌, ℕ, ◌<◌, ◌≤◌, ◌^◌, Bool, true, false, ◌&&◌, nat_le, eqb, if◌then◌else◌, Option, Some, None, MatchOption, option_and_then, List, ◌∷◌, ◌++◌, length, decimal, le-leb, sym, ap, ◌∙◌, refl, arith}
 use Rattle.std.specs.List.{before_first, after_first}
 use Rattle.std.proofs.lemmas.Bool.Decides.{nat_tests}
 use Rattle.std.proofs.lemmas.Fmt.{decimal_injective, decimal_nonempty}
@@ -7,7 +7,6 @@ use Rattle.text_words.specs.Numbers.{IsNumberBelow}
 use Rattle.text_words.proofs.Cuts.{cut_first, cut_rejoins, there-after}
 use Rattle.text_words.proofs.Printed.{number_below-printed, number_below-decimal, decimal-lacks}
 use Rattle.fraction.specs.declared.fraction_of.Fraction.{Fraction}
-use Rattle.fraction.specs.declared.fraction_of.TheConstants.{MAX_PART}
 use Rattle.fraction.specs.Fractions.{IsProper, fraction_text, fraction_in, proper}
 
 -- the answer is the fraction that is written as the text, and none where the text is what is written of none
@@ -31,7 +30,7 @@ test_fails : (over under : ℕ) → (nat_le 1 over && nat_le over under) ≡ fal
 test_fails over under is some most = grind (arith, nat_tests)
 
 -- what the terms before and after the slash say of the fraction
-terms_written : (text : List ℕ) (o u : Option ℕ) → IsNumberBelow (MAX_PART + 1) (before_first (λ b. eqb b 47) text) o → IsNumberBelow (MAX_PART + 1) (after_first (λ b. eqb b 47) text) u
+terms_written : (text : List ℕ) (o u : Option ℕ) → IsNumberBelow 10001 (before_first (λ b. eqb b 47) text) o → IsNumberBelow 10001 (after_first (λ b. eqb b 47) text) u
     → IsWrittenAs text (option_and_then (λ over. option_and_then (proper over) u) o)
 terms_written text None u is_over is_under = λ f is_proper written.
     is_over f.over (omega (arith, is_proper.most, is_proper.small)) (ap (before_first (λ b. eqb b 47)) written ∙ (cut_written f is_proper).0)
@@ -53,13 +52,13 @@ terms_written text (Some over) (Some under) is_over is_under =
 pub IsWrittenAs-fraction_in : (text : List ℕ) (answer : Option Fraction) → answer ≡ fraction_in text → IsWrittenAs text answer
 unfolding fraction_in
 IsWrittenAs-fraction_in text answer is =
-    rw is (terms_written text _ _ (number_below-printed (MAX_PART + 1) _ (omega arith) _ refl) (number_below-printed (MAX_PART + 1) _ (omega arith) _ refl))
+    rw is (terms_written text _ _ (number_below-printed 10001 _ (omega arith) _ refl) (number_below-printed 10001 _ (omega arith) _ refl))
 
 -- what is written of a fraction is read as it
 pub fraction_in-text : (f : Fraction) → IsProper f → fraction_in (fraction_text f) ≡ Some f
 unfolding fraction_in
 fraction_in-text f is_proper =
     let cut = cut_written f is_proper in
-    let over = number_below-decimal (MAX_PART + 1) f.over (omega arith) (omega (arith, is_proper.most, is_proper.small)) in
-    let under = number_below-decimal (MAX_PART + 1) f.under (omega arith) (omega (arith, is_proper.small)) in
+    let over = number_below-decimal 10001 f.over (omega arith) (omega (arith, is_proper.most, is_proper.small)) in
+    let under = number_below-decimal 10001 f.under (omega arith) (omega (arith, is_proper.small)) in
     rw (cut.0, cut.1, over, under, le-leb 1 f.over is_proper.some, le-leb f.over f.under is_proper.most) refl

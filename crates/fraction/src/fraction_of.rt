@@ -14,8 +14,8 @@ pub struct Fraction {
 }
 
 impl Fraction {
-    ghost use Rattle.std.specs.Prelude.{◌≡◌, ◌≢◌, ℕ, ◌*◌, ◌<◌, ◌≤◌, MatchOption};
-    ghost use Rattle.fraction.specs.Fractions.{IsProper, IsLeast, fraction_text, fraction_in};
+    ghost use Rattle.std.specs.Prelude.{◌≡◌, ◌≢◌, ℕ, ◌*◌, ◌<◌, ◌≤◌, if◌then◌else◌, MatchOption};
+    ghost use Rattle.fraction.specs.Fractions.{IsProper, IsLeast, amount_in, fraction_text, fraction_in, is_whole};
 
     /// The fraction that the text writes: `n/d` in decimal digits without sign and leading zeros, with
     /// `1 <= n <= d <= 10,000`. None exactly for any other text. The fraction is not reduced.
@@ -31,7 +31,8 @@ impl Fraction {
     /// This part of the quantum, `quantum * over / under`; None exactly where that is no whole number.
     pub fn times(self, quantum: u32) -> Option<u64>
         requires { 0 < self.under }
-        ensures { MatchOption result ((amount : ℕ) → amount * self.under ≢ quantum * self.over) (λ amount. amount * self.under ≡ quantum * self.over) }
+        ensures value { result ≡ (if is_whole quantum self then Some (amount_in quantum self) else None) }
+        ensures exact { MatchOption result ((amount : ℕ) → amount * self.under ≢ quantum * self.over) (λ amount. amount * self.under ≡ quantum * self.over) }
     {
         let whole = u64::from(quantum) * u64::from(self.over);
         let under = u64::from(self.under);
@@ -47,7 +48,7 @@ impl Fraction {
     pub fn of(amount: u32, quantum: u32) -> Option<Fraction>
         requires some { 1 ≤ amount }
         requires most { amount ≤ quantum }
-        ensures { MatchOption result ((over under : ℕ) → 0 < under → over * quantum ≡ under * amount → MAX_PART < under) (λ f. IsProper f × IsLeast amount quantum f) }
+        ensures { MatchOption result ((over under : ℕ) → 0 < under → over * quantum ≡ under * amount → 10000 < under) (λ f. IsProper f × IsLeast amount quantum f) }
     {
         let divisor = divisor_of(amount, quantum);
         let under = quantum / divisor;
@@ -62,7 +63,7 @@ impl Fraction {
     }
 }
 
-ghost use Rattle.std.specs.Prelude.{◌≡◌, ◌+◌};
+ghost use Rattle.std.specs.Prelude.{◌≡◌};
 ghost use Rattle.text_words.specs.Numbers.{number_below};
 ghost use Rattle.fraction.specs.Fractions.{fraction_in, proper};
 
@@ -78,7 +79,7 @@ fn read_fraction(text: &[u8]) -> Option<Fraction>
 
 // The numerator or denominator that the word is.
 fn read_term(word: &[u8]) -> Option<u32>
-    ensures { result ≡ number_below (MAX_PART + 1) word.now }
+    ensures { result ≡ number_below 10001 word.now }
 {
     match read_number(word, u64::from(MAX_PART) + 1) {
         Some(number) => Some(number as u32),

@@ -1,7 +1,7 @@
 //! Whether parts make up a whole.
 
 ghost use Rattle.std.specs.Prelude.{◌≡◌, ◌*◌, ◌/◌, ◌^◌, ◌<◌, ◌≤◌, ◌↔◌, IsTrue, All, length, sum_by};
-ghost use Rattle.fraction.specs.Fractions.{IsProper, SumsToOne, common_under};
+ghost use Rattle.fraction.specs.Fractions.{IsProper, SumsToOne, common_under, sums_to_one};
 
 use crate::fraction_of::Fraction;
 
@@ -9,7 +9,8 @@ use crate::fraction_of::Fraction;
 pub fn sums_to_one(parts: &[Fraction]) -> bool
     requires few { length parts.now ≤ 8 }
     requires proper { All IsProper parts.now }
-    ensures { IsTrue result ↔ SumsToOne parts.now }
+    ensures test { result ≡ sums_to_one parts.now }
+    ensures sum { IsTrue result ↔ SumsToOne parts.now }
 {
     let whole = common_denominator(parts);
     numerator_sum(parts, whole) == whole

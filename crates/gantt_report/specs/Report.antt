@@ -4,7 +4,7 @@ use Rattle.std.specs.List.{range_with_len}
 use Rattle.std.specs.Fmt.{signed_decimal}
 use Rattle.stn_model.specs.declared.plant.Plant.{Plant}
 use Rattle.stn_model.specs.declared.start.Start.{Start}
-use Rattle.stn_model.specs.Plant.{end_of}
+use Rattle.stn_model.specs.Plant.{end_of, unit_names, task_names}
 use Rattle.stn_model.specs.Stock.{stock}
 use Rattle.stn_model.specs.Load.{load}
 use Rattle.stn_model.specs.Profit.{profit}
@@ -33,16 +33,11 @@ cell_of None None = codes " .."
 unfoldable pub cell : Plant → List Start → ℕ → ℕ → List ℕ
 cell plant plan unit period = cell_of (find (begins unit period) plan) (find (goes_on plant unit period) plan)
 
--- the names of the plant's units, tasks, states and utilities, in their order
-abbrev pub unit_names : Plant → List (List ℕ)
-unit_names plant = map (λ unit. unit.name) plant.units
-
-abbrev pub task_names : Plant → List (List ℕ)
-task_names plant = map (λ task. task.name) plant.tasks
-
+-- the names of the states, in their order
 abbrev pub state_names : Plant → List (List ℕ)
 state_names plant = map (λ state. state.name) plant.states
 
+-- the names of the utilities, in their order
 abbrev pub utility_names : Plant → List (List ℕ)
 utility_names plant = map (λ utility. utility.name) plant.utilities
 

@@ -53,7 +53,9 @@ fn push_cells(
     plan: &[Start],
     unit: u32,
 ) -> Result<(), AllocError>
-    ensures { OnOk result (text.new.items ≡ text.old.items ++ flat_map (cell plant.now plan.now unit) (range_with_len 0 plant.now.periods)) }
+    ensures { OnOk result (text.new.items
+        ≡ text.old.items ++ flat_map (cell plant.now plan.now unit)
+        (range_with_len 0 plant.now.periods)) }
 {
     for period in 0..plant.periods {
         push_cell(alloc, text, plant, plan, unit, period)?;

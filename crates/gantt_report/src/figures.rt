@@ -21,7 +21,8 @@ pub fn push_stocks(
 ) -> Result<(), AllocError>
     requires sound { Sound plant.now }
     requires few { length plan.now < 2 ^ 32 }
-    ensures { OnOk result (text.new.items ≡ text.old.items ++ figures_lines (stocks_at plant.now plan.now) (plant.now.periods + 1)) }
+    ensures { OnOk result (text.new.items
+        ≡ text.old.items ++ figures_lines (stocks_at plant.now plan.now) (plant.now.periods + 1)) }
 {
     for time in 0..plant.periods + 1 {
         let stocks = stocks_at(alloc, plant, plan, time)?;
@@ -40,7 +41,8 @@ pub fn push_loads(
 ) -> Result<(), AllocError>
     requires sound { Sound plant.now }
     requires few { length plan.now < 2 ^ 32 }
-    ensures { OnOk result (text.new.items ≡ text.old.items ++ figures_lines (loads_in plant.now plan.now) plant.now.periods) }
+    ensures { OnOk result (text.new.items
+        ≡ text.old.items ++ figures_lines (loads_in plant.now plan.now) plant.now.periods) }
 {
     for period in 0..plant.periods {
         let loads = loads_in(alloc, plant, plan, period)?;
@@ -94,7 +96,8 @@ fn push_figures(
     time: u32,
     figures: &[i128],
 ) -> Result<(), AllocError>
-    ensures { OnOk result (text.new.items ≡ text.old.items ++ (right_in 32 4 (decimal time) ++ (columns figures.now ++ 10 ∷ []))) }
+    ensures { OnOk result (text.new.items
+        ≡ text.old.items ++ (right_in 32 4 (decimal time) ++ (columns figures.now ++ 10 ∷ []))) }
 {
     let number = format!(in alloc; "{time}")?;
     push_right(text, b' ', 4, number.as_bytes())?;
@@ -115,7 +118,8 @@ fn push_columns(alloc: Global, text: &mut Vec<u8>, figures: &[i128]) -> Result<(
 
 // Appends a figure right in its column.
 fn push_column(alloc: Global, text: &mut Vec<u8>, figure: &i128) -> Result<(), AllocError>
-    ensures { OnOk result (text.new.items ≡ text.old.items ++ right_in 32 16 (signed_decimal figure.now)) }
+    ensures { OnOk result (text.new.items
+        ≡ text.old.items ++ right_in 32 16 (signed_decimal figure.now)) }
 {
     let word = format!(in alloc; "{figure}")?;
     push_right(text, b' ', 16, word.as_bytes())

@@ -48,7 +48,8 @@ pub fn push_names<T: Named>(
     items: &[T],
 ) -> Result<(), AllocError>
     requires { length items.now < 2 ^ 32 }
-    ensures { OnOk result (text.new.items ≡ text.old.items ++ name_lines what.now (map T.name items.now)) }
+    ensures { OnOk result (text.new.items
+        ≡ text.old.items ++ name_lines what.now (map T.name items.now)) }
 {
     for item in 0..items.len() {
         push_name(alloc, text, what, items, item)?;
@@ -67,7 +68,8 @@ fn push_name<T: Named>(
 ) -> Result<(), AllocError>
     requires few { length items.now < 2 ^ 32 }
     requires there { item < length items.now }
-    ensures { OnOk result (text.new.items ≡ text.old.items ++ name_line what.now (map T.name items.now) item) }
+    ensures { OnOk result (text.new.items
+        ≡ text.old.items ++ name_line what.now (map T.name items.now) item) }
 {
     text.extend_from_slice(what.as_bytes())?;
     push_two_digits(alloc, text, item as u64 + 1)?;

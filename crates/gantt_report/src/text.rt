@@ -5,7 +5,8 @@ ghost use Rattle.std.specs.Fmt.{signed_decimal};
 ghost use Rattle.stn_model.specs.Sound.{Sound};
 ghost use Rattle.stn_model.specs.Profit.{profit};
 ghost use Rattle.gantt_report.specs.Layout.{name_lines, figures_lines};
-ghost use Rattle.gantt_report.specs.Report.{report_text, chart, task_names, state_names, utility_names, stocks_at, loads_in};
+ghost use Rattle.stn_model.specs.Plant.{task_names};
+ghost use Rattle.gantt_report.specs.Report.{report_text, chart, state_names, utility_names, stocks_at, loads_in};
 
 use crate::chart::push_chart;
 use crate::figures::{push_loads, push_stocks};
@@ -45,7 +46,9 @@ fn push_gantt(
     plan: &[Start],
 ) -> Result<(), AllocError>
     requires { Sound plant.now }
-    ensures { OnOk result (text.new.items ≡ text.old.items ++ (codes "gantt\n" ++ (chart plant.now plan.now ++ name_lines (codes "task ") (task_names plant.now)))) }
+    ensures { OnOk result (text.new.items
+        ≡ text.old.items ++ (codes "gantt\n"
+        ++ (chart plant.now plan.now ++ name_lines (codes "task ") (task_names plant.now)))) }
 {
     text.extend_from_slice("gantt\n".as_bytes())?;
     push_chart(alloc, text, plant, plan)?;
@@ -61,7 +64,10 @@ fn push_stock(
 ) -> Result<(), AllocError>
     requires sound { Sound plant.now }
     requires few { length plan.now < 2 ^ 32 }
-    ensures { OnOk result (text.new.items ≡ text.old.items ++ (codes "stock\n" ++ (name_lines (codes "state ") (state_names plant.now) ++ figures_lines (stocks_at plant.now plan.now) (plant.now.periods + 1)))) }
+    ensures { OnOk result (text.new.items
+        ≡ text.old.items ++ (codes "stock\n"
+        ++ (name_lines (codes "state ") (state_names plant.now)
+        ++ figures_lines (stocks_at plant.now plan.now) (plant.now.periods + 1)))) }
 {
     text.extend_from_slice("stock\n".as_bytes())?;
     push_names(alloc, text, "state ", plant.states.as_slice())?;
@@ -77,7 +83,10 @@ fn push_load(
 ) -> Result<(), AllocError>
     requires sound { Sound plant.now }
     requires few { length plan.now < 2 ^ 32 }
-    ensures { OnOk result (text.new.items ≡ text.old.items ++ (codes "load\n" ++ (name_lines (codes "utility ") (utility_names plant.now) ++ figures_lines (loads_in plant.now plan.now) plant.now.periods))) }
+    ensures { OnOk result (text.new.items
+        ≡ text.old.items ++ (codes "load\n"
+        ++ (name_lines (codes "utility ") (utility_names plant.now)
+        ++ figures_lines (loads_in plant.now plan.now) plant.now.periods))) }
 {
     text.extend_from_slice("load\n".as_bytes())?;
     push_names(alloc, text, "utility ", plant.utilities.as_slice())?;
@@ -93,7 +102,9 @@ fn push_profit(
 ) -> Result<(), AllocError>
     requires sound { Sound plant.now }
     requires few { length plan.now < 2 ^ 32 }
-    ensures { OnOk result (text.new.items ≡ text.old.items ++ (codes "profit " ++ (signed_decimal (profit plant.now plan.now) ++ 10 ∷ []))) }
+    ensures { OnOk result (text.new.items
+        ≡ text.old.items ++ (codes "profit "
+        ++ (signed_decimal (profit plant.now plan.now) ++ 10 ∷ []))) }
 {
     let profit = profit_of(plant, plan);
     let line = format!(in alloc; "profit {profit}\n")?;

@@ -31,6 +31,7 @@ use Rattle.log_lines.specs.TextDefect.{log_text_defect}
 use Rattle.proof_log.specs.declared.claim.Claim.{Claim}
 use Rattle.proof_log.specs.declared.claim.Claim.TheVariants.{Optimal, Infeasible, Between, Below}
 use Rattle.proof_log.specs.declared.log.Defect.{Defect}
+use Rattle.proof_log.specs.ClaimSays.{NoneAbove}
 use Rattle.proof_log.specs.Log.{RowItem, RowTree, line_after}
 use Rattle.proof_log.specs.LogReading.{IsClean}
 use Rattle.log_check.specs.declared.course.Course.{Course}
@@ -39,8 +40,8 @@ use Rattle.log_check.specs.declared.verdict.LogVerdict.{LogVerdict}
 use Rattle.log_check.specs.declared.verdict.LogVerdict.TheVariants.{Yes, No}
 use Rattle.log_check.proofs.Items.{worth-sound}
 use Rattle.log_check.specs.Course.{RowWalk, StandsAt}
-use Rattle.log_check.specs.Meaning.{RowSteps, IsWorth, NoneAbove, Holds, CappedDefect, ClaimDefect, IsSoundClaim, IsAbove, AllowsPoint, IsProved}
-use Rattle.log_check.specs.Verdict.{IsLog, IsMeant, IsJudged, IsVerdict, YesHolds, Answers, limits_of}
+use Rattle.log_check.specs.Meaning.{RowSteps, IsWorth, Holds, CappedDefect, ClaimDefect, IsSoundClaim, IsAbove, AllowsPoint, IsProved}
+use Rattle.log_check.specs.Verdict.{IsLog, IsMeaningVerdict, IsVerdictGiven, IsVerdict, YesHolds, IsEndVerdict, limits_of}
 
 no_capped : (program : Program) (proof_cap : Capped) (value most : ℤ) (point : List ℕ) → IsWorth program value point × (¬ IsAbove proof_cap most) → (kind : ℕ) → ¬ CappedDefect program proof_cap value most point kind
 no_capped program proof_cap value most point sound kind = ⊎_elim (worth-sound program value point sound.0 kind) (λ x. sound.1 x.2)
@@ -59,7 +60,7 @@ not_above : (a b c : ℤ) → (¬ (b <ℤ a)) → c ≤ℤ a → c ≤ℤ b
 not_above a b c not le = grind (arith, ints, not, le)
 
 -- a cap of the root that is not above a number bounds the worth of every lawful point by it
-none_above : (program : Program) (proof_cap : Capped) (most : ℤ) → proof_cap ≢ Bad → Bounds (IsIn (view_of program.root)) (IsLawful program) (worth_of program) proof_cap → ¬ IsAbove proof_cap most → NoneAbove program most
+none_above : (program : Program) (proof_cap : Capped) (most : ℤ) → proof_cap ≢ Bad → Bounds (IsIn (view_of program.root)) (IsLawful program) (worth_of program) proof_cap → ¬ IsAbove proof_cap most → NoneAbove (IsLawful program) (worth_of program) most
 none_above program (AtMost n) most real bound not = λ p lawful. not_above n most (worth_of program p) not (bound p (root_point program p lawful) lawful)
 none_above program NoPoint most real bound not = λ p lawful. absurd (bound p (root_point program p lawful) lawful)
 none_above program Bad most real bound not = absurd (real refl)
@@ -103,10 +104,10 @@ proved_holds program items proof_cap claim normal' proved sound =
 meant_of : (program : Program) (depth : ℕ) (bytes : List ℕ) (version : ℕ) (tree : RowTree) (claim : Claim) (course : Course) (walk : RowWalk) (views : List View) (began : ℕ) (verdict : LogVerdict)
     → IsClean (limits_of program depth) bytes version (tree_items tree) claim
     → StandsAt (row_steps program) program (view_of program.root) (tree_items tree) course walk views → began ≡ line_after (tree_items tree)
-    → Answers program course began claim verdict → IsMeant program bytes verdict
+    → IsEndVerdict program course began claim verdict → IsMeaningVerdict program bytes verdict
 meant_of program depth bytes version tree claim Going walk views began verdict clean stand at answer = absurd answer
 meant_of program depth bytes version tree claim (Faulty defect) walk views began verdict clean stand at answer =
-    subst (IsMeant program bytes) (sym answer) (record { tree = tree; claim = claim; is_log = log_of program depth bytes version tree claim clean; meaning = inl stand })
+    subst (IsMeaningVerdict program bytes) (sym answer) (record { tree = tree; claim = claim; is_log = log_of program depth bytes version tree claim clean; meaning = inl stand })
 meant_of program depth bytes version tree claim (Ended proof_cap) walk views began (Yes own) clean stand at answer = record {
   tree = tree;
   is_log = subst (IsLog program bytes tree) (sym answer.0) (log_of program depth bytes version tree claim clean);
@@ -123,12 +124,12 @@ meant_of program depth bytes version tree claim (Ended proof_cap) walk views beg
 pub end_verdict : (told : Option FileMap) (name : List ℕ) (program : Program) (depth version : ℕ) (items : List RowItem) (claim : Claim) (course : Course) (walk : RowWalk) (views : List View) (began : ℕ) (verdict : LogVerdict)
     → AreWhole items → IfSome told (λ m. IsClean (limits_of program depth) (file_of m name) version items claim)
     → StandsAt (row_steps program) program (view_of program.root) items course walk views → began ≡ line_after items
-    → Answers program course began claim verdict → IfSome told (λ m. IsVerdict program depth (file_of m name) verdict)
+    → IsEndVerdict program course began claim verdict → IfSome told (λ m. IsVerdict program depth (file_of m name) verdict)
 end_verdict None name program depth version items claim course walk views began verdict whole clean stand at answer = tt
 end_verdict (Some m) name program depth version items claim course walk views began verdict whole clean stand at answer =
     let own = whole_tree items whole in
     let bytes = file_of m name in
-    subst (λ o. IsJudged program bytes o verdict) (sym clean.clean)
+    subst (λ o. IsVerdictGiven program bytes o verdict) (sym clean.clean)
     (meant_of program depth bytes version own.0 claim course walk views began verdict
     (subst (λ xs. IsClean (limits_of program depth) bytes version xs claim) own.1 clean)
     (subst (λ xs. StandsAt (row_steps program) program (view_of program.root) xs course walk views) own.1 stand)
@@ -138,11 +139,11 @@ end_verdict (Some m) name program depth version items claim course walk views be
 pub bad_verdict : (told : Option FileMap) (name : List ℕ) (program : Program) (depth : ℕ) (defect : Defect)
     → IfSome told (λ m. log_text_defect (limits_of program depth) (file_of m name) ≡ Some (defect.line, defect.kind)) → IfSome told (λ m. IsVerdict program depth (file_of m name) (No defect))
 bad_verdict None name program depth defect is = tt
-bad_verdict (Some m) name program depth defect is = subst (λ o. IsJudged program (file_of m name) o (No defect)) (sym is) (refl, refl)
+bad_verdict (Some m) name program depth defect is = subst (λ o. IsVerdictGiven program (file_of m name) o (No defect)) (sym is) (refl, refl)
 
 -- where the answer is yes, what the claim says holds of all points
 pub end_holds : (program : Program) (items : List RowItem) (claim : Claim) (course : Course) (walk : RowWalk) (views : List View) (began : ℕ) (verdict : LogVerdict)
-    → All IsNormal program.root → StandsAt (row_steps program) program (view_of program.root) items course walk views → Answers program course began claim verdict → YesHolds program verdict
+    → All IsNormal program.root → StandsAt (row_steps program) program (view_of program.root) items course walk views → IsEndVerdict program course began claim verdict → YesHolds program verdict
 end_holds program items claim Going walk views began verdict normal' stand answer = absurd answer
 end_holds program items claim (Faulty defect) walk views began verdict normal' stand answer = subst (YesHolds program) (sym answer) tt
 end_holds program items claim (Ended proof_cap) walk views began (Yes own) normal' stand answer = subst (Holds program) (sym answer.0) (proved_holds program items proof_cap claim normal' stand answer.1)

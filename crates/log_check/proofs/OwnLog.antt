@@ -11,8 +11,8 @@ use Rattle.proof_log.proofs.OneText.{logs_same}
 use Rattle.log_lines.specs.TextDefect.{log_text_defect}
 use Rattle.log_check.specs.declared.verdict.LogVerdict.{LogVerdict}
 use Rattle.log_check.specs.declared.verdict.LogVerdict.TheVariants.{Yes, No}
-use Rattle.log_check.specs.Meaning.{IsMeaning}
-use Rattle.log_check.specs.Verdict.{IsLog, IsMeant, IsMeantOf, IsSoundLog, IsJudged, IsVerdict, limits_of}
+use Rattle.log_check.specs.Meaning.{IsMeaningDefect}
+use Rattle.log_check.specs.Verdict.{IsLog, IsMeaningVerdict, IsVerdictOn, IsSoundLog, IsVerdictGiven, IsVerdict, limits_of}
 
 module _ (program : Program) (version : ℕ) (tree : RowTree) (claim : Claim) (over : IsLogOver (length program.root) version tree claim) where
   -- a log with the text of this one is this one
@@ -21,17 +21,17 @@ module _ (program : Program) (version : ℕ) (tree : RowTree) (claim : Claim) (o
       logs_same (length program.root) version is_log.version tree other_tree claim other [] over is_log.over
       (is_log.text ∙ sym (append-nil (log_text is_log.version (tree_items other_tree) other)))
 
-  own_meant : (verdict : LogVerdict) → IsMeant program (log_text version (tree_items tree) claim) verdict → IsMeantOf program tree claim verdict
+  own_meant : (verdict : LogVerdict) → IsMeaningVerdict program (log_text version (tree_items tree) claim) verdict → IsVerdictOn program tree claim verdict
   own_meant (Yes own) is =
       let same = same_log is.tree own is.is_log in
       (sym same.claim_same, subst (λ t. IsSoundLog program t claim) (sym same.tree_same) (subst (IsSoundLog program is.tree) (sym same.claim_same) is.sound_log))
   own_meant (No defect) is =
       let same = same_log is.tree is.claim is.is_log in
-      let meaning = subst (λ c. IsMeaning (row_steps program) program (view_of program.root) (tree_items is.tree) c defect) (sym same.claim_same) is.meaning in
-      subst (λ t. IsMeaning (row_steps program) program (view_of program.root) (tree_items t) claim defect) (sym same.tree_same) meaning
+      let meaning = subst (λ c. IsMeaningDefect (row_steps program) program (view_of program.root) (tree_items is.tree) c defect) (sym same.claim_same) is.meaning in
+      subst (λ t. IsMeaningDefect (row_steps program) program (view_of program.root) (tree_items t) claim defect) (sym same.tree_same) meaning
 
   -- the answer on the text of a log without a text defect is that on the log
   pub log_meant : {E : Type 0} (depth : ℕ) (r : Result LogVerdict E) → log_text_defect (limits_of program depth) (log_text version (tree_items tree) claim) ≡ None
-      → IfOk r (IsVerdict program depth (log_text version (tree_items tree) claim)) → IfOk r (IsMeantOf program tree claim)
-  log_meant depth (Ok verdict) none right = own_meant verdict (subst (λ o. IsJudged program (log_text version (tree_items tree) claim) o verdict) none right)
+      → IfOk r (IsVerdict program depth (log_text version (tree_items tree) claim)) → IfOk r (IsVerdictOn program tree claim)
+  log_meant depth (Ok verdict) none right = own_meant verdict (subst (λ o. IsVerdictGiven program (log_text version (tree_items tree) claim) o verdict) none right)
   log_meant depth (Err e) none right = tt

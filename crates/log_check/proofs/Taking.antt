@@ -16,7 +16,7 @@ use Rattle.log_check.specs.declared.checker.Checker.{Checker}
 use Rattle.log_check.specs.declared.course.Course.TheVariants.{Going}
 use Rattle.log_check.specs.declared.verdict.LogVerdict.{LogVerdict}
 use Rattle.log_check.specs.Course.{StandsAt, IsReady, MayTake}
-use Rattle.log_check.specs.Verdict.{IsVerdict, YesHolds, Answers, limits_of}
+use Rattle.log_check.specs.Verdict.{IsVerdict, YesHolds, IsEndVerdict, limits_of}
 use Rattle.log_check.proofs.Judging.{end_verdict, end_holds, not_going}
 use Rattle.log_check.proofs.There.{may_take}
 
@@ -88,9 +88,9 @@ module _ {program : Program} {depth : ℕ} {told : Option FileMap} {name : List 
   pub end_claimed : (version : ℕ) → part ≡ EndPart version → IsSome claimed
   end_claimed version is = subst IsSome (sym (part_is (EndPart version) is).1.1) refl
 
-  module _ (version : ℕ) (is : part ≡ EndPart version) (verdict : LogVerdict) (answer : IfSome claimed (λ claim. Answers program checker.course began claim verdict)) where
-    answer_on : (made : Claim) → claimed ≡ Some made → Answers program checker.course began made verdict
-    answer_on made has = subst (λ c. IfSome c (λ claim. Answers program checker.course began claim verdict)) has answer
+  module _ (version : ℕ) (is : part ≡ EndPart version) (verdict : LogVerdict) (answer : IfSome claimed (λ claim. IsEndVerdict program checker.course began claim verdict)) where
+    answer_on : (made : Claim) → claimed ≡ Some made → IsEndVerdict program checker.course began made verdict
+    answer_on made has = subst (λ c. IfSome c (λ claim. IsEndVerdict program checker.course began claim verdict)) has answer
 
     -- the answer at the end is the verdict on the file
     pub taken_verdict : IfSome told (λ m. IsVerdict program depth (file_of m name) verdict)

@@ -1,5 +1,5 @@
 -- What a log says, and the meaning defects of its proof and of its claim.
-use Rattle.std.specs.Prelude.{◌≡◌, ◌≢◌, ◌⊎◌, ℕ, ℤ, ◌≤ℤ◌, ◌<ℤ◌, true, false, ⊤, List, [], ◌∷◌, ◌++◌}
+use Rattle.std.specs.Prelude.{◌≡◌, ◌≢◌, ◌⊎◌, ℕ, ℤ, ◌<ℤ◌, true, false, ⊤, List, [], ◌∷◌, ◌++◌}
 use Rattle.row_kit.specs.declared.program.Program.{Program}
 use Rattle.row_kit.specs.Point.{IsLawful, worth_of}
 use Rattle.range_prop.specs.declared.row_cut.RowCut.{RowCut}
@@ -14,6 +14,7 @@ use Rattle.row_relax.specs.declared.pick.RowPick.{RowPick}
 use Rattle.proof_log.specs.declared.claim.Claim.{Claim}
 use Rattle.proof_log.specs.declared.claim.Claim.TheVariants.{Optimal, Infeasible, Between, Below}
 use Rattle.proof_log.specs.declared.log.Defect.{Defect}
+use Rattle.proof_log.specs.ClaimSays.{HasWorth, ClaimSays}
 use Rattle.proof_log.specs.Log.{RowItem, line_after}
 
 -- what the calls of rows answer
@@ -22,18 +23,11 @@ RowSteps = Steps RowCut Cert RowPick
 
 -- a point is lawful and has this worth
 abbrev pub IsWorth : Program → ℤ → List ℕ → Type 0
-IsWorth program value point = IsLawful program point × (worth_of program point ≡ value)
+IsWorth program value point = HasWorth (IsLawful program) (worth_of program) point value
 
--- no lawful point is worth more than a number
-abbrev pub NoneAbove : Program → ℤ → Type 0
-NoneAbove program most = (point : List ℕ) → IsLawful program point → worth_of program point ≤ℤ most
-
--- what a claim says of all points
+-- what a claim says of all points of a program
 abbrev pub Holds : Program → Claim → Type 0
-Holds program (Optimal profit point) = IsWorth program profit point × NoneAbove program profit
-Holds program Infeasible = (point : List ℕ) → ¬ IsLawful program point
-Holds program (Between profit most point) = IsWorth program profit point × NoneAbove program most
-Holds program (Below most) = NoneAbove program most
+Holds program claim = ClaimSays (IsLawful program) (worth_of program) (λ point. point) claim
 
 -- what is wrong with a point and the worth that it is said to have: 13 where it is not lawful, 14 where it is and its worth is another
 abbrev pub PointDefect : Program → ℤ → List ℕ → ℕ → Type 0
@@ -116,8 +110,8 @@ pub record IsClaimDefect (s : RowSteps) (program : Program) (root : View) (items
   pub has : ClaimDefect program proof_cap claim defect.kind
 
 -- the first meaning defect of a proof and its claim, over a root
-abbrev pub IsMeaning : RowSteps → Program → View → List RowItem → Claim → Defect → Type 0
-IsMeaning s program root items claim defect = IsItemDefect s program root items defect ⊎ IsClaimDefect s program root items claim defect
+abbrev pub IsMeaningDefect : RowSteps → Program → View → List RowItem → Claim → Defect → Type 0
+IsMeaningDefect s program root items claim defect = IsItemDefect s program root items defect ⊎ IsClaimDefect s program root items claim defect
 
 -- nothing is wrong with a claim of a proof that has this cap
 abbrev pub IsSoundClaim : Program → Capped → Claim → Type 0

@@ -19,7 +19,7 @@ use Rattle.log_check.specs.declared.verdict.CheckStop.{CheckStop}
 use Rattle.log_check.specs.declared.verdict.CheckStop.TheVariants.{Fault, Memory as CheckMemory}
 use Rattle.log_check.specs.declared.verdict.LogVerdict.{LogVerdict}
 use Rattle.log_check.specs.declared.verdict.LogVerdict.TheVariants.{Yes, No}
-use Rattle.log_check.specs.Meaning.{ClaimDefect, IsSoundClaim, IsMeaning, IsProved, Holds}
+use Rattle.log_check.specs.Meaning.{ClaimDefect, IsSoundClaim, IsMeaningDefect, IsProved, Holds}
 
 -- the bytes are the text of the log of a proof and a claim over the program's slots
 pub record IsLog (program : Program) (bytes : List ℕ) (tree : RowTree) (claim : Claim) : Type 0 where
@@ -40,26 +40,26 @@ pub record IsValid (program : Program) (bytes : List ℕ) (claim : Claim) : Type
   pub sound_log : IsSoundLog program tree claim
 
 -- the bytes are the text of a log with this first meaning defect
-pub record HasMeaning (program : Program) (bytes : List ℕ) (defect : Defect) : Type 0 where
+pub record HasMeaningDefect (program : Program) (bytes : List ℕ) (defect : Defect) : Type 0 where
   pub tree : RowTree
   pub claim : Claim
   pub is_log : IsLog program bytes tree claim
-  pub meaning : IsMeaning (row_steps program) program (view_of program.root) (tree_items tree) claim defect
+  pub meaning : IsMeaningDefect (row_steps program) program (view_of program.root) (tree_items tree) claim defect
 
 -- the answer for bytes without a text defect
-abbrev pub IsMeant : Program → List ℕ → LogVerdict → Type 0
-IsMeant program bytes (Yes claim) = IsValid program bytes claim
-IsMeant program bytes (No defect) = HasMeaning program bytes defect
+abbrev pub IsMeaningVerdict : Program → List ℕ → LogVerdict → Type 0
+IsMeaningVerdict program bytes (Yes claim) = IsValid program bytes claim
+IsMeaningVerdict program bytes (No defect) = HasMeaningDefect program bytes defect
 
 -- the answer names this line and this kind
-abbrev pub Names : LogVerdict → ℕ × ℕ → Type 0
-Names (Yes claim) at = ⊥
-Names (No defect) at = (defect.line ≡ at.0) × (defect.kind ≡ at.1)
+abbrev pub IsNoAt : LogVerdict → ℕ × ℕ → Type 0
+IsNoAt (Yes claim) at = ⊥
+IsNoAt (No defect) at = (defect.line ≡ at.0) × (defect.kind ≡ at.1)
 
 -- the answer for bytes with this text defect, or with none
-abbrev pub IsJudged : Program → List ℕ → Option (ℕ × ℕ) → LogVerdict → Type 0
-IsJudged program bytes (Some at) verdict = Names verdict at
-IsJudged program bytes None verdict = IsMeant program bytes verdict
+abbrev pub IsVerdictGiven : Program → List ℕ → Option (ℕ × ℕ) → LogVerdict → Type 0
+IsVerdictGiven program bytes (Some at) verdict = IsNoAt verdict at
+IsVerdictGiven program bytes None verdict = IsMeaningVerdict program bytes verdict
 
 -- the limits of a program's logs
 abbrev pub limits_of : Program → ℕ → Limits
@@ -67,28 +67,32 @@ limits_of program depth = record { rows = length program.rows; slots = length pr
 
 -- the answer for bytes: the first text defect, and where there is none the first meaning defect, and where there is none the claim
 abbrev pub IsVerdict : Program → ℕ → List ℕ → LogVerdict → Type 0
-IsVerdict program depth bytes verdict = IsJudged program bytes (log_text_defect (limits_of program depth) bytes) verdict
+IsVerdict program depth bytes verdict = IsVerdictGiven program bytes (log_text_defect (limits_of program depth) bytes) verdict
+
+-- where the answer is yes, this is so of its claim
+abbrev pub IfYes : (Claim → Type 0) → LogVerdict → Type 0
+IfYes says (Yes claim) = says claim
+IfYes says (No defect) = ⊤
 
 -- where the answer is yes, what the claim says holds of all points
 abbrev pub YesHolds : Program → LogVerdict → Type 0
-YesHolds program (Yes claim) = Holds program claim
-YesHolds program (No defect) = ⊤
+YesHolds program verdict = IfYes (Holds program) verdict
 
 -- the answer for this very proof and claim: yes to the claim where neither has a meaning defect, or their first
-abbrev pub IsMeantOf : Program → RowTree → Claim → LogVerdict → Type 0
-IsMeantOf program tree claim (Yes own) = (own ≡ claim) × IsSoundLog program tree claim
-IsMeantOf program tree claim (No defect) = IsMeaning (row_steps program) program (view_of program.root) (tree_items tree) claim defect
+abbrev pub IsVerdictOn : Program → RowTree → Claim → LogVerdict → Type 0
+IsVerdictOn program tree claim (Yes own) = (own ≡ claim) × IsSoundLog program tree claim
+IsVerdictOn program tree claim (No defect) = IsMeaningDefect (row_steps program) program (view_of program.root) (tree_items tree) claim defect
 
 -- the answer on a claim that begins at a line, where the proof has a cap
-abbrev pub JudgedAs : Program → Capped → ℕ → Claim → LogVerdict → Type 0
-JudgedAs program proof_cap began claim (Yes own) = (own ≡ claim) × IsSoundClaim program proof_cap claim
-JudgedAs program proof_cap began claim (No defect) = (defect.line ≡ began) × ClaimDefect program proof_cap claim defect.kind
+abbrev pub IsClaimVerdict : Program → Capped → ℕ → Claim → LogVerdict → Type 0
+IsClaimVerdict program proof_cap began claim (Yes own) = (own ≡ claim) × IsSoundClaim program proof_cap claim
+IsClaimVerdict program proof_cap began claim (No defect) = (defect.line ≡ began) × ClaimDefect program proof_cap claim defect.kind
 
 -- the answer on a log that has come to its end: the first defect of an item, or the answer on its claim, which begins at a line
-abbrev pub Answers : Program → Course → ℕ → Claim → LogVerdict → Type 0
-Answers program Going began claim verdict = ⊥
-Answers program (Ended proof_cap) began claim verdict = JudgedAs program proof_cap began claim verdict
-Answers program (Faulty defect) began claim verdict = verdict ≡ No defect
+abbrev pub IsEndVerdict : Program → Course → ℕ → Claim → LogVerdict → Type 0
+IsEndVerdict program Going began claim verdict = ⊥
+IsEndVerdict program (Ended proof_cap) began claim verdict = IsClaimVerdict program proof_cap began claim verdict
+IsEndVerdict program (Faulty defect) began claim verdict = verdict ≡ No defect
 
 -- why a log was not checked, where a part of it was not read
 abbrev pub check_stop : Stop → CheckStop

@@ -2,7 +2,7 @@
 ghost use Rattle.std.specs.Prelude.{◌≡◌, ◌≢◌, ◌≤◌, Err, IfOk, IfSome, IsSome, IsTrue};
 ghost use Rattle.stn_edge.specs.Count.{Rose};
 ghost use Rattle.stn_edge.specs.Files.{file_of};
-ghost use Rattle.log_check.specs.Verdict.{IsVerdict, YesHolds, JudgedAs, Answers, limits_of};
+ghost use Rattle.log_check.specs.Verdict.{IsVerdict, YesHolds, IsClaimVerdict, IsEndVerdict, limits_of};
 
 use crate::checker::Checker;
 use crate::claims::claim_defect;
@@ -29,7 +29,7 @@ fn limits_of(program: &Program, depth: u32) -> Limits
 
 /// The answer on a claim that begins at a line, where the proof has a cap and no defect.
 fn judge(program: &Program, cap: Capped, began: u64, claim: Claim) -> LogVerdict
-    ensures { JudgedAs program.now cap began claim result }
+    ensures { IsClaimVerdict program.now cap began claim result }
 {
     match claim_defect(program, cap, &claim) {
         Some(kind) => LogVerdict::No(Defect { line: began, kind }),
@@ -41,7 +41,7 @@ fn judge(program: &Program, cap: Capped, began: u64, claim: Claim) -> LogVerdict
 fn verdict(program: &Program, course: Course, began: u64, claim: Option<Claim>) -> LogVerdict
     requires ended { course ≢ Course.Going }
     requires claimed { IsSome claim }
-    ensures { IfSome claim (λ claim. Answers program.now course began claim result) }
+    ensures { IfSome claim (λ claim. IsEndVerdict program.now course began claim result) }
 {
     match course {
         Course::Going => unreachable!(),
@@ -54,7 +54,8 @@ fn verdict(program: &Program, course: Course, began: u64, claim: Option<Claim>) 
 }
 
 /// Checks the log that lies in a file of the shelf, over the root of the rows, with at most so many splits one in another. It
-/// reads the file once, part by part, and takes memory by the depth of the proof, one certificate and one point.
+/// reads the file once, part by part, and takes memory by the depth of the proof, one certificate and one point. Each found point
+/// is tested against every row, so a log costs as many times the entries of all rows as it has found points.
 ///
 /// The answer is the first text defect of the log, where there is none the first meaning defect, and where there is none its
 /// claim: then what the claim says holds of all points. `Fault` comes only where a read failed.

@@ -5,7 +5,7 @@ ghost use Rattle.proof_tree.specs.Tree.{tree_of};
 ghost use Rattle.log_lines.specs.TextDefect.{log_text_defect};
 ghost use Rattle.proof_log.specs.Log.{log_text};
 ghost use Rattle.proof_log.specs.OneText.{IsLogOver};
-ghost use Rattle.log_check.specs.Verdict.{IsVerdict, IsMeantOf, YesHolds, limits_of};
+ghost use Rattle.log_check.specs.Verdict.{IsVerdict, IsVerdictOn, YesHolds, limits_of};
 
 use crate::bytes::check_bytes;
 use crate::verdict::LogVerdict;
@@ -28,7 +28,7 @@ pub fn check_log(
     ensures meant { IsLogOver (length rows.now.program.root) log.now.version (tree_of log.now.tree) log.now.claim
         → log_text_defect (limits_of rows.now.program depth)
         (log_text log.now.version (tree_items (tree_of log.now.tree)) log.now.claim) ≡ None
-        → IfOk result (IsMeantOf rows.now.program (tree_of log.now.tree) log.now.claim) }
+        → IfOk result (IsVerdictOn rows.now.program (tree_of log.now.tree) log.now.claim) }
 {
     let mut text = Vec::new(alloc);
     put_log(alloc, log, &mut text)?;

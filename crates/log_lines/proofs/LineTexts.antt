@@ -11,10 +11,9 @@ use Rattle.std.proofs.lemmas.List.Recursion.{and_at}
 use Rattle.std.proofs.lemmas.Slice.Eq.{bytes_eq-Decides}
 use Rattle.log_lines.specs.declared.form.Form.{Form}
 use Rattle.log_lines.specs.declared.form.Form.TheVariants as form
-use Rattle.log_lines.specs.declared.form.TheConstants.{FORMS}
 use Rattle.log_lines.specs.declared.line.Line.{Line}
 use Rattle.log_lines.specs.declared.line.Line.TheVariants.{Header, Node, Cut, Found, Value, Empty, Point, Dual, Pending, Split, Mult, ClaimOptimal, ClaimInfeasible, ClaimBetween, ClaimBelow, End}
-use Rattle.log_lines.specs.Line.{IsShort, IsLine, IsInRange, form_name, line_form, line_numbers, line_text, number_text}
+use Rattle.log_lines.specs.Line.{all_forms, IsShort, IsLine, IsInRange, form_name, line_form, line_numbers, line_text, number_text}
 use Rattle.log_lines.specs.Numbers.{IsRest, IsWord, IsCut, Fit, Reads}
 use Rattle.log_lines.specs.Reading.{form_named, form_signs, IsLineOf, ReadsLine, IsNameCut}
 use Rattle.log_lines.proofs.NumberTexts.{IsRest-number_text, word_unique, number_text_unique}
@@ -294,4 +293,4 @@ pub line_answer : (form : Form) (bytes name rest : List ℕ) (answer : Option Li
     → MatchOption answer ((line : Line) → IsLine line → line_text line ≢ bytes) (λ line. IsLine line × (line_text line ≡ bytes))
 unfolding form_named
 line_answer form bytes name rest None cut found none = line_none form bytes name rest cut found none
-line_answer form bytes name rest (Some line) cut found of = (of.is_line, line_found cut ((bytes_eq-Decides (form_name form) name).0 (find_passes (λ f. bytes_eq (form_name f) name) FORMS form found)) of)
+line_answer form bytes name rest (Some line) cut found of = (of.is_line, line_found cut ((bytes_eq-Decides (form_name form) name).0 (find_passes (λ f. bytes_eq (form_name f) name) all_forms form found)) of)

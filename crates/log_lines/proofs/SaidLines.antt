@@ -13,10 +13,9 @@ use Rattle.std.proofs.lemmas.List.Splits.{slice_split_at, slice_split_none}
 use Rattle.std.proofs.lemmas.Slice.Eq.{bytes_eq-Decides}
 use Rattle.log_lines.specs.declared.form.Form.{Form}
 use Rattle.log_lines.specs.declared.form.Form.TheVariants as form
-use Rattle.log_lines.specs.declared.form.TheConstants.{FORMS}
 use Rattle.log_lines.specs.declared.line.Line.{Line}
 use Rattle.log_lines.specs.declared.line.Line.TheVariants.{Header, Node, Cut, Found, Value, Empty, Point, Dual, Pending, Split, Mult, ClaimOptimal, ClaimInfeasible, ClaimBetween, ClaimBelow, End}
-use Rattle.log_lines.specs.Line.{IsShort, IsLine, IsInRange, form_name, line_form, line_numbers, line_text, number_text}
+use Rattle.log_lines.specs.Line.{all_forms, IsShort, IsLine, IsInRange, form_name, line_form, line_numbers, line_text, number_text}
 use Rattle.log_lines.specs.Numbers.{Fit}
 use Rattle.log_lines.specs.Reading.{form_named, form_signs}
 use Rattle.log_lines.specs.Said.{word_number, numbers_after, line_with, is_in_range, is_line, is_text, line_said}
@@ -165,23 +164,23 @@ find_at p [] k d within passes = absurd (omega arith)
 find_at p (f ∷ fs) zero d within passes = (f, ap (λ b. cond b (Some f) (find p fs)) passes)
 find_at p (f ∷ fs) (suc k) d within passes = either (p f) f (find p fs) (find_at p fs k d (omega arith) passes)
 
-find_some : (p : Form → Bool) (f : Form) → p f ≡ true → (g : Form) × (find p FORMS ≡ Some g)
-find_some p form.Header passes = find_at p FORMS 0 form.End (omega arith) passes
-find_some p form.Node passes = find_at p FORMS 1 form.End (omega arith) passes
-find_some p form.Cut passes = find_at p FORMS 2 form.End (omega arith) passes
-find_some p form.Found passes = find_at p FORMS 3 form.End (omega arith) passes
-find_some p form.Value passes = find_at p FORMS 4 form.End (omega arith) passes
-find_some p form.Empty passes = find_at p FORMS 5 form.End (omega arith) passes
-find_some p form.Point passes = find_at p FORMS 6 form.End (omega arith) passes
-find_some p form.Dual passes = find_at p FORMS 7 form.End (omega arith) passes
-find_some p form.Pending passes = find_at p FORMS 8 form.End (omega arith) passes
-find_some p form.Split passes = find_at p FORMS 9 form.End (omega arith) passes
-find_some p form.Mult passes = find_at p FORMS 10 form.End (omega arith) passes
-find_some p form.ClaimOptimal passes = find_at p FORMS 11 form.End (omega arith) passes
-find_some p form.ClaimInfeasible passes = find_at p FORMS 12 form.End (omega arith) passes
-find_some p form.ClaimBetween passes = find_at p FORMS 13 form.End (omega arith) passes
-find_some p form.ClaimBelow passes = find_at p FORMS 14 form.End (omega arith) passes
-find_some p form.End passes = find_at p FORMS 15 form.End (omega arith) passes
+find_some : (p : Form → Bool) (f : Form) → p f ≡ true → (g : Form) × (find p all_forms ≡ Some g)
+find_some p form.Header passes = find_at p all_forms 0 form.End (omega arith) passes
+find_some p form.Node passes = find_at p all_forms 1 form.End (omega arith) passes
+find_some p form.Cut passes = find_at p all_forms 2 form.End (omega arith) passes
+find_some p form.Found passes = find_at p all_forms 3 form.End (omega arith) passes
+find_some p form.Value passes = find_at p all_forms 4 form.End (omega arith) passes
+find_some p form.Empty passes = find_at p all_forms 5 form.End (omega arith) passes
+find_some p form.Point passes = find_at p all_forms 6 form.End (omega arith) passes
+find_some p form.Dual passes = find_at p all_forms 7 form.End (omega arith) passes
+find_some p form.Pending passes = find_at p all_forms 8 form.End (omega arith) passes
+find_some p form.Split passes = find_at p all_forms 9 form.End (omega arith) passes
+find_some p form.Mult passes = find_at p all_forms 10 form.End (omega arith) passes
+find_some p form.ClaimOptimal passes = find_at p all_forms 11 form.End (omega arith) passes
+find_some p form.ClaimInfeasible passes = find_at p all_forms 12 form.End (omega arith) passes
+find_some p form.ClaimBetween passes = find_at p all_forms 13 form.End (omega arith) passes
+find_some p form.ClaimBelow passes = find_at p all_forms 14 form.End (omega arith) passes
+find_some p form.End passes = find_at p all_forms 15 form.End (omega arith) passes
 
 -- the line that bytes are is said of them
 pub line_said-line : (line : Line) → IsLine line → line_said (line_text line) ≡ Some line
@@ -192,22 +191,22 @@ line_said-line line is =
     let own = line_with-text line is in
     let passes : is_text bytes (line_of (line_form line)) ≡ true = ap (is_text bytes) own ∙ (text_tells bytes line).1 (is, refl) in
     let found = find_some (λ f. is_text bytes (line_of f)) (line_form line) passes in
-    let tells = (text_tells bytes (line_of found.0)).0 (find_passes (λ f. is_text bytes (line_of f)) FORMS found.0 found.1) in
+    let tells = (text_tells bytes (line_of found.0)).0 (find_passes (λ f. is_text bytes (line_of f)) all_forms found.0 found.1) in
     ap (option_map line_of) found.1 ∙ ap Some (one_line (line_of found.0) line tells.0 is tells.1)
 
-said_of : (bytes : List ℕ) (line_of : Form → Line) (found : Option Form) (line : Line) → found ≡ find (λ f. is_text bytes (line_of f)) FORMS → option_map line_of found ≡ Some line
+said_of : (bytes : List ℕ) (line_of : Form → Line) (found : Option Form) (line : Line) → found ≡ find (λ f. is_text bytes (line_of f)) all_forms → option_map line_of found ≡ Some line
     → IsLine line × (line_text line ≡ bytes)
 said_of bytes line_of None line found said = cc
 said_of bytes line_of (Some f) line found said =
     let same : line_of f ≡ line = cc in
-    subst (λ l. IsLine l × (line_text l ≡ bytes)) same ((text_tells bytes (line_of f)).0 (find_passes (λ g. is_text bytes (line_of g)) FORMS f (sym found)))
+    subst (λ l. IsLine l × (line_text l ≡ bytes)) same ((text_tells bytes (line_of f)).0 (find_passes (λ g. is_text bytes (line_of g)) all_forms f (sym found)))
 
 -- what is said of bytes is the line that they are
 pub line_said-is : (bytes : List ℕ) (line : Line) → line_said bytes ≡ Some line → IsLine line × (line_text line ≡ bytes)
 unfolding line_said
 line_said-is bytes line said =
     let line_of : Form → Line = λ f. line_with f (numbers_after f bytes) in
-    said_of bytes line_of (find (λ f. is_text bytes (line_of f)) FORMS) line refl said
+    said_of bytes line_of (find (λ f. is_text bytes (line_of f)) all_forms) line refl said
 
 none_said : (bytes : List ℕ) (said : Option Line) → said ≡ line_said bytes → ((line : Line) → IsLine line → line_text line ≢ bytes) → None ≡ said
 none_said bytes None is none = refl

@@ -4,7 +4,6 @@ use Rattle.std.specs.Option.{option_map, option_map_or}
 use Rattle.log_lines.specs.declared.grammar.Limits.{Limits}
 use Rattle.log_lines.specs.declared.grammar.Place.{Place}
 use Rattle.log_lines.specs.declared.grammar.Place.TheVariants as place
-use Rattle.log_lines.specs.declared.kinds.TheConstants.{GRAMMAR, ROW_NUMBER, SLOT_NUMBER, MULT_TOO_LARGE, SCALE_TOO_LARGE, TOO_MANY_MULTS, TOO_DEEP, MOST_FACTOR, MOST_SCALE, MOST_MULTS}
 use Rattle.log_lines.specs.declared.step.Step.{Step}
 use Rattle.log_lines.specs.declared.step.Step.TheVariants as step
 use Rattle.log_lines.specs.declared.line.Line.{Line}
@@ -106,16 +105,28 @@ abbrev pub first_kind : List (Bool × ℕ) → Option ℕ
 first_kind [] = None
 first_kind (test ∷ tests) = if test.0 then Some test.1 else first_kind tests
 
--- the tests of a line where so many splits are open, in their order, each with its kind
+-- the test of a row: kind 4 where it is not there
+abbrev pub row_test : Limits → ℕ → Bool × ℕ
+row_test limits row = (nat_le limits.rows row, 4)
+
+-- the test of a slot: kind 5 where it is not there
+abbrev pub slot_test : Limits → ℕ → Bool × ℕ
+slot_test limits slot = (nat_le limits.slots slot, 5)
+
+-- the tests of a certificate: kind 7 for a scale above 1,048,576, kind 8 for more than 50,000 multipliers
+abbrev pub cert_tests : ℕ → ℕ → List (Bool × ℕ)
+cert_tests scale count = (nat_lt 1048576 scale, 7) ∷ (nat_lt 50000 count, 8) ∷ []
+
+-- the tests of a line where so many splits are open, in their order, each with its kind: also 9 for a node below too many
+-- splits, and 6 for a factor above 1,099,511,627,776
 abbrev pub tests_of : Limits → ℕ → Line → List (Bool × ℕ)
-tests_of limits opened Node = (nat_lt limits.depth opened, TOO_DEEP) ∷ []
-tests_of limits _ (Cut row slot) = (nat_le limits.rows row, ROW_NUMBER) ∷ (nat_le limits.slots slot, SLOT_NUMBER) ∷ []
-tests_of limits _ (Value slot _) = (nat_le limits.slots slot, SLOT_NUMBER) ∷ []
-tests_of _ _ (Dual scale count) = (nat_lt MOST_SCALE scale, SCALE_TOO_LARGE) ∷ (nat_lt MOST_MULTS count, TOO_MANY_MULTS) ∷ []
-tests_of _ _ (Pending scale count) = (nat_lt MOST_SCALE scale, SCALE_TOO_LARGE) ∷ (nat_lt MOST_MULTS count, TOO_MANY_MULTS) ∷ []
-tests_of limits _ (Split slot _ scale count) =
-    (nat_le limits.slots slot, SLOT_NUMBER) ∷ (nat_lt MOST_SCALE scale, SCALE_TOO_LARGE) ∷ (nat_lt MOST_MULTS count, TOO_MANY_MULTS) ∷ []
-tests_of limits _ (Mult row factor) = (nat_le limits.rows row, ROW_NUMBER) ∷ (nat_lt MOST_FACTOR factor, MULT_TOO_LARGE) ∷ []
+tests_of limits opened Node = (nat_lt limits.depth opened, 9) ∷ []
+tests_of limits _ (Cut row slot) = row_test limits row ∷ slot_test limits slot ∷ []
+tests_of limits _ (Value slot _) = slot_test limits slot ∷ []
+tests_of _ _ (Dual scale count) = cert_tests scale count
+tests_of _ _ (Pending scale count) = cert_tests scale count
+tests_of limits _ (Split slot _ scale count) = slot_test limits slot ∷ cert_tests scale count
+tests_of limits _ (Mult row factor) = row_test limits row ∷ (nat_lt 1099511627776 factor, 6) ∷ []
 tests_of _ _ _ = []
 
 -- the kind of the first number of the line that is too large where so many splits are open
@@ -126,6 +137,6 @@ over_at limits opened line = first_kind (tests_of limits opened line)
 abbrev pub over : Limits → Standing → Line → Option ℕ
 over limits standing line = over_at limits (length standing.sides) line
 
--- the kind of a line's defect: it may not stand here, or a number is too large
+-- the kind of a line's defect: 1 where it may not stand here, else that of the first number that is too large
 abbrev pub line_defect : Limits → Standing → Line → Option ℕ
-line_defect limits standing line = option_map_or (λ _. over limits standing line) (next standing line) (Some GRAMMAR)
+line_defect limits standing line = option_map_or (λ _. over limits standing line) (next standing line) (Some 1)

@@ -44,6 +44,12 @@ form_name form.ClaimBetween = codes "claim between"
 form_name form.ClaimBelow = codes "claim below"
 form_name form.End = codes "end"
 
+-- all forms of lines
+abbrev pub all_forms : List Form
+all_forms =
+    form.Header ∷ form.Node ∷ form.Cut ∷ form.Found ∷ form.Value ∷ form.Empty ∷ form.Point ∷ form.Dual ∷ form.Pending ∷ form.Split
+    ∷ form.Mult ∷ form.ClaimOptimal ∷ form.ClaimInfeasible ∷ form.ClaimBetween ∷ form.ClaimBelow ∷ form.End ∷ []
+
 -- the words of a line, which stand before its numbers
 abbrev pub line_name : Line → List ℕ
 line_name line = form_name (line_form line)

@@ -2,7 +2,6 @@
 use Rattle.std.specs.Prelude.{◌≡◌, ◌≢◌, ◌+◌, ◌<◌, ◌≤◌, ◌==◌, ℕ, Bool, true, false, if◌then◌else◌, Option, None, Some, List, [], ◌∷◌, ◌++◌, All, take, drop, length, refl}
 use Rattle.std.specs.Coded.{Coded, code_by, coded×, coded_ℕ, coded_list}
 use Rattle.std.specs.List.{position_or_len}
-use Rattle.log_lines.specs.declared.kinds.TheConstants.{MOST_BYTES}
 use Rattle.log_lines.specs.declared.reader.LineEnd.{LineEnd}
 use Rattle.log_lines.specs.declared.reader.LineEnd.TheVariants.{Whole, Cut, Long, Nothing}
 
@@ -48,13 +47,13 @@ GivesByte file old new (Some byte) = (drop old.place file ≡ byte ∷ drop new.
 abbrev pub EndsPart : List ℕ → ℕ → Held → List ℕ → LineEnd → Type 0
 EndsPart file place new part Whole = (drop place file ≡ part ++ 10 ∷ drop new.place file) × IsAhead file new.place new.bytes
 EndsPart file place new part Cut = drop place file ≡ part
-EndsPart file place new part Long = MOST_BYTES < line_length (drop place file)
+EndsPart file place new part Long = 200 < line_length (drop place file)
 EndsPart file place new part Nothing = drop place file ≡ []
 
 -- the part that was read, whatever the file is
 abbrev pub IsPart : ℕ → ℕ → List ℕ → LineEnd → Type 0
-IsPart place next part Whole = (length part ≤ MOST_BYTES) × HasNoFeed part × (next ≡ place + length part + 1)
-IsPart place next part Cut = (0 < length part) × (length part ≤ MOST_BYTES) × HasNoFeed part
+IsPart place next part Whole = (length part ≤ 200) × HasNoFeed part × (next ≡ place + length part + 1)
+IsPart place next part Cut = (0 < length part) × (length part ≤ 200) × HasNoFeed part
 IsPart place next part Long = Unit {0}
 IsPart place next part Nothing = Unit {0}
 
@@ -67,7 +66,7 @@ file_end count = if count == 0 then Nothing else Cut
 abbrev pub EndsLine : List ℕ → Reading → Reading → LineEnd → Type 0
 EndsLine file old new Whole = (drop old.place file ≡ new.line ++ 10 ∷ drop new.place file) × IsAhead file new.place new.ahead
 EndsLine file old new Cut = drop old.place file ≡ new.line
-EndsLine file old new Long = MOST_BYTES < line_length (drop old.place file)
+EndsLine file old new Long = 200 < line_length (drop old.place file)
 EndsLine file old new Nothing = drop old.place file ≡ []
 
 -- the same, whatever the file is: a line has at most 200 bytes and no line feed, the place is past a whole line, and the reader

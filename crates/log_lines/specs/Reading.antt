@@ -2,14 +2,13 @@
 use Rattle.std.specs.Prelude.{◌≡◌, ℕ, Bool, true, false, Option, MatchOption, bytes_eq, find, List, [], ◌∷◌, ◌++◌}
 use Rattle.log_lines.specs.declared.form.Form.{Form}
 use Rattle.log_lines.specs.declared.form.Form.TheVariants as form
-use Rattle.log_lines.specs.declared.form.TheConstants.{FORMS}
 use Rattle.log_lines.specs.declared.line.Line.{Line}
-use Rattle.log_lines.specs.Line.{IsLine, form_name, line_form, line_numbers, number_text}
+use Rattle.log_lines.specs.Line.{all_forms, IsLine, form_name, line_form, line_numbers, number_text}
 use Rattle.log_lines.specs.Numbers.{IsRest}
 
 -- the form of this name
 unfoldable pub form_named : List ℕ → Option Form
-form_named name = find (λ form. bytes_eq (form_name form) name) FORMS
+form_named name = find (λ form. bytes_eq (form_name form) name) all_forms
 
 -- the numbers of a form, each true where it may have a minus
 abbrev pub form_signs : Form → List Bool

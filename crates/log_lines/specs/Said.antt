@@ -5,10 +5,9 @@ use Rattle.std.specs.Option.{option_map}
 use Rattle.std.specs.Str.Parse.{digits_value}
 use Rattle.log_lines.specs.declared.form.Form.{Form}
 use Rattle.log_lines.specs.declared.form.Form.TheVariants as form
-use Rattle.log_lines.specs.declared.form.TheConstants.{FORMS}
 use Rattle.log_lines.specs.declared.line.Line.{Line}
 use Rattle.log_lines.specs.declared.line.Line.TheVariants.{Header, Node, Cut, Found, Value, Empty, Point, Dual, Pending, Split, Mult, ClaimOptimal, ClaimInfeasible, ClaimBetween, ClaimBelow, End}
-use Rattle.log_lines.specs.Line.{form_name, line_numbers, line_text}
+use Rattle.log_lines.specs.Line.{all_forms, form_name, line_numbers, line_text}
 
 -- the value of a word's digits, below zero after a minus (45)
 unfoldable pub word_number : List ℕ → ℤ
@@ -64,4 +63,4 @@ is_text bytes line = is_line line && bytes_eq (line_text line) bytes
 unfoldable pub line_said : List ℕ → Option Line
 line_said bytes =
     option_map (λ form. line_with form (numbers_after form bytes))
-    (find (λ form. is_text bytes (line_with form (numbers_after form bytes))) FORMS)
+    (find (λ form. is_text bytes (line_with form (numbers_after form bytes))) all_forms)

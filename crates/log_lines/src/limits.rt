@@ -1,7 +1,7 @@
 //! Which numbers of a line are too large.
-ghost use Rattle.std.specs.Prelude.{◌≡◌, ◌∷◌, [], nat_lt, nat_le};
+ghost use Rattle.std.specs.Prelude.{◌≡◌, ◌∷◌, [], nat_lt};
 ghost use Rattle.log_lines.specs.declared.line.Line.TheVariants as line;
-ghost use Rattle.log_lines.specs.Grammar.{first_kind, over_at};
+ghost use Rattle.log_lines.specs.Grammar.{first_kind, row_test, slot_test, cert_tests, over_at};
 
 use crate::grammar::Limits;
 use crate::kinds::{
@@ -51,7 +51,7 @@ fn too_deep(limits: &Limits, opened: usize) -> Option<u8>
 }
 
 fn row_number(limits: &Limits, row: u128) -> Option<u8>
-    ensures { result ≡ first_kind ((nat_le limits.now.rows row, ROW_NUMBER) ∷ []) }
+    ensures { result ≡ first_kind (row_test limits.now row ∷ []) }
 {
     if row >= u128::from(limits.rows) {
         Some(ROW_NUMBER)
@@ -61,7 +61,7 @@ fn row_number(limits: &Limits, row: u128) -> Option<u8>
 }
 
 fn slot_number(limits: &Limits, slot: u128) -> Option<u8>
-    ensures { result ≡ first_kind ((nat_le limits.now.slots slot, SLOT_NUMBER) ∷ []) }
+    ensures { result ≡ first_kind (slot_test limits.now slot ∷ []) }
 {
     if slot >= u128::from(limits.slots) {
         Some(SLOT_NUMBER)
@@ -71,7 +71,7 @@ fn slot_number(limits: &Limits, slot: u128) -> Option<u8>
 }
 
 fn cert_size(scale: u128, count: u128) -> Option<u8>
-    ensures { result ≡ first_kind ((nat_lt MOST_SCALE scale, SCALE_TOO_LARGE) ∷ (nat_lt MOST_MULTS count, TOO_MANY_MULTS) ∷ []) }
+    ensures { result ≡ first_kind (cert_tests scale count) }
 {
     if scale > MOST_SCALE {
         Some(SCALE_TOO_LARGE)
@@ -83,7 +83,7 @@ fn cert_size(scale: u128, count: u128) -> Option<u8>
 }
 
 fn factor_size(factor: u128) -> Option<u8>
-    ensures { result ≡ first_kind ((nat_lt MOST_FACTOR factor, MULT_TOO_LARGE) ∷ []) }
+    ensures { result ≡ first_kind ((nat_lt 1099511627776 factor, 6) ∷ []) }
 {
     if factor > MOST_FACTOR {
         Some(MULT_TOO_LARGE)

@@ -126,7 +126,9 @@ fn is_cleaned(plant: &Plant, plan: &[Start], a: &Start, b: &Start) -> bool
 fn all_stocks_kept(plant: &Plant, plan: &[Start]) -> bool
     requires sound { Sound plant.now }
     requires few { length plan.now < 2 ^ 32 }
-    ensures { IsTrue result ↔ ((state time : ℕ) → state < length plant.now.states → time ≤ plant.now.periods → StockKept plant.now plan.now state time) }
+    ensures { IsTrue result ↔
+        ((state time : ℕ) → state < length plant.now.states → time ≤ plant.now.periods →
+        StockKept plant.now plan.now state time) }
 {
     for state in 0..plant.states.len() {
         if !is_stock_kept(plant, plan, state as u32) {
@@ -140,7 +142,8 @@ fn is_stock_kept(plant: &Plant, plan: &[Start], state: u32) -> bool
     requires sound { Sound plant.now }
     requires few { length plan.now < 2 ^ 32 }
     requires there { state < length plant.now.states }
-    ensures { IsTrue result ↔ ((time : ℕ) → time ≤ plant.now.periods → StockKept plant.now plan.now state time) }
+    ensures { IsTrue result ↔
+        ((time : ℕ) → time ≤ plant.now.periods → StockKept plant.now plan.now state time) }
 {
     for time in 0..plant.periods + 1 {
         if !is_stock_kept_at(plant, plan, state, time) {
@@ -177,7 +180,9 @@ fn is_within(limits: &[u64], time: u32, stock: i128) -> bool
 fn all_loads_kept(plant: &Plant, plan: &[Start]) -> bool
     requires sound { Sound plant.now }
     requires few { length plan.now < 2 ^ 32 }
-    ensures { IsTrue result ↔ ((utility period : ℕ) → utility < length plant.now.utilities → period < plant.now.periods → LoadKept plant.now plan.now utility period) }
+    ensures { IsTrue result ↔
+        ((utility period : ℕ) → utility < length plant.now.utilities → period < plant.now.periods →
+        LoadKept plant.now plan.now utility period) }
 {
     for utility in 0..plant.utilities.len() {
         if !is_load_kept(plant, plan, utility as u32) {
@@ -191,7 +196,8 @@ fn is_load_kept(plant: &Plant, plan: &[Start], utility: u32) -> bool
     requires sound { Sound plant.now }
     requires few { length plan.now < 2 ^ 32 }
     requires there { utility < length plant.now.utilities }
-    ensures { IsTrue result ↔ ((period : ℕ) → period < plant.now.periods → LoadKept plant.now plan.now utility period) }
+    ensures { IsTrue result ↔
+        ((period : ℕ) → period < plant.now.periods → LoadKept plant.now plan.now utility period) }
 {
     for period in 0..plant.periods {
         if !is_load_kept_in(plant, plan, utility, period) {

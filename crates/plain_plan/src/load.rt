@@ -37,7 +37,8 @@ fn drawn(plant: &Plant, utility: u32, period: u32, start: &Start) -> u128
 
 fn drawn_by_task(plant: &Plant, utility: u32, start: &Start, k: u32) -> u128
     requires { Sound plant.now }
-    ensures value { result ≡ sum_by (drawn_in utility start.now.quanta k) (task_at plant.now start.now.task).draws }
+    ensures value { result ≡ sum_by (drawn_in utility start.now.quanta k)
+        (task_at plant.now start.now.task).draws }
     ensures small { result ≤ 2 ^ 56 }
 {
     match plant.tasks.as_slice().get(start.task as usize) {

@@ -35,8 +35,7 @@ ghost use Rattle.stn_model.specs.Sound.{Sound};
 
 use crate::load::load_in;
 use crate::stock::stock_at;
-use stn_model::questions::run_for;
-use stn_model::{Delivery, Plant, Start, change_cost};
+use stn_model::{Plant, Start, all_payments, change_cost, run_for};
 
 /// What the plan earns, in money: end stocks and payments, less the costs of holding, utilities,
 /// starts and changeovers. It takes no memory, and time with the cube of the plan.
@@ -56,14 +55,15 @@ fn income(plant: &Plant, plan: &[Start]) -> i128
     ensures value { result ≡ end_value plant.now plan.now +ℤ payments plant.now }
     ensures small { unsigned_abs result ≤ 2 ^ 115 }
 {
-    end_value(plant, plan) + payments(plant)
+    end_value(plant, plan) + all_payments(plant)
 }
 
 /// The income less the cost of holding.
 fn less_holding(plant: &Plant, plan: &[Start]) -> i128
     requires sound { Sound plant.now }
     requires few { length plan.now < 2 ^ 32 }
-    ensures value { result ≡ (end_value plant.now plan.now +ℤ payments plant.now) -ℤ holding_cost plant.now plan.now }
+    ensures value { result ≡ (end_value plant.now plan.now +ℤ payments plant.now)
+        -ℤ holding_cost plant.now plan.now }
     ensures small { unsigned_abs result ≤ 2 ^ 124 }
 {
     income(plant, plan) - holding_cost(plant, plan)
@@ -73,7 +73,8 @@ fn less_holding(plant: &Plant, plan: &[Start]) -> i128
 fn less_utilities(plant: &Plant, plan: &[Start]) -> i128
     requires sound { Sound plant.now }
     requires few { length plan.now < 2 ^ 32 }
-    ensures value { result ≡ ((end_value plant.now plan.now +ℤ payments plant.now) -ℤ holding_cost plant.now plan.now) -ℤ utility_cost plant.now plan.now }
+    ensures value { result ≡ ((end_value plant.now plan.now +ℤ payments plant.now)
+        -ℤ holding_cost plant.now plan.now) -ℤ utility_cost plant.now plan.now }
     ensures small { unsigned_abs result ≤ 2 ^ 125 }
 {
     less_holding(plant, plan) - utility_cost(plant, plan)
@@ -83,7 +84,9 @@ fn less_utilities(plant: &Plant, plan: &[Start]) -> i128
 fn less_starts(plant: &Plant, plan: &[Start]) -> i128
     requires sound { Sound plant.now }
     requires few { length plan.now < 2 ^ 32 }
-    ensures value { result ≡ (((end_value plant.now plan.now +ℤ payments plant.now) -ℤ holding_cost plant.now plan.now) -ℤ utility_cost plant.now plan.now) -ℤ start_cost plant.now plan.now }
+    ensures value { result ≡ (((end_value plant.now plan.now +ℤ payments plant.now)
+        -ℤ holding_cost plant.now plan.now) -ℤ utility_cost plant.now plan.now)
+        -ℤ start_cost plant.now plan.now }
     ensures small { unsigned_abs result ≤ 2 ^ 126 }
 {
     less_utilities(plant, plan) - start_cost(plant, plan)
@@ -123,37 +126,6 @@ fn worth_at_end(plant: &Plant, plan: &[Start], state: u32) -> i128
     scaled(price, stock_at(plant, plan, state, plant.periods))
 }
 
-#[tactic(auto, unfolding(stn_model::specs::Profit::payments))]
-fn payments(plant: &Plant) -> i128
-    requires { Sound plant.now }
-    ensures value { result ≡ payments plant.now }
-    ensures small { unsigned_abs result ≤ 2 ^ 38 }
-{
-    paid(plant.deliveries.as_slice())
-}
-
-#[tactic(auto, using(stn_model::proofs::Totals::total_more))]
-fn paid(deliveries: &[Delivery]) -> i128
-    requires few { length deliveries.now ≤ 256 }
-    requires each { All (λ delivery. unsigned_abs delivery.payment ≤ 2 ^ 30) deliveries.now }
-    ensures value { result ≡ total (λ delivery. delivery.payment) deliveries.now }
-    ensures small { unsigned_abs result ≤ 2 ^ 38 }
-{
-    let mut sum: i128 = 0;
-    for delivery in deliveries {
-        sum += payment(delivery);
-    }
-    sum
-}
-
-fn payment(delivery: &Delivery) -> i128
-    requires { unsigned_abs delivery.now.payment ≤ 2 ^ 30 }
-    ensures value { result ≡ delivery.now.payment }
-    ensures small { unsigned_abs result ≤ 2 ^ 30 }
-{
-    delivery.payment as i128
-}
-
 #[tactic(auto, unfolding(stn_model::specs::Profit::holding_cost), using(stn_model::proofs::Totals::total_below_more))]
 fn holding_cost(plant: &Plant, plan: &[Start]) -> i128
     requires sound { Sound plant.now }
@@ -173,7 +145,8 @@ fn held(plant: &Plant, plan: &[Start], state: u32) -> i128
     requires sound { Sound plant.now }
     requires few { length plan.now < 2 ^ 32 }
     requires there { state < length plant.now.states }
-    ensures value { result ≡ total_below (λ time. (state_at plant.now state).holding *ℤ stock plant.now plan.now state time) plant.now.periods }
+    ensures value { result ≡ total_below
+        (λ time. (state_at plant.now state).holding *ℤ stock plant.now plan.now state time) plant.now.periods }
     ensures small { unsigned_abs result ≤ 2 ^ 117 }
 {
     let mut sum: i128 = 0;
@@ -213,7 +186,9 @@ fn used(plant: &Plant, plan: &[Start], utility: u32) -> i128
     requires sound { Sound plant.now }
     requires few { length plan.now < 2 ^ 32 }
     requires there { utility < length plant.now.utilities }
-    ensures value { result ≡ total_below (λ period. (utility_at plant.now utility).rate *ℤ pos (load plant.now plan.now utility period)) plant.now.periods }
+    ensures value { result ≡ total_below
+        (λ period. (utility_at plant.now utility).rate *ℤ pos
+        (load plant.now plan.now utility period)) plant.now.periods }
     ensures small { unsigned_abs result ≤ 2 ^ 117 }
 {
     let mut sum: i128 = 0;
@@ -227,7 +202,8 @@ fn used_in(plant: &Plant, plan: &[Start], utility: u32, period: u32) -> i128
     requires sound { Sound plant.now }
     requires few { length plan.now < 2 ^ 32 }
     requires there { utility < length plant.now.utilities }
-    ensures value { result ≡ (utility_at plant.now utility).rate *ℤ pos (load plant.now plan.now utility period) }
+    ensures value { result ≡ (utility_at plant.now utility).rate *ℤ pos
+        (load plant.now plan.now utility period) }
     ensures small { unsigned_abs result ≤ 2 ^ 108 }
 {
     let rate = plant.utilities.get(utility as usize).rate;

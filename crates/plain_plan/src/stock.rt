@@ -1,11 +1,10 @@
 //! What is in stock of a state at a time, in mass units.
 ghost use Rattle.std.specs.Prelude.{◌≡◌, ◌≤◌, ◌<◌, ◌^◌, ◌*◌, length, All, sum_by, unsigned_abs};
 ghost use Rattle.stn_model.specs.Plant.{state_at};
-ghost use Rattle.stn_model.specs.Stock.{taken, given, inflow, outflow, stock};
+ghost use Rattle.stn_model.specs.Stock.{taken_by, taken, given_by, given, inflow, outflow, stock};
 ghost use Rattle.stn_model.specs.Sound.{Sound};
-ghost use Rattle.plain_plan.specs.Summands.{brought, carried_off, taken_by, given_by};
 
-use stn_model::{Delivery, Input, Output, Plant, Receipt, Start};
+use stn_model::{Input, Output, Plant, Start, delivered_by, received_by};
 
 /// The stock of a state at a time: what came in less what went out, in mass units; it may be
 /// negative. It takes no memory, and time in proportion to the plan.
@@ -19,7 +18,7 @@ pub fn stock_at(plant: &Plant, plan: &[Start], state: u32, time: u32) -> i128
     inflow(plant, plan, state, time) as i128 - outflow(plant, plan, state, time) as i128
 }
 
-#[tactic(auto, unfolding(stn_model::specs::Stock::inflow, stn_model::specs::Stock::received))]
+#[tactic(auto, unfolding(stn_model::specs::Stock::inflow))]
 fn inflow(plant: &Plant, plan: &[Start], state: u32, time: u32) -> u128
     requires sound { Sound plant.now }
     requires few { length plan.now < 2 ^ 32 }
@@ -27,7 +26,7 @@ fn inflow(plant: &Plant, plan: &[Start], state: u32, time: u32) -> u128
     ensures small { result ≤ 2 ^ 88 }
 {
     initial(plant, state)
-        + received(plant.receipts.as_slice(), state, time)
+        + received_by(plant, state, time) as u128
         + given_by_all(plant, plan, state, time)
 }
 
@@ -42,62 +41,14 @@ fn initial(plant: &Plant, state: u32) -> u128
     }
 }
 
-#[tactic(auto, unfolding(stn_model::specs::Stock::outflow, stn_model::specs::Stock::delivered))]
+#[tactic(auto, unfolding(stn_model::specs::Stock::outflow))]
 fn outflow(plant: &Plant, plan: &[Start], state: u32, time: u32) -> u128
     requires sound { Sound plant.now }
     requires few { length plan.now < 2 ^ 32 }
     ensures value { result ≡ outflow plant.now plan.now state time }
     ensures small { result ≤ 2 ^ 88 }
 {
-    delivered(plant.deliveries.as_slice(), state, time) + taken_by_all(plant, plan, state, time)
-}
-
-fn received(receipts: &[Receipt], state: u32, time: u32) -> u128
-    requires few { length receipts.now ≤ 256 }
-    requires each { All (λ receipt. receipt.amount ≤ 2 ^ 30) receipts.now }
-    ensures value { result ≡ sum_by (brought state time) receipts.now }
-    ensures small { result ≤ 2 ^ 38 }
-{
-    let mut sum: u128 = 0;
-    for receipt in receipts {
-        sum += brought(receipt, state, time);
-    }
-    sum
-}
-
-fn brought(receipt: &Receipt, state: u32, time: u32) -> u128
-    ensures value { result ≡ brought state time receipt.now }
-    ensures small { result ≤ receipt.now.amount }
-{
-    if receipt.state == state && receipt.time <= time {
-        receipt.amount as u128
-    } else {
-        0
-    }
-}
-
-fn delivered(deliveries: &[Delivery], state: u32, time: u32) -> u128
-    requires few { length deliveries.now ≤ 256 }
-    requires each { All (λ delivery. delivery.amount ≤ 2 ^ 30) deliveries.now }
-    ensures value { result ≡ sum_by (carried_off state time) deliveries.now }
-    ensures small { result ≤ 2 ^ 38 }
-{
-    let mut sum: u128 = 0;
-    for delivery in deliveries {
-        sum += carried_off(delivery, state, time);
-    }
-    sum
-}
-
-fn carried_off(delivery: &Delivery, state: u32, time: u32) -> u128
-    ensures value { result ≡ carried_off state time delivery.now }
-    ensures small { result ≤ delivery.now.amount }
-{
-    if delivery.state == state && delivery.time <= time {
-        delivery.amount as u128
-    } else {
-        0
-    }
+    delivered_by(plant, state, time) as u128 + taken_by_all(plant, plan, state, time)
 }
 
 fn taken_by_all(plant: &Plant, plan: &[Start], state: u32, time: u32) -> u128

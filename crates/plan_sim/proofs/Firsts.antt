@@ -5,12 +5,11 @@ use Rattle.std.proofs.lemmas.Int.{ints, by_lt_z}
 use Rattle.std.proofs.lemmas.Bool.{cases_lt, cases_Bool, false≢true}
 use Rattle.std.proofs.lemmas.List.{get_or_default}
 use Rattle.stn_model.specs.declared.plant.Plant.{Plant}
-use Rattle.stn_model.specs.declared.plant.Run.{Run}
 use Rattle.stn_model.specs.declared.start.Start.{Start}
 use Rattle.stn_model.specs.declared.violation.Violation.{Violation}
 use Rattle.stn_model.specs.declared.violation.Violation.TheVariants.{Unfit, Busy, Gap, StockLow, StockHigh, Load}
-use Rattle.stn_model.specs.Plant.{state_at, utility_at, end_of, gap_between, run_on, is_in_use}
-use Rattle.stn_model.specs.Fits.{Fits}
+use Rattle.stn_model.specs.Plant.{state_at, utility_at, end_of, gap_between}
+use Rattle.stn_model.specs.Fits.{Fits, is_fit}
 use Rattle.stn_model.specs.Batches.{Apart, Cleaned}
 use Rattle.stn_model.specs.Stock.{stock}
 use Rattle.stn_model.specs.Load.{load}
@@ -266,26 +265,9 @@ feasible_breaks_nothing plant plan f (StockLow s t) breaks = low_breaks plant pl
 feasible_breaks_nothing plant plan f (StockHigh s t) breaks = high_breaks plant plan s t breaks.2 (f.stocks s t breaks.0 breaks.1)
 feasible_breaks_nothing plant plan f (Load u p) breaks = (let k = f.loads u p breaks.0 breaks.1 in let b = breaks.2 in omega (arith, k, b))
 
-size_decided : (q : ℕ) (o : Option Run) → IsSomeAnd o (λ run. (run.min ≤ q) × (q ≤ run.max)) ⊎ (¬ IsSomeAnd o (λ run. (run.min ≤ q) × (q ≤ run.max)))
-size_decided q None = inr (λ h. h)
-size_decided q (Some run) = elim (cases_lt q run.min) [
-  | inl l ↦ inr (λ h. let m = h.0 in omega arith)
-  | inr g ↦ elim (cases_lt run.max q) [ inl l ↦ inr (λ h. let m = h.1 in omega arith) | inr k ↦ inl (g, k) ]
-]
-
 -- whether a start fits can be decided
 fits_decided : (plant : Plant) (start : Start) → Fits plant start ⊎ (¬ Fits plant start)
-fits_decided plant start =
-    elim (size_decided start.quanta (run_on plant start.task start.unit)) [
-      | inr fails ↦ inr (λ f. fails f.size)
-      | inl size ↦ elim (cases_lt plant.periods (end_of plant start)) [
-        | inl late ↦ inr (λ f. let e = f.ends in omega arith)
-        | inr ends ↦ elim (cases_Bool (is_in_use plant start.unit start.period (end_of plant start))) [
-          | inl free ↦ inl (record { size = size; ends = ends; in_use = free })
-          | inr out ↦ inr (λ f. false≢true (sym out ∙ f.in_use))
-        ]
-      ]
-    ]
+fits_decided plant start = elim (cases_Bool (is_fit plant start)) [ inl fits ↦ inl fits | inr out ↦ inr (λ fits. false≢true (sym out ∙ fits)) ]
 
 apart_decided : (plant : Plant) (a b : Start) → ¬ (¬ Apart plant a b) → Apart plant a b
 apart_decided plant a b h unit = elim (cases_lt b.period (end_of plant a)) [

@@ -6,7 +6,7 @@ use Rattle.stn_model.specs.declared.start.Start.{Start}
 use Rattle.stn_model.specs.Plant.{end_of, task_at}
 use Rattle.stn_model.specs.Fits.{Fits}
 use Rattle.stn_model.specs.Sound.{Sound}
-use Rattle.stn_model.proofs.Fitting.{delay-within, placed-Fits, sound-task_at, duration_pos}
+use Rattle.stn_model.proofs.Fitting.{delay-within, fit_parts, placed-Fits, sound-task_at, duration_pos}
 use Rattle.plan_sim.specs.Moves.{HasRow}
 use Rattle.plan_sim.proofs.Tables.{rows_apart}
 
@@ -23,7 +23,7 @@ module _ (plant : Plant) (start : Start) (sound : Sound plant) (fits : Fits plan
 
   pub outputs_within : All (λ output. start.period + output.delay < plant.periods + 1) (task_at plant start.task).outputs
   unfolding end_of
-  outputs_within k d h = omega (arith, fits.ends, delay-within (task_at plant start.task) k d h)
+  outputs_within k d h = omega (arith, (fit_parts plant start fits).ends, delay-within (task_at plant start.task) k d h)
 
   pub inputs_few : length (task_at plant start.task).inputs ≤ 8
   inputs_few = (sound-task_at plant start sound fits).inputs.1
@@ -33,7 +33,7 @@ module _ (plant : Plant) (start : Start) (sound : Sound plant) (fits : Fits plan
 
   pub starts_within : start.period < plant.periods + 1
   unfolding end_of
-  starts_within = omega (arith, fits.ends)
+  starts_within = omega (arith, (fit_parts plant start fits).ends)
 
   pub draws_few : length (task_at plant start.task).draws ≤ 8
   draws_few = (sound-task_at plant start sound fits).draws

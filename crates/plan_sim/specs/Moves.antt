@@ -1,10 +1,6 @@
 -- Tables of what moves, row by row, and the summands that fill them.
 use Rattle.std.specs.Prelude.{ℕ, ◌+◌, ◌*◌, ◌≤◌, ◌==◌, ◌&&◌, nat_le, nat_lt, ◌-◌, sum_by, if◌then◌else◌, List, length, sum, take, drop, slice_index}
-use Rattle.stn_model.specs.declared.plant.Input.{Input}
-use Rattle.stn_model.specs.declared.plant.Output.{Output}
 use Rattle.stn_model.specs.declared.plant.Draw.{Draw}
-use Rattle.stn_model.specs.declared.plant.Receipt.{Receipt}
-use Rattle.stn_model.specs.declared.plant.Delivery.{Delivery}
 use Rattle.stn_model.specs.declared.start.Start.{Start}
 use Rattle.stn_model.specs.Load.{drawn_in}
 
@@ -23,22 +19,6 @@ moved_by from_row from_column amount row column = if from_row == row && nat_le f
 -- the row is there in a table of this width and length
 abbrev pub HasRow : List ℕ → ℕ → ℕ → Type 0
 HasRow cells width row = row * width + width ≤ length cells
-
--- what the batch has taken of a state by one of its inputs
-abbrev pub taken_by : Start → ℕ → ℕ → Input → ℕ
-taken_by start state time input = moved_by input.state start.period (start.quanta * input.amount) state time
-
--- what the batch has given to a state by one of its outputs
-abbrev pub given_by : Start → ℕ → ℕ → Output → ℕ
-given_by start state time output = moved_by output.state (start.period + output.delay) (start.quanta * output.amount) state time
-
--- what a receipt has brought to a state
-abbrev pub brought_by : ℕ → ℕ → Receipt → ℕ
-brought_by state time receipt = moved_by receipt.state receipt.time receipt.amount state time
-
--- what a delivery has carried off from a state
-abbrev pub carried_off_by : ℕ → ℕ → Delivery → ℕ
-carried_off_by state time delivery = moved_by delivery.state delivery.time delivery.amount state time
 
 -- an amount that is drawn at one row and column, as one row and column show it
 abbrev pub drawn_at : ℕ → ℕ → ℕ → ℕ → ℕ → ℕ

@@ -40,7 +40,8 @@ pub fn first_fault(plant: &Plant, stocks: &[i128], loads: &[u128]) -> Option<Fau
     requires sound { Sound plant.now }
     requires stocks { length stocks.now ≡ length plant.now.states * (plant.now.periods + 1) }
     requires loads { length loads.now ≡ length plant.now.utilities * plant.now.periods }
-    ensures { MatchOption result (KeptBefore plant.now stocks.now loads.now (plant.now.periods + 1)) (IsFirstFault plant.now stocks.now loads.now) }
+    ensures { MatchOption result (KeptBefore plant.now stocks.now loads.now (plant.now.periods + 1))
+        (IsFirstFault plant.now stocks.now loads.now) }
 {
     for time in 0..plant.periods as usize + 1 {
         match first_level(plant, stocks, time) {
@@ -66,7 +67,9 @@ pub fn first_fault(plant: &Plant, stocks: &[i128], loads: &[u128]) -> Option<Fau
 fn first_level(plant: &Plant, stocks: &[i128], time: usize) -> Option<usize>
     requires stocks { length stocks.now ≡ length plant.now.states * (plant.now.periods + 1) }
     requires within { time ≤ plant.now.periods }
-    ensures { MatchOption result (LevelsKept plant.now stocks.now (length plant.now.states) time) (λ state. (state < length plant.now.states) × (¬ LevelKept plant.now stocks.now state time) × LevelsKept plant.now stocks.now state time) }
+    ensures { MatchOption result (LevelsKept plant.now stocks.now (length plant.now.states) time)
+        (λ state. (state < length plant.now.states) × (¬ LevelKept plant.now stocks.now state time)
+        × LevelsKept plant.now stocks.now state time) }
 {
     for state in 0..plant.states.len() {
         if !is_level_kept(plant, stocks, state, time) {
@@ -100,7 +103,10 @@ fn first_use(plant: &Plant, loads: &[u128], period: usize) -> Option<usize>
     requires sound { Sound plant.now }
     requires loads { length loads.now ≡ length plant.now.utilities * plant.now.periods }
     requires within { period < plant.now.periods }
-    ensures { MatchOption result (UsesKept plant.now loads.now (length plant.now.utilities) period) (λ utility. (utility < length plant.now.utilities) × (¬ UseKept plant.now loads.now utility period) × UsesKept plant.now loads.now utility period) }
+    ensures { MatchOption result (UsesKept plant.now loads.now (length plant.now.utilities) period)
+        (λ utility. (utility < length plant.now.utilities)
+        × (¬ UseKept plant.now loads.now utility period)
+        × UsesKept plant.now loads.now utility period) }
 {
     for utility in 0..plant.utilities.len() {
         if !is_use_kept(plant, loads, utility, period) {

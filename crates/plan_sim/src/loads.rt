@@ -45,7 +45,8 @@ fn add_loads(plant: &Plant, plan: &[Start], cells: &mut [u128])
     requires few { length plan.now < 2 ^ 32 }
     requires size { length cells.old ≡ length plant.now.utilities * plant.now.periods }
     requires empty { sum cells.old ≡ 0 }
-    ensures loads { (utility period : ℕ) → period < plant.now.periods → cell cells.new plant.now.periods utility period ≡ load plant.now plan.now utility period }
+    ensures loads { (utility period : ℕ) → period < plant.now.periods →
+        cell cells.new plant.now.periods utility period ≡ load plant.now plan.now utility period }
     ensures small { sum cells.new ≤ 2 ^ 76 }
 {
     for start in plan {
@@ -59,7 +60,10 @@ fn draw_batch(plant: &Plant, start: &Start, cells: &mut [u128])
     requires fits { Fits plant.now start.now }
     requires size { length cells.old ≡ length plant.now.utilities * plant.now.periods }
     requires room { sum cells.old < 2 ^ 99 }
-    ensures drawn { (utility period : ℕ) → period < plant.now.periods → cell cells.new plant.now.periods utility period ≡ cell cells.old plant.now.periods utility period + drawn plant.now utility period start.now }
+    ensures drawn { (utility period : ℕ) → period < plant.now.periods →
+        cell cells.new plant.now.periods utility period
+        ≡ cell cells.old plant.now.periods utility period
+        + drawn plant.now utility period start.now }
     ensures total { sum cells.new ≤ sum cells.old + 2 ^ 42 }
 {
     let task = task_of(plant, start);
@@ -83,7 +87,10 @@ fn draw_task(width: usize, draws: &[Draw], start: &Start, ending: usize, cells: 
     requires within { ending ≤ width }
     requires short { width ≤ 336 }
     requires room { sum cells.old < 2 ^ 99 }
-    ensures drawn { (utility period : ℕ) → period < width → cell cells.new width utility period ≡ cell cells.old width utility period + drawn_until draws.now start.now ending utility period }
+    ensures drawn { (utility period : ℕ) → period < width →
+        cell cells.new width utility period
+        ≡ cell cells.old width utility period
+        + drawn_until draws.now start.now ending utility period }
     ensures total { sum cells.new ≤ sum cells.old + 2 ^ 42 }
 {
     for period in start.period as usize..ending {
@@ -101,7 +108,9 @@ fn add_draws(width: usize, draws: &[Draw], start: &Start, period: usize, cells: 
     requires begun { start.now.period ≤ period }
     requires within { period < width }
     requires room { sum cells.old < 2 ^ 100 }
-    ensures drawn { (r c : ℕ) → c < width → cell cells.new width r c ≡ cell cells.old width r c + sum_by (draws_in start.now period r c) draws.now }
+    ensures drawn { (r c : ℕ) → c < width →
+        cell cells.new width r c ≡ cell cells.old width r c
+        + sum_by (draws_in start.now period r c) draws.now }
     ensures total { sum cells.new ≤ sum cells.old + 2 ^ 32 }
 {
     for draw in draws {
@@ -135,7 +144,8 @@ fn add_load(cells: &mut [u128], width: usize, row: usize, column: usize, amount:
     requires there { HasRow cells.old width row }
     requires within { column < width }
     requires room { sum cells.old + amount < 2 ^ 101 }
-    ensures drawn { (r c : ℕ) → c < width → cell cells.new width r c ≡ cell cells.old width r c + drawn_at row column amount r c }
+    ensures drawn { (r c : ℕ) → c < width →
+        cell cells.new width r c ≡ cell cells.old width r c + drawn_at row column amount r c }
     ensures total { sum cells.new ≡ sum cells.old + amount }
 {
     cells[row * width + column] += amount;

@@ -17,11 +17,8 @@ ghost use Rattle.plan_sim.specs.Moves.{
   summed,
   moved_by,
   HasRow,
-  taken_by,
-  given_by,
-  brought_by,
-  carried_off_by,
 };
+ghost use Rattle.stn_model.specs.Stock.{taken_by, given_by, brought, carried_off};
 
 use stn_model::{Delivery, Input, Output, Receipt, Start};
 
@@ -30,7 +27,8 @@ fn add_move(cells: &mut [u128], width: usize, row: usize, column: usize, amount:
     requires there { HasRow cells.old width row }
     requires within { column < width }
     requires room { sum cells.old + amount < 2 ^ 100 }
-    ensures moved { (r c : ℕ) → c < width → summed cells.new width r c ≡ summed cells.old width r c + moved_by row column amount r c }
+    ensures moved { (r c : ℕ) → c < width →
+        summed cells.new width r c ≡ summed cells.old width r c + moved_by row column amount r c }
     ensures total { sum cells.new ≡ sum cells.old + amount }
 {
     cells[row * width + column] += amount;
@@ -44,7 +42,9 @@ pub fn add_inputs(cells: &mut [u128], width: usize, inputs: &[Input], start: &St
     requires quanta { start.now.quanta ≤ 255 }
     requires within { start.now.period < width }
     requires room { sum cells.old < 2 ^ 99 }
-    ensures moved { (r c : ℕ) → c < width → summed cells.new width r c ≡ summed cells.old width r c + sum_by (taken_by start.now r c) inputs.now }
+    ensures moved { (r c : ℕ) → c < width →
+        summed cells.new width r c
+        ≡ summed cells.old width r c + sum_by (taken_by r c start.now) inputs.now }
     ensures total { sum cells.new ≤ sum cells.old + 2 ^ 31 }
 {
     for input in inputs {
@@ -67,7 +67,9 @@ pub fn add_outputs(cells: &mut [u128], width: usize, outputs: &[Output], start: 
     requires quanta { start.now.quanta ≤ 255 }
     requires within { All (λ output. start.now.period + output.delay < width) outputs.now }
     requires room { sum cells.old < 2 ^ 99 }
-    ensures moved { (r c : ℕ) → c < width → summed cells.new width r c ≡ summed cells.old width r c + sum_by (given_by start.now r c) outputs.now }
+    ensures moved { (r c : ℕ) → c < width →
+        summed cells.new width r c
+        ≡ summed cells.old width r c + sum_by (given_by r c start.now) outputs.now }
     ensures total { sum cells.new ≤ sum cells.old + 2 ^ 31 }
 {
     for output in outputs {
@@ -84,7 +86,9 @@ pub fn add_receipts(cells: &mut [u128], width: usize, receipts: &[Receipt])
     requires small { All (λ receipt. receipt.amount ≤ 2 ^ 30) receipts.now }
     requires within { All (λ receipt. receipt.time < width) receipts.now }
     requires room { sum cells.old < 2 ^ 99 }
-    ensures moved { (r c : ℕ) → c < width → summed cells.new width r c ≡ summed cells.old width r c + sum_by (brought_by r c) receipts.now }
+    ensures moved { (r c : ℕ) → c < width →
+        summed cells.new width r c
+        ≡ summed cells.old width r c + sum_by (brought r c) receipts.now }
     ensures total { sum cells.new ≤ sum cells.old + 2 ^ 38 }
 {
     for receipt in receipts {
@@ -105,7 +109,9 @@ pub fn add_deliveries(cells: &mut [u128], width: usize, deliveries: &[Delivery])
     requires small { All (λ delivery. delivery.amount ≤ 2 ^ 30) deliveries.now }
     requires within { All (λ delivery. delivery.time < width) deliveries.now }
     requires room { sum cells.old < 2 ^ 99 }
-    ensures moved { (r c : ℕ) → c < width → summed cells.new width r c ≡ summed cells.old width r c + sum_by (carried_off_by r c) deliveries.now }
+    ensures moved { (r c : ℕ) → c < width →
+        summed cells.new width r c
+        ≡ summed cells.old width r c + sum_by (carried_off r c) deliveries.now }
     ensures total { sum cells.new ≤ sum cells.old + 2 ^ 38 }
 {
     for delivery in deliveries {

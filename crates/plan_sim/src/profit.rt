@@ -25,8 +25,7 @@ ghost use Rattle.plan_sim.specs.Tables.{IsStockTable, IsLoadTable};
 ghost use Rattle.plan_sim.specs.Units.{NoTwins};
 
 use crate::units::change_costs;
-use stn_model::questions::run_for;
-use stn_model::{Delivery, Plant, Start};
+use stn_model::{Plant, Start, all_payments, run_for};
 
 /// What a plan earns: end stocks and payments, less the costs of holding, utilities, starts and
 /// changeovers.
@@ -51,7 +50,7 @@ fn income(plant: &Plant, stocks: &[i128]) -> i128
     ensures value { result ≡ levels_worth plant.now stocks.now +ℤ payments plant.now }
     ensures small { unsigned_abs result ≤ 2 ^ 103 }
 {
-    worth_of_levels(plant, stocks) + payments(plant)
+    worth_of_levels(plant, stocks) + all_payments(plant)
 }
 
 /// The income less the cost of holding.
@@ -59,7 +58,8 @@ fn less_holding(plant: &Plant, stocks: &[i128]) -> i128
     requires sound { Sound plant.now }
     requires stocks { length stocks.now ≡ length plant.now.states * (plant.now.periods + 1) }
     requires small { All (λ level. unsigned_abs level ≤ 2 ^ 66) stocks.now }
-    ensures value { result ≡ (levels_worth plant.now stocks.now +ℤ payments plant.now) -ℤ levels_held plant.now stocks.now }
+    ensures value { result ≡ (levels_worth plant.now stocks.now +ℤ payments plant.now)
+        -ℤ levels_held plant.now stocks.now }
     ensures small { unsigned_abs result ≤ 2 ^ 112 }
 {
     income(plant, stocks) - cost_of_levels(plant, stocks)
@@ -72,7 +72,8 @@ fn less_utilities(plant: &Plant, stocks: &[i128], loads: &[u128]) -> i128
     requires small { All (λ level. unsigned_abs level ≤ 2 ^ 66) stocks.now }
     requires loads { length loads.now ≡ length plant.now.utilities * plant.now.periods }
     requires light { sum loads.now ≤ 2 ^ 76 }
-    ensures value { result ≡ ((levels_worth plant.now stocks.now +ℤ payments plant.now) -ℤ levels_held plant.now stocks.now) -ℤ uses_cost plant.now loads.now }
+    ensures value { result ≡ ((levels_worth plant.now stocks.now +ℤ payments plant.now)
+        -ℤ levels_held plant.now stocks.now) -ℤ uses_cost plant.now loads.now }
     ensures small { unsigned_abs result ≤ 2 ^ 113 }
 {
     less_holding(plant, stocks) - cost_of_uses(plant, loads)
@@ -86,7 +87,9 @@ fn less_starts(plant: &Plant, plan: &[Start], stocks: &[i128], loads: &[u128]) -
     requires loads { length loads.now ≡ length plant.now.utilities * plant.now.periods }
     requires light { sum loads.now ≤ 2 ^ 76 }
     requires few { length plan.now < 2 ^ 32 }
-    ensures value { result ≡ (((levels_worth plant.now stocks.now +ℤ payments plant.now) -ℤ levels_held plant.now stocks.now) -ℤ uses_cost plant.now loads.now) -ℤ start_cost plant.now plan.now }
+    ensures value { result ≡ (((levels_worth plant.now stocks.now +ℤ payments plant.now)
+        -ℤ levels_held plant.now stocks.now) -ℤ uses_cost plant.now loads.now)
+        -ℤ start_cost plant.now plan.now }
     ensures small { unsigned_abs result ≤ 2 ^ 114 }
 {
     less_utilities(plant, stocks, loads) - start_cost(plant, plan)
@@ -140,36 +143,6 @@ fn level_at(plant: &Plant, stocks: &[i128], state: usize, time: usize) -> i128
     ensures small { unsigned_abs result ≤ 2 ^ 66 }
 {
     stocks[state * (plant.periods as usize + 1) + time]
-}
-
-#[tactic(auto, unfolding(stn_model::specs::Profit::payments))]
-fn payments(plant: &Plant) -> i128
-    requires { Sound plant.now }
-    ensures value { result ≡ payments plant.now }
-    ensures small { unsigned_abs result ≤ 2 ^ 38 }
-{
-    paid(plant.deliveries.as_slice())
-}
-
-fn paid(deliveries: &[Delivery]) -> i128
-    requires few { length deliveries.now ≤ 256 }
-    requires each { All (λ delivery. unsigned_abs delivery.payment ≤ 2 ^ 30) deliveries.now }
-    ensures value { result ≡ total (λ delivery. delivery.payment) deliveries.now }
-    ensures small { unsigned_abs result ≤ 2 ^ 38 }
-{
-    let mut sum: i128 = 0;
-    for delivery in deliveries {
-        sum += payment(delivery);
-    }
-    sum
-}
-
-fn payment(delivery: &Delivery) -> i128
-    requires { unsigned_abs delivery.now.payment ≤ 2 ^ 30 }
-    ensures value { result ≡ delivery.now.payment }
-    ensures small { unsigned_abs result ≤ 2 ^ 30 }
-{
-    delivery.payment as i128
 }
 
 #[tactic(auto, using(stn_model::proofs::Totals::total_below_more))]
@@ -253,7 +226,8 @@ fn cost_in(plant: &Plant, loads: &[u128], utility: usize, period: usize) -> i128
     requires light { sum loads.now ≤ 2 ^ 76 }
     requires there { utility < length plant.now.utilities }
     requires within { period < plant.now.periods }
-    ensures value { result ≡ (utility_at plant.now utility).rate *ℤ pos (used plant.now loads.now utility period) }
+    ensures value { result ≡ (utility_at plant.now utility).rate *ℤ pos
+        (used plant.now loads.now utility period) }
     ensures small { unsigned_abs result ≤ 2 ^ 96 }
 {
     let rate = plant.utilities.get(utility).rate;

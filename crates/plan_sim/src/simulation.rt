@@ -46,7 +46,8 @@ pub fn simulate(alloc: Global, plant: &Plant, plan: &[Start]) -> Result<Verdict,
     requires sound { Sound plant.now }
     requires few { length plan.now < 2 ^ 32 }
     ensures verdict { IfOk result (IsVerdict plant.now plan.now) }
-    ensures feasible { IfOk result (λ verdict. IsTrue (says_feasible verdict) ↔ Feasible plant.now plan.now) }
+    ensures feasible { IfOk result
+        (λ verdict. IsTrue (says_feasible verdict) ↔ Feasible plant.now plan.now) }
 {
     match broken_unit(plant, plan) {
         Some(violation) => Ok(Verdict::Broken(violation)),
@@ -92,7 +93,8 @@ fn course(alloc: Global, plant: &Plant, plan: &[Start]) -> Result<Verdict, Alloc
     requires few { length plan.now < 2 ^ 32 }
     requires units { UnitsKept plant.now plan.now }
     ensures verdict { IfOk result (IsVerdict plant.now plan.now) }
-    ensures feasible { IfOk result (λ verdict. IsTrue (says_feasible verdict) ↔ Feasible plant.now plan.now) }
+    ensures feasible { IfOk result
+        (λ verdict. IsTrue (says_feasible verdict) ↔ Feasible plant.now plan.now) }
 {
     let stocks = stocks(alloc, plant, plan)?;
     let loads = loads(alloc, plant, plan)?;

@@ -37,7 +37,8 @@ pub fn stocks(alloc: Global, plant: &Plant, plan: &[Start]) -> Result<Vec<i128>,
     requires fit { All (Fits plant.now) plan.now }
     requires few { length plan.now < 2 ^ 32 }
     ensures table { IfOk result (λ stocks. IsStockTable plant.now plan.now stocks.items) }
-    ensures small { IfOk result (λ stocks. All (λ level. unsigned_abs level ≤ 2 ^ 66) stocks.items) }
+    ensures small { IfOk result
+        (λ stocks. All (λ level. unsigned_abs level ≤ 2 ^ 66) stocks.items) }
 {
     let width = plant.periods as usize + 1;
     let arrived = arrivals(alloc, plant, plan)?;
@@ -65,7 +66,8 @@ fn push_levels(
     requires in_small { sum arrived.now ≤ 2 ^ 64 }
     requires out_small { sum departed.now ≤ 2 ^ 64 }
     requires small { All (λ level. unsigned_abs level ≤ 2 ^ 66) stocks.old.items }
-    ensures levels { OnOk result (AddsLevels stocks.old.items stocks.new.items opening width state width arrived.now departed.now) }
+    ensures levels { OnOk result
+        (AddsLevels stocks.old.items stocks.new.items opening width state width arrived.now departed.now) }
     ensures small { OnOk result (All (λ level. unsigned_abs level ≤ 2 ^ 66) stocks.new.items) }
 {
     let mut inflow = opening;
@@ -83,8 +85,12 @@ fn arrivals(alloc: Global, plant: &Plant, plan: &[Start]) -> Result<Vec<u128>, A
     requires sound { Sound plant.now }
     requires fit { All (Fits plant.now) plan.now }
     requires few { length plan.now < 2 ^ 32 }
-    ensures size { IfOk result (λ cells. length cells.items ≡ length plant.now.states * (plant.now.periods + 1)) }
-    ensures moved { IfOk result (λ cells. (state time : ℕ) → time < plant.now.periods + 1 → summed cells.items (plant.now.periods + 1) state time ≡ received plant.now state time + sum_by (given plant.now state time) plan.now) }
+    ensures size { IfOk result
+        (λ cells. length cells.items ≡ length plant.now.states * (plant.now.periods + 1)) }
+    ensures moved { IfOk result
+        (λ cells. (state time : ℕ) → time < plant.now.periods + 1 →
+        summed cells.items (plant.now.periods + 1) state time
+        ≡ received plant.now state time + sum_by (given plant.now state time) plan.now) }
     ensures total { IfOk result (λ cells. sum cells.items ≤ 2 ^ 64) }
 {
     let width = plant.periods as usize + 1;
@@ -99,7 +105,9 @@ fn add_arrivals(plant: &Plant, plan: &[Start], cells: &mut [u128])
     requires few { length plan.now < 2 ^ 32 }
     requires size { length cells.old ≡ length plant.now.states * (plant.now.periods + 1) }
     requires empty { sum cells.old ≡ 0 }
-    ensures moved { (state time : ℕ) → time < plant.now.periods + 1 → summed cells.new (plant.now.periods + 1) state time ≡ received plant.now state time + sum_by (given plant.now state time) plan.now }
+    ensures moved { (state time : ℕ) → time < plant.now.periods + 1 →
+        summed cells.new (plant.now.periods + 1) state time
+        ≡ received plant.now state time + sum_by (given plant.now state time) plan.now }
     ensures total { sum cells.new ≤ 2 ^ 64 }
 {
     receive(plant, cells);
@@ -113,7 +121,8 @@ fn receive(plant: &Plant, cells: &mut [u128])
     requires sound { Sound plant.now }
     requires size { length cells.old ≡ length plant.now.states * (plant.now.periods + 1) }
     requires empty { sum cells.old ≡ 0 }
-    ensures moved { (state time : ℕ) → time < plant.now.periods + 1 → summed cells.new (plant.now.periods + 1) state time ≡ received plant.now state time }
+    ensures moved { (state time : ℕ) → time < plant.now.periods + 1 →
+        summed cells.new (plant.now.periods + 1) state time ≡ received plant.now state time }
     ensures total { sum cells.new ≤ 2 ^ 38 }
 {
     add_receipts(cells, plant.periods as usize + 1, plant.receipts.as_slice());
@@ -125,7 +134,10 @@ fn give(plant: &Plant, start: &Start, cells: &mut [u128])
     requires fits { Fits plant.now start.now }
     requires size { length cells.old ≡ length plant.now.states * (plant.now.periods + 1) }
     requires room { sum cells.old < 2 ^ 99 }
-    ensures moved { (state time : ℕ) → time < plant.now.periods + 1 → summed cells.new (plant.now.periods + 1) state time ≡ summed cells.old (plant.now.periods + 1) state time + given plant.now state time start.now }
+    ensures moved { (state time : ℕ) → time < plant.now.periods + 1 →
+        summed cells.new (plant.now.periods + 1) state time
+        ≡ summed cells.old (plant.now.periods + 1) state time
+        + given plant.now state time start.now }
     ensures total { sum cells.new ≤ sum cells.old + 2 ^ 31 }
 {
     let task = task_of(plant, start);
@@ -142,8 +154,12 @@ fn departures(alloc: Global, plant: &Plant, plan: &[Start]) -> Result<Vec<u128>,
     requires sound { Sound plant.now }
     requires fit { All (Fits plant.now) plan.now }
     requires few { length plan.now < 2 ^ 32 }
-    ensures size { IfOk result (λ cells. length cells.items ≡ length plant.now.states * (plant.now.periods + 1)) }
-    ensures moved { IfOk result (λ cells. (state time : ℕ) → time < plant.now.periods + 1 → summed cells.items (plant.now.periods + 1) state time ≡ delivered plant.now state time + sum_by (taken plant.now state time) plan.now) }
+    ensures size { IfOk result
+        (λ cells. length cells.items ≡ length plant.now.states * (plant.now.periods + 1)) }
+    ensures moved { IfOk result
+        (λ cells. (state time : ℕ) → time < plant.now.periods + 1 →
+        summed cells.items (plant.now.periods + 1) state time
+        ≡ delivered plant.now state time + sum_by (taken plant.now state time) plan.now) }
     ensures total { IfOk result (λ cells. sum cells.items ≤ 2 ^ 64) }
 {
     let width = plant.periods as usize + 1;
@@ -158,7 +174,9 @@ fn add_departures(plant: &Plant, plan: &[Start], cells: &mut [u128])
     requires few { length plan.now < 2 ^ 32 }
     requires size { length cells.old ≡ length plant.now.states * (plant.now.periods + 1) }
     requires empty { sum cells.old ≡ 0 }
-    ensures moved { (state time : ℕ) → time < plant.now.periods + 1 → summed cells.new (plant.now.periods + 1) state time ≡ delivered plant.now state time + sum_by (taken plant.now state time) plan.now }
+    ensures moved { (state time : ℕ) → time < plant.now.periods + 1 →
+        summed cells.new (plant.now.periods + 1) state time
+        ≡ delivered plant.now state time + sum_by (taken plant.now state time) plan.now }
     ensures total { sum cells.new ≤ 2 ^ 64 }
 {
     deliver(plant, cells);
@@ -172,7 +190,8 @@ fn deliver(plant: &Plant, cells: &mut [u128])
     requires sound { Sound plant.now }
     requires size { length cells.old ≡ length plant.now.states * (plant.now.periods + 1) }
     requires empty { sum cells.old ≡ 0 }
-    ensures moved { (state time : ℕ) → time < plant.now.periods + 1 → summed cells.new (plant.now.periods + 1) state time ≡ delivered plant.now state time }
+    ensures moved { (state time : ℕ) → time < plant.now.periods + 1 →
+        summed cells.new (plant.now.periods + 1) state time ≡ delivered plant.now state time }
     ensures total { sum cells.new ≤ 2 ^ 38 }
 {
     add_deliveries(
@@ -188,7 +207,10 @@ fn take_from(plant: &Plant, start: &Start, cells: &mut [u128])
     requires fits { Fits plant.now start.now }
     requires size { length cells.old ≡ length plant.now.states * (plant.now.periods + 1) }
     requires room { sum cells.old < 2 ^ 99 }
-    ensures moved { (state time : ℕ) → time < plant.now.periods + 1 → summed cells.new (plant.now.periods + 1) state time ≡ summed cells.old (plant.now.periods + 1) state time + taken plant.now state time start.now }
+    ensures moved { (state time : ℕ) → time < plant.now.periods + 1 →
+        summed cells.new (plant.now.periods + 1) state time
+        ≡ summed cells.old (plant.now.periods + 1) state time
+        + taken plant.now state time start.now }
     ensures total { sum cells.new ≤ sum cells.old + 2 ^ 31 }
 {
     let task = task_of(plant, start);

@@ -33,7 +33,8 @@ pub struct Pair {
 
 /// The first place whose start does not fit the plant.
 pub fn first_unfit(plant: &Plant, plan: &[Start]) -> Option<usize>
-    ensures { MatchOption result (FitUntil plant.now plan.now (length plan.now)) (IsFirstUnfit plant.now plan.now) }
+    ensures { MatchOption result (FitUntil plant.now plan.now (length plan.now))
+        (IsFirstUnfit plant.now plan.now) }
 {
     for (place, start) in plan.iter().enumerate() {
         if !fits(plant, start) {
@@ -46,7 +47,8 @@ pub fn first_unfit(plant: &Plant, plan: &[Start]) -> Option<usize>
 /// The first later place whose batch meets the one at this place.
 pub fn first_meeting(plant: &Plant, plan: &[Start], first: usize) -> Option<usize>
     requires { first < length plan.now }
-    ensures { MatchOption result (ApartUntil plant.now plan.now first (length plan.now)) (IsFirstMeeting plant.now plan.now first) }
+    ensures { MatchOption result (ApartUntil plant.now plan.now first (length plan.now))
+        (IsFirstMeeting plant.now plan.now first) }
 {
     let a = plan[first];
     for second in first + 1..plan.len() {
@@ -59,7 +61,8 @@ pub fn first_meeting(plant: &Plant, plan: &[Start], first: usize) -> Option<usiz
 
 /// The first pair of places whose batches are on one unit and meet.
 pub fn first_busy(plant: &Plant, plan: &[Start]) -> Option<Pair>
-    ensures { MatchOption result (ApartThroughout plant.now plan.now) (λ pair. IsFirstBusy plant.now plan.now pair.first pair.second) }
+    ensures { MatchOption result (ApartThroughout plant.now plan.now)
+        (λ pair. IsFirstBusy plant.now plan.now pair.first pair.second) }
 {
     for first in 0..plan.len() {
         match first_meeting(plant, plan, first) {
@@ -78,7 +81,8 @@ fn are_apart(plant: &Plant, a: &Start, b: &Start) -> bool
 
 /// The place of the nearest later start on the unit of a.
 pub fn next_on_unit(plan: &[Start], a: &Start) -> Option<usize>
-    ensures { MatchOption result (NoneLater plan.now (length plan.now) a.now) (IsNearest plan.now (length plan.now) a.now) }
+    ensures { MatchOption result (NoneLater plan.now (length plan.now) a.now)
+        (IsNearest plan.now (length plan.now) a.now) }
 {
     let mut nearest: Option<usize> = None;
     for place in 0..plan.len() {
@@ -92,7 +96,10 @@ pub fn next_on_unit(plan: &[Start], a: &Start) -> Option<usize>
 fn is_nearer(plan: &[Start], a: &Start, nearest: Option<usize>, place: usize) -> bool
     requires there { place < length plan.now }
     requires known { IfSome nearest (λ k. k < length plan.now) }
-    ensures { IsTrue result ↔ (IsLater a.now (start_at plan.now place) × MatchOption nearest (Unit {0}) (λ k. (start_at plan.now place).period < (start_at plan.now k).period)) }
+    ensures { IsTrue result ↔
+        (IsLater a.now (start_at plan.now place)
+        × MatchOption nearest (Unit {0})
+        (λ k. (start_at plan.now place).period < (start_at plan.now k).period)) }
 {
     let c = plan[place];
     if c.unit != a.unit || c.period <= a.period {
@@ -107,7 +114,8 @@ fn is_nearer(plan: &[Start], a: &Start, nearest: Option<usize>, place: usize) ->
 /// The first pair of places whose batches follow each other before the unit is cleaned.
 pub fn first_gap(plant: &Plant, plan: &[Start]) -> Option<Pair>
     requires { NoTwins plan.now }
-    ensures { MatchOption result (CleanedUntil plant.now plan.now (length plan.now)) (λ pair. IsFirstGap plant.now plan.now pair.first pair.second) }
+    ensures { MatchOption result (CleanedUntil plant.now plan.now (length plan.now))
+        (λ pair. IsFirstGap plant.now plan.now pair.first pair.second) }
 {
     for first in 0..plan.len() {
         match too_soon_after(plant, plan, &plan[first]) {
@@ -121,7 +129,8 @@ pub fn first_gap(plant: &Plant, plan: &[Start]) -> Option<Pair>
 /// The place of the start that follows a before the unit is cleaned.
 fn too_soon_after(plant: &Plant, plan: &[Start], a: &Start) -> Option<usize>
     requires { NoTwins plan.now }
-    ensures { MatchOption result (NoneTooSoon plant.now plan.now a.now) (FollowsTooSoon plant.now plan.now a.now) }
+    ensures { MatchOption result (NoneTooSoon plant.now plan.now a.now)
+        (FollowsTooSoon plant.now plan.now a.now) }
 {
     match next_on_unit(plan, a) {
         Some(place) => {
@@ -136,7 +145,9 @@ fn too_soon_after(plant: &Plant, plan: &[Start], a: &Start) -> Option<usize>
 }
 
 fn is_cleaned_before(plant: &Plant, a: &Start, b: &Start) -> bool
-    ensures { IsTrue result ↔ (end_of plant.now a.now + gap_between plant.now a.now.unit a.now.task b.now.task ≤ b.now.period) }
+    ensures { IsTrue result ↔
+        (end_of plant.now a.now + gap_between plant.now a.now.unit a.now.task b.now.task
+        ≤ b.now.period) }
 {
     let cleaning = gap_of(plant, a.unit, a.task, b.task) as u128;
     end(plant, a) as u128 + cleaning <= b.period as u128

@@ -24,7 +24,7 @@ use Rattle.stn_model.specs.Plant.{no_task}
 use Rattle.stn_model.specs.Sound.{Sound, is_name, is_name_byte}
 use Rattle.stn_model.specs.declared.limits.TheConstants.{MAX_NAME}
 use Rattle.plan_text.specs.declared.fault.PlanFault.{PlanFault}
-use Rattle.plan_text.specs.declared.fault.TheConstants.{BAD_LINE, UNKNOWN_NAME, MAX_STARTS, NUMBER_LIMIT}
+use Rattle.plan_text.specs.Published.{bad_line, unknown_name, most_lines, number_limit}
 use Rattle.plan_text.specs.PlanLines.{unit_names, task_names, start_words, plan_line, plan_lines}
 use Rattle.plan_text.specs.PlanText.{lines_of_parts, text_lines, line_words, is_comment, is_empty, unit_named, task_named, start_of, start_of_words, line_start, after_line, with_start}
 use Rattle.plan_text.specs.ReadsBack.{IsRemark, comment_lines, IsWritable, ReadsBack}
@@ -149,8 +149,8 @@ made period unit task quanta = Ok (record { period = period; unit = unit; task =
 
 -- a choice of which each part holds
 says : (empty_unit empty_task : Bool) (p q u t : Option ℕ) (period quanta unit task : ℕ) → empty_unit ≡ false → empty_task ≡ false → p ≡ Some period → q ≡ Some quanta → u ≡ Some unit → t ≡ Some task
-    → (if empty_unit || empty_task then Err BAD_LINE
-    else option_map_or (λ p2. option_map_or (λ q2. option_map_or (λ u2. option_map_or (λ t2. made p2 u2 t2 q2) t (Err UNKNOWN_NAME)) u (Err UNKNOWN_NAME)) q (Err BAD_LINE)) p (Err BAD_LINE))
+    → (if empty_unit || empty_task then Err bad_line
+    else option_map_or (λ p2. option_map_or (λ q2. option_map_or (λ u2. option_map_or (λ t2. made p2 u2 t2 q2) t (Err unknown_name)) u (Err unknown_name)) q (Err bad_line)) p (Err bad_line))
     ≡ made period unit task quanta
 says empty_unit empty_task p q u t period quanta unit task is_1 is_2 is_3 is_4 is_5 is_6 = rw (is_1, is_2, is_3, is_4, is_5, is_6) refl
 
@@ -159,14 +159,14 @@ not_empty : (bytes : List ℕ) → 0 < length bytes → is_empty bytes ≡ false
 not_empty bytes some = grind (arith, nat_tests)
 
 -- four words that say a start
-start_of-says : (plant : Plant) (period unit_at task_at quanta : ℕ) (unit task : List ℕ) → 0 < length unit → 0 < length task → period < NUMBER_LIMIT → quanta < NUMBER_LIMIT
+start_of-says : (plant : Plant) (period unit_at task_at quanta : ℕ) (unit task : List ℕ) → 0 < length unit → 0 < length task → period < number_limit → quanta < number_limit
     → unit_named plant unit ≡ Some unit_at → task_named plant task ≡ Some task_at
     → start_of plant (decimal period) unit task (decimal quanta) ≡ Ok (record { period = period; unit = unit_at; task = task_at; quanta = quanta })
 unfolding start_of
 start_of-says plant period unit_at task_at quanta unit task some_unit some_task small_period small_quanta is_unit is_task =
-    says (is_empty unit) (is_empty task) (number_below NUMBER_LIMIT (decimal period)) (number_below NUMBER_LIMIT (decimal quanta)) (unit_named plant unit) (task_named plant task) period quanta unit_at task_at
+    says (is_empty unit) (is_empty task) (number_below number_limit (decimal period)) (number_below number_limit (decimal quanta)) (unit_named plant unit) (task_named plant task) period quanta unit_at task_at
     (not_empty unit some_unit) (not_empty task some_task)
-    (number_below-decimal NUMBER_LIMIT period (omega arith) small_period) (number_below-decimal NUMBER_LIMIT quanta (omega arith) small_quanta) is_unit is_task
+    (number_below-decimal number_limit period (omega arith) small_period) (number_below-decimal number_limit quanta (omega arith) small_quanta) is_unit is_task
 
 -- what a line without its line feed says of the plant
 pub record IsLineOf (plant : Plant) (start : Start) (line : List ℕ) : Type 0 where
@@ -202,13 +202,13 @@ puts : (number : ℕ) (plan : List Start) (comment full : Bool) (answer : Result
 puts number plan comment full answer start fault is_1 is_2 is_3 = rw (is_1, is_2, is_3) refl
 
 -- a start on a line of its own is put at the end of the plan
-after_line-start : (plant : Plant) (number : ℕ) (plan : List Start) (start : Start) (line : List ℕ) → IsLineOf plant start line → length plan < MAX_STARTS → after_line plant number plan line ≡ Ok (plan ++ start ∷ [])
+after_line-start : (plant : Plant) (number : ℕ) (plan : List Start) (start : Start) (line : List ℕ) → IsLineOf plant start line → length plan < most_lines → after_line plant number plan line ≡ Ok (plan ++ start ∷ [])
 unfolding after_line
 after_line-start plant number plan start line is room =
-    puts number plan (is_comment line) (length plan == MAX_STARTS) (line_start plant line) start _ is.no_comment (fails (length plan == MAX_STARTS) (Decides-eqb (length plan) MAX_STARTS) (λ same. omega arith)) is.says
+    puts number plan (is_comment line) (length plan == most_lines) (line_start plant line) start _ is.no_comment (fails (length plan == most_lines) (Decides-eqb (length plan) most_lines) (λ same. omega arith)) is.says
 
 -- the lines of starts give the starts
-starts_read : (plant : Plant) (number : ℕ) (done starts : List Start) → Sound plant → All (IsWritable plant) starts → length done + length starts ≤ MAX_STARTS
+starts_read : (plant : Plant) (number : ℕ) (done starts : List Start) → Sound plant → All (IsWritable plant) starts → length done + length starts ≤ most_lines
     → read_on plant number done (text_lines (plan_lines plant starts)) ≡ Ok (done ++ starts)
 unfolding plan_lines plan_line
 starts_read plant number done [] sound writable room = rw text_lines-nil (ap Ok (sym (append-nil done)))

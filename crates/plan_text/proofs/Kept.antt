@@ -11,14 +11,14 @@ use Rattle.stn_model.specs.declared.plant.Plant.{Plant}
 use Rattle.stn_model.specs.declared.start.Start.{Start}
 use Rattle.plan_text.specs.declared.fault.PlanFault.{PlanFault}
 use Rattle.plan_text.specs.declared.fault.PlanStop.{PlanStop}
-use Rattle.plan_text.specs.declared.fault.TheConstants.{BAD_LINE, UNKNOWN_NAME, TOO_MANY_LINES, TOO_LONG, MAX_BYTES, MAX_STARTS, NUMBER_LIMIT}
-use Rattle.plan_text.specs.PlanText.{is_comment, is_empty, unit_named, task_named, named_start, start_of, line_start, text_lines, plan_of_lines, plan_of_text, with_start, after_line, Gives}
+use Rattle.plan_text.specs.Published.{bad_line, unknown_name, too_many_lines, too_long, most_bytes, most_lines, number_limit}
+use Rattle.plan_text.specs.PlanText.{is_comment, is_empty, unit_named, task_named, named_start, start_of, line_start, text_lines, plan_of_lines, plan_of_text, with_start, after_line, ReadsPlan}
 use Rattle.plan_text.specs.ReadsBack.{IsWritable}
 use Rattle.plan_text.proofs.Reading.{read_on, and_then, word_of, rest_of, line_start-cuts, plan_of_lines-is, plan_of_text-short}
 
 -- the starts can be written, and there are not too many
 pub record IsKept (plant : Plant) (plan : List Start) : Type 0 where
-  pub few : length plan ≤ MAX_STARTS
+  pub few : length plan ≤ most_lines
   pub writable : All (IsWritable plant) plan
 
 -- what is found is there
@@ -53,15 +53,15 @@ same_start plant found start is writable = let same : found ≡ start = cc in su
 start_of-writable : (plant : Plant) (period unit task quanta : List ℕ) (start : Start) → start_of plant period unit task quanta ≡ Ok start → IsWritable plant start
 unfolding start_of
 start_of-writable plant period unit task quanta start is =
-    let said = not_failed (is_empty unit || is_empty task) BAD_LINE _ start is in
-    let p = opened (λ a. option_map_or (λ b. named_start plant a unit task b) (number_below NUMBER_LIMIT quanta) (Err BAD_LINE)) (number_below NUMBER_LIMIT period) BAD_LINE start said in
-    let q = opened (λ b. named_start plant p.0 unit task b) (number_below NUMBER_LIMIT quanta) BAD_LINE start p.2 in
-    let u = opened (λ a. option_map_or (λ b. made p.0 a b q.0) (task_named plant task) (Err UNKNOWN_NAME)) (unit_named plant unit) UNKNOWN_NAME start q.2 in
-    let t = opened (λ b. made p.0 u.0 b q.0) (task_named plant task) UNKNOWN_NAME start u.2 in
+    let said = not_failed (is_empty unit || is_empty task) bad_line _ start is in
+    let p = opened (λ a. option_map_or (λ b. named_start plant a unit task b) (number_below number_limit quanta) (Err bad_line)) (number_below number_limit period) bad_line start said in
+    let q = opened (λ b. named_start plant p.0 unit task b) (number_below number_limit quanta) bad_line start p.2 in
+    let u = opened (λ a. option_map_or (λ b. made p.0 a b q.0) (task_named plant task) (Err unknown_name)) (unit_named plant unit) unknown_name start q.2 in
+    let t = opened (λ b. made p.0 u.0 b q.0) (task_named plant task) unknown_name start u.2 in
     same_start plant _ start t.2 (record {
       named = record { unit = position-within _ plant.units u.0 u.1; task = position-within _ plant.tasks t.0 t.1 };
-      period = (number_below-printed NUMBER_LIMIT period (omega arith) (Some p.0) (sym p.1)).0;
-      quanta = (number_below-printed NUMBER_LIMIT quanta (omega arith) (Some q.0) (sym q.1)).0;
+      period = (number_below-printed number_limit period (omega arith) (Some p.0) (sym p.1)).0;
+      quanta = (number_below-printed number_limit quanta (omega arith) (Some q.0) (sym q.1)).0;
     })
 
 -- so can the start that a line says
@@ -71,7 +71,7 @@ line_start-writable plant line start is =
 
 -- a line keeps the plan before it
 kept_by : (plant : Plant) (number : ℕ) (done more : List Start) (comment full : Bool) (answer : Result Start ℕ) (fault : PlanFault) → IsKept plant done
-    → (full ≡ false → length done < MAX_STARTS) → ((start : Start) → answer ≡ Ok start → IsWritable plant start)
+    → (full ≡ false → length done < most_lines) → ((start : Start) → answer ≡ Ok start → IsWritable plant start)
     → (if comment then Ok done else (if full then Err fault else with_start number done answer)) ≡ Ok more → IsKept plant more
 kept_by plant number done more true full answer fault kept room writable is = let same : done ≡ more = cc in subst (IsKept plant) same kept
 kept_by plant number done more false true answer fault kept room writable is = absurd (cc)
@@ -84,13 +84,13 @@ kept_by plant number done more false false (Ok start) fault kept room writable i
 kept_by plant number done more false false (Err kind) fault kept room writable is = absurd (cc)
 
 -- a test of fullness that failed
-has_room : (n : ℕ) → n ≤ MAX_STARTS → (n == MAX_STARTS) ≡ false → n < MAX_STARTS
+has_room : (n : ℕ) → n ≤ most_lines → (n == most_lines) ≡ false → n < most_lines
 has_room n few other = grind (arith, nat_tests)
 
 after_line-kept : (plant : Plant) (number : ℕ) (done more : List Start) (line : List ℕ) → IsKept plant done → after_line plant number done line ≡ Ok more → IsKept plant more
 unfolding after_line
 after_line-kept plant number done more line kept is =
-    kept_by plant number done more (is_comment line) (length done == MAX_STARTS) (line_start plant line) (record { kind = TOO_MANY_LINES; line = number }) kept (has_room (length done) kept.few) (line_start-writable plant line) is
+    kept_by plant number done more (is_comment line) (length done == most_lines) (line_start plant line) (record { kind = too_many_lines; line = number }) kept (has_room (length done) kept.few) (line_start-writable plant line) is
 
 -- what went on
 went_on : (answer : Result (List Start) PlanFault) (next : List Start → Result (List Start) PlanFault) (plan : List Start) → and_then answer next ≡ Ok plan → (more : List Start) × (answer ≡ Ok more) × (next more ≡ Ok plan)
@@ -108,15 +108,15 @@ read_on-kept plant number done plan (line ∷ lines) kept is =
 plan_of_text-kept : (plant : Plant) (text : List ℕ) (plan : List Start) → plan_of_text plant text ≡ Ok plan → IsKept plant plan
 unfolding plan_of_text
 plan_of_text-kept plant text plan is =
-    let said = not_failed (nat_lt MAX_BYTES (length text)) (record { kind = TOO_LONG; line = 0 }) (plan_of_lines plant (text_lines text)) plan is in
+    let said = not_failed (nat_lt most_bytes (length text)) (record { kind = too_long; line = 0 }) (plan_of_lines plant (text_lines text)) plan is in
     read_on-kept plant 0 [] plan (text_lines text) (record { few = omega arith; writable = All-nil (IsWritable plant) }) (sym (plan_of_lines-is plant (text_lines text)) ∙ said)
 
 -- so is the plan that an answer has
-pub IsKept-answer : (plant : Plant) (text : List ℕ) (answer : Result (List Start) PlanStop) → Gives (plan_of_text plant text) answer → IfOk answer (IsKept plant)
+pub IsKept-answer : (plant : Plant) (text : List ℕ) (answer : Result (List Start) PlanStop) → ReadsPlan (plan_of_text plant text) answer → IfOk answer (IsKept plant)
 IsKept-answer plant text (Ok plan) gives = plan_of_text-kept plant text plan gives
 IsKept-answer plant text (Err stop) gives = tt
 
-pub few-answer : (plant : Plant) (answer : Result (List Start) PlanStop) → IfOk answer (IsKept plant) → IfOk answer (λ plan. length plan ≤ MAX_STARTS)
+pub few-answer : (plant : Plant) (answer : Result (List Start) PlanStop) → IfOk answer (IsKept plant) → IfOk answer (λ plan. length plan ≤ most_lines)
 few-answer plant (Ok plan) kept = kept.few
 few-answer plant (Err stop) kept = tt
 
@@ -125,5 +125,5 @@ writable-answer plant (Ok plan) kept = kept.writable
 writable-answer plant (Err stop) kept = tt
 
 -- an answer of the lines is one of a text that is not too long
-pub Gives-short : (plant : Plant) (text : List ℕ) (answer : Result (List Start) PlanStop) → length text ≤ MAX_BYTES → Gives (plan_of_lines plant (text_lines text)) answer → Gives (plan_of_text plant text) answer
-Gives-short plant text answer short gives = rw (plan_of_text-short plant text short) gives
+pub ReadsPlan-short : (plant : Plant) (text : List ℕ) (answer : Result (List Start) PlanStop) → length text ≤ most_bytes → ReadsPlan (plan_of_lines plant (text_lines text)) answer → ReadsPlan (plan_of_text plant text) answer
+ReadsPlan-short plant text answer short gives = rw (plan_of_text-short plant text short) gives

@@ -11,16 +11,17 @@ use Rattle.std.proofs.lemmas.List.Splits.{length-slice_split}
 use Rattle.std.proofs.lemmas.Bool.Decides.{nat_tests}
 use Rattle.std.proofs.lemmas.Fmt.{decimal_nonempty}
 use Rattle.std.proofs.Math.Seq.{get_or-append_seam, take-append_seam}
+use Rattle.text_words.specs.Faults.{fault_or}
 use Rattle.text_words.specs.Numbers.{number_below}
 use Rattle.text_words.proofs.Cuts.{cut_cases, cut_rejoins}
 use Rattle.text_words.proofs.Printed.{number_below-is, decimal-lacks}
 use Rattle.stn_model.specs.declared.plant.Plant.{Plant}
 use Rattle.stn_model.specs.declared.start.Start.{Start}
 use Rattle.plan_text.specs.declared.fault.PlanFault.{PlanFault}
-use Rattle.plan_text.specs.declared.fault.TheConstants.{BAD_LINE, TOO_MANY_LINES, TOO_LONG, MAX_BYTES, MAX_STARTS, NUMBER_LIMIT}
+use Rattle.plan_text.specs.Published.{bad_line, too_many_lines, too_long, most_bytes, most_lines, number_limit}
 use Rattle.plan_text.specs.declared.fault.PlanStop.{PlanStop}
 use Rattle.plan_text.specs.declared.fault.PlanStop.TheVariants.{Fault, Memory}
-use Rattle.plan_text.specs.PlanText.{lines_of_parts, text_lines, line_words, is_comment, is_empty, named_start, start_of, start_of_words, line_start, start_count, fault_at, first_fault, said, fault_or, plan_of_lines, plan_of_text, IsStop, Gives, with_start, after_line}
+use Rattle.plan_text.specs.PlanText.{lines_of_parts, text_lines, line_words, is_comment, is_empty, named_start, start_of, start_of_words, line_start, start_count, fault_at, fault_of_lines, said, plan_of_lines, plan_of_text, IsStop, ReadsPlan, with_start, after_line}
 
 -- a first part that is followed by others is a line
 pub lines_of_parts-cons : (part : List ℕ) (parts : List (List ℕ)) → 0 < length parts → lines_of_parts (part ∷ parts) ≡ part ∷ lines_of_parts parts
@@ -55,20 +56,20 @@ word_of text = before_first (λ b. b == 32) text
 
 -- a choice without a second number
 bad : (empty : Bool) (period quanta : Option ℕ) (named : ℕ → ℕ → Result Start ℕ) → quanta ≡ None
-    → (if empty then Err BAD_LINE else option_map_or (λ p. option_map_or (named p) quanta (Err BAD_LINE)) period (Err BAD_LINE)) ≡ Err BAD_LINE
+    → (if empty then Err bad_line else option_map_or (λ p. option_map_or (named p) quanta (Err bad_line)) period (Err bad_line)) ≡ Err bad_line
 bad true period quanta named none = refl
 bad false None quanta named none = refl
 bad false (Some p) quanta named none = rw none refl
 
 -- words without a number at their end say no start
-no_number : (plant : Plant) (period unit task quanta : List ℕ) → number_below NUMBER_LIMIT quanta ≡ None → start_of plant period unit task quanta ≡ Err BAD_LINE
+no_number : (plant : Plant) (period unit task quanta : List ℕ) → number_below number_limit quanta ≡ None → start_of plant period unit task quanta ≡ Err bad_line
 unfolding start_of
 no_number plant period unit task quanta none =
-    bad (is_empty unit || is_empty task) (number_below NUMBER_LIMIT period) (number_below NUMBER_LIMIT quanta) (λ p q. named_start plant p unit task q) none
+    bad (is_empty unit || is_empty task) (number_below number_limit period) (number_below number_limit quanta) (λ p q. named_start plant p unit task q) none
 
 -- an empty word is no number
-empty_word : number_below NUMBER_LIMIT [] ≡ None
-empty_word = sym (number_below-is NUMBER_LIMIT [] None (omega arith) (λ n small printed. omega (arith, ap length printed, decimal_nonempty n (omega arith))))
+empty_word : number_below number_limit [] ≡ None
+empty_word = sym (number_below-is number_limit [] None (omega arith) (λ n small printed. omega (arith, ap length printed, decimal_nonempty n (omega arith))))
 
 -- a number has no blank
 no_blank : (n : ℕ) (front back : List ℕ) → n < 10 ^ 64 → decimal n ≡ front ++ 32 ∷ back → ⊥
@@ -78,11 +79,11 @@ no_blank n front back small joined =
     grind (arith, nat_tests)
 
 -- a word with a blank is no number
-blank_word : (word : List ℕ) → position_or_len (λ b. b == 32) word < length word → number_below NUMBER_LIMIT word ≡ None
-blank_word word there = sym (number_below-is NUMBER_LIMIT word None (omega arith) (λ n small printed. no_blank n (word_of word) (rest_of word) (omega arith) (sym printed ∙ cut_rejoins 32 word there)))
+blank_word : (word : List ℕ) → position_or_len (λ b. b == 32) word < length word → number_below number_limit word ≡ None
+blank_word word there = sym (number_below-is number_limit word None (omega arith) (λ n small printed. no_blank n (word_of word) (rest_of word) (omega arith) (sym printed ∙ cut_rejoins 32 word there)))
 
 -- five words or more say no start
-five_words : (plant : Plant) (a b c d : List ℕ) (parts : List (List ℕ)) → 0 < length parts → start_of_words plant (a ∷ b ∷ c ∷ d ∷ parts) ≡ Err BAD_LINE
+five_words : (plant : Plant) (a b c d : List ℕ) (parts : List (List ℕ)) → 0 < length parts → start_of_words plant (a ∷ b ∷ c ∷ d ∷ parts) ≡ Err bad_line
 five_words plant a b c d [] some = absurd (omega arith)
 five_words plant a b c d (part ∷ parts) some = refl
 
@@ -139,11 +140,11 @@ Agrees fault after plan says counted =
 
 -- the same, by what the line is: a comment, one line too many, or a start or not
 agrees_by : (comment full : Bool) (start : Result Start ℕ) (plan : List Start) (number : ℕ)
-    → Agrees (if comment then None else (if full then Some (record { kind = TOO_MANY_LINES; line = number }) else option_map (λ kind. record { kind = kind; line = number }) (result_err start)))
-    (if comment then Ok plan else (if full then Err (record { kind = TOO_MANY_LINES; line = number }) else with_start number plan start))
+    → Agrees (if comment then None else (if full then Some (record { kind = too_many_lines; line = number }) else option_map (λ kind. record { kind = kind; line = number }) (result_err start)))
+    (if comment then Ok plan else (if full then Err (record { kind = too_many_lines; line = number }) else with_start number plan start))
     plan (if comment then None else result_ok start) (if not comment then 1 else 0)
 agrees_by true full start plan number = inr (refl, ap Ok (sym (append-nil plan)), refl)
-agrees_by false true start plan number = inl (record { kind = TOO_MANY_LINES; line = number }, refl, refl)
+agrees_by false true start plan number = inl (record { kind = too_many_lines; line = number }, refl, refl)
 agrees_by false false (Ok start) plan number = inr (refl, refl, refl)
 agrees_by false false (Err kind) plan number = inl (record { kind = kind; line = number }, refl, refl)
 
@@ -154,7 +155,7 @@ unfolding fault_at after_line
 agrees plant done line rest plan count =
     rw (get_or-append_seam done line rest [])
     (rw (take-append_seam done (line ∷ rest))
-    (rw count (agrees_by (is_comment line) (length plan == MAX_STARTS) (line_start plant line) plan (length done + 1))))
+    (rw count (agrees_by (is_comment line) (length plan == most_lines) (line_start plant line) plan (length done + 1))))
 
 -- what one item gives
 one_item : {X : Type 0} (item : Option X) → cons_option item [] ≡ option_to_list item
@@ -183,7 +184,7 @@ read_on-is plant done (line ∷ rest) plan is count =
     ]
 
 pub plan_of_lines-is : (plant : Plant) (lines : List (List ℕ)) → plan_of_lines plant lines ≡ read_on plant 0 [] lines
-unfolding plan_of_lines first_fault
+unfolding plan_of_lines fault_of_lines
 plan_of_lines-is plant lines = read_on-is plant [] lines [] refl refl
 
 -- the fault of the next line is the fault of the text
@@ -202,16 +203,16 @@ pub length-after_first : (p : ℕ → Bool) (text : List ℕ) → 0 < length tex
 length-after_first p text some = omega (arith, length-drop (position_or_len p text + 1) text)
 
 -- an answer that stops
-pub gives_stop : (expected : Result (List Start) PlanFault) (answer : Result (List Start) PlanStop) (stop : PlanStop) → answer ≡ Err stop → IsStop expected stop → Gives expected answer
+pub gives_stop : (expected : Result (List Start) PlanFault) (answer : Result (List Start) PlanStop) (stop : PlanStop) → answer ≡ Err stop → IsStop expected stop → ReadsPlan expected answer
 gives_stop expected answer stop is stops = rw is stops
 
 -- a text that is not too long
-pub plan_of_text-short : (plant : Plant) (text : List ℕ) → length text ≤ MAX_BYTES → plan_of_text plant text ≡ plan_of_lines plant (text_lines text)
+pub plan_of_text-short : (plant : Plant) (text : List ℕ) → length text ≤ most_bytes → plan_of_text plant text ≡ plan_of_lines plant (text_lines text)
 unfolding plan_of_text
 plan_of_text-short plant text short = grind (arith, nat_tests)
 
 -- a text that is too long
-pub plan_of_text-long : (plant : Plant) (text : List ℕ) → MAX_BYTES < length text → plan_of_text plant text ≡ Err (record { kind = TOO_LONG; line = 0 })
+pub plan_of_text-long : (plant : Plant) (text : List ℕ) → most_bytes < length text → plan_of_text plant text ≡ Err (record { kind = too_long; line = 0 })
 unfolding plan_of_text
 plan_of_text-long plant text long = grind (arith, nat_tests)
 

@@ -1,3 +1,4 @@
 pub mod PlanLines
 pub mod PlanText
+pub mod Published
 pub mod ReadsBack

@@ -3,13 +3,14 @@ use Rattle.std.specs.Prelude.{◌≡◌, ℕ, ◌+◌, ◌==◌, ◌||◌, not, 
 use Rattle.std.specs.List.{slice_split, range_with_len}
 use Rattle.std.specs.Option.{option_map_or}
 use Rattle.std.specs.Result.{result_ok, result_err}
+use Rattle.text_words.specs.Faults.{fault_or}
 use Rattle.text_words.specs.Numbers.{number_below}
 use Rattle.stn_model.specs.declared.plant.Plant.{Plant}
 use Rattle.stn_model.specs.declared.start.Start.{Start}
 use Rattle.plan_text.specs.declared.fault.PlanFault.{PlanFault}
 use Rattle.plan_text.specs.declared.fault.PlanStop.{PlanStop}
 use Rattle.plan_text.specs.declared.fault.PlanStop.TheVariants.{Fault, Memory}
-use Rattle.plan_text.specs.declared.fault.TheConstants.{BAD_LINE, UNKNOWN_NAME, TOO_MANY_LINES, TOO_LONG, MAX_BYTES, MAX_STARTS, NUMBER_LIMIT}
+use Rattle.plan_text.specs.Published.{bad_line, unknown_name, too_many_lines, too_long, most_bytes, most_lines, number_limit}
 
 -- there is no byte
 abbrev pub is_empty : List ℕ → Bool
@@ -44,21 +45,21 @@ task_named plant word = position (λ task. bytes_eq task.name word) plant.tasks
 -- the start with these names and numbers; a name that the plant has not is an unknown name
 abbrev pub named_start : Plant → ℕ → List ℕ → List ℕ → ℕ → Result Start ℕ
 named_start plant period unit task quanta =
-    option_map_or (λ u. option_map_or (λ t. Ok (record { period = period; unit = u; task = t; quanta = quanta })) (task_named plant task) (Err UNKNOWN_NAME))
-    (unit_named plant unit) (Err UNKNOWN_NAME)
+    option_map_or (λ u. option_map_or (λ t. Ok (record { period = period; unit = u; task = t; quanta = quanta })) (task_named plant task) (Err unknown_name))
+    (unit_named plant unit) (Err unknown_name)
 
 -- the start that four words say, or the kind of their fault: two numbers of at most nine digits, and
 -- between them two names that are not empty
 unfoldable pub start_of : Plant → List ℕ → List ℕ → List ℕ → List ℕ → Result Start ℕ
 start_of plant period unit task quanta =
-    if is_empty unit || is_empty task then Err BAD_LINE
-    else option_map_or (λ p. option_map_or (λ q. named_start plant p unit task q) (number_below NUMBER_LIMIT quanta) (Err BAD_LINE))
-    (number_below NUMBER_LIMIT period) (Err BAD_LINE)
+    if is_empty unit || is_empty task then Err bad_line
+    else option_map_or (λ p. option_map_or (λ q. named_start plant p unit task q) (number_below number_limit quanta) (Err bad_line))
+    (number_below number_limit period) (Err bad_line)
 
 -- the start that words say: PERIOD UNIT TASK QUANTA, or the kind of their fault
 abbrev pub start_of_words : Plant → List (List ℕ) → Result Start ℕ
 start_of_words plant (period ∷ unit ∷ task ∷ quanta ∷ []) = start_of plant period unit task quanta
-start_of_words plant words = Err BAD_LINE
+start_of_words plant words = Err bad_line
 
 -- the start that a line says, or the kind of its fault
 abbrev pub line_start : Plant → List ℕ → Result Start ℕ
@@ -73,30 +74,25 @@ unfoldable pub fault_at : Plant → List (List ℕ) → ℕ → Option PlanFault
 fault_at plant lines place =
     let line = slice_index_or lines place []
     in if is_comment line then None
-    else (if start_count (take place lines) == MAX_STARTS then Some (record { kind = TOO_MANY_LINES; line = place + 1 })
+    else (if start_count (take place lines) == most_lines then Some (record { kind = too_many_lines; line = place + 1 })
     else option_map (λ kind. record { kind = kind; line = place + 1 }) (result_err (line_start plant line)))
 
 -- the first fault of the lines, if there is one
-unfoldable pub first_fault : Plant → List (List ℕ) → Option PlanFault
-first_fault plant lines = slice_get (filter_map (fault_at plant lines) (range_with_len 0 (length lines))) 0
+unfoldable pub fault_of_lines : Plant → List (List ℕ) → Option PlanFault
+fault_of_lines plant lines = slice_get (filter_map (fault_at plant lines) (range_with_len 0 (length lines))) 0
 
 -- the start that a line says, if it is no comment and has no fault
 abbrev pub said : Plant → List ℕ → Option Start
 said plant line = if is_comment line then None else result_ok (line_start plant line)
 
--- the fault, if there is one, and else the plan
-abbrev pub fault_or : Option PlanFault → List Start → Result (List Start) PlanFault
-fault_or None plan = Ok plan
-fault_or (Some fault) plan = Err fault
-
 -- the starts of the lines that are no comments, in their order, or the first fault
 unfoldable pub plan_of_lines : Plant → List (List ℕ) → Result (List Start) PlanFault
-plan_of_lines plant lines = fault_or (first_fault plant lines) (filter_map (said plant) lines)
+plan_of_lines plant lines = fault_or (fault_of_lines plant lines) (filter_map (said plant) lines)
 
 -- the plan that the text says, or its first fault: that it is too long comes before all others
 unfoldable pub plan_of_text : Plant → List ℕ → Result (List Start) PlanFault
 plan_of_text plant text =
-    if nat_lt MAX_BYTES (length text) then Err (record { kind = TOO_LONG; line = 0 }) else plan_of_lines plant (text_lines text)
+    if nat_lt most_bytes (length text) then Err (record { kind = too_long; line = 0 }) else plan_of_lines plant (text_lines text)
 
 -- the stop is the fault of the text, or want of memory
 abbrev pub IsStop : Result (List Start) PlanFault → PlanStop → Type 0
@@ -104,8 +100,8 @@ IsStop expected (Fault fault) = expected ≡ Err fault
 IsStop expected Memory = ⊤
 
 -- the answer is what is expected, or want of memory
-abbrev pub Gives : Result (List Start) PlanFault → Result (List Start) PlanStop → Type 0
-Gives expected answer = MatchResult answer (λ plan. expected ≡ Ok plan) (IsStop expected)
+abbrev pub ReadsPlan : Result (List Start) PlanFault → Result (List Start) PlanStop → Type 0
+ReadsPlan expected answer = MatchResult answer (λ plan. expected ≡ Ok plan) (IsStop expected)
 
 -- the plan with one more start, or the fault of this line
 abbrev pub with_start : ℕ → List Start → Result Start ℕ → Result (List Start) PlanFault
@@ -116,4 +112,4 @@ with_start number plan (Err kind) = Err (record { kind = kind; line = number })
 unfoldable pub after_line : Plant → ℕ → List Start → List ℕ → Result (List Start) PlanFault
 after_line plant number plan line =
     if is_comment line then Ok plan
-    else (if length plan == MAX_STARTS then Err (record { kind = TOO_MANY_LINES; line = number }) else with_start number plan (line_start plant line))
+    else (if length plan == most_lines then Err (record { kind = too_many_lines; line = number }) else with_start number plan (line_start plant line))

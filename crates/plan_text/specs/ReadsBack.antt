@@ -3,7 +3,7 @@ use Rattle.std.specs.Prelude.{◌≡◌, ◌≢◌, ℕ, ◌<◌, ◌≤◌, Ok,
 use Rattle.stn_model.specs.declared.plant.Plant.{Plant}
 use Rattle.stn_model.specs.declared.start.Start.{Start}
 use Rattle.stn_model.specs.Sound.{Sound}
-use Rattle.plan_text.specs.declared.fault.TheConstants.{MAX_BYTES, MAX_STARTS, NUMBER_LIMIT}
+use Rattle.plan_text.specs.Published.{most_bytes, most_lines, number_limit}
 use Rattle.plan_text.specs.PlanLines.{IsNamed, plan_lines}
 use Rattle.plan_text.specs.PlanText.{plan_of_text}
 
@@ -18,12 +18,16 @@ comment_lines remarks = flat_map (λ remark. (35 ∷ remark) ++ (10 ∷ [])) rem
 -- the unit and the task of the start are in the plant, and its numbers have at most nine digits
 pub record IsWritable (plant : Plant) (start : Start) : Type 0 where
   pub named : IsNamed plant start
-  pub period : start.period < NUMBER_LIMIT
-  pub quanta : start.quanta < NUMBER_LIMIT
+  pub period : start.period < number_limit
+  pub quanta : start.quanta < number_limit
 
--- The lines of the plan, after any comments, are a text that says the plan: for a sound plant, a plan
--- of at most 2,048 such starts, and a text that is not too long.
+-- The lines of the plan are a text that says the plan: for a sound plant, and at most 2,048 starts in it
+-- whose numbers have at most nine digits.
+unfoldable pub SaysAgain : Plant → List Start → Type 0
+SaysAgain plant plan = Sound plant → length plan ≤ most_lines → All (IsWritable plant) plan → plan_of_text plant (plan_lines plant plan) ≡ Ok plan
+
+-- So they are after comments, where the text is not too long.
 unfoldable pub ReadsBack : Plant → List Start → Type 0
 ReadsBack plant plan =
-    Sound plant → length plan ≤ MAX_STARTS → All (IsWritable plant) plan → (remarks : List (List ℕ)) → All IsRemark remarks
-    → length (comment_lines remarks ++ plan_lines plant plan) ≤ MAX_BYTES → plan_of_text plant (comment_lines remarks ++ plan_lines plant plan) ≡ Ok plan
+    Sound plant → length plan ≤ most_lines → All (IsWritable plant) plan → (remarks : List (List ℕ)) → All IsRemark remarks
+    → length (comment_lines remarks ++ plan_lines plant plan) ≤ most_bytes → plan_of_text plant (comment_lines remarks ++ plan_lines plant plan) ≡ Ok plan

@@ -2,7 +2,7 @@
 
 ghost use Rattle.std.specs.Prelude.{◌≡◌, ◌++◌, ◌∷◌, [], decimal, OnOk, OnErr, All};
 ghost use Rattle.plan_text.specs.PlanLines.{IsNamed, plan_line, plan_lines};
-ghost use Rattle.plan_text.specs.ReadsBack.{ReadsBack};
+ghost use Rattle.plan_text.specs.ReadsBack.{ReadsBack, SaysAgain};
 
 use std::alloc::{AllocError, Global};
 use stn_model::{Plant, Start};
@@ -20,8 +20,11 @@ pub fn put_plan(
     ensures ok { OnOk result (into.new.items ≡ into.old.items ++ plan_lines plant.now plan.now) }
     ensures err { OnErr result (into.new.items ≡ into.old.items) }
 
-    // `read_plan` gives the plan again of its lines, also after comments.
-    ensures again { ReadsBack plant.now plan.now }
+    // Of these lines `read_plan` gives the plan again.
+    ensures again { SaysAgain plant.now plan.now }
+
+    // So it does of comments and then these lines, where they are not too long together.
+    ensures after_comments { ReadsBack plant.now plan.now }
 {
     let mut lines = Vec::new(alloc);
     for start in plan {

@@ -1,7 +1,7 @@
 //! A plan from its text.
 
 ghost use Rattle.std.specs.Prelude.{◌≡◌, ◌<◌, ◌≤◌, ◌^◌, length, position, bytes_eq, All, IfOk, MatchResult};
-ghost use Rattle.plan_text.specs.PlanText.{Gives, IsStop, after_line, is_comment, line_start, named_start, plan_of_lines, plan_of_text, start_of, task_named, text_lines, unit_named};
+ghost use Rattle.plan_text.specs.PlanText.{IsStop, ReadsPlan, after_line, is_comment, line_start, named_start, plan_of_lines, plan_of_text, start_of, task_named, text_lines, unit_named};
 ghost use Rattle.plan_text.specs.ReadsBack.{IsWritable};
 
 use crate::fault::{
@@ -19,8 +19,8 @@ use text_words::{cut_at, read_number};
 pub fn read_plan(alloc: Global, plant: &Plant, bytes: &[u8]) -> Result<List<Start>, PlanStop>
     requires units { length plant.now.units ≤ MAX_UNITS }
     requires tasks { length plant.now.tasks ≤ MAX_TASKS }
-    ensures gives { Gives (plan_of_text plant.now bytes.now) result }
-    ensures few { IfOk result (λ plan. length plan ≤ MAX_STARTS) }
+    ensures gives { ReadsPlan (plan_of_text plant.now bytes.now) result }
+    ensures few { IfOk result (λ plan. length plan ≤ 2048) }
     ensures writable { IfOk result (All (IsWritable plant.now)) }
 {
     if bytes.len() > MAX_BYTES {
@@ -37,7 +37,7 @@ fn read_lines(alloc: Global, plant: &Plant, text: &[u8]) -> Result<List<Start>, 
     requires units { length plant.now.units ≤ MAX_UNITS }
     requires tasks { length plant.now.tasks ≤ MAX_TASKS }
     requires short { length text.now ≤ MAX_BYTES }
-    ensures { Gives (plan_of_lines plant.now (text_lines text.now)) result }
+    ensures { ReadsPlan (plan_of_lines plant.now (text_lines text.now)) result }
 {
     let mut plan = List::new(alloc);
     let mut rest = text;

@@ -1,15 +1,10 @@
 -- The parts of a side of a task, and their amounts.
-use Rattle.std.proofs.Common.{◌≡◌, ◌≢◌, ℕ, ◌*◌, ◌/◌, ◌%◌, ◌<◌, Bool, cond, eqb, List, ◌++◌, map, All, Option, Some, None, refl, inl, inr, arith, get_or, option_map, bytes_eq, ltb, leb, decimal, div-add-mod'}
-use Rattle.std.specs.Prelude.{MatchOption, option_and_then, IsTrue, ◌↔◌, unwrap_or, ◌&&◌, IfSome}
-use Rattle.std.proofs.Math.Nat.{mul-div_cancel, mul-mod_left}
-use Rattle.std.proofs.lemmas.Bool.{cases_Bool, eqb-true, ltb-true, leb-true, and_parts}
-use Rattle.std.specs.List.{before_first, after_first}
-use Rattle.std.specs.Str.Parse.{digits_value}
-use Rattle.text_words.specs.Numbers.{number_below}
-use Rattle.std.proofs.lemmas.Bool.Decides.{same_from_decides, Decides-eqb}
+use Rattle.std.proofs.Common.{◌≡◌, ℕ, Bool, List, ◌++◌, map, All, Option, Some, None, refl, arith, get_or, option_map}
+use Rattle.std.specs.Prelude.{unwrap_or, IfSome}
 use Rattle.std.proofs.lemmas.List.Elements.{All-map}
 use Rattle.fraction.specs.declared.fraction_of.Fraction.{Fraction}
-use Rattle.fraction.specs.Fractions.{IsProper, SumsToOne, fraction_in, proper}
+use Rattle.fraction.specs.Fractions.{IsProper, fraction_in}
+use Rattle.fraction.proofs.Written.{IsWrittenAs, IsWrittenAs-fraction_in}
 use Rattle.toml.specs.Data.{Data}
 use Rattle.plant_text.specs.declared.tables.side.SidePart.{SidePart}
 use Rattle.plant_text.specs.declared.fault.Place.{Place}
@@ -18,51 +13,15 @@ use Rattle.plant_text.specs.declared.fault.KeyName.TheVariants as key
 use Rattle.plant_text.specs.Tests.{Test}
 use Rattle.plant_text.specs.Fields.{part_of, whole_part, text_of, held, members_of, needed, kind_tests, tables, items_of}
 use Rattle.plant_text.specs.Scope.{Scope}
-use Rattle.plant_text.specs.Tables.{is_whole, amount_in, sums_to_one, side_of}
+use Rattle.plant_text.specs.Tables.{side_of}
 
--- an amount is whole where the denominator divides
-pub amount_is : (found : Option ℕ) (quantum : ℕ) (part : Fraction) → 0 < part.under
-    → MatchOption found ((amount : ℕ) → amount * part.under ≢ quantum * part.over) (λ amount. amount * part.under ≡ quantum * part.over)
-    → found ≡ cond (is_whole quantum part) (Some (amount_in quantum part)) None
-amount_is (Some amount) quantum part some is =
-    let rest : (quantum * part.over) % part.under ≡ 0 = rw (← is) (mul-mod_left amount part.under) in
-    let quotient : (quantum * part.over) / part.under ≡ amount = rw (← is) (mul-div_cancel amount some) in
-    rw (rest, quotient) refl
-amount_is None quantum part some none =
-    elim (cases_Bool (is_whole quantum part)) [
-      | inl e ↦
-          let rest : (quantum * part.over) % part.under ≡ 0 = eqb-true _ _ e in
-          absurd (none ((quantum * part.over) / part.under) (omega (arith, rest, div-add-mod' (quantum * part.over) part.under)))
-      | inr e ↦ rw e refl
-    ]
-
--- the test on the parts is what their sum says
-pub adds_up : (parts : List Fraction) (found : Bool) → IsTrue found ↔ SumsToOne parts → found ≡ sums_to_one parts
-unfolding SumsToOne
-adds_up parts found h = same_from_decides found (sums_to_one parts) h (Decides-eqb _ _)
-
--- a number that is read is below its limit
-number_small : (limit : ℕ) (word : List ℕ) → IfSome (number_below limit word) (λ n. n < limit)
-unfolding number_below
-number_small limit word =
-    elim (cases_Bool (bytes_eq (decimal (digits_value 10 word)) word && ltb (digits_value 10 word) limit)) [
-      | inl e ↦ rw e (ltb-true _ _ (and_parts _ _ e).1)
-      | inr e ↦ rw e tt
-    ]
-
--- a fraction of small terms is proper
-proper_from : (over under : Option ℕ) → IfSome under (λ n. n < 10001) → IfSome (option_and_then (λ m. option_and_then (proper m) under) over) IsProper
-proper_from None under small = tt
-proper_from (Some m) None small = tt
-proper_from (Some m) (Some n) small =
-    elim (cases_Bool (leb 1 m && leb m n)) [
-      | inl e ↦ let p = and_parts _ _ e in rw e record { some = leb-true _ _ p.0; most = leb-true _ _ p.1; small = omega arith }
-      | inr e ↦ rw e tt
-    ]
+-- what is written of a fraction is proper
+written_proper : (text : List ℕ) (found : Option Fraction) → IsWrittenAs text found → IfSome found IsProper
+written_proper text None written = tt
+written_proper text (Some part) written = written.0
 
 text_proper : (text : List ℕ) → IfSome (fraction_in text) IsProper
-unfolding fraction_in
-text_proper text = proper_from (number_below 10001 (before_first (λ b. eqb b 47) text)) (number_below 10001 (after_first (λ b. eqb b 47) text)) (number_small 10001 _)
+text_proper text = written_proper text (fraction_in text) (IsWrittenAs-fraction_in text (fraction_in text) refl)
 
 whole_proper : IsProper whole_part
 whole_proper = record { some = omega arith; most = omega arith; small = omega arith }

@@ -5,20 +5,14 @@ use Rattle.std.proofs.lemmas.Bool.{eq-eqb, ne_eqb}
 use Rattle.stn_model.specs.declared.plant.Plant.{Plant}
 use Rattle.stn_model.specs.declared.plant.Run.{Run}
 use Rattle.stn_model.specs.Sums.{sum_below, count_below}
-use Rattle.stn_model.specs.Plant.{end_of, is_in_use, gap_between}
-use Rattle.stn_model.specs.Points.{has_slot, meets_gap, gap_pairs}
-use Rattle.plant_text.specs.Sizes.{start_of, pairs_between}
+use Rattle.stn_model.specs.Plant.{end_of, gap_between}
+use Rattle.stn_model.specs.Points.{has_slot, least_start, meets_gap, gap_pairs}
+use Rattle.plant_text.specs.Sizes.{pairs_between}
 use Rattle.plant_text.proofs.Counting.{sum_below-zero, count_below-none, sum_by-agree, sums_change}
-
--- a slot, by the end of its batch
-pub has_slot-is : (plant : Plant) (run : Run) (period : ℕ)
-    → has_slot plant run period ≡ (nat_le (end_of plant (start_of run period)) plant.periods && is_in_use plant run.unit period (end_of plant (start_of run period)))
-unfolding has_slot end_of
-has_slot-is plant run period = refl
 
 -- a start of a second run that comes too soon after a slot of a first run on the same unit
 pub meets_gap-is : (plant : Plant) (a b : Run) (p q : ℕ) → a.unit ≡ b.unit → has_slot plant a p ≡ true
-    → meets_gap plant a p b q ≡ (has_slot plant b q && nat_le (end_of plant (start_of a p)) q && nat_lt q (end_of plant (start_of a p) + gap_between plant a.unit a.task b.task))
+    → meets_gap plant a p b q ≡ (has_slot plant b q && nat_le (end_of plant (least_start a p)) q && nat_lt q (end_of plant (least_start a p) + gap_between plant a.unit a.task b.task))
 unfolding meets_gap end_of
 meets_gap-is plant a b p q unit slot = rw (eq-eqb a.unit b.unit unit, slot) refl
 

@@ -18,7 +18,6 @@ use Rattle.plant_text.specs.Tests.{Test, rows_tests, Gives}
 use Rattle.plant_text.specs.Reading as reading
 use Rattle.plant_text.specs.Fields.{is_before}
 use Rattle.plant_text.specs.Names.{name_in, first_places}
-use Rattle.stn_model.specs.declared.limits.TheConstants.{MAX_STATES, MAX_UTILITIES, MAX_UNITS, MAX_TASKS}
 use Rattle.stn_model.specs.declared.plant.State.{State}
 use Rattle.stn_model.specs.declared.plant.Utility.{Utility}
 use Rattle.stn_model.specs.declared.plant.StnUnit.{StnUnit}
@@ -204,10 +203,10 @@ plant_sound document e =
     let receipts_few : length (items_at document (optional key.Receipt)) ≤ 256 = receipts.few in
     let deliveries_few : length (items_at document (optional key.Delivery)) ≤ 256 = deliveries.few in
     let outages_few : length (items_at document (since (is_second document) key.Outage)) ≤ 256 = outages.few in
-    let to_states = names_below (λ (s : State). s.name) (state_of scope) (state_names scope) (items_at document (optional key.State)) MAX_STATES states.few in
-    let to_utilities = names_below (λ (u : Utility). u.name) (utility_of scope) (utility_names scope) (items_at document (optional key.Utility)) MAX_UTILITIES utilities.few in
-    let to_units = names_below (λ (u : StnUnit). u.name) unit_of unit_names (items_at document (optional key.StnUnit)) MAX_UNITS units.few in
-    let to_tasks = names_below (λ (t : Task). t.name) (task_of scope) (task_names scope) (items_at document (optional key.Task)) MAX_TASKS tasks.few in
+    let to_states = names_below (λ (s : State). s.name) (state_of scope) (state_names scope) (items_at document (optional key.State)) 40 states.few in
+    let to_utilities = names_below (λ (u : Utility). u.name) (utility_of scope) (utility_names scope) (items_at document (optional key.Utility)) 8 utilities.few in
+    let to_units = names_below (λ (u : StnUnit). u.name) unit_of unit_names (items_at document (optional key.StnUnit)) 24 units.few in
+    let to_tasks = names_below (λ (t : Task). t.name) (task_of scope) (task_names scope) (items_at document (optional key.Task)) 40 tasks.few in
     record {
       counts = record {
         periods = within_either (is_second document) _ (count_needed top_place (needed key.Periods) 1 most (held document (needed key.Periods)) refl periods.0);
@@ -224,10 +223,10 @@ plant_sound document e =
         gap_pairs = ltb-false _ _ pairs.0;
       };
       names = record {
-        states = names_own (λ (s : State). s.name) (state_of scope) (state_names scope) (λ earlier d. state_tests scope (length earlier) d) _ MAX_STATES states.few (λ earlier d h. state_fresh scope (length earlier) d h) states.pass;
-        utilities = names_own (λ (u : Utility). u.name) (utility_of scope) (utility_names scope) (λ earlier d. utility_tests scope (length earlier) d) _ MAX_UTILITIES utilities.few (λ earlier d h. utility_fresh scope (length earlier) d h) utilities.pass;
-        units = names_own (λ (u : StnUnit). u.name) unit_of unit_names (λ earlier d. unit_tests scope (length earlier) d) _ MAX_UNITS units.few (λ earlier d h. unit_fresh scope (length earlier) d h) units.pass;
-        tasks = names_own (λ (t : Task). t.name) (task_of scope) (task_names scope) (λ earlier d. task_tests scope (length earlier) d) _ MAX_TASKS tasks.few (λ earlier d h. task_fresh scope (length earlier) d h) tasks.pass;
+        states = names_own (λ (s : State). s.name) (state_of scope) (state_names scope) (λ earlier d. state_tests scope (length earlier) d) _ 40 states.few (λ earlier d h. state_fresh scope (length earlier) d h) states.pass;
+        utilities = names_own (λ (u : Utility). u.name) (utility_of scope) (utility_names scope) (λ earlier d. utility_tests scope (length earlier) d) _ 8 utilities.few (λ earlier d h. utility_fresh scope (length earlier) d h) utilities.pass;
+        units = names_own (λ (u : StnUnit). u.name) unit_of unit_names (λ earlier d. unit_tests scope (length earlier) d) _ 24 units.few (λ earlier d h. unit_fresh scope (length earlier) d h) units.pass;
+        tasks = names_own (λ (t : Task). t.name) (task_of scope) (task_names scope) (λ earlier d. task_tests scope (length earlier) d) _ 40 tasks.few (λ earlier d h. task_fresh scope (length earlier) d h) tasks.pass;
         runs = rows_pairs (run_tests scope) (run_of scope) (λ a b. a.task ≡ b.task → a.unit ≢ b.unit) (λ earlier d h k x lt. not_found earlier (run_of scope d) (run_fresh scope earlier d h) k x lt) [] _ (λ i j d lt within. absurd (omega arith)) runs.pass;
       };
       states = All-from_recursion (SoundState _) _ (rows_all _ (state_of scope) (SoundState _) (λ earlier d h. state_sound scope (length earlier) d h) [] _ states.pass);
@@ -242,7 +241,7 @@ plant_sound document e =
     }
 
 -- an answer by the tests of the bytes is what reading gives
-pub read_gives : (bytes : List ℕ) (answer : Result Plant PlantStop) → Gives answer (plant_tests bytes) (plant_of bytes) → reading.Gives answer (reading.reading bytes)
+pub read_gives : (bytes : List ℕ) (answer : Result Plant PlantStop) → Gives answer (plant_tests bytes) (plant_of bytes) → reading.ReadsPlant answer (reading.reading bytes)
 unfolding reading.reading
 read_gives bytes (Ok plant) h = rw (h.0, h.1) refl
 read_gives bytes (Err stop.Memory) h = tt

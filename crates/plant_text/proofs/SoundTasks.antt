@@ -7,7 +7,7 @@ use Rattle.std.proofs.lemmas.Simd.{map-map}
 use Rattle.std.proofs.lemmas.List.Elements.{All-from_recursion, All-map}
 use Rattle.toml.specs.Data.{Data}
 use Rattle.fraction.specs.declared.fraction_of.Fraction.{Fraction}
-use Rattle.fraction.specs.Fractions.{IsProper, SumsToOne}
+use Rattle.fraction.specs.Fractions.{IsProper, SumsToOne, amount_in, sums_to_one}
 use Rattle.fraction.proofs.Amounts.{amounts_sum}
 use Rattle.stn_model.specs.declared.plant.Plant.{Plant}
 use Rattle.stn_model.specs.declared.plant.Input.{Input}
@@ -23,7 +23,7 @@ use Rattle.plant_text.specs.Tests.{Test, rows_tests}
 use Rattle.plant_text.specs.Fields.{count, tables, held, items_of, items_at, members_of, needed, optional, value_tests, kind_tests}
 use Rattle.plant_text.specs.declared.fault.KeyName.TheVariants as key
 use Rattle.plant_text.specs.Scope.{Scope}
-use Rattle.plant_text.specs.Tables.{is_output, side_fields, side_tests, side_of, amount_in, sums_to_one, output_of, input_of, whole_tests, share_tests, sides_tests, draw_fields, draw_tests, draw_of, owner_in, quantum_in, outputs_of, drawer_in, task_fields, task_tests, task_of}
+use Rattle.plant_text.specs.Tables.{is_output, side_fields, side_tests, side_of, output_of, input_of, whole_tests, share_tests, sides_tests, draw_fields, draw_tests, draw_of, owner_in, quantum_in, outputs_of, drawer_in, task_fields, task_tests, task_of}
 use Rattle.plant_text.proofs.Passed.{Pass, Below, first_pass, both_pass, count_needed, name_declared, refers_below, numbers_needed, rows_all, not_false, absent, tested}
 use Rattle.plant_text.proofs.Shares.{side_proper}
 use Rattle.plant_text.proofs.Faults.{nothing}

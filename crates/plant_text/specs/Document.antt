@@ -3,7 +3,6 @@ use Rattle.std.specs.Prelude.{◌≡◌, ℕ, ◌==◌, Bool, nat_lt, if◌then�
 use Rattle.std.specs.Str.{is_utf8}
 use Rattle.toml.specs.Data.{Data, Members, no_members}
 use Rattle.toml.specs.Parse.{parse_document}
-use Rattle.stn_model.specs.declared.limits.TheConstants.{MAX_PERIODS, MAX_STATES, MAX_UTILITIES, MAX_UNITS, MAX_TASKS, MAX_RUNS, MAX_GAPS, MAX_EVENTS, MAX_SLOTS, MAX_GAP_PAIRS}
 use Rattle.stn_model.specs.declared.plant.Plant.{Plant}
 use Rattle.stn_model.specs.declared.plant.State.{State}
 use Rattle.stn_model.specs.declared.plant.Utility.{Utility}
@@ -44,29 +43,29 @@ unfoldable pub scope_in : Members → Scope
 scope_in document = record {
   second = is_second document;
   periods = at_key count_of 0 document (needed key.Periods);
-  states = names_at document key.State MAX_STATES;
-  utilities = names_at document key.Utility MAX_UTILITIES;
-  units = names_at document key.StnUnit MAX_UNITS;
-  tasks = names_at document key.Task MAX_TASKS;
+  states = names_at document key.State 40;
+  utilities = names_at document key.Utility 8;
+  units = names_at document key.StnUnit 24;
+  tasks = names_at document key.Task 40;
 }
 
 -- the keys at the top: the version and the horizon, then the arrays
 abbrev pub size_fields : Bool → List Field
 size_fields second =
     row (needed key.Version) (count (if second then 2 else 1) (if second then 2 else 1))
-    ∷ row (needed key.Periods) (count 1 (if second then MAX_PERIODS else 96)) ∷ []
+    ∷ row (needed key.Periods) (count 1 (if second then 336 else 96)) ∷ []
 
 abbrev pub array_fields : Scope → List Field
 array_fields scope =
-    row (optional key.State) (tables MAX_STATES (rows_tests (λ (earlier : List State) (d : Data). state_tests scope (length earlier) d) (state_of scope) []))
-    ∷ row (optional key.Utility) (tables MAX_UTILITIES (rows_tests (λ (earlier : List Utility) (d : Data). utility_tests scope (length earlier) d) (utility_of scope) []))
-    ∷ row (optional key.StnUnit) (tables MAX_UNITS (rows_tests (λ (earlier : List StnUnit) (d : Data). unit_tests scope (length earlier) d) unit_of []))
-    ∷ row (optional key.Task) (tables MAX_TASKS (rows_tests (λ (earlier : List Task) (d : Data). task_tests scope (length earlier) d) (task_of scope) []))
-    ∷ row (optional key.Run) (tables MAX_RUNS (rows_tests (λ (earlier : List Run) (d : Data). run_tests scope earlier d) (run_of scope) []))
-    ∷ row (optional key.Gap) (tables MAX_GAPS (rows_tests (λ (earlier : List Gap) (d : Data). gap_tests scope (length earlier) d) (gap_of scope) []))
-    ∷ row (optional key.Receipt) (tables MAX_EVENTS (rows_tests (λ (earlier : List Receipt) (d : Data). receipt_tests scope (length earlier) d) (receipt_of scope) []))
-    ∷ row (optional key.Delivery) (tables MAX_EVENTS (rows_tests (λ (earlier : List Delivery) (d : Data). delivery_tests scope (length earlier) d) (delivery_of scope) []))
-    ∷ row (since scope.second key.Outage) (tables MAX_EVENTS (rows_tests (λ (earlier : List Outage) (d : Data). outage_tests scope (length earlier) d) (outage_of scope) [])) ∷ []
+    row (optional key.State) (tables 40 (rows_tests (λ (earlier : List State) (d : Data). state_tests scope (length earlier) d) (state_of scope) []))
+    ∷ row (optional key.Utility) (tables 8 (rows_tests (λ (earlier : List Utility) (d : Data). utility_tests scope (length earlier) d) (utility_of scope) []))
+    ∷ row (optional key.StnUnit) (tables 24 (rows_tests (λ (earlier : List StnUnit) (d : Data). unit_tests scope (length earlier) d) unit_of []))
+    ∷ row (optional key.Task) (tables 40 (rows_tests (λ (earlier : List Task) (d : Data). task_tests scope (length earlier) d) (task_of scope) []))
+    ∷ row (optional key.Run) (tables 64 (rows_tests (λ (earlier : List Run) (d : Data). run_tests scope earlier d) (run_of scope) []))
+    ∷ row (optional key.Gap) (tables 4096 (rows_tests (λ (earlier : List Gap) (d : Data). gap_tests scope (length earlier) d) (gap_of scope) []))
+    ∷ row (optional key.Receipt) (tables 256 (rows_tests (λ (earlier : List Receipt) (d : Data). receipt_tests scope (length earlier) d) (receipt_of scope) []))
+    ∷ row (optional key.Delivery) (tables 256 (rows_tests (λ (earlier : List Delivery) (d : Data). delivery_tests scope (length earlier) d) (delivery_of scope) []))
+    ∷ row (since scope.second key.Outage) (tables 256 (rows_tests (λ (earlier : List Outage) (d : Data). outage_tests scope (length earlier) d) (outage_of scope) [])) ∷ []
 
 -- the plant of a document, read against a scope
 unfoldable pub plant_with : Scope → Members → Plant
@@ -90,8 +89,8 @@ plant_in document = plant_with (scope_in document) document
 -- at the end: how many slots there are, and how many pairs of slots the gaps concern
 unfoldable pub size_tests : Plant → List Test
 size_tests plant =
-    (nat_lt MAX_SLOTS (slot_count plant), fault 18 (record { table = table.Run; item = 0; inner = 0 }) key.Whole)
-    ∷ (nat_lt MAX_GAP_PAIRS (gap_pairs plant), fault 19 (record { table = table.Gap; item = 0; inner = 0 }) key.Whole) ∷ []
+    (nat_lt 512 (slot_count plant), fault 18 (record { table = table.Run; item = 0; inner = 0 }) key.Whole)
+    ∷ (nat_lt 8192 (gap_pairs plant), fault 19 (record { table = table.Gap; item = 0; inner = 0 }) key.Whole) ∷ []
 
 -- the tests of the keys at the top
 unfoldable pub unknown_tests : Members → List Test

@@ -1,8 +1,9 @@
 -- What reading a plant file gives: the plant of its bytes, or the first fault.
-use Rattle.std.specs.Prelude.{◌≡◌, ℕ, ◌<◌, length, List, Option, Some, None, Result, Ok, Err}
+use Rattle.std.specs.Prelude.{◌≡◌, ℕ, ◌<◌, length, List, Result, Ok, Err}
 use Rattle.std.proofs.Common.{refl}
 use Rattle.std.proofs.lemmas.Bool.{lt-ltb}
 use Rattle.stn_model.specs.declared.plant.Plant.{Plant}
+use Rattle.text_words.specs.Faults.{fault_or}
 use Rattle.plant_text.specs.declared.fault.PlantFault.{PlantFault}
 use Rattle.plant_text.specs.declared.fault.PlantStop.{PlantStop}
 use Rattle.plant_text.specs.declared.fault.PlantStop.TheVariants as stop
@@ -11,24 +12,19 @@ use Rattle.plant_text.specs.declared.fault.KeyName.TheVariants as key
 use Rattle.plant_text.specs.Tests.{first_fault}
 use Rattle.plant_text.specs.Document.{plant_tests, plant_of}
 
--- the value where no condition holds, else the first fault
-abbrev pub fault_or : {Y : Type 0} → Option PlantFault → Y → Result Y PlantFault
-fault_or None value = Ok value
-fault_or (Some fault) value = Err fault
-
 -- what the bytes of a plant file are read as
 unfoldable pub reading : List ℕ → Result Plant PlantFault
 reading bytes = fault_or (first_fault (plant_tests bytes)) (plant_of bytes)
 
 -- the stop is want of memory, or the fault that reading gives
-abbrev pub Fails : {Y : Type 0} → PlantStop → Result Y PlantFault → Type 0
+abbrev pub Fails : PlantStop → Result Plant PlantFault → Type 0
 Fails stop.Memory read = Unit {0}
 Fails (stop.Fault fault) read = read ≡ Err fault
 
 -- what a function returned is what reading gives, unless memory ran out
-abbrev pub Gives : {Y : Type 0} → Result Y PlantStop → Result Y PlantFault → Type 0
-Gives (Ok x) read = read ≡ Ok x
-Gives (Err e) read = Fails e read
+abbrev pub ReadsPlant : Result Plant PlantStop → Result Plant PlantFault → Type 0
+ReadsPlant (Ok plant) read = read ≡ Ok plant
+ReadsPlant (Err e) read = Fails e read
 
 -- the fault of a file that is too long
 abbrev pub too_long : PlantFault

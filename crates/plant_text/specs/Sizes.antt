@@ -2,13 +2,8 @@
 use Rattle.std.specs.Prelude.{◌≡◌, ℕ, ◌<◌, ◌≤◌, Bool, false, List, [], length, slice_index_or}
 use Rattle.stn_model.specs.declared.plant.Plant.{Plant}
 use Rattle.stn_model.specs.declared.plant.Run.{Run}
-use Rattle.stn_model.specs.declared.start.Start.{Start}
 use Rattle.stn_model.specs.Sums.{sum_below, count_below}
 use Rattle.stn_model.specs.Points.{has_slot, meets_gap}
-
--- a least batch of the run in the period
-abbrev pub start_of : Run → ℕ → Start
-start_of run period = record { period = period; unit = run.unit; task = run.task; quanta = run.min }
 
 -- the row says of each period whether it has a slot of the run
 pub record IsRow (plant : Plant) (run : Run) (row : List Bool) : Type 0 where

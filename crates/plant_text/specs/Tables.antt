@@ -1,8 +1,7 @@
 -- The field table: the keys of each table in the order of reading, and the record of an item.
-use Rattle.std.specs.Prelude.{ℕ, pos, ◌+◌, ◌-◌, ◌*◌, ◌/◌, ◌%◌, Bool, true, false, not, map, sum_by, ◌&&◌, ◌==◌, nat_lt, if◌then◌else◌, List, [], ◌∷◌, ◌++◌, length, Option, Some, None, is_some, option_map, replicate}
+use Rattle.std.specs.Prelude.{ℕ, pos, ◌+◌, ◌-◌, Bool, true, false, not, map, ◌&&◌, ◌==◌, nat_lt, if◌then◌else◌, List, [], ◌∷◌, ◌++◌, length, Option, Some, None, is_some, option_map, replicate}
 use Rattle.std.specs.List.{list_any}
 use Rattle.toml.specs.Data.{Data, Members}
-use Rattle.stn_model.specs.declared.limits.TheConstants.{MAX_AMOUNT, MAX_PRICE, MAX_QUANTA, MAX_DELAY, MAX_QUANTUM, MAX_SIDE}
 use Rattle.stn_model.specs.declared.plant.State.{State}
 use Rattle.stn_model.specs.declared.plant.Utility.{Utility}
 use Rattle.stn_model.specs.declared.plant.StnUnit.{StnUnit}
@@ -11,9 +10,8 @@ use Rattle.stn_model.specs.declared.plant.Task.{Task}
 use Rattle.stn_model.specs.declared.plant.Input.{Input}
 use Rattle.stn_model.specs.declared.plant.Output.{Output}
 use Rattle.stn_model.specs.declared.plant.Draw.{Draw}
-use Rattle.stn_model.specs.Sums.{greatest_by}
-use Rattle.fraction.specs.declared.fraction_of.Fraction.{Fraction}
-use Rattle.fraction.specs.Fractions.{common_under}
+use Rattle.stn_model.specs.Plant.{no_task, duration_of}
+use Rattle.fraction.specs.Fractions.{amount_in, is_whole, sums_to_one}
 use Rattle.stn_model.specs.declared.plant.Gap.{Gap}
 use Rattle.stn_model.specs.declared.plant.Receipt.{Receipt}
 use Rattle.stn_model.specs.declared.plant.Delivery.{Delivery}
@@ -43,11 +41,11 @@ is_there inside name = is_some (held inside (optional name))
 unfoldable pub state_fields : Scope → ℕ → Members → List Field
 state_fields scope number inside =
     row (needed key.Name) (declares scope.states number)
-    ∷ row (optional key.Initial) (count 0 MAX_AMOUNT)
-    ∷ row (optional key.Limit) (count 0 MAX_AMOUNT)
-    ∷ row (since scope.second key.Limits) (numbers (is_there inside key.Limit) (scope.periods + 1) MAX_AMOUNT)
-    ∷ row (optional key.Price) (money MAX_PRICE)
-    ∷ row (optional key.Holding) (money MAX_PRICE) ∷ []
+    ∷ row (optional key.Initial) (count 0 1000000000)
+    ∷ row (optional key.Limit) (count 0 1000000000)
+    ∷ row (since scope.second key.Limits) (numbers (is_there inside key.Limit) (scope.periods + 1) 1000000000)
+    ∷ row (optional key.Price) (money 1000000)
+    ∷ row (optional key.Holding) (money 1000000) ∷ []
 
 -- the place of a state
 abbrev pub state_place : ℕ → Place
@@ -69,9 +67,9 @@ state_of scope d = let inside = members_of d in record {
 unfoldable pub utility_fields : Scope → ℕ → Members → List Field
 utility_fields scope number inside =
     row (needed key.Name) (declares scope.utilities number)
-    ∷ row (record { name = key.Limit; known = true; required = not (is_some (held inside (since scope.second key.Limits))) }) (count 0 MAX_AMOUNT)
-    ∷ row (since scope.second key.Limits) (numbers (is_there inside key.Limit) scope.periods MAX_AMOUNT)
-    ∷ row (optional key.Rate) (money MAX_PRICE) ∷ []
+    ∷ row (record { name = key.Limit; known = true; required = not (is_some (held inside (since scope.second key.Limits))) }) (count 0 1000000000)
+    ∷ row (since scope.second key.Limits) (numbers (is_there inside key.Limit) scope.periods 1000000000)
+    ∷ row (optional key.Rate) (money 1000000) ∷ []
 
 unfoldable pub utility_tests : Scope → ℕ → Data → List Test
 utility_tests scope number d = table_tests (record { table = table.Utility; item = number + 1; inner = 0 }) (utility_fields scope number (members_of d)) d
@@ -98,9 +96,9 @@ unfoldable pub run_fields : Scope → List Field
 run_fields scope =
     row (needed key.Task) (refers scope.tasks)
     ∷ row (needed key.StnUnit) (refers scope.units)
-    ∷ row (needed key.Min) (count 1 MAX_QUANTA)
-    ∷ row (needed key.Max) (count 1 MAX_QUANTA)
-    ∷ row (optional key.Cost) (money MAX_PRICE) ∷ []
+    ∷ row (needed key.Min) (count 1 255)
+    ∷ row (needed key.Max) (count 1 255)
+    ∷ row (optional key.Cost) (money 1000000) ∷ []
 
 unfoldable pub run_of : Scope → Data → Run
 run_of scope d = let inside = members_of d in record {
@@ -133,8 +131,8 @@ gap_fields scope =
     row (needed key.StnUnit) (refers scope.units)
     ∷ row (needed key.From) (refers scope.tasks)
     ∷ row (needed key.To) (refers scope.tasks)
-    ∷ row (needed key.Periods) (count (if scope.second then 0 else 1) MAX_DELAY)
-    ∷ row (since scope.second key.Cost) (count 0 MAX_PRICE) ∷ []
+    ∷ row (needed key.Periods) (count (if scope.second then 0 else 1) 96)
+    ∷ row (since scope.second key.Cost) (count 0 1000000) ∷ []
 
 unfoldable pub gap_tests : Scope → ℕ → Data → List Test
 gap_tests scope number d = table_tests (record { table = table.Gap; item = number + 1; inner = 0 }) (gap_fields scope) d
@@ -153,7 +151,7 @@ unfoldable pub receipt_fields : Scope → List Field
 receipt_fields scope =
     row (needed key.State) (refers scope.states)
     ∷ row (needed key.Time) (count 0 scope.periods)
-    ∷ row (needed key.Amount) (count 1 MAX_AMOUNT) ∷ []
+    ∷ row (needed key.Amount) (count 1 1000000000) ∷ []
 
 unfoldable pub receipt_tests : Scope → ℕ → Data → List Test
 receipt_tests scope number d = table_tests (record { table = table.Receipt; item = number + 1; inner = 0 }) (receipt_fields scope) d
@@ -170,8 +168,8 @@ unfoldable pub delivery_fields : Scope → List Field
 delivery_fields scope =
     row (needed key.State) (refers scope.states)
     ∷ row (needed key.Time) (count 0 scope.periods)
-    ∷ row (needed key.Amount) (count 1 MAX_AMOUNT)
-    ∷ row (optional key.Payment) (money MAX_AMOUNT) ∷ []
+    ∷ row (needed key.Amount) (count 1 1000000000)
+    ∷ row (optional key.Payment) (money 1000000000) ∷ []
 
 unfoldable pub delivery_tests : Scope → ℕ → Data → List Test
 delivery_tests scope number d = table_tests (record { table = table.Delivery; item = number + 1; inner = 0 }) (delivery_fields scope) d
@@ -218,7 +216,7 @@ unfoldable pub side_fields : Scope → Bool → List Field
 side_fields scope output =
     row (needed key.State) (refers scope.states)
     ∷ row (needed key.Part) part
-    ∷ row (record { name = key.Delay; known = output; required = output }) (count 1 MAX_DELAY) ∷ []
+    ∷ row (record { name = key.Delay; known = output; required = output }) (count 1 96) ∷ []
 
 unfoldable pub side_tests : Scope → Owner → ℕ → Data → List Test
 side_tests scope owner number d = table_tests (record { table = owner.table; item = owner.item; inner = number + 1 }) (side_fields scope (is_output owner.table)) d
@@ -229,17 +227,6 @@ side_of scope output d = let inside = members_of d in record {
   part = at_key part_of whole_part inside (needed key.Part);
   delay = at_key count_of 0 inside (record { name = key.Delay; known = output; required = output });
 }
-
--- the part of the quantum is whole, and how much it is
-abbrev pub is_whole : ℕ → Fraction → Bool
-is_whole quantum share = (quantum * share.over) % share.under == 0
-
-abbrev pub amount_in : ℕ → Fraction → ℕ
-amount_in quantum share = (quantum * share.over) / share.under
-
--- the parts sum to one, over their common denominator
-abbrev pub sums_to_one : List Fraction → Bool
-sums_to_one parts = sum_by (λ share. share.over * (common_under parts / share.under)) parts == common_under parts
 
 -- what a side gives, with its amount for each quantum
 abbrev pub output_of : ℕ → SidePart → Output
@@ -273,8 +260,8 @@ outputs_in scope output quantum ds = map (output_of quantum) (map (side_of scope
 unfoldable pub draw_fields : Scope → ℕ → List Field
 draw_fields scope duration =
     row (needed key.Utility) (refers scope.utilities)
-    ∷ row (needed key.Fixed) (numbers false duration MAX_PRICE)
-    ∷ row (needed key.Each) (numbers false duration MAX_PRICE) ∷ []
+    ∷ row (needed key.Fixed) (numbers false duration 1000000)
+    ∷ row (needed key.Each) (numbers false duration 1000000) ∷ []
 
 unfoldable pub draw_tests : Scope → Owner → ℕ → Data → List Test
 draw_tests scope owner number d = table_tests (record { table = owner.table; item = owner.item; inner = number + 1 }) (draw_fields scope owner.duration) d
@@ -298,18 +285,22 @@ quantum_in inside = at_key count_of 0 inside (needed key.Quantum)
 unfoldable pub outputs_of : Scope → Members → List Output
 outputs_of scope inside = outputs_in scope true (quantum_in inside) (items_at inside (needed key.Output))
 
+-- how many periods a task with these outputs takes
+abbrev pub duration_with : List Output → ℕ
+duration_with outputs = duration_of (record no_task { outputs = outputs })
+
 -- the owner of the draws of a task, with its duration
 abbrev pub drawer_in : Scope → ℕ → Members → Owner
-drawer_in scope number inside = owner_in table.Draw number (greatest_by (λ output. output.delay) (outputs_of scope inside))
+drawer_in scope number inside = owner_in table.Draw number (duration_with (outputs_of scope inside))
 
 -- the keys of a task
 unfoldable pub task_fields : Scope → ℕ → Members → List Field
 task_fields scope number inside =
     row (needed key.Name) (declares scope.tasks number)
-    ∷ row (needed key.Quantum) (count 1 MAX_QUANTUM)
-    ∷ row (needed key.Input) (tables MAX_SIDE (sides_tests scope (owner_in table.Input number 0) (quantum_in inside)))
-    ∷ row (needed key.Output) (tables MAX_SIDE (sides_tests scope (owner_in table.Output number 0) (quantum_in inside)))
-    ∷ row (optional key.Draw) (tables MAX_SIDE (rows_tests (λ (earlier : List Draw) (d : Data). draw_tests scope (drawer_in scope number inside) (length earlier) d) (draw_of scope) [])) ∷ []
+    ∷ row (needed key.Quantum) (count 1 1000000)
+    ∷ row (needed key.Input) (tables 8 (sides_tests scope (owner_in table.Input number 0) (quantum_in inside)))
+    ∷ row (needed key.Output) (tables 8 (sides_tests scope (owner_in table.Output number 0) (quantum_in inside)))
+    ∷ row (optional key.Draw) (tables 8 (rows_tests (λ (earlier : List Draw) (d : Data). draw_tests scope (drawer_in scope number inside) (length earlier) d) (draw_of scope) [])) ∷ []
 
 unfoldable pub task_tests : Scope → ℕ → Data → List Test
 task_tests scope number d = table_tests (record { table = table.Task; item = number + 1; inner = 0 }) (task_fields scope number (members_of d)) d

@@ -8,7 +8,7 @@ ghost use Rattle.plant_text.specs.Scope.{scope_of};
 ghost use Rattle.plant_text.specs.Document.{top_place, is_second, names_at, scope_in, size_fields, array_fields, plant_with, plant_in, size_tests, unknown_tests, document_tests};
 
 use crate::fault::{KeyName, Place, PlantStop, TableName};
-use crate::find::{Key, find, key, unknown};
+use crate::find::{Key, find, key, read_keys, unknown};
 use crate::numbers::Numbers;
 use crate::scope::{Context, Owner};
 use crate::sizes::{too_many_gap_pairs, too_many_slots};
@@ -25,6 +25,13 @@ pub const TOP: Place = Place {
     table: TableName::Top,
     item: 0,
     inner: 0,
+};
+
+// The tables at the top stand within no other.
+const NO_OWNER: Owner = Owner {
+    table: TableName::Top,
+    item: 0,
+    duration: 0,
 };
 
 fn is_two(number: i64) -> bool
@@ -131,7 +138,7 @@ fn check_keys(document: &Table, second: bool) -> Result<(), PlantStop>
 }
 
 fn longest_horizon(second: bool) -> u32
-    ensures { result ≡ (if second then MAX_PERIODS else 96) }
+    ensures { result ≡ (if second then 336 else 96) }
 {
     if second { MAX_PERIODS } else { 96 }
 }
@@ -160,95 +167,21 @@ fn horizon(document: &Table, second: bool) -> Result<u32, PlantStop>
 fn arrays(alloc: Global, document: &Table, context: &Context) -> Result<Plant, PlantStop>
     requires { context.now.periods ≤ 336 }
     ensures gives { Gives result (fields_tests top_place (table_view document.now) (array_fields (scope_of context.now))) (plant_with (scope_of context.now) (table_view document.now)) }
-    ensures few { IfOk result (λ plant. length plant.runs ≤ MAX_RUNS) }
+    ensures few { IfOk result (λ plant. length plant.runs ≤ 64) }
 {
     let place = TOP;
-    let owner = Owner {
-        table: TableName::Top,
-        item: 0,
-        duration: 0,
-    };
-    let states = rows(
-        alloc,
-        document,
-        place,
-        key!(optional State),
-        MAX_STATES,
-        context,
-        owner,
-    )?;
-    let utilities = rows(
-        alloc,
-        document,
-        place,
-        key!(optional Utility),
-        MAX_UTILITIES,
-        context,
-        owner,
-    )?;
-    let units = rows(
-        alloc,
-        document,
-        place,
-        key!(optional StnUnit),
-        MAX_UNITS,
-        context,
-        owner,
-    )?;
-    let tasks = rows(
-        alloc,
-        document,
-        place,
-        key!(optional Task),
-        MAX_TASKS,
-        context,
-        owner,
-    )?;
-    let runs = rows(
-        alloc,
-        document,
-        place,
-        key!(optional Run),
-        MAX_RUNS,
-        context,
-        owner,
-    )?;
-    let gaps = rows(
-        alloc,
-        document,
-        place,
-        key!(optional Gap),
-        MAX_GAPS,
-        context,
-        owner,
-    )?;
-    let receipts = rows(
-        alloc,
-        document,
-        place,
-        key!(optional Receipt),
-        MAX_EVENTS,
-        context,
-        owner,
-    )?;
-    let deliveries = rows(
-        alloc,
-        document,
-        place,
-        key!(optional Delivery),
-        MAX_EVENTS,
-        context,
-        owner,
-    )?;
-    let outages = rows(
-        alloc,
-        document,
-        place,
-        key!(since context.second, Outage),
-        MAX_EVENTS,
-        context,
-        owner,
-    )?;
+    let owner = NO_OWNER;
+    read_keys! { document, place;
+        states: (optional State) = rows(alloc; MAX_STATES, context, owner);
+        utilities: (optional Utility) = rows(alloc; MAX_UTILITIES, context, owner);
+        units: (optional StnUnit) = rows(alloc; MAX_UNITS, context, owner);
+        tasks: (optional Task) = rows(alloc; MAX_TASKS, context, owner);
+        runs: (optional Run) = rows(alloc; MAX_RUNS, context, owner);
+        gaps: (optional Gap) = rows(alloc; MAX_GAPS, context, owner);
+        receipts: (optional Receipt) = rows(alloc; MAX_EVENTS, context, owner);
+        deliveries: (optional Delivery) = rows(alloc; MAX_EVENTS, context, owner);
+        outages: (since context.second, Outage) = rows(alloc; MAX_EVENTS, context, owner);
+    }
     Ok(Plant {
         periods: context.periods,
         states,
@@ -265,8 +198,8 @@ fn arrays(alloc: Global, document: &Table, context: &Context) -> Result<Plant, P
 
 #[tactic(auto, unfolding(crate::specs::Document::size_tests, crate::specs::Tests::first_fault))]
 fn check_sizes(plant: &Plant) -> Result<(), PlantStop>
-    requires runs { length plant.now.runs ≤ MAX_RUNS }
-    requires horizon { plant.now.periods ≤ MAX_PERIODS }
+    requires runs { length plant.now.runs ≤ 64 }
+    requires horizon { plant.now.periods ≤ 336 }
     ensures ok { OnOk result (first_fault (size_tests plant.now) ≡ None) }
     ensures err { IfErr result (λ e. Stops e (first_fault (size_tests plant.now))) }
 {

@@ -3,8 +3,8 @@ ghost use Rattle.std.specs.Prelude.{◌≡◌, IfOk, IfErr, Some};
 ghost use Rattle.stn_model.specs.Sound.{Sound};
 ghost use Rattle.toml.specs.View.{table_view};
 ghost use Rattle.plant_text.specs.Document.{document_of, IsNoDocument, plant_tests, plant_of};
-ghost use Rattle.plant_text.specs.Tests as tests;
-ghost use Rattle.plant_text.specs.Reading.{reading, Gives};
+ghost use Rattle.plant_text.specs.Tests.{Gives};
+ghost use Rattle.plant_text.specs.Reading.{ReadsPlant, reading};
 
 use crate::document::{TOP, read_document};
 use crate::fault::{KeyName, PlantStop};
@@ -37,7 +37,7 @@ fn document_of(alloc: Global, bytes: &[u8]) -> Result<Table, PlantStop>
 
 #[tactic(auto, unfolding(crate::specs::Document::plant_tests, crate::specs::Document::plant_of, crate::specs::Tests::first_fault))]
 fn read(alloc: Global, bytes: &[u8]) -> Result<Plant, PlantStop>
-    ensures { tests.Gives result (plant_tests bytes.now) (plant_of bytes.now) }
+    ensures { Gives result (plant_tests bytes.now) (plant_of bytes.now) }
 {
     if MAX_BYTES < bytes.len() {
         return Err(TOP.stop(1, KeyName::Whole));
@@ -53,7 +53,7 @@ fn read(alloc: Global, bytes: &[u8]) -> Result<Plant, PlantStop>
 /// point in its place.
 pub fn read_plant(alloc: Global, bytes: &[u8]) -> Result<Plant, PlantStop>
     // The plant of the bytes, or the first fault: a fault comes exactly where there is one.
-    ensures reads { Gives result (reading bytes.now) }
+    ensures reads { ReadsPlant result (reading bytes.now) }
 
     // The plant is sound.
     ensures sound { IfOk result Sound }

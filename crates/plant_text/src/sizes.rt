@@ -1,41 +1,40 @@
 //! How large a plant is for a search: how many slots it has, and how many pairs of slots its gaps
 //! concern.
 ghost use Rattle.std.specs.Prelude.{◌≡◌, ◌<◌, ◌≤◌, ◌↔◌, IsTrue, true, length, sum_by};
-ghost use Rattle.stn_model.specs.Plant.{end_of, gap_between};
+ghost use Rattle.stn_model.specs.Plant.{gap_between};
 ghost use Rattle.stn_model.specs.Sums.{count_below};
-ghost use Rattle.stn_model.specs.Points.{has_slot, slots_of, slot_count, meets_gap, gap_pairs};
-ghost use Rattle.plant_text.specs.Sizes.{start_of, IsRow, AreRows, pairs_between};
+ghost use Rattle.stn_model.specs.Points.{has_slot, least_start, slots_of, slot_count, meets_gap, gap_pairs};
+ghost use Rattle.plant_text.specs.Sizes.{IsRow, AreRows, pairs_between};
 
 use stn_model::limits::{MAX_GAP_PAIRS, MAX_PERIODS, MAX_RUNS, MAX_SLOTS};
-use stn_model::{Plant, Run, Start, end, gap_of, is_open};
+use stn_model::{Plant, Run, Start, end, fits, gap_of};
 
 /// As many periods as a horizon has at most.
 const MAX_ROW: usize = MAX_PERIODS as usize;
 
-/// When the batch of the run ends that starts in the period.
-fn ending(plant: &Plant, run: &Run, period: u32) -> u64
-    ensures { result ≡ end_of plant.now (start_of run.now period) }
+/// The start of the run in the period with its least batch.
+fn least_start(run: &Run, period: u32) -> Start
+    ensures { result ≡ least_start run.now period }
 {
-    let start = Start {
+    Start {
         period,
         unit: run.unit,
         task: run.task,
         quanta: run.min,
-    };
-    end(plant, &start)
+    }
 }
 
 /// Whether a start of the run fits in the period.
+#[tactic(auto, unfolding(stn_model::specs::Points::has_slot))]
 fn is_slot(plant: &Plant, run: &Run, period: u32) -> bool
     ensures { result ≡ has_slot plant.now run.now period }
 {
-    let to = ending(plant, run, period);
-    to <= u64::from(plant.periods) && is_open(plant, run.unit, u64::from(period), to)
+    fits(plant, &least_start(run, period))
 }
 
 /// How many periods have a slot of the run.
 fn slots_in(plant: &Plant, run: &Run) -> u64
-    requires { plant.now.periods ≤ MAX_PERIODS }
+    requires { plant.now.periods ≤ 336 }
     ensures count { result ≡ slots_of plant.now run.now }
     ensures small { result ≤ 336 }
 {
@@ -50,9 +49,9 @@ fn slots_in(plant: &Plant, run: &Run) -> u64
 
 /// Whether the plant has more slots than a plant may have.
 pub(crate) fn too_many_slots(plant: &Plant) -> bool
-    requires runs { length plant.now.runs ≤ MAX_RUNS }
-    requires periods { plant.now.periods ≤ MAX_PERIODS }
-    ensures { IsTrue result ↔ (MAX_SLOTS < slot_count plant.now) }
+    requires runs { length plant.now.runs ≤ 64 }
+    requires periods { plant.now.periods ≤ 336 }
+    ensures { IsTrue result ↔ (512 < slot_count plant.now) }
 {
     let mut count = 0;
     for run in plant.runs.as_slice() {
@@ -63,7 +62,7 @@ pub(crate) fn too_many_slots(plant: &Plant) -> bool
 
 /// Which periods have a slot of the run.
 fn slot_row(plant: &Plant, run: &Run) -> [bool; MAX_ROW]
-    requires { plant.now.periods ≤ MAX_PERIODS }
+    requires { plant.now.periods ≤ 336 }
     ensures { IsRow plant.now run.now result }
 {
     let mut row = [false; MAX_ROW];
@@ -75,8 +74,8 @@ fn slot_row(plant: &Plant, run: &Run) -> [bool; MAX_ROW]
 
 /// Which periods have a slot, for each run.
 fn slot_rows(plant: &Plant) -> [[bool; MAX_ROW]; MAX_RUNS]
-    requires runs { length plant.now.runs ≤ MAX_RUNS }
-    requires periods { plant.now.periods ≤ MAX_PERIODS }
+    requires runs { length plant.now.runs ≤ 64 }
+    requires periods { plant.now.periods ≤ 336 }
     ensures { AreRows plant.now plant.now.runs result }
 {
     let mut rows = [[false; MAX_ROW]; MAX_RUNS];
@@ -89,7 +88,7 @@ fn slot_rows(plant: &Plant) -> [[bool; MAX_ROW]; MAX_RUNS]
 /// How many starts of the second run would come too soon after the first run's in the period, which
 /// has a slot of it; the two are on one unit, and `gap` is how long it is cleaned between them.
 fn pairs_at(plant: &Plant, a: &Run, period: u32, b: &Run, row: &[bool], gap: u32) -> u64
-    requires periods { plant.now.periods ≤ MAX_PERIODS }
+    requires periods { plant.now.periods ≤ 336 }
     requires unit { a.now.unit ≡ b.now.unit }
     requires slot { has_slot plant.now a.now period ≡ true }
     requires row { IsRow plant.now b.now row.now }
@@ -97,7 +96,7 @@ fn pairs_at(plant: &Plant, a: &Run, period: u32, b: &Run, row: &[bool], gap: u32
     ensures count { result ≡ count_below (meets_gap plant.now a.now period b.now) plant.now.periods }
     ensures small { result ≤ 336 }
 {
-    let to = ending(plant, a, period);
+    let to = end(plant, &least_start(a, period));
     let mut count = 0;
     for next in 0..plant.periods {
         if row[next as usize] && to <= u64::from(next) && u64::from(next) - to < u64::from(gap) {
@@ -109,7 +108,7 @@ fn pairs_at(plant: &Plant, a: &Run, period: u32, b: &Run, row: &[bool], gap: u32
 
 /// How many pairs of slots of the two runs the cleaning keeps apart.
 fn pairs_of(plant: &Plant, a: &Run, b: &Run, row_a: &[bool], row_b: &[bool]) -> u64
-    requires periods { plant.now.periods ≤ MAX_PERIODS }
+    requires periods { plant.now.periods ≤ 336 }
     requires first { IsRow plant.now a.now row_a.now }
     requires second { IsRow plant.now b.now row_b.now }
     ensures count { result ≡ pairs_between plant.now a.now b.now }
@@ -130,8 +129,8 @@ fn pairs_of(plant: &Plant, a: &Run, b: &Run, row_a: &[bool], row_b: &[bool]) -> 
 
 /// How many pairs of slots the cleaning keeps apart whose first is of this run.
 fn pairs_after(plant: &Plant, a: &Run, row: &[bool], rows: &[[bool; MAX_ROW]]) -> u64
-    requires runs { length plant.now.runs ≤ MAX_RUNS }
-    requires periods { plant.now.periods ≤ MAX_PERIODS }
+    requires runs { length plant.now.runs ≤ 64 }
+    requires periods { plant.now.periods ≤ 336 }
     requires first { IsRow plant.now a.now row.now }
     requires rows { AreRows plant.now plant.now.runs rows.now }
     ensures count { result ≡ sum_by (pairs_between plant.now a.now) plant.now.runs }
@@ -146,8 +145,8 @@ fn pairs_after(plant: &Plant, a: &Run, row: &[bool], rows: &[[bool; MAX_ROW]]) -
 
 /// How many pairs of slots the cleaning keeps apart.
 fn all_pairs(plant: &Plant, rows: &[[bool; MAX_ROW]]) -> u64
-    requires runs { length plant.now.runs ≤ MAX_RUNS }
-    requires periods { plant.now.periods ≤ MAX_PERIODS }
+    requires runs { length plant.now.runs ≤ 64 }
+    requires periods { plant.now.periods ≤ 336 }
     requires rows { AreRows plant.now plant.now.runs rows.now }
     ensures { result ≡ gap_pairs plant.now }
 {
@@ -160,9 +159,9 @@ fn all_pairs(plant: &Plant, rows: &[[bool; MAX_ROW]]) -> u64
 
 /// Whether the gaps of the plant concern more pairs of slots than they may.
 pub(crate) fn too_many_gap_pairs(plant: &Plant) -> bool
-    requires runs { length plant.now.runs ≤ MAX_RUNS }
-    requires periods { plant.now.periods ≤ MAX_PERIODS }
-    ensures { IsTrue result ↔ (MAX_GAP_PAIRS < gap_pairs plant.now) }
+    requires runs { length plant.now.runs ≤ 64 }
+    requires periods { plant.now.periods ≤ 336 }
+    ensures { IsTrue result ↔ (8192 < gap_pairs plant.now) }
 {
     let rows = slot_rows(plant);
     (MAX_GAP_PAIRS as u64) < all_pairs(plant, &rows)

@@ -3,6 +3,15 @@ ghost use Rattle.std.specs.Prelude.{◌≡◌};
 
 use crate::fault::{KeyName, TableName};
 
+/// The word that stands beside the value's name in a table of words.
+macro_rules! words {
+    ($value:expr, $kind:ident; $($name:ident $word:literal,)+) => {
+        match $value {
+            $($kind::$name => $word,)+
+        }
+    };
+}
+
 impl KeyName {
     ghost use Rattle.plant_text.specs.Words.{key_word};
 
@@ -11,42 +20,14 @@ impl KeyName {
     pub fn word(self) -> &'static str
         ensures { result.now ≡ key_word self }
     {
-        match self {
-            KeyName::Whole => "-",
-            KeyName::Version => "version",
-            KeyName::Periods => "periods",
-            KeyName::State => "state",
-            KeyName::Utility => "utility",
-            KeyName::StnUnit => "unit",
-            KeyName::Task => "task",
-            KeyName::Run => "run",
-            KeyName::Gap => "gap",
-            KeyName::Receipt => "receipt",
-            KeyName::Delivery => "delivery",
-            KeyName::Outage => "outage",
-            KeyName::Name => "name",
-            KeyName::Initial => "initial",
-            KeyName::Limit => "limit",
-            KeyName::Limits => "limits",
-            KeyName::Price => "price",
-            KeyName::Holding => "holding",
-            KeyName::Rate => "rate",
-            KeyName::Quantum => "quantum",
-            KeyName::Input => "input",
-            KeyName::Output => "output",
-            KeyName::Draw => "draw",
-            KeyName::Part => "part",
-            KeyName::Delay => "delay",
-            KeyName::Fixed => "fixed",
-            KeyName::Each => "each",
-            KeyName::Min => "min",
-            KeyName::Max => "max",
-            KeyName::Cost => "cost",
-            KeyName::From => "from",
-            KeyName::To => "to",
-            KeyName::Time => "time",
-            KeyName::Amount => "amount",
-            KeyName::Payment => "payment",
+        words! { self, KeyName;
+            Whole "-", Version "version", Periods "periods", State "state", Utility "utility",
+            StnUnit "unit", Task "task", Run "run", Gap "gap", Receipt "receipt",
+            Delivery "delivery", Outage "outage", Name "name", Initial "initial", Limit "limit",
+            Limits "limits", Price "price", Holding "holding", Rate "rate", Quantum "quantum",
+            Input "input", Output "output", Draw "draw", Part "part", Delay "delay", Fixed "fixed",
+            Each "each", Min "min", Max "max", Cost "cost", From "from", To "to", Time "time",
+            Amount "amount", Payment "payment",
         }
     }
 }
@@ -59,20 +40,10 @@ impl TableName {
     pub fn word(self) -> &'static str
         ensures { result.now ≡ table_word self }
     {
-        match self {
-            TableName::Top => "top",
-            TableName::State => "state",
-            TableName::Utility => "utility",
-            TableName::StnUnit => "unit",
-            TableName::Task => "task",
-            TableName::Input => "input",
-            TableName::Output => "output",
-            TableName::Draw => "draw",
-            TableName::Run => "run",
-            TableName::Gap => "gap",
-            TableName::Receipt => "receipt",
-            TableName::Delivery => "delivery",
-            TableName::Outage => "outage",
+        words! { self, TableName;
+            Top "top", State "state", Utility "utility", StnUnit "unit", Task "task", Input "input",
+            Output "output", Draw "draw", Run "run", Gap "gap", Receipt "receipt",
+            Delivery "delivery", Outage "outage",
         }
     }
 }

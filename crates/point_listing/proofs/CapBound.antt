@@ -10,7 +10,8 @@ use Rattle.stn_model.specs.Feasible.{Feasible}
 use Rattle.stn_model.specs.Profit.{profit}
 use Rattle.stn_model.specs.Sums.{total}
 use Rattle.stn_model.specs.Sound.{Sound}
-use Rattle.time_grid.specs.Slots.{run_at, slots}
+use Rattle.stn_model.specs.Plant.{run_at}
+use Rattle.time_grid.specs.Slots.{slots}
 use Rattle.time_grid.specs.PlanPoint.{quanta_in, plan_point, point_starts, start_in, IsChoice}
 use Rattle.time_grid.proofs.SlotList.{slots-are}
 use Rattle.time_grid.proofs.Reordered.{total-permutation}

@@ -3,20 +3,17 @@ use Rattle.std.proofs.Common.{◌≡◌, ℕ, ◌+◌, ◌-◌, ◌*◌, ◌/◌
 use Rattle.std.specs.List.{All}
 use Rattle.std.proofs.lemmas.Nat.{div-mul-add, mod-mul-add, mul-add-lt}
 use Rattle.std.proofs.lemmas.List.Elements.{All-head, All-tail}
-use Rattle.std.proofs.lemmas.Bool.{cases_Bool, ne_eqb}
+use Rattle.std.proofs.lemmas.Bool.{ne_eqb}
 use Rattle.stn_model.specs.declared.plant.Plant.{Plant}
 use Rattle.stn_model.specs.declared.start.Start.{Start}
-use Rattle.stn_model.specs.Fits.{Fits}
 use Rattle.stn_model.specs.Feasible.{Feasible}
 use Rattle.stn_model.specs.Sums.{product_by}
 use Rattle.stn_model.specs.Points.{points}
 use Rattle.stn_model.specs.Sound.{Sound}
-use Rattle.time_grid.specs.Slots.{no_run, run_at, slots, slot_choices, IsSlotOf}
-use Rattle.time_grid.specs.PlanPoint.{ShareSlot, is_in, quanta_of, quanta_in, HasPoint, plan_point, IsChoice}
-use Rattle.time_grid.proofs.Lists.{AllPairs-head, AllPairs-tail}
+use Rattle.stn_model.specs.Plant.{no_run, run_at}
+use Rattle.time_grid.specs.Slots.{slots, slot_choices}
+use Rattle.time_grid.specs.PlanPoint.{quanta_in, plan_point, IsChoice}
 use Rattle.time_grid.proofs.SlotList.{slots-are, product-slots}
-use Rattle.time_grid.proofs.Fitting.{fits-at}
-use Rattle.time_grid.proofs.PlanPoints.{share-from_in, same_slot}
 use Rattle.time_grid.proofs.OnePlan.{starts-permutation, has_point-feasible}
 use Rattle.time_grid.proofs.PointPlan.{quanta_in-choice}
 use Rattle.point_listing.specs.Numbered.{chosen, numbered, plan_numbered}

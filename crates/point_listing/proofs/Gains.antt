@@ -6,7 +6,8 @@ use Rattle.stn_model.specs.declared.plant.Plant.{Plant}
 use Rattle.stn_model.specs.declared.start.Start.{Start}
 use Rattle.stn_model.specs.Profit.{profit}
 use Rattle.stn_model.specs.Sound.{Sound, SoundRun}
-use Rattle.time_grid.specs.Slots.{no_run, run_at, IsSlotOf}
+use Rattle.stn_model.specs.Plant.{no_run, run_at}
+use Rattle.time_grid.specs.Slots.{IsSlotOf}
 use Rattle.time_grid.specs.PlanPoint.{start_in}
 use Rattle.point_listing.specs.Cap.{gain}
 use Rattle.plain_plan.proofs.SmallProfit.{SmallStart, idle-small, single-small}

@@ -6,7 +6,8 @@ use Rattle.stn_model.specs.declared.plant.Plant.{Plant}
 use Rattle.stn_model.specs.Sums.{product_by}
 use Rattle.stn_model.specs.Points.{points}
 use Rattle.stn_model.specs.Sound.{Sound, SoundRun}
-use Rattle.time_grid.specs.Slots.{no_run, run_at, slots, slot_choices}
+use Rattle.stn_model.specs.Plant.{no_run, run_at}
+use Rattle.time_grid.specs.Slots.{slots, slot_choices}
 use Rattle.time_grid.proofs.SlotList.{slots-are, product_by-append, product-slots}
 use Rattle.point_listing.specs.Numbered.{slot_at, chosen, numbered}
 

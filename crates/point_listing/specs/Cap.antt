@@ -4,7 +4,8 @@ use Rattle.stn_model.specs.declared.plant.Plant.{Plant}
 use Rattle.stn_model.specs.declared.start.Start.{Start}
 use Rattle.stn_model.specs.Profit.{profit}
 use Rattle.stn_model.specs.Sums.{total}
-use Rattle.time_grid.specs.Slots.{run_at, slots}
+use Rattle.stn_model.specs.Plant.{run_at}
+use Rattle.time_grid.specs.Slots.{slots}
 use Rattle.time_grid.specs.PlanPoint.{start_in}
 
 -- what a start gains: the profit of the list that holds it alone, less the profit of the empty list

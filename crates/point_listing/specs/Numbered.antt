@@ -2,7 +2,8 @@
 use Rattle.std.specs.Prelude.{ℕ, ◌+◌, ◌-◌, ◌/◌, ◌%◌, ◌==◌, if◌then◌else◌, List, [], ◌∷◌, slice_index_or}
 use Rattle.stn_model.specs.declared.plant.Plant.{Plant}
 use Rattle.stn_model.specs.declared.start.Start.{Start}
-use Rattle.time_grid.specs.Slots.{run_at, slots, slot_choices}
+use Rattle.stn_model.specs.Plant.{run_at}
+use Rattle.time_grid.specs.Slots.{slots, slot_choices}
 use Rattle.time_grid.specs.PlanPoint.{point_starts}
 
 -- the slot of this number

@@ -3,7 +3,8 @@
 ghost use Rattle.std.specs.Prelude.{◌≡◌, ◌<◌, ◌≤◌, min, length, IfOk, IsPermutation};
 ghost use Rattle.stn_model.specs.Sound.{Sound, SoundRun};
 ghost use Rattle.stn_model.specs.Points.{points};
-ghost use Rattle.time_grid.specs.Slots.{IsGrid, run_at, slot_choices};
+ghost use Rattle.stn_model.specs.Plant.{run_at};
+ghost use Rattle.time_grid.specs.Slots.{IsGrid, slot_choices};
 ghost use Rattle.point_listing.specs.Numbered.{slot_at, numbered, chosen, plan_numbered};
 
 use std::alloc::{AllocError, Global};

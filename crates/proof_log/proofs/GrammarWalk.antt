@@ -23,7 +23,6 @@ use Rattle.log_lines.specs.declared.grammar.Place.{Place}
 use Rattle.log_lines.specs.declared.grammar.Place.TheVariants.{Node as AtNode, Inside, Ending, Values, Mults, Claim as AtClaim, End as AtEnd}
 use Rattle.log_lines.specs.declared.step.Step.{Step}
 use Rattle.log_lines.specs.declared.step.Step.TheVariants.{Begins, At, Opens, Ends}
-use Rattle.log_lines.specs.declared.kinds.TheConstants.{GRAMMAR, ROW_NUMBER, SLOT_NUMBER, MULT_TOO_LARGE, SCALE_TOO_LARGE, TOO_MANY_MULTS, TOO_DEEP}
 use Rattle.log_lines.specs.Grammar.{values_step, mults_step, follows, step_of, Standing, after_part, part_place, after_step, first_kind, next, over, line_defect}
 use Rattle.proof_log.specs.declared.claim.Claim.{Claim}
 use Rattle.proof_log.specs.declared.claim.Claim.TheVariants.{Optimal, Infeasible, Between, Below}
@@ -129,7 +128,7 @@ module _ (limits : Limits) where
   on-step : (standing : Standing) (line : Line) (step : Step) → step_of standing.version standing.place line ≡ Some step → over limits standing line ≡ None → on standing line ≡ Some (after_step standing step)
   on-step standing line step is clean =
       let there : next standing line ≡ Some (after_step standing step) = ap (option_map (after_step standing)) is in
-      let none : line_defect limits standing line ≡ None = ap (λ (later : Option Standing). option_map_or (λ _. over limits standing line) later (Some GRAMMAR)) there ∙ clean in
+      let none : line_defect limits standing line ≡ None = ap (λ (later : Option Standing). option_map_or (λ _. over limits standing line) later (Some 1)) there ∙ clean in
       ap (λ (kind : Option ℕ). unless kind (next standing line)) none ∙ there
 
   -- lines and then others
@@ -148,7 +147,7 @@ module _ (limits : Limits) where
   value_step version left above slot quanta of_claim sides later low =
       on-step (at version (Values left above of_claim) sides) (ValueLine slot quanta) (values_step (left - 1) (Some slot) of_claim)
       (ap (λ (b : Bool). if b then Some (values_step (left - 1) (Some slot) of_claim) else None) later)
-      (passes (leb limits.slots slot) SLOT_NUMBER [] (not_below limits.slots slot low) refl)
+      (passes (leb limits.slots slot) 5 [] (not_below limits.slots slot low) refl)
 
   value_more : (version n : ℕ) (above : Option ℕ) (slot value : ℕ) (of_claim : Bool) (sides : List Bool) (lines : List Line) (place : Place) (end : Standing) → follows above slot ≡ true → slot < limits.slots → leads limits (after_step (at version (Values (n + 1) above of_claim) sides) (values_step n (Some slot) of_claim)) lines ≡ Some end → leads limits (after_step (at version place sides) (values_step (n + 1) above of_claim)) (ValueLine slot value ∷ lines) ≡ Some end
   value_more version n above slot value of_claim sides lines place end later low rest =
@@ -181,7 +180,7 @@ module _ (limits : Limits) where
   mult_step version left above row factor beside sides later low small =
       on-step (at version (Mults left above beside) sides) (MultLine row factor) (mults_step (left - 1) (Some row) beside)
       (ap (λ (b : Bool). if b then Some (mults_step (left - 1) (Some row) beside) else None) later)
-      (passes (leb limits.rows row) ROW_NUMBER ((ltb 1099511627776 factor, MULT_TOO_LARGE) ∷ []) (not_below limits.rows row low) (passes (ltb 1099511627776 factor) MULT_TOO_LARGE [] (not_above 1099511627776 factor small) refl))
+      (passes (leb limits.rows row) 4 ((ltb 1099511627776 factor, 6) ∷ []) (not_below limits.rows row low) (passes (ltb 1099511627776 factor) 6 [] (not_above 1099511627776 factor small) refl))
 
   mults_lead : (version least : ℕ) (above : Option ℕ) (place : Place) (mults : List Mult) (beside : Bool) (sides : List Bool) → IsAbove above least → are_fit limits.rows least mults ≡ true → leads limits (after_step (at version place sides) (mults_step (length mults) above beside)) (map mult_line mults) ≡ Some (after_step (at version Inside sides) (if beside then Opens else Ends))
   unfolding IsAbove
@@ -203,12 +202,12 @@ module _ (limits : Limits) where
       ∙ mults_lead version (mult.row + 1) (Some mult.row) (Mults (n + 1) above beside) mults beside sides (above_last mult.row) p.1
 
   -- the sizes of a fit certificate
-  sizes : (cert : Cert) → is_fit limits.rows cert ≡ true → first_kind ((ltb 1048576 cert.scale, SCALE_TOO_LARGE) ∷ ((ltb 50000 (length cert.mults), TOO_MANY_MULTS) ∷ [])) ≡ None
+  sizes : (cert : Cert) → is_fit limits.rows cert ≡ true → first_kind ((ltb 1048576 cert.scale, 7) ∷ ((ltb 50000 (length cert.mults), 8) ∷ [])) ≡ None
   sizes cert fit =
       let p = and_parts (leb cert.scale 1048576 && leb (length cert.mults) 50000) (are_fit limits.rows 0 cert.mults) fit in
       let q = and_parts (leb cert.scale 1048576) (leb (length cert.mults) 50000) p.0 in
-      passes (ltb 1048576 cert.scale) SCALE_TOO_LARGE ((ltb 50000 (length cert.mults), TOO_MANY_MULTS) ∷ []) (not_above 1048576 cert.scale (leb-true cert.scale 1048576 q.0))
-      (passes (ltb 50000 (length cert.mults)) TOO_MANY_MULTS [] (not_above 50000 (length cert.mults) (leb-true (length cert.mults) 50000 q.1)) refl)
+      passes (ltb 1048576 cert.scale) 7 ((ltb 50000 (length cert.mults), 8) ∷ []) (not_above 1048576 cert.scale (leb-true cert.scale 1048576 q.0))
+      (passes (ltb 50000 (length cert.mults)) 8 [] (not_above 50000 (length cert.mults) (leb-true (length cert.mults) 50000 q.1)) refl)
 
   -- the lines of a certificate, at a place where its line may come
   cert_lead : (version : ℕ) (place : Place) (sides : List Bool) (line : Line) (cert : Cert) (beside : Bool) → is_fit limits.rows cert ≡ true → step_of version place line ≡ Some (mults_step (length cert.mults) None beside) → over limits (at version place sides) line ≡ None → leads limits (at version place sides) (line ∷ map mult_line cert.mults) ≡ Some (after_step (at version Inside sides) (if beside then Opens else Ends))
@@ -240,11 +239,11 @@ module _ (limits : Limits) where
   split_lead : (version : ℕ) (found : Option Found) (pick : RowPick) (cert : Cert) (sides : List Bool) → pick.slot < limits.slots → is_fit limits.rows cert ≡ true → leads limits (at version (place_in found) sides) (item_lines (Split pick cert)) ≡ Some (at version AtNode (false ∷ sides))
   unfolding item_lines
   split_lead version found pick cert sides named fit =
-      let others = (ltb 1048576 cert.scale, SCALE_TOO_LARGE) ∷ ((ltb 50000 (length cert.mults), TOO_MANY_MULTS) ∷ []) in
-      let clean = passes (leb limits.slots pick.slot) SLOT_NUMBER others (not_below limits.slots pick.slot named) (sizes cert fit) in
+      let others = (ltb 1048576 cert.scale, 7) ∷ ((ltb 50000 (length cert.mults), 8) ∷ []) in
+      let clean = passes (leb limits.slots pick.slot) 5 others (not_below limits.slots pick.slot named) (sizes cert fit) in
       each found clean
     where
-      each : (found : Option Found) → first_kind ((leb limits.slots pick.slot, SLOT_NUMBER) ∷ ((ltb 1048576 cert.scale, SCALE_TOO_LARGE) ∷ ((ltb 50000 (length cert.mults), TOO_MANY_MULTS) ∷ []))) ≡ None → leads limits (at version (place_in found) sides) (SplitLine pick.slot pick.max cert.scale (length cert.mults) ∷ map mult_line cert.mults) ≡ Some (at version AtNode (false ∷ sides))
+      each : (found : Option Found) → first_kind ((leb limits.slots pick.slot, 5) ∷ ((ltb 1048576 cert.scale, 7) ∷ ((ltb 50000 (length cert.mults), 8) ∷ []))) ≡ None → leads limits (at version (place_in found) sides) (SplitLine pick.slot pick.max cert.scale (length cert.mults) ∷ map mult_line cert.mults) ≡ Some (at version AtNode (false ∷ sides))
       each None clean = cert_lead version Inside sides (SplitLine pick.slot pick.max cert.scale (length cert.mults)) cert true fit refl clean
       each (Some found) clean = cert_lead version Ending sides (SplitLine pick.slot pick.max cert.scale (length cert.mults)) cert true fit refl clean
 
@@ -252,7 +251,7 @@ module _ (limits : Limits) where
   cut_step : (version : ℕ) (cut : RowCut) (sides : List Bool) → cut.row < limits.rows → cut.slot < limits.slots → on (at version Inside sides) (CutLine cut.row cut.slot) ≡ Some (at version Inside sides)
   cut_step version cut sides row slot =
       on-step (at version Inside sides) (CutLine cut.row cut.slot) (At Inside) refl
-      (passes (leb limits.rows cut.row) ROW_NUMBER ((leb limits.slots cut.slot, SLOT_NUMBER) ∷ []) (not_below limits.rows cut.row row) (passes (leb limits.slots cut.slot) SLOT_NUMBER [] (not_below limits.slots cut.slot slot) refl))
+      (passes (leb limits.rows cut.row) 4 ((leb limits.slots cut.slot, 5) ∷ []) (not_below limits.rows cut.row row) (passes (leb limits.slots cut.slot) 5 [] (not_below limits.slots cut.slot slot) refl))
 
   cuts_lead : (version : ℕ) (cuts : List RowCut) (sides : List Bool) → All (IsFitItem limits version) (map Cut cuts) → leads limits (at version Inside sides) (flat_map item_lines (map Cut cuts)) ≡ Some (at version Inside sides)
   unfolding item_lines
@@ -281,7 +280,7 @@ module _ (limits : Limits) where
       let here = at version AtNode sides in
       let inside = at version Inside sides in
       let group = map FoundItem (option_to_list found) in
-      leads-cons here inside NodeLine (flat_map item_lines (map Cut cuts ++ (group ++ rest))) (on-step here NodeLine (At Inside) refl (passes (ltb limits.depth (length sides)) TOO_DEEP [] (not_above limits.depth (length sides) low) refl))
+      leads-cons here inside NodeLine (flat_map item_lines (map Cut cuts ++ (group ++ rest))) (on-step here NodeLine (At Inside) refl (passes (ltb limits.depth (length sides)) 9 [] (not_above limits.depth (length sides) low) refl))
       ∙ ap (leads limits inside) (flat_map-append item_lines (map Cut cuts) (group ++ rest))
       ∙ leads-then inside inside (flat_map item_lines (map Cut cuts)) (flat_map item_lines (group ++ rest)) (cuts_lead version cuts sides cuts_fit)
       ∙ ap (leads limits inside) (flat_map-append item_lines group rest)

@@ -13,3 +13,4 @@ pub mod Gathers
 pub mod Texts
 pub mod Reading
 pub mod PartsRead
+pub mod SaidOfOthers

@@ -1,4 +1,5 @@
 pub mod Log
+pub mod ClaimSays
 pub mod Writer
 pub mod Accepted
 pub mod OneText

@@ -2,7 +2,6 @@
 use Rattle.std.specs.Prelude.{◌≡◌, ◌+◌, ◌<◌, ◌≤◌, ⊤, ℕ, List, [], ◌∷◌, ◌++◌, length, Option, Some, None}
 use Rattle.log_lines.specs.declared.grammar.Limits.{Limits}
 use Rattle.log_lines.specs.declared.grammar.Place.TheVariants.{Done}
-use Rattle.log_lines.specs.declared.kinds.TheConstants.{MOST_BYTES}
 use Rattle.log_lines.specs.declared.line.Line.{Line}
 use Rattle.log_lines.specs.declared.reader.LineEnd.{LineEnd}
 use Rattle.log_lines.specs.declared.reader.LineEnd.TheVariants.{Whole, Cut, Long, Nothing}
@@ -21,8 +20,8 @@ use Rattle.proof_log.specs.Text.{rest_defect, EndsAs}
 
 -- the bytes of a line as a reader gives them
 abbrev pub IsPartOf : List ℕ → LineEnd → Type 0
-IsPartOf part Whole = (length part ≤ MOST_BYTES) × HasNoFeed part
-IsPartOf part Cut = (0 < length part) × (length part ≤ MOST_BYTES) × HasNoFeed part
+IsPartOf part Whole = (length part ≤ 200) × HasNoFeed part
+IsPartOf part Cut = (0 < length part) × (length part ≤ 200) × HasNoFeed part
 IsPartOf part Long = ⊤
 IsPartOf part Nothing = ⊤
 

@@ -2,7 +2,6 @@
 use Rattle.std.specs.Prelude.{◌≡◌, ◌<◌, ◌==◌, ℕ, List, [], ◌∷◌, ◌++◌, Option}
 use Rattle.std.specs.List.{slice_split}
 use Rattle.log_lines.specs.declared.grammar.Limits.{Limits}
-use Rattle.log_lines.specs.declared.kinds.TheConstants.{MOST_BYTES}
 use Rattle.log_lines.specs.declared.reader.LineEnd.{LineEnd}
 use Rattle.log_lines.specs.declared.reader.LineEnd.TheVariants.{Whole, Cut, Long, Nothing}
 use Rattle.log_lines.specs.Grammar.{Standing}
@@ -17,5 +16,5 @@ rest_defect limits standing number rest = text_defect limits standing number (sl
 abbrev pub EndsAs : List ℕ → List ℕ → LineEnd → List ℕ → Type 0
 EndsAs rest part Whole after = rest ≡ part ++ 10 ∷ after
 EndsAs rest part Cut after = rest ≡ part
-EndsAs rest part Long after = MOST_BYTES < line_length rest
+EndsAs rest part Long after = 200 < line_length rest
 EndsAs rest part Nothing after = rest ≡ []

@@ -36,7 +36,8 @@ impl LogWriter {
         ensures name { IfOk result (λ writer. string_bytes writer.name ≡ name.now) }
         ensures header { IfOk result (λ writer. writer.buffer.items ≡ lines_text (Line.Header 2 ∷ [])) }
         ensures whole { IfOk result (λ writer.
-            IsWhole (writing writer (F.files files.new) (F.read_faults files.new)) (lines_text (Line.Header 2 ∷ []))) }
+            IsWhole (writing F.files F.read_faults F.may_read F.may_write writer files.new)
+            (lines_text (Line.Header 2 ∷ []))) }
         ensures ok { OnOk result (F.files files.new ≡ option_map (cleared name.now) (F.files files.old)) }
         ensures err { OnErr result (MayClear name.now (F.files files.old) (F.files files.new)) }
         ensures readable { F.may_read files.new ≡ F.may_read files.old }
@@ -59,14 +60,19 @@ impl LogWriter {
     /// Writes what is held back, the lines of the claim and the end. After an error the file is a first part of that.
     pub fn finish<F: Shelf>(self, files: &mut F, claim: &Claim) -> Result<(), Stop>
         requires { IsTrue (F.may_write files.old (string_bytes self.name)) }
-        ensures took { OnOk result (Took (writing self (F.files files.old) (F.read_faults files.old))
-            (written self (F.files files.new) (F.read_faults files.new)) (lines_text (claim_lines claim.now ++ Line.End ∷ []))) }
-        ensures broke { OnErr result (Broke (writing self (F.files files.old) (F.read_faults files.old))
-            (written self (F.files files.new) (F.read_faults files.new)) (lines_text (claim_lines claim.now ++ Line.End ∷ []))) }
+        ensures took { OnOk result (Took
+            (writing F.files F.read_faults F.may_read F.may_write self files.old)
+            (written F.files F.read_faults F.may_read F.may_write self files.new)
+            (lines_text (claim_lines claim.now ++ Line.End ∷ []))) }
+        ensures broke { OnErr result (Broke
+            (writing F.files F.read_faults F.may_read F.may_write self files.old)
+            (written F.files F.read_faults F.may_read F.may_write self files.new)
+            (lines_text (claim_lines claim.now ++ Line.End ∷ []))) }
 
         // Where the lines of a proof came before, the file is now the text of the log of that proof and the claim.
         ensures log { OnOk result ((items : List RowItem)
-            → IsWhole (writing self (F.files files.old) (F.read_faults files.old)) (lines_text (Line.Header 2 ∷ flat_map item_lines items))
+            → IsWhole (writing F.files F.read_faults F.may_read F.may_write self files.old)
+            (lines_text (Line.Header 2 ∷ flat_map item_lines items))
             → IfSome (F.files files.new) (λ m. file_of m (string_bytes self.name) ≡ log_text 2 items claim.now)) }
         ensures readable { F.may_read files.new ≡ F.may_read files.old }
         ensures writable { F.may_write files.new ≡ F.may_write files.old }
@@ -81,10 +87,14 @@ impl LogWriter {
     // Takes the lines of an item, and writes what is held back once it is a piece.
     fn write_item<F: Shelf>(&mut self, files: &mut F, item: &Item<Rows>) -> Result<(), Stop>
         requires { IsTrue (F.may_write files.old (string_bytes self.old.name)) }
-        ensures took { OnOk result (Took (writing self.old (F.files files.old) (F.read_faults files.old))
-            (writing self.new (F.files files.new) (F.read_faults files.new)) (lines_text (item_lines item.now))) }
-        ensures broke { OnErr result (Broke (writing self.old (F.files files.old) (F.read_faults files.old))
-            (writing self.new (F.files files.new) (F.read_faults files.new)) (lines_text (item_lines item.now))) }
+        ensures took { OnOk result (Took
+            (writing F.files F.read_faults F.may_read F.may_write self.old files.old)
+            (writing F.files F.read_faults F.may_read F.may_write self.new files.new)
+            (lines_text (item_lines item.now))) }
+        ensures broke { OnErr result (Broke
+            (writing F.files F.read_faults F.may_read F.may_write self.old files.old)
+            (writing F.files F.read_faults F.may_read F.may_write self.new files.new)
+            (lines_text (item_lines item.now))) }
         ensures name { string_bytes self.new.name ≡ string_bytes self.old.name }
         ensures writable { F.may_write files.new ≡ F.may_write files.old }
         ensures later { F.write_faults files.old ≤ F.write_faults files.new }
@@ -100,10 +110,12 @@ impl LogWriter {
     // Writes what is held back.
     fn flush<F: Shelf>(&mut self, files: &mut F) -> Result<(), Stop>
         requires { IsTrue (F.may_write files.old (string_bytes self.old.name)) }
-        ensures took { OnOk result (Took (writing self.old (F.files files.old) (F.read_faults files.old))
-            (writing self.new (F.files files.new) (F.read_faults files.new)) []) }
-        ensures broke { OnErr result (Broke (writing self.old (F.files files.old) (F.read_faults files.old))
-            (writing self.new (F.files files.new) (F.read_faults files.new)) []) }
+        ensures took { OnOk result (Took
+            (writing F.files F.read_faults F.may_read F.may_write self.old files.old)
+            (writing F.files F.read_faults F.may_read F.may_write self.new files.new) []) }
+        ensures broke { OnErr result (Broke
+            (writing F.files F.read_faults F.may_read F.may_write self.old files.old)
+            (writing F.files F.read_faults F.may_read F.may_write self.new files.new) []) }
         ensures name { string_bytes self.new.name ≡ string_bytes self.old.name }
         ensures held { OnOk result (self.new.buffer.items ≡ []) }
         ensures readable { F.may_read files.new ≡ F.may_read files.old }
@@ -122,13 +134,17 @@ impl<F: Shelf> NodeTaker<Rows, F> for LogWriter {
 
     ghost ready = { λ writer files. IsTrue (F.may_write files (string_bytes writer.name)) };
 
-    ghost took = { λ before files items after files_after. Took (writing before (F.files files) (F.read_faults files))
-        (writing after (F.files files_after) (F.read_faults files_after)) (lines_text (flat_map item_lines items)) };
+    ghost took = { λ before files items after files_after. Took
+        (writing F.files F.read_faults F.may_read F.may_write before files)
+        (writing F.files F.read_faults F.may_read F.may_write after files_after)
+        (lines_text (flat_map item_lines items)) };
 
-    ghost broke = { λ before files items after files_after. Broke (writing before (F.files files) (F.read_faults files))
-        (writing after (F.files files_after) (F.read_faults files_after)) (lines_text (flat_map item_lines items)) };
+    ghost broke = { λ before files items after files_after. Broke
+        (writing F.files F.read_faults F.may_read F.may_write before files)
+        (writing F.files F.read_faults F.may_read F.may_write after files_after)
+        (lines_text (flat_map item_lines items)) };
 
-    ghost took_none = { λ writer files. took-none (writing writer (F.files files) (F.read_faults files)) };
+    ghost took_none = { λ writer files. took-none (writing F.files F.read_faults F.may_read F.may_write writer files) };
 
     fn put(&mut self, files: &mut F, item: &Item<Rows>) -> Result<(), TakeStop> {
         match self.write_item(files, item) {

@@ -13,6 +13,9 @@ use Rattle.row_kit.specs.Domain.{Holds, IsBare, IsNormal, count_of, domain_at, n
 use Rattle.row_kit.specs.Point.{LiesIn}
 use Rattle.row_kit.specs.Row.{IsKept, counted, entries_sum, entry_at}
 use Rattle.row_kit.proofs.Marks.{LiesIn-set}
+use Rattle.row_kit.specs.Points.{points_of}
+use Rattle.row_kit.proofs.Histories.{is_same_true}
+use Rattle.row_kit.proofs.PointCounts.{points-set_le}
 use Rattle.range_prop.specs.Cut.{cut_domain, shrinks, has_room, is_bare, kept_of, least_others}
 use Rattle.range_prop.proofs.Entries.{row_at_least}
 use Rattle.range_prop.proofs.Kept.{kept_fewer, kept_holds, kept_normal, kept_same, kept_within}
@@ -94,6 +97,20 @@ cut_fewer row slot ds normal' less =
     not_true : (b : Bool) → not b ≡ true → b ≡ false
     not_true true h = sym h
     not_true false h = refl
+
+-- a cut leaves no more values than there were
+pub cut_at_most : (row : Row) (slot : ℕ) (ds : List Domain) → IsNormal (domain_at ds slot) → count_of (cut_domain row slot ds) ≤ count_of (domain_at ds slot)
+cut_at_most row slot ds normal' =
+    let d = domain_at ds slot in
+    let cut = cut_domain row slot ds in
+    ⊎_elim
+    (λ (same : is_same d cut ≡ true). omega (arith, ap count_of (is_same_true d cut same)))
+    (λ (other : is_same d cut ≡ false). omega (arith, cut_fewer row slot ds normal' (ap not other)))
+    (cases_Bool (is_same d cut))
+
+-- so it leaves no more points
+pub cut_points : (row : Row) (slot : ℕ) (ds : List Domain) → IsNormal (domain_at ds slot) → points_of (set ds slot (cut_domain row slot ds)) ≤ points_of ds
+cut_points row slot ds normal' = points-set_le ds slot (cut_domain row slot ds) (cut_at_most row slot ds normal')
 
 -- a cut adds no value
 pub cut_within : (row : Row) (slot : ℕ) (ds : List Domain) (v : ℕ) → 1 ≤ (domain_at ds slot).lo → Holds (cut_domain row slot ds) v → Holds (domain_at ds slot) v

@@ -1,19 +1,21 @@
 -- When a row has room for each value: no cut of it shrinks a domain.
 use Rattle.std.proofs.Common.{◌≡◌, ◌⊎◌, ℕ, zero, suc, ◌<◌, true, false, not, eqb, List, [], ◌∷◌, length, map, get_or, set, sym, ap, ◌∙◌, subst, inl, inr, ⊎_elim, arith, ℤ, pos, ◌+ℤ◌, ◌-ℤ◌, ◌≤ℤ◌}
-use Rattle.std.specs.List.{All, list_any}
+use Rattle.std.specs.List.{All, Any, list_any}
 use Rattle.std.specs.List.Sorted.{IsStrictlyIncreasing}
 use Rattle.std.proofs.lemmas.Bool.{cases_Bool, cases_eq, cond-true, cond-false, eq-eqb, ne_eqb}
 use Rattle.std.proofs.lemmas.Int.{ints}
-use Rattle.std.proofs.lemmas.List.{get_or-set_same, get_or-set_other}
+use Rattle.std.proofs.lemmas.List.{get_or-set_same, get_or-set_other, length-set}
 use Rattle.row_kit.specs.declared.domain.Domain.{Domain}
 use Rattle.row_kit.specs.declared.row.Entry.{Entry}
 use Rattle.row_kit.specs.declared.row.Row.{Row}
 use Rattle.row_kit.specs.Area.{is_same}
-use Rattle.row_kit.specs.Domain.{Holds, IsNormal, domain_at, no_values}
-use Rattle.row_kit.specs.Row.{counted, entry_at}
+use Rattle.row_kit.specs.Domain.{Holds, IsBare, IsNormal, domain_at, no_values, shared}
+use Rattle.row_kit.proofs.Parts.{shared_within}
+use Rattle.row_kit.specs.Row.{counted, entry_at, no_row, row_at}
 use Rattle.row_kit.proofs.Ascending.{no_entry}
 use Rattle.range_prop.specs.Cut.{cut_domain, has_room, is_bare, least_counted, least_others, least_sum}
-use Rattle.range_prop.specs.Cuts.{HasRoom, IsStill}
+use Rattle.range_prop.specs.Cuts.{AreDone, HasRoom, HaveRoom, HaveRoomBut, IsStill}
+use Rattle.range_prop.proofs.Listed.{without_listed}
 use Rattle.range_prop.proofs.CutLaws.{cut_bare, cut_open}
 use Rattle.range_prop.proofs.Entries.{IsWithout, alone, least_others-own, least_others-without, others_alone, others_without, own_alone, own_without}
 use Rattle.range_prop.proofs.Kept.{kept_all}
@@ -106,3 +108,21 @@ sum_below (e ∷ es) slot v ds held =
     let t = ne_eqb e.slot slot apart in
     omega (arith, ints, rest, cond-false (eqb e.slot slot) (counted e v) (pos 0) t, cond-false (eqb e.slot slot) (pos 0) (least_counted ds e) t))
     (cases_eq e.slot slot)
+
+-- rows with room are done
+pub HaveRoom-done : (rows : List Row) (ds : List Domain) → All IsNormal ds → HaveRoom rows ds → AreDone rows ds
+HaveRoom-done rows ds normal' room =
+    ⊎_elim (λ (bare : Any IsBare ds). inl bare)
+    (λ (all : All (HasRoom ds) rows). inr (λ k d lt. HasRoom-still (get_or rows k d) ds normal' (all k d lt)))
+    room
+
+-- where a slot loses values, rows without an entry of it keep their room
+pub HaveRoomBut-narrowed : (rows : List Row) (ds : List Domain) (slot : ℕ) (d : Domain) → slot < length ds → ((v : ℕ) → Holds d v → Holds (domain_at ds slot) v) → All (HasRoom ds) rows → HaveRoomBut rows (slot ∷ []) (set ds slot d)
+HaveRoomBut-narrowed rows ds slot d lt within room number in_rows none =
+    let row = row_at rows number in
+    let without = without_listed row.entries slot (none 0 slot (omega arith)) in
+    HasRoom-without row ds slot d lt without within (length-set ds slot d) (room number no_row in_rows)
+
+-- so after a part of a split has been taken, the rows of its slot alone are left to look at
+pub HaveRoomBut-shared : (rows : List Row) (ds : List Domain) (slot : ℕ) (d : Domain) → slot < length ds → All (HasRoom ds) rows → HaveRoomBut rows (slot ∷ []) (set ds slot (shared (domain_at ds slot) d))
+HaveRoomBut-shared rows ds slot d lt room = HaveRoomBut-narrowed rows ds slot (shared (domain_at ds slot) d) lt (λ v held. shared_within (domain_at ds slot) d v held) room

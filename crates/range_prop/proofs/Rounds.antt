@@ -12,9 +12,9 @@ use Rattle.row_kit.specs.Area.{present}
 use Rattle.row_kit.specs.Domain.{IsNormal, count_of, no_values}
 use Rattle.range_prop.specs.declared.row_cut.RowCut.{RowCut}
 use Rattle.range_prop.specs.Cut.{cut_domain}
-use Rattle.range_prop.specs.Cuts.{AreMade, HasCut, HasRoom, after_cut, after_cuts}
+use Rattle.range_prop.specs.Cuts.{AreMade, HasCut, HasRoom, HaveRoomBut, after_cut, after_cuts}
 use Rattle.range_prop.specs.Index.{IsIndex, list_of}
-use Rattle.range_prop.specs.Queue.{AreAwake, AreQuiet, waits}
+use Rattle.range_prop.specs.laws.Queue.{AreAwake, AreQuiet, waits}
 use Rattle.range_prop.proofs.CutLaws.{cut_normal, cut_within}
 use Rattle.range_prop.proofs.Entries.{IsWithout}
 use Rattle.range_prop.proofs.Listed.{without_listed}
@@ -56,9 +56,25 @@ HasCut-nothing rows a b x y h same =
     let none = nil_from_length h.made (omega (arith, same, ap length h.listed, length-append x h.made)) in
     h.led ∙ ap (λ (cuts : List RowCut). after_cuts rows cuts a) none
 
+-- rows that wait still do where whatever waited does
+pub AreAwake-kept : (old new : List Bool) (cutter : ℕ) (rows : List ℕ) → ((row : ℕ) → waits old row ≡ true → waits new row ≡ true) → AreAwake old cutter rows → AreAwake new cutter rows
+AreAwake-kept old new cutter rows kept all = λ k d lt apart. kept (get_or rows k d) (all k d lt apart)
+
 not_waiting : (b : Bool) → (b ≡ true → ⊥) → b ≡ false
 not_waiting true h = absurd (h refl)
 not_waiting false h = refl
+
+all_awake : (waiting : List Bool) (cutter : ℕ) (rs : List ℕ) (r : ℕ) → AreAwake waiting cutter rs → Contains rs r → (r ≡ cutter → ⊥) → waits waiting r ≡ true
+all_awake waiting cutter rs r all c apart =
+    let there = subst (λ (n : ℕ). (n ≡ cutter → ⊥) → waits waiting n ≡ true) c.2 (all c.0 r c.1) in there apart
+
+-- where the rows of slots wait, those that don't have room
+pub woken_quiet : (rows : List Row) (index : List (List ℕ)) (slots : List ℕ) (waiting : List Bool) (but : ℕ) (ds : List Domain) → IsIndex rows index → length rows ≤ but → All (λ slot. AreAwake waiting but (list_of index slot)) slots → HaveRoomBut rows slots ds → AreQuiet rows ds waiting
+woken_quiet rows index slots waiting but ds is past woken room r in_rows asleep =
+    room r in_rows (λ k d lt has.
+    let slot = get_or slots k d in
+    let awake = all_awake waiting but (list_of index slot) r (woken k d lt) ((is slot r).1 (in_rows, has)) (λ (e : r ≡ but). absurd (omega (arith, e, in_rows, past))) in
+    false≢true (sym asleep ∙ awake))
 
 -- rows that still don't wait have room
 pub look_quiet : (rows : List Row) (index : List (List ℕ)) (number : ℕ) (a b : List (List Domain)) (x y : List RowCut) (h : HasCut rows a b x y) (old new : List Bool) → IsIndex rows index → All IsNormal (present a)
@@ -77,10 +93,6 @@ look_quiet rows index number a b x y h old new is normal' before kept woken own 
     false≢true (sym asleep ∙ awake)) in
     subst (λ (m : List (List Domain)). HasRoom (present m) (row_at rows r)) (sym h.led) (after_room rows (row_at rows r) h.made a h.each normal' without (before r in_rows apart slept)))
     (cases_eq r number)
-  where
-    all_awake : (waiting : List Bool) (cutter : ℕ) (rs : List ℕ) (r : ℕ) → AreAwake waiting cutter rs → Contains rs r → (r ≡ cutter → ⊥) → waits waiting r ≡ true
-    all_awake waiting cutter rs r all c apart =
-        let there = subst (λ (n : ℕ). (n ≡ cutter → ⊥) → waits waiting n ≡ true) c.2 (all c.0 r c.1) in there apart
 
 -- a look that cuts takes a value away, whatever rows it lets wait
 pub look_less : (rows : List Row) (a b : List (List Domain)) (x y : List RowCut) (queued before : ℕ) → HasCut rows a b x y → All IsNormal (present a) → (length y ≡ length x → ⊥) → length x ≤ length y → queued ≤ 65535 → 65536 * sum_by count_of (present b) + queued ≤ 65536 * sum_by count_of (present a) + before

@@ -9,12 +9,13 @@ use Rattle.row_kit.specs.declared.row.Row.{Row}
 use Rattle.row_kit.specs.Area.{present}
 use Rattle.row_kit.specs.Domain.{IsNormal, count_of, no_values}
 use Rattle.row_kit.specs.Point.{LiesIn}
+use Rattle.row_kit.specs.Points.{points_of}
 use Rattle.row_kit.specs.Row.{IsKept, no_row, row_at}
 use Rattle.row_kit.proofs.Marks.{present-with_domain, take-with_domain}
 use Rattle.range_prop.specs.declared.row_cut.RowCut.{RowCut}
 use Rattle.range_prop.specs.Cut.{cut_domain}
 use Rattle.range_prop.specs.Cuts.{AreMade, HasCut, IsMade, after_cut, after_cuts}
-use Rattle.range_prop.proofs.CutLaws.{cut_fewer, cut_keeps, cut_normal}
+use Rattle.range_prop.proofs.CutLaws.{cut_fewer, cut_keeps, cut_normal, cut_points}
 
 pub after_cuts-append : (rows : List Row) (xs ys : List RowCut) (marks : List (List Domain)) → after_cuts rows (xs ++ ys) marks ≡ after_cuts rows ys (after_cuts rows xs marks)
 after_cuts-append rows [] ys marks = refl
@@ -116,3 +117,20 @@ HasCut-fewer rows a b x y h normal' =
     let less = after-fewer rows h.made a h.each normal' in
     let same = ap (λ (m : List (List Domain)). sum_by count_of (present m)) h.led in
     omega (arith, less, same, ap length h.listed, length-append x h.made)
+
+-- and none adds a point
+after-points_le : (rows : List Row) (cuts : List RowCut) (marks : List (List Domain)) → AreMade rows cuts marks → All IsNormal (present marks) → points_of (present (after_cuts rows cuts marks)) ≤ points_of (present marks)
+after-points_le rows [] marks each normal' = omega arith
+after-points_le rows (cut ∷ cuts) marks each normal' =
+    let row = row_at rows cut.row in
+    let ds = present marks in
+    let one = cut_domain row cut.slot ds in
+    let was = normal' cut.slot no_values each.0.slot in
+    let after = present-after_cut rows cut marks each.0.slot in
+    let normal2 = All-set IsNormal ds cut.slot one (cut_normal row cut.slot ds was) normal' in
+    let rest = after-points_le rows cuts (after_cut rows cut marks) each.1 (subst (All IsNormal) (sym after) normal2) in
+    omega (arith, rest, cut_points row cut.slot ds was, ap points_of after)
+
+pub HasCut-points_le : (rows : List Row) (a b : List (List Domain)) (x y : List RowCut) → HasCut rows a b x y → All IsNormal (present a) → points_of (present b) ≤ points_of (present a)
+HasCut-points_le rows a b x y h normal' =
+    subst (λ (m : List (List Domain)). points_of (present m) ≤ points_of (present a)) (sym h.led) (after-points_le rows h.made a h.each normal')

@@ -5,7 +5,6 @@ use Rattle.std.specs.List.{filter, list_any, range_with_len}
 use Rattle.row_kit.specs.declared.domain.Domain.{Domain}
 use Rattle.row_kit.specs.declared.row.Entry.{Entry}
 use Rattle.row_kit.specs.declared.row.Row.{Row}
-use Rattle.row_kit.specs.declared.limits.TheConstants.{MOST_ROW_ENTRY}
 use Rattle.row_kit.specs.Area.{is_same}
 use Rattle.row_kit.specs.Domain.{count_of, domain_at, values_of}
 use Rattle.row_kit.specs.Row.{counted, entry_at}
@@ -58,5 +57,5 @@ shrinks row slot domains = not (is_same (domain_at domains slot) (cut_domain row
 
 -- an entry keeps the bounds of rows
 pub record IsLight (entry : Entry) : Type 0 where
-  pub fixed : unsigned_abs entry.fixed ≤ MOST_ROW_ENTRY
-  pub per : unsigned_abs entry.per ≤ MOST_ROW_ENTRY
+  pub fixed : unsigned_abs entry.fixed ≤ 10000000
+  pub per : unsigned_abs entry.per ≤ 10000000

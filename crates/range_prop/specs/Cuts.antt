@@ -1,13 +1,15 @@
 -- Cuts made one after another, and when no more are to be made.
 use Rattle.std.specs.Prelude.{◌≡◌, ℕ, ◌<◌, ◌⊎◌, true, false, List, [], ◌∷◌, ◌++◌, length, ◌+ℤ◌, ◌≤ℤ◌, ⊤}
 use Rattle.std.specs.List.{All, Any}
-use Rattle.row_kit.specs.Row.{entry_at, row_at}
+use Rattle.row_kit.specs.Point.{LiesIn}
+use Rattle.row_kit.specs.Row.{IsKept, entry_at, row_at}
 use Rattle.row_kit.specs.declared.domain.Domain.{Domain}
 use Rattle.row_kit.specs.declared.row.Row.{Row}
 use Rattle.row_kit.specs.Area.{present, with_domain}
 use Rattle.row_kit.specs.Domain.{domain_at, Holds, IsBare}
 use Rattle.range_prop.specs.declared.row_cut.RowCut.{RowCut}
 use Rattle.range_prop.specs.Cut.{cut_domain, least_others, shrinks}
+use Rattle.range_prop.specs.Index.{HasEntry}
 
 -- the marks after a cut
 abbrev pub after_cut : List Row → RowCut → List (List Domain) → List (List Domain)
@@ -48,3 +50,17 @@ AreDone rows domains = Any IsBare domains ⊎ All (IsStill domains) rows
 abbrev pub HasRoom : List Domain → Row → Type 0
 HasRoom domains row = (slot value : ℕ) → slot < length domains → Holds (domain_at domains slot) value
     → (entry_at row.entries slot value +ℤ least_others row.entries slot domains) ≤ℤ row.limit
+
+-- each point of the old domains that keeps every row lies in the new ones
+abbrev pub KeepPoints : List Row → List Domain → List Domain → Type 0
+KeepPoints rows old new = (point : List ℕ) → LiesIn old point → All (IsKept point) rows → LiesIn new point
+
+-- some domain is empty, or each row has room for each value of each slot
+abbrev pub HaveRoom : List Row → List Domain → Type 0
+HaveRoom rows domains = Any IsBare domains ⊎ All (HasRoom domains) rows
+
+-- each row without an entry of these slots has room for each value of each slot
+abbrev pub HaveRoomBut : List Row → List ℕ → List Domain → Type 0
+HaveRoomBut rows slots domains =
+    (number : ℕ) → number < length rows → All (λ slot. ¬ HasEntry (row_at rows number).entries slot) slots
+    → HasRoom domains (row_at rows number)

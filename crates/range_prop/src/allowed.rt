@@ -10,7 +10,8 @@ pub fn allowed(entry: &Entry, room: &i128) -> Domain
     requires small { unsigned_abs room.now ≤ 2 ^ 60 }
     ensures positive { 1 ≤ result.lo }
     ensures zero { result.zero ≡ int_le (pos 0) room.now }
-    ensures range { (v : ℕ) → 1 ≤ v → v ≤ 255 → int_le (counted entry.now v) room.now ≡ (nat_le result.lo v && nat_le v result.hi) }
+    ensures range { (v : ℕ) → 1 ≤ v → v ≤ 255
+        → int_le (counted entry.now v) room.now ≡ (nat_le result.lo v && nat_le v result.hi) }
 {
     let zero = *room >= 0;
     let left = *room - i128::from(entry.fixed);
@@ -31,7 +32,8 @@ fn at_least(zero: bool, least: u16) -> Domain
     requires { 1 ≤ least }
     ensures zero { result.zero ≡ zero }
     ensures positive { 1 ≤ result.lo }
-    ensures range { (v : ℕ) → 1 ≤ v → v ≤ 255 → (nat_le result.lo v && nat_le v result.hi) ≡ nat_le least v }
+    ensures range { (v : ℕ) → 1 ≤ v → v ≤ 255
+        → (nat_le result.lo v && nat_le v result.hi) ≡ nat_le least v }
 {
     if least > 255 {
         Domain { zero, lo: 1, hi: 0 }

@@ -59,7 +59,9 @@ fn empty_lists(alloc: Global, count: usize) -> Result<Vec<List<u32>>, AllocError
 fn list_row(lists: &mut Vec<List<u32>>, number: u32, entries: &[Entry]) -> Result<(), AllocError>
     requires { All (λ e. e.slot < length lists.old.items) entries.now }
     ensures length { length lists.new.items ≡ length lists.old.items }
-    ensures listed { OnOk result ((slot x : ℕ) → Contains (list_of lists.new.items slot) x ↔ (Contains (list_of lists.old.items slot) x ⊎ ((x ≡ number) × HasEntry entries.now slot))) }
+    ensures listed { OnOk result ((slot x : ℕ) → Contains (list_of lists.new.items slot) x
+        ↔ (Contains (list_of lists.old.items slot) x
+        ⊎ ((x ≡ number) × HasEntry entries.now slot))) }
 {
     for entry in entries {
         lists[entry.slot as usize].push(number)?;

@@ -24,8 +24,10 @@ pub fn cut_row(
     requires row { row < length program.now.rows }
     requires slots { length (present area.old) ≡ length program.now.root }
     requires open_ { All IsOpen (present area.old) }
-    ensures cut { OnOk result (HasCut program.now.rows area.old area.new cuts.old.items cuts.new.items) }
-    ensures done { OnOk result (Any IsBare (present area.new) ⊎ (All IsOpen (present area.new) × HasRoom (present area.new) (row_at program.now.rows row))) }
+    ensures cut { OnOk result (HasCut program.now.rows
+        area.old area.new cuts.old.items cuts.new.items) }
+    ensures done { OnOk result (Any IsBare (present area.new)
+        ⊎ (All IsOpen (present area.new) × HasRoom (present area.new) (row_at program.now.rows row))) }
     ensures keeps { take (length area.old) area.new ≡ area.old }
     ensures lists { take (length cuts.old.items) cuts.new.items ≡ cuts.old.items }
     ensures slots { length (present area.new) ≡ length (present area.old) }
@@ -57,10 +59,12 @@ fn cut_entries(
     requires slots { length (present area.old) ≡ length program.now.root }
     requires open_ { All IsOpen (present area.old) }
     requires entries { entries.now ≡ (row_at program.now.rows row).entries }
-    requires slack { slack.now ≡ (row_at program.now.rows row).limit -ℤ least_sum entries.now (present area.old) }
+    requires slack { slack.now ≡ (row_at program.now.rows row).limit
+        -ℤ least_sum entries.now (present area.old) }
     requires least { pos 0 ≤ℤ slack.now }
     requires small { unsigned_abs slack.now ≤ 2 ^ 50 }
-    ensures cut { OnOk result (HasCut program.now.rows area.old area.new cuts.old.items cuts.new.items) }
+    ensures cut { OnOk result (HasCut program.now.rows
+        area.old area.new cuts.old.items cuts.new.items) }
     ensures open_ { OnOk result (All IsOpen (present area.new)) }
     ensures room { OnOk result (HasRoom (present area.new) (row_at program.now.rows row)) }
     ensures keeps { take (length area.old) area.new ≡ area.old }

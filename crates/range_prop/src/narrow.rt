@@ -15,10 +15,17 @@ pub fn keep_allowed(area: &mut Area, entry: &Entry, room: &i128) -> bool
     requires normal { IsNormal (domain_at (present area.old) entry.now.slot) }
     requires light { IsLight entry.now }
     requires small { unsigned_abs room.now ≤ 2 ^ 60 }
-    ensures marks { area.new ≡ with_domain area.old entry.now.slot (kept_of (λ v. int_le (counted entry.now v) room.now) (domain_at (present area.old) entry.now.slot)) }
-    ensures values { (v : ℕ) → Holds (domain_at (present area.new) entry.now.slot) v ↔ (Holds (domain_at (present area.old) entry.now.slot) v × (counted entry.now v ≤ℤ room.now)) }
-    ensures shrank { result ≡ not (is_same (domain_at (present area.old) entry.now.slot) (kept_of (λ v. int_le (counted entry.now v) room.now) (domain_at (present area.old) entry.now.slot))) }
-    ensures fewer { IsTrue result → sum_by count_of (present area.new) < sum_by count_of (present area.old) }
+    ensures marks { area.new ≡ with_domain area.old entry.now.slot
+        (kept_of (λ v. int_le (counted entry.now v) room.now)
+        (domain_at (present area.old) entry.now.slot)) }
+    ensures values { (v : ℕ) → Holds (domain_at (present area.new) entry.now.slot) v
+        ↔ (Holds (domain_at (present area.old) entry.now.slot) v
+        × (counted entry.now v ≤ℤ room.now)) }
+    ensures shrank { result ≡ not (is_same (domain_at (present area.old) entry.now.slot)
+        (kept_of (λ v. int_le (counted entry.now v) room.now)
+        (domain_at (present area.old) entry.now.slot))) }
+    ensures fewer { IsTrue result → sum_by count_of (present area.new)
+        < sum_by count_of (present area.old) }
     ensures slots { length (present area.new) ≡ length (present area.old) }
 {
     let kept = allowed(entry, room);
@@ -35,10 +42,16 @@ pub fn keep_near(area: &mut Area, entry: &Entry, slack: &i128) -> bool
     requires open_ { IsOpen (domain_at (present area.old) entry.now.slot) }
     requires least { pos 0 ≤ℤ slack.now }
     requires small { unsigned_abs slack.now ≤ 2 ^ 50 }
-    ensures marks { area.new ≡ with_domain area.old entry.now.slot (kept_of (λ v. int_le (counted entry.now v) (slack.now +ℤ least_counted (present area.old) entry.now)) (domain_at (present area.old) entry.now.slot)) }
-    ensures shrank { result ≡ not (is_same (domain_at (present area.old) entry.now.slot) (domain_at (present area.new) entry.now.slot)) }
-    ensures near { (v : ℕ) → Holds (domain_at (present area.new) entry.now.slot) v → counted entry.now v ≤ℤ (slack.now +ℤ least_counted (present area.old) entry.now) }
-    ensures least { least_counted (present area.new) entry.now ≡ least_counted (present area.old) entry.now }
+    ensures marks { area.new ≡ with_domain area.old entry.now.slot
+        (kept_of (λ v. int_le (counted entry.now v)
+        (slack.now +ℤ least_counted (present area.old) entry.now))
+        (domain_at (present area.old) entry.now.slot)) }
+    ensures shrank { result ≡ not (is_same (domain_at (present area.old) entry.now.slot)
+        (domain_at (present area.new) entry.now.slot)) }
+    ensures near { (v : ℕ) → Holds (domain_at (present area.new) entry.now.slot) v
+        → counted entry.now v ≤ℤ (slack.now +ℤ least_counted (present area.old) entry.now) }
+    ensures least { least_counted (present area.new) entry.now
+        ≡ least_counted (present area.old) entry.now }
     ensures open_ { IsOpen (domain_at (present area.new) entry.now.slot) }
     ensures slots { length (present area.new) ≡ length (present area.old) }
 {

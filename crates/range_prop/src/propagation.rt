@@ -2,11 +2,10 @@ ghost use Rattle.std.specs.Prelude.{◌≡◌, ℕ, ◌+◌, ◌*◌, ◌<◌, �
 ghost use Rattle.std.specs.List.{All, Any, sum_by};
 ghost use Rattle.row_kit.specs.Area.{present};
 ghost use Rattle.row_kit.specs.Domain.{count_of, IsBare, IsOpen};
-ghost use Rattle.row_kit.specs.Point.{LiesIn};
-ghost use Rattle.row_kit.specs.Row.{IsKept, row_at};
-ghost use Rattle.range_prop.specs.Cuts.{AreDone, HasCut, HasRoom};
+ghost use Rattle.row_kit.specs.Row.{row_at};
+ghost use Rattle.range_prop.specs.Cuts.{HasCut, HasRoom, HaveRoom};
 ghost use Rattle.range_prop.specs.Index.{IsIndex};
-ghost use Rattle.range_prop.specs.Queue.{waits, AreQuiet};
+ghost use Rattle.range_prop.specs.laws.Queue.{waits, AreQuiet};
 
 use crate::index::RowIndex;
 use crate::look::cut_row;
@@ -14,7 +13,7 @@ use crate::queue::Queue;
 use crate::row_cut::RowCut;
 use crate::waking::wake_touched;
 use row_kit::{Area, Program};
-use std::alloc::{AllocError, Global};
+use std::alloc::AllocError;
 
 // Looks at a row, and lets the rows wait that its cuts touch. False says that some domain is empty.
 fn look_at(
@@ -31,12 +30,18 @@ fn look_at(
     requires lists { length index.now ≡ length program.now.root }
     requires count { length queue.old.waiting.items ≡ length program.now.rows }
     requires open_ { All IsOpen (present area.old) }
-    requires quiet { (other : ℕ) → other < length program.now.rows → other ≢ row → waits queue.old.waiting.items other ≡ false → HasRoom (present area.old) (row_at program.now.rows other) }
-    ensures cut { OnOk result (HasCut program.now.rows area.old area.new cuts.old.items cuts.new.items) }
+    requires quiet { (other : ℕ) → other < length program.now.rows → other ≢ row
+        → waits queue.old.waiting.items other ≡ false
+        → HasRoom (present area.old) (row_at program.now.rows other) }
+    ensures cut { OnOk result (HasCut program.now.rows
+        area.old area.new cuts.old.items cuts.new.items) }
     ensures bare { IfOk result (λ more. more ≡ false → Any IsBare (present area.new)) }
     ensures open_ { IfOk result (λ more. more ≡ true → All IsOpen (present area.new)) }
-    ensures quiet { IfOk result (λ more. more ≡ true → AreQuiet program.now.rows (present area.new) queue.new.waiting.items) }
-    ensures less { OnOk result (65536 * sum_by count_of (present area.new) + length queue.new.rows.items ≤ 65536 * sum_by count_of (present area.old) + length queue.old.rows.items) }
+    ensures quiet { IfOk result (λ more. more ≡ true
+        → AreQuiet program.now.rows (present area.new) queue.new.waiting.items) }
+    ensures less { OnOk result (65536 * sum_by count_of (present area.new)
+        + length queue.new.rows.items ≤ 65536 * sum_by count_of (present area.old)
+        + length queue.old.rows.items) }
     ensures count { length queue.new.waiting.items ≡ length queue.old.waiting.items }
     ensures keeps { take (length area.old) area.new ≡ area.old }
     ensures lists { take (length cuts.old.items) cuts.new.items ≡ cuts.old.items }
@@ -69,11 +74,16 @@ fn step(
     requires count { length queue.old.waiting.items ≡ length program.now.rows }
     requires open_ { All IsOpen (present area.old) }
     requires quiet { AreQuiet program.now.rows (present area.old) queue.old.waiting.items }
-    ensures cut { OnOk result (HasCut program.now.rows area.old area.new cuts.old.items cuts.new.items) }
-    ensures done { IfOk result (λ more. more ≡ false → AreDone program.now.rows (present area.new)) }
+    ensures cut { OnOk result (HasCut program.now.rows
+        area.old area.new cuts.old.items cuts.new.items) }
+    ensures room { IfOk result (λ more. more ≡ false
+        → HaveRoom program.now.rows (present area.new)) }
     ensures open_ { IfOk result (λ more. more ≡ true → All IsOpen (present area.new)) }
-    ensures quiet { IfOk result (λ more. more ≡ true → AreQuiet program.now.rows (present area.new) queue.new.waiting.items) }
-    ensures less { IfOk result (λ more. 65536 * sum_by count_of (present area.new) + length queue.new.rows.items + (if more then 1 else 0) ≤ 65536 * sum_by count_of (present area.old) + length queue.old.rows.items) }
+    ensures quiet { IfOk result (λ more. more ≡ true
+        → AreQuiet program.now.rows (present area.new) queue.new.waiting.items) }
+    ensures less { IfOk result (λ more. 65536 * sum_by count_of (present area.new)
+        + length queue.new.rows.items + (if more then 1 else 0)
+        ≤ 65536 * sum_by count_of (present area.old) + length queue.old.rows.items) }
     ensures count { length queue.new.waiting.items ≡ length queue.old.waiting.items }
     ensures keeps { take (length area.old) area.new ≡ area.old }
     ensures lists { take (length cuts.old.items) cuts.new.items ≡ cuts.old.items }
@@ -86,65 +96,31 @@ fn step(
     }
 }
 
-// Looks at rows until no more cuts are to be made. After want of memory the area may stay narrowed, and the list longer.
-fn cut_until_done(
-    alloc: Global,
+// Looks at the rows that wait until no more cuts are to be made. After want of memory the area may stay narrowed, and the list
+// longer.
+pub fn cut_until_done(
     program: &Program,
     index: &RowIndex,
     area: &mut Area,
     cuts: &mut Vec<RowCut>,
+    queue: &mut Queue,
 ) -> Result<(), AllocError>
     requires slots { length (present area.old) ≡ length program.now.root }
     requires index { IsIndex program.now.rows index.now }
     requires lists { length index.now ≡ length program.now.root }
+    requires count { length queue.old.waiting.items ≡ length program.now.rows }
     requires open_ { All IsOpen (present area.old) }
-    ensures cut { OnOk result (HasCut program.now.rows area.old area.new cuts.old.items cuts.new.items) }
-    ensures done { OnOk result (AreDone program.now.rows (present area.new)) }
+    requires quiet { AreQuiet program.now.rows (present area.old) queue.old.waiting.items }
+    ensures cut { OnOk result (HasCut program.now.rows
+        area.old area.new cuts.old.items cuts.new.items) }
+    ensures room { OnOk result (HaveRoom program.now.rows (present area.new)) }
     ensures keeps { take (length area.old) area.new ≡ area.old }
     ensures lists { take (length cuts.old.items) cuts.new.items ≡ cuts.old.items }
     ensures slots { length (present area.new) ≡ length (present area.old) }
 {
-    let mut queue = Queue::new(alloc, program.rows.len())?;
     let mut more = true;
     while more {
-        more = step(program, index, area, cuts, &mut queue)?;
+        more = step(program, index, area, cuts, queue)?;
     }
     Ok(())
-}
-
-/// Cuts until no cut of any row at any slot shrinks a domain, or some domain is empty, and appends each cut that shrank one, in
-/// order. The index is that of the program's rows. After want of memory area and list are as before.
-///
-/// It looks at each row, and again at the rows with an entry of a slot whose domain shrank. One look costs the entries of the
-/// row, and the slots besides where it cuts.
-pub fn cut_all(
-    alloc: Global,
-    program: &Program,
-    index: &RowIndex,
-    area: &mut Area,
-    cuts: &mut Vec<RowCut>,
-) -> Result<(), AllocError>
-    requires slots { length (present area.old) ≡ length program.now.root }
-    requires index { IsIndex program.now.rows index.now }
-    requires lists { length index.now ≡ length program.now.root }
-    ensures cut { OnOk result (HasCut program.now.rows area.old area.new cuts.old.items cuts.new.items) }
-    ensures done { OnOk result (AreDone program.now.rows (present area.new)) }
-    ensures points { (point : List ℕ) → LiesIn (present area.old) point → All (IsKept point) program.now.rows → LiesIn (present area.new) point }
-    ensures err { OnErr result ((area.new ≡ area.old) × (cuts.new.items ≡ cuts.old.items)) }
-    ensures slots { length (present area.new) ≡ length (present area.old) }
-{
-    let _slots = area.slot_count();
-    if area.has_empty() {
-        return Ok(());
-    }
-    let mark = area.mark();
-    let listed = cuts.len();
-    match cut_until_done(alloc, program, index, area, cuts) {
-        Ok(()) => Ok(()),
-        Err(stop) => {
-            area.back(mark);
-            cuts.truncate(listed);
-            Err(stop)
-        }
-    }
 }

@@ -47,7 +47,8 @@ fn ends(entry: &Entry, lo: u8, hi: u8) -> Spread
     requires positive { 1 ≤ lo }
     requires range { lo ≤ hi }
     ensures least { (v : ℕ) → lo ≤ v → v ≤ hi → result.least ≤ℤ counted entry.now v }
-    ensures reached { (result.least ≡ counted entry.now lo) ⊎ (result.least ≡ counted entry.now hi) }
+    ensures reached { (result.least ≡ counted entry.now lo)
+        ⊎ (result.least ≡ counted entry.now hi) }
     ensures most { (v : ℕ) → lo ≤ v → v ≤ hi → counted entry.now v ≤ℤ result.most }
     ensures small { (unsigned_abs result.least ≤ 2 ^ 32) × (unsigned_abs result.most ≤ 2 ^ 32) }
 {

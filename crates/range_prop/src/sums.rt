@@ -52,7 +52,8 @@ pub fn least_others(entries: &[Entry], slot: u32, area: &Area) -> i128
 fn least_other(entry: &Entry, slot: u32, area: &Area) -> i128
     requires named { entry.now.slot < length (present area.now) }
     requires light { IsLight entry.now }
-    ensures value { result ≡ (if entry.now.slot == slot then pos 0 else least_counted (present area.now) entry.now) }
+    ensures value { result ≡ (if entry.now.slot == slot then pos 0
+        else least_counted (present area.now) entry.now) }
     ensures small { unsigned_abs result ≤ 2 ^ 32 }
 {
     if entry.slot == slot {

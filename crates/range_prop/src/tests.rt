@@ -1,4 +1,4 @@
-use crate::{RowCut, RowIndex, cut, cut_all};
+use crate::{RowCut, RowIndex, cut, cut_by_index};
 use row_kit::{Area, Domain, Entry, List, Program, Row, Tag};
 use std::alloc::{AllocError, Global};
 use std::test::Fail;
@@ -92,7 +92,7 @@ fn cuts_of(
     if area.slot_count() as usize != program.root.len() {
         return Ok(None);
     }
-    cut_all(alloc, program, &index, area, &mut cuts)?;
+    cut_by_index(alloc, program, &index, area, &mut cuts)?;
     Ok(Some(cuts))
 }
 

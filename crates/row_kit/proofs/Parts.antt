@@ -31,6 +31,18 @@ shared_holds a b v h k =
     normal_holds (a.zero && b.zero) (max a.lo b.lo) (min a.hi b.hi) v (λ e. both_true a.zero b.zero (h.at_zero e) (k.at_zero e))
     (λ some. let r = h.above_zero some in let s = k.above_zero some in (omega (arith, r.0, s.0), omega (arith, r.1, s.1)))
 
+-- and a value that is shared both domains hold; here the first
+pub shared_within : (a b : Domain) (v : ℕ) → Holds (shared a b) v → Holds a v
+shared_within a b v = by_test (leb (max a.lo b.lo) (min a.hi b.hi)) refl
+  where
+    first : (y z : Bool) → (y && z) ≡ true → y ≡ true
+    first true z h = refl
+    first false z h = absurd (cc)
+
+    by_test : (t : Bool) → leb (max a.lo b.lo) (min a.hi b.hi) ≡ t → Holds (cond t (record { zero = a.zero && b.zero; lo = max a.lo b.lo; hi = min a.hi b.hi }) (record { zero = a.zero && b.zero; lo = 1; hi = 0 })) v → Holds a v
+    by_test true e h = record { at_zero = λ is. first a.zero b.zero (h.at_zero is); above_zero = λ some. let r = h.above_zero some in (omega (arith, r.0), omega (arith, r.1)) }
+    by_test false e h = record { at_zero = λ is. first a.zero b.zero (h.at_zero is); above_zero = λ some. let r = h.above_zero some in absurd (omega (arith, r.0, r.1)) }
+
 pub up_to_holds : (m v : ℕ) → v ≤ m → Holds (up_to m) v
 up_to_holds m v h = normal_holds true 1 m v (λ e. refl) (λ some. (omega (arith, some), h))
 

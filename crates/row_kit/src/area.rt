@@ -65,8 +65,10 @@ impl Area {
     /// Keeps the values of a slot up to m.
     pub fn at_most(&mut self, slot: u32, m: u8)
         requires { slot < length (present self.old) }
-        ensures values { (v : ℕ) → Holds (domain_at (present self.new) slot) v ↔ (Holds (domain_at (present self.old) slot) v × (v ≤ m)) }
-        ensures marks { self.new ≡ with_domain self.old slot (shared (domain_at (present self.old) slot) (up_to m)) }
+        ensures values { (v : ℕ) → Holds (domain_at (present self.new) slot) v
+            ↔ (Holds (domain_at (present self.old) slot) v × (v ≤ m)) }
+        ensures marks { self.new ≡ with_domain self.old slot
+            (shared (domain_at (present self.old) slot) (up_to m)) }
         ensures slots { length (present self.new) ≡ length (present self.old) }
     {
         self.narrow(slot, Domain::up_to(m));
@@ -75,8 +77,10 @@ impl Area {
     /// Keeps the values of a slot above m.
     pub fn above(&mut self, slot: u32, m: u8)
         requires { slot < length (present self.old) }
-        ensures values { (v : ℕ) → Holds (domain_at (present self.new) slot) v ↔ (Holds (domain_at (present self.old) slot) v × (m < v)) }
-        ensures marks { self.new ≡ with_domain self.old slot (shared (domain_at (present self.old) slot) (over m)) }
+        ensures values { (v : ℕ) → Holds (domain_at (present self.new) slot) v
+            ↔ (Holds (domain_at (present self.old) slot) v × (m < v)) }
+        ensures marks { self.new ≡ with_domain self.old slot
+            (shared (domain_at (present self.old) slot) (over m)) }
         ensures slots { length (present self.new) ≡ length (present self.old) }
     {
         self.narrow(slot, Domain::over(m));
@@ -86,8 +90,10 @@ impl Area {
     pub fn keep(&mut self, slot: u32, zero: bool, lo: u8, hi: u8)
         requires slot { slot < length (present self.old) }
         requires lo { 1 ≤ lo }
-        ensures values { (v : ℕ) → Holds (domain_at (present self.new) slot) v ↔ (Holds (domain_at (present self.old) slot) v × Holds (normal zero lo hi) v) }
-        ensures marks { self.new ≡ with_domain self.old slot (shared (domain_at (present self.old) slot) (normal zero lo hi)) }
+        ensures values { (v : ℕ) → Holds (domain_at (present self.new) slot) v
+            ↔ (Holds (domain_at (present self.old) slot) v × Holds (normal zero lo hi) v) }
+        ensures marks { self.new ≡ with_domain self.old slot
+            (shared (domain_at (present self.old) slot) (normal zero lo hi)) }
         ensures slots { length (present self.new) ≡ length (present self.old) }
     {
         self.narrow(slot, Domain::new(zero, lo, hi));
@@ -128,8 +134,10 @@ impl Area {
         requires slot { slot < length (present self.old) }
         requires positive { 1 ≤ other.lo }
         ensures normal { IsNormal (domain_at (present self.old) slot) }
-        ensures values { (v : ℕ) → Holds (domain_at (present self.new) slot) v ↔ (Holds (domain_at (present self.old) slot) v × Holds other v) }
-        ensures marks { self.new ≡ with_domain self.old slot (shared (domain_at (present self.old) slot) other) }
+        ensures values { (v : ℕ) → Holds (domain_at (present self.new) slot) v
+            ↔ (Holds (domain_at (present self.old) slot) v × Holds other v) }
+        ensures marks { self.new ≡ with_domain self.old slot
+            (shared (domain_at (present self.old) slot) other) }
         ensures slots { length (present self.new) ≡ length (present self.old) }
     {
         let next = self.domains[slot as usize].shared(other);

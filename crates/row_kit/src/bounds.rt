@@ -89,7 +89,8 @@ fn are_ascending(entries: &[Entry]) -> bool
 
 // Whether an entry names a slot and keeps a bound.
 fn is_bounded(entry: &Entry, slots: usize, most: u64) -> bool
-    ensures { IsTrue result ↔ ((entry.now.slot < slots) × (unsigned_abs entry.now.fixed ≤ most) × (unsigned_abs entry.now.per ≤ most)) }
+    ensures { IsTrue result ↔ ((entry.now.slot < slots) × (unsigned_abs entry.now.fixed ≤ most)
+        × (unsigned_abs entry.now.per ≤ most)) }
 {
     (entry.slot as usize) < slots
         && entry.fixed.unsigned_abs() <= most

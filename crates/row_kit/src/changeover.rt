@@ -63,7 +63,8 @@ fn costs_after(changes: &[Change], tags: &[Tag], point: &[u8], start: &Tag) -> u
 // What a changeover costs to a start whose place is at most the next one of the lane.
 fn cost_within(changes: &[Change], start: &Tag, tag: &Tag, next: u64) -> u64
     requires { All IsBoundedChange changes.now }
-    ensures cost { result ≡ (if is_after start.now tag.now && nat_le tag.now.place next then listed_cost changes.now start.now.lane start.now.kind tag.now.kind else 0) }
+    ensures cost { result ≡ (if is_after start.now tag.now && nat_le tag.now.place next
+        then listed_cost changes.now start.now.lane start.now.kind tag.now.kind else 0) }
     ensures small { result ≤ 1000000 }
     ensures place { tag.now.place < 4294967296 }
 {

@@ -19,7 +19,8 @@ impl Domain {
         requires { 1 ≤ lo }
         ensures written { result ≡ normal zero lo hi }
         ensures normal { IsNormal result }
-        ensures values { (v : ℕ) → Holds result v ↔ Holds (record { zero = zero; lo = lo; hi = hi }) v }
+        ensures values { (v : ℕ) → Holds result v
+            ↔ Holds (record { zero = zero; lo = lo; hi = hi }) v }
     {
         if lo <= hi {
             Domain { zero, lo, hi }
@@ -34,7 +35,8 @@ impl Domain {
         ensures count { result ≡ count_of self.now }
         ensures values { result ≡ length (values_of self.now) }
         ensures few { result ≤ 257 }
-        ensures held { 1 ≤ self.now.lo → (v : ℕ) → Contains (values_of self.now) v ↔ Holds self.now v }
+        ensures held { 1 ≤ self.now.lo → (v : ℕ) → Contains (values_of self.now) v
+            ↔ Holds self.now v }
     {
         let above = if self.lo <= self.hi {
             u32::from(self.hi - self.lo) + 1

@@ -26,9 +26,11 @@ pub fn put_domain(domains: &mut Vec<Domain>, trail: &mut Vec<Former>, slot: u32,
     requires sound { IsSound domains.old.items trail.old.items (vec_capacity trail.old) }
     requires slot { slot < length domains.old.items }
     requires normal { IsNormal next }
-    requires fewer { is_same (domain_at domains.old.items slot) next ≡ false → count_of next < count_of (domain_at domains.old.items slot) }
+    requires fewer { is_same (domain_at domains.old.items slot) next ≡ false
+        → count_of next < count_of (domain_at domains.old.items slot) }
     ensures sound { IsSound domains.new.items trail.new.items (vec_capacity trail.new) }
-    ensures marks { history domains.new.items trail.new.items ≡ with_domain (history domains.old.items trail.old.items) slot next }
+    ensures marks { history domains.new.items trail.new.items
+        ≡ with_domain (history domains.old.items trail.old.items) slot next }
     ensures domains { domains.new.items ≡ slice_set domains.old.items slot next }
 {
     let former = domains[slot as usize];
@@ -46,7 +48,8 @@ pub fn undo_to(domains: &mut Vec<Domain>, trail: &mut Vec<Former>, mark: u32)
     requires sound { IsSound domains.old.items trail.old.items (vec_capacity trail.old) }
     requires mark { mark ≤ vec_len trail.old }
     ensures sound { IsSound domains.new.items trail.new.items (vec_capacity trail.new) }
-    ensures marks { history domains.new.items trail.new.items ≡ take (mark + 1) (history domains.old.items trail.old.items) }
+    ensures marks { history domains.new.items trail.new.items
+        ≡ take (mark + 1) (history domains.old.items trail.old.items) }
     ensures slots { length domains.new.items ≡ length domains.old.items }
 {
     while trail.len() > mark as usize {

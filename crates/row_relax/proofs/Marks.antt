@@ -9,7 +9,7 @@ use Rattle.row_kit.specs.Area.{present, with_domain}
 use Rattle.row_kit.specs.Domain.{IsNormal}
 use Rattle.row_kit.proofs.Marks.{present-with_domain, take-with_domain}
 use Rattle.proof_tree.specs.Views.{KeepsViews, MovesTo, present as shown}
-use Rattle.row_relax.specs.Shown.{domains_of-view_of, fits_of}
+use Rattle.row_relax.specs.laws.Shown.{domains_of-view_of, fits_of}
 use Rattle.row_relax.specs.Steps.{shown_if}
 use Rattle.row_relax.specs.View.{Fits, domains_of, view_of}
 

@@ -1,10 +1,11 @@
 -- What an area shows: the numbers of its domains.
-use Rattle.std.specs.Prelude.{◌≡◌, ◌==◌, if◌then◌else◌, List, [], ◌∷◌, length}
+use Rattle.std.specs.Prelude.{◌≡◌, ℕ, ◌==◌, if◌then◌else◌, List, [], ◌∷◌, length}
 use Rattle.std.specs.List.{All}
 use Rattle.row_kit.specs.declared.domain.Domain.{Domain}
 use Rattle.row_kit.specs.declared.program.Program.{Program}
 use Rattle.row_kit.specs.Domain.{IsNormal}
 use Rattle.row_kit.specs.Point.{LiesIn}
+use Rattle.row_kit.specs.Points.{points_of}
 use Rattle.proof_tree.specs.Views.{View, Point}
 
 -- the view of domains: of each, whether it holds 0, its least and its greatest value of 1 or more
@@ -26,3 +27,7 @@ pub record Fits (program : Program) (view : View) : Type 0 where
 -- a point of a view lies in the domains that it shows
 abbrev pub IsIn : View → Point → Type 0
 IsIn view point = LiesIn (domains_of view) point
+
+-- the number of points of a view: that of the domains which it shows
+abbrev pub points_in : View → ℕ
+points_in view = points_of (domains_of view)

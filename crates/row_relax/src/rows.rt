@@ -3,7 +3,7 @@ ghost use Rattle.row_kit.specs.Point.{IsLawful, worth_of};
 ghost use Rattle.proof_tree.specs.Views.{present as shown_last};
 ghost use Rattle.row_relax.specs.View.{view_of, Fits, IsIn};
 ghost use Rattle.row_relax.specs.Steps.{row_steps};
-ghost use Rattle.row_relax.specs.Laws.{rows_sound};
+ghost use Rattle.row_relax.specs.laws.Laws.{rows_sound};
 
 use crate::pick::RowPick;
 use crate::settling::settle;

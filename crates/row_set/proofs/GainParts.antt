@@ -5,30 +5,30 @@ use Rattle.std.proofs.lemmas.Int.{ints}
 use Rattle.std.proofs.Math.IntN.{*ℤ-zero}
 use Rattle.std.proofs.Math.Seq.{take-length}
 use Rattle.std.proofs.lemmas.List.Sums.{sum_by_more}
-use Rattle.std.proofs.lemmas.Bool.{cond-true, le-leb, leb-true, and_parts}
+use Rattle.std.proofs.lemmas.Bool.{cond-true, le-leb}
 use Rattle.stn_model.specs.declared.plant.Plant.{Plant}
 use Rattle.stn_model.specs.declared.plant.Task.{Task}
 use Rattle.stn_model.specs.declared.plant.Input.{Input}
 use Rattle.stn_model.specs.declared.plant.Output.{Output}
 use Rattle.stn_model.specs.declared.plant.Draw.{Draw}
 use Rattle.stn_model.specs.declared.start.Start.{Start}
-use Rattle.stn_model.specs.Plant.{state_at, utility_at, task_at, no_task, duration_of, run_on, end_of}
+use Rattle.stn_model.specs.Plant.{state_at, utility_at, task_at, no_task, duration_of, run_on, end_of, no_run, run_at}
 use Rattle.stn_model.specs.Stock.{given, taken, inflow, outflow, stock}
 use Rattle.stn_model.specs.Load.{drawn_in, drawn, load}
-use Rattle.stn_model.specs.Points.{has_slot}
+use Rattle.stn_model.specs.Points.{has_slot, least_start}
 use Rattle.stn_model.specs.Sums.{total, total_below, sum_below}
 use Rattle.stn_model.specs.Profit.{end_value, holding_cost, utility_cost, cost_of, start_cost, profit}
 use Rattle.stn_model.specs.Sound.{Sound, SoundTask}
 use Rattle.plain_plan.proofs.SmallProfit.{change_costs-nil, change_costs-one}
 use Rattle.plain_plan.proofs.Linear.{gain_alone}
-use Rattle.time_grid.specs.Slots.{no_run, run_at, IsSlotOf}
+use Rattle.time_grid.specs.Slots.{IsSlotOf}
 use Rattle.time_grid.specs.PlanPoint.{start_in}
 use Rattle.time_grid.proofs.SlotList.{sum_by-same}
 use Rattle.time_grid.proofs.PointPlan.{found_run}
 use Rattle.row_set.specs.ProfitParts.{worth_from, output_worth, input_worth, fixed_cost, each_cost, fixed_profit, each_profit}
 use Rattle.row_set.proofs.Signed.{times-add, times-sub, times-plus, parts-worth, quanta-parts, quanta-price, scale-sub, total-scale}
 use Rattle.stn_model.proofs.Totals.{total_below-agree}
-use Rattle.stn_model.proofs.Fitting.{delay-within}
+use Rattle.stn_model.proofs.Fitting.{delay-within, fit_parts}
 use Rattle.row_set.proofs.Below.{total-agree, below-add, below-sub, total-add, total-sub, below-zero, below-turn, below-total, by_items, below-from, below-window, below-times}
 
 both-tests : (a b : Bool) (n : ℕ) → cond (a && b) n 0 ≡ cond a (cond b n 0) 0
@@ -153,9 +153,9 @@ pub record EndsBy (plant : Plant) (slot : ℕ × ℕ) : Type 0 where
   pub outputs : All (λ output. slot.1 + output.delay ≤ plant.periods) (task_in plant slot).outputs
 
 pub ends_by : (plant : Plant) (slot : ℕ × ℕ) → IsSlotOf plant slot → EndsBy plant slot
-unfolding has_slot
+unfolding has_slot end_of
 ends_by plant slot is =
-    let ends : slot.1 + duration_of (task_in plant slot) ≤ plant.periods = leb-true _ _ (and_parts _ _ is.has).0 in
+    let ends : slot.1 + duration_of (task_in plant slot) ≤ plant.periods = (fit_parts plant (least_start (run_at plant slot.0) slot.1) is.has).ends in
     record {
       ends = ends;
       outputs = λ k d l. let h = delay-within (task_in plant slot) k d l in omega (arith, h, ends);

@@ -5,7 +5,8 @@ use Rattle.std.proofs.lemmas.List.Elements.{All-map}
 use Rattle.std.proofs.lemmas.Bool.{cases_eq}
 use Rattle.stn_model.specs.declared.plant.Plant.{Plant}
 use Rattle.stn_model.specs.Sound.{Sound}
-use Rattle.time_grid.specs.Slots.{no_run, slots}
+use Rattle.stn_model.specs.Plant.{no_run}
+use Rattle.time_grid.specs.Slots.{slots}
 use Rattle.time_grid.specs.PlanPoint.{IsChoice, IsPoint}
 use Rattle.time_grid.proofs.SlotList.{slots-are}
 use Rattle.row_kit.specs.Domain.{Holds, IsNormal, IsOpen}

@@ -10,7 +10,7 @@ use Rattle.stn_model.specs.declared.plant.Task.{Task}
 use Rattle.stn_model.specs.declared.plant.Output.{Output}
 use Rattle.stn_model.specs.declared.plant.Draw.{Draw}
 use Rattle.stn_model.specs.declared.plant.State.{State}
-use Rattle.stn_model.specs.Plant.{state_at, no_state, utility_at, no_utility, task_at, no_task, duration_of}
+use Rattle.stn_model.specs.Plant.{state_at, no_state, utility_at, no_utility, task_at, no_task, duration_of, no_run, run_at}
 use Rattle.stn_model.specs.Sums.{total, greatest_by}
 use Rattle.stn_model.specs.Sound.{Sound, SoundTask}
 use Rattle.plain_plan.proofs.SmallProfit.{times-small}
@@ -18,7 +18,7 @@ use Rattle.stn_model.proofs.Totals.{total_more}
 use Rattle.stn_model.proofs.Fitting.{delay-within}
 use Rattle.row_set.proofs.GainParts.{task_in}
 use Rattle.row_kit.proofs.Gathered.{IsPartWithin}
-use Rattle.time_grid.specs.Slots.{no_run, run_at, IsSlotOf}
+use Rattle.time_grid.specs.Slots.{IsSlotOf}
 use Rattle.std.proofs.Math.Seq.{take-length}
 use Rattle.std.proofs.lemmas.List.{get_or_default}
 use Rattle.stn_model.specs.declared.plant.Run.{Run}

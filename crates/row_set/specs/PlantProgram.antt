@@ -5,7 +5,8 @@ use Rattle.stn_model.specs.declared.plant.Gap.{Gap}
 use Rattle.stn_model.specs.declared.start.Start.{Start}
 use Rattle.stn_model.specs.Feasible.{Feasible}
 use Rattle.stn_model.specs.Profit.{profit}
-use Rattle.time_grid.specs.Slots.{run_at, slots}
+use Rattle.stn_model.specs.Plant.{run_at}
+use Rattle.time_grid.specs.Slots.{slots}
 use Rattle.time_grid.specs.PlanPoint.{HasPoint, plan_point, IsPlanOf}
 use Rattle.row_kit.specs.declared.domain.Domain.{Domain}
 use Rattle.row_kit.specs.declared.program.Program.{Program}

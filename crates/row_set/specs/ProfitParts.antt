@@ -4,9 +4,8 @@ use Rattle.stn_model.specs.declared.plant.Plant.{Plant}
 use Rattle.stn_model.specs.declared.plant.Input.{Input}
 use Rattle.stn_model.specs.declared.plant.Output.{Output}
 use Rattle.stn_model.specs.declared.plant.Draw.{Draw}
-use Rattle.stn_model.specs.Plant.{state_at, utility_at, task_at}
+use Rattle.stn_model.specs.Plant.{state_at, utility_at, task_at, run_at}
 use Rattle.stn_model.specs.Sums.{total}
-use Rattle.time_grid.specs.Slots.{run_at}
 
 -- what a mass unit that is in stock of the state from a time on is worth: its price, less what it costs to hold it until the horizon
 unfoldable pub worth_from : Plant → ℕ → ℕ → ℤ

@@ -16,7 +16,8 @@ use time_grid::Grid;
 pub fn profit_entries(alloc: Global, plant: &Plant, grid: &Grid) -> Result<List<Entry>, AllocError>
     requires sound { Sound plant.now }
     requires grid { IsGrid plant.now grid.now }
-    ensures { IfOk result (λ entries. entries ≡ entries_from 0 (map (profit_part plant.now) (slots plant.now))) }
+    ensures { IfOk result (λ entries. entries
+        ≡ entries_from 0 (map (profit_part plant.now) (slots plant.now))) }
 {
     let parts = profit_parts(alloc, plant, grid)?;
     entries_of(alloc, &parts)

@@ -1,11 +1,11 @@
 //! Counting the errors of the operating system.
-ghost use Rattle.std.specs.Prelude.{◌≡◌, ◌↔◌, ◌≤◌, ℕ, List, IsTrue, OnOk, OnErr};
+ghost use Rattle.std.specs.Prelude.{◌≡◌, ◌↔◌, ◌≤◌, ℕ, List, IsTrue, Err, OnOk, OnErr};
 ghost use Rattle.std.specs.Io.KnownBytes.{Appends};
 ghost use Rattle.std.specs.IoError.{error_kind};
 ghost use Rattle.stn_edge.specs.Count.{Rose, next_count};
 ghost use Rattle.stn_edge.specs.Written.{IsLeft};
 
-use crate::stop::Failed;
+use crate::stop::Stop;
 use std::io::{self, ErrorKind, Write};
 
 /// One more fault, where the count does not stand at its last value.
@@ -23,14 +23,22 @@ pub fn is_interrupted(error: &io::Error) -> bool
     error.kind() == ErrorKind::Interrupted
 }
 
-/// Writes all of the bytes, piece after piece. Each error raises the count, and after one that is no
-/// interruption the rest is not written. So it is after a write that takes nothing.
-pub fn write_whole<W: Write>(to: &mut W, bytes: &[u8], faults: &mut u64) -> Result<(), Failed>
+/// A call found no memory.
+pub fn is_want_of_memory(error: &io::Error) -> bool
+    ensures { IsTrue result ↔ (error_kind error.now ≡ ErrorKind.OutOfMemory) }
+{
+    error.kind() == ErrorKind::OutOfMemory
+}
+
+/// Writes all of the bytes, piece after piece. An error ends it, but for an interruption, and so does a
+/// write that takes nothing: the rest is then not written. Each of these but want of memory raises the
+/// count.
+pub fn write_whole<W: Write>(to: &mut W, bytes: &[u8], faults: &mut u64) -> Result<(), Stop>
     ensures ok { OnOk result (Appends (W.contents to.old) (W.contents to.new) bytes.now) }
     ensures err { OnErr result ((rest : List ℕ)
         × IsLeft bytes.now (W.contents to.old) (W.contents to.new) rest) }
     ensures later { faults.old ≤ faults.new }
-    ensures cause { OnErr result (Rose faults.old faults.new) }
+    ensures cause { result ≡ Err Stop.Failed → Rose faults.old faults.new }
 {
     let mut rest = bytes;
     for _ in 0..u64::MAX {
@@ -41,6 +49,9 @@ pub fn write_whole<W: Write>(to: &mut W, bytes: &[u8], faults: &mut u64) -> Resu
             Ok(0) => break,
             Ok(count) => rest = &rest[count..],
             Err(error) => {
+                if is_want_of_memory(&error) {
+                    return Err(Stop::Memory);
+                }
                 if !is_interrupted(&error) {
                     break;
                 }
@@ -49,5 +60,5 @@ pub fn write_whole<W: Write>(to: &mut W, bytes: &[u8], faults: &mut u64) -> Resu
         }
     }
     raise(faults);
-    Err(Failed)
+    Err(Stop::Failed)
 }

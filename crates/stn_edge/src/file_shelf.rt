@@ -1,8 +1,8 @@
 //! Files of the operating system.
-ghost use Rattle.std.specs.Prelude.{◌≡◌, ◌≤◌, None, true, length, IfOk, OnErr};
+ghost use Rattle.std.specs.Prelude.{◌≡◌, ◌≤◌, None, true, length, Err, IfOk, OnErr};
 ghost use Rattle.stn_edge.specs.Count.{Rose};
 
-use crate::faults::{is_interrupted, raise, write_whole};
+use crate::faults::{is_interrupted, is_want_of_memory, raise, write_whole};
 use crate::shelf::Shelf;
 use crate::stop::{Failed, Stop};
 use std::fs::OpenOptions;
@@ -77,25 +77,28 @@ impl<'a, R: Files> Shelf for FileShelf<'a, R> {
         let mut how = OpenOptions::new();
         how.append(true).create(true);
         let mut file = open_file(self.rt, &how, name, &mut self.write_faults)?;
-        write_whole(&mut file, bytes, &mut self.write_faults)?;
-        Ok(())
+        write_whole(&mut file, bytes, &mut self.write_faults)
     }
 }
 
-/// Opens the file. Each error raises the count, and an interrupted call is tried again.
+/// Opens the file to write. Each error but want of memory raises the count, and an interrupted call is
+/// tried again.
 fn open_file<R: Files>(
     rt: &R,
     how: &OpenOptions,
     name: &str,
     faults: &mut u64,
-) -> Result<R::File, Failed>
+) -> Result<R::File, Stop>
     ensures later { faults.old ≤ faults.new }
-    ensures cause { OnErr result (Rose faults.old faults.new) }
+    ensures cause { result ≡ Err Stop.Failed → Rose faults.old faults.new }
 {
     for _ in 0..u64::MAX {
         match how.open(rt, name) {
             Ok(file) => return Ok(file),
             Err(error) => {
+                if is_want_of_memory(&error) {
+                    return Err(Stop::Memory);
+                }
                 if !is_interrupted(&error) {
                     break;
                 }
@@ -104,7 +107,7 @@ fn open_file<R: Files>(
         }
     }
     raise(faults);
-    Err(Failed)
+    Err(Stop::Failed)
 }
 
 /// Reads one piece. Each error raises the count, and an interrupted call is tried again.

@@ -10,11 +10,11 @@ use std::alloc::{AllocError, Global};
 /// How many bytes one read asks for.
 const PIECE: usize = 8192;
 
-/// Reads the whole file of at most `limit` bytes.
+/// Reads the whole file of at most `limit` bytes, piece after piece.
 ///
-/// Each turn takes at least one byte or ends, so there are at most `limit + 2` reads, in time linear
-/// in the file. The files are as before whatever the answer is. A longer file is `TooLong`, which
-/// comes only after more than `limit` bytes were read, and `Fault` only where a read failed.
+/// A longer file is `TooLong`: where the shelf tells its files, that comes only for a file of more
+/// than `limit` bytes. `Fault` comes only where a read failed. The files are as before whatever the
+/// answer is.
 pub fn read_all<F: Shelf>(
     alloc: Global,
     files: &mut F,

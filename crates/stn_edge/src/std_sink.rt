@@ -42,7 +42,6 @@ impl<'a, R: Print> Sink for StdSink<'a, R> {
     ghost faults = { λ s. s };
 
     fn put(&mut self, bytes: &[u8]) -> Result<(), Stop> {
-        write_whole(&mut io::writer(self.rt), bytes, &mut self.faults)?;
-        Ok(())
+        write_whole(&mut io::writer(self.rt), bytes, &mut self.faults)
     }
 }

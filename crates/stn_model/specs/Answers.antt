@@ -16,13 +16,17 @@ pub record EarnsBelow (plant : Plant) (plan : List Start) (earned cap : ℤ) : T
   pub profit_is : profit plant plan ≡ earned
   pub below : earned <ℤ cap
 
+-- no plan was found, and 0 stands for the profit: that is so only where doing nothing is not feasible
+abbrev pub NoneFound : Plant → ℤ → Type 0
+NoneFound plant earned = (earned ≡ pos 0) × (¬ Feasible plant [])
+
 -- A budget is spent: after exactly that many boxes, fewer than the plant may need. The plan that was
--- found is feasible, and there is none only where doing nothing is not feasible; it earns at least what
--- doing nothing earns, and no feasible plan earns more than the cap.
+-- found is feasible and earns less than the cap; the profit is at least that of doing nothing, where this
+-- is feasible, and no feasible plan earns more than the cap.
 pub record IsSpent (plant : Plant) (budget used : ℕ) (plan : Option (List Start)) (earned cap : ℤ) : Type 0 where
   pub exactly : used ≡ budget
   pub fewer : budget < boxes plant
-  pub found : MatchOption plan ((earned ≡ pos 0) × (¬ Feasible plant [])) (λ best. EarnsBelow plant best earned cap)
+  pub found : MatchOption plan (NoneFound plant earned) (λ best. EarnsBelow plant best earned cap)
   pub floor : Feasible plant [] → profit plant [] ≤ℤ earned
   pub capped : (other : List Start) → Feasible plant other → profit plant other ≤ℤ cap
 

@@ -1,9 +1,10 @@
 -- What the records of a plant say of its runs, durations, gaps and outages.
-use Rattle.std.specs.Prelude.{ℕ, pos, ◌+◌, ◌==◌, ◌&&◌, ◌||◌, not, nat_le, Bool, [], Option, find, position, if◌then◌else◌, slice_index_or}
+use Rattle.std.specs.Prelude.{ℕ, pos, ◌+◌, ◌==◌, ◌&&◌, ◌||◌, not, nat_le, Bool, List, [], Option, find, map, position, if◌then◌else◌, slice_index_or}
 use Rattle.std.specs.List.{list_all}
 use Rattle.stn_model.specs.declared.plant.Plant.{Plant}
 use Rattle.stn_model.specs.declared.plant.State.{State}
 use Rattle.stn_model.specs.declared.plant.Utility.{Utility}
+use Rattle.stn_model.specs.declared.plant.StnUnit.{StnUnit}
 use Rattle.stn_model.specs.declared.plant.Task.{Task}
 use Rattle.stn_model.specs.declared.plant.Run.{Run}
 use Rattle.stn_model.specs.declared.plant.Gap.{Gap}
@@ -23,6 +24,14 @@ no_state = record { name = []; initial = 0; limits = []; price = pos 0; holding 
 abbrev pub no_utility : Utility
 no_utility = record { name = []; limits = []; rate = pos 0 }
 
+-- a unit without a name, in the place of one that is not there
+abbrev pub no_unit : StnUnit
+no_unit = record { name = [] }
+
+-- a run of nothing, in the place of one that is not there
+abbrev pub no_run : Run
+no_run = record { task = 0; unit = 0; min = 0; max = 0; cost = pos 0 }
+
 -- the task of this number
 abbrev pub task_at : Plant → ℕ → Task
 task_at plant task = slice_index_or plant.tasks task no_task
@@ -34,6 +43,22 @@ state_at plant state = slice_index_or plant.states state no_state
 -- the utility of this number
 abbrev pub utility_at : Plant → ℕ → Utility
 utility_at plant utility = slice_index_or plant.utilities utility no_utility
+
+-- the unit of this number
+abbrev pub unit_at : Plant → ℕ → StnUnit
+unit_at plant unit = slice_index_or plant.units unit no_unit
+
+-- the run of this number
+abbrev pub run_at : Plant → ℕ → Run
+run_at plant run = slice_index_or plant.runs run no_run
+
+-- the names of the units, in their order
+abbrev pub unit_names : Plant → List (List ℕ)
+unit_names plant = map (λ unit. unit.name) plant.units
+
+-- the names of the tasks, in their order
+abbrev pub task_names : Plant → List (List ℕ)
+task_names plant = map (λ task. task.name) plant.tasks
 
 -- how many periods a batch of the task takes: the greatest delay of its outputs
 unfoldable pub duration_of : Task → ℕ
@@ -63,11 +88,11 @@ gap_between plant unit from to = greatest_by (λ gap. if is_between unit from to
 unfoldable pub cost_between : Plant → ℕ → ℕ → ℕ → ℕ
 cost_between plant unit from to = greatest_by (λ gap. if is_between unit from to gap then gap.cost else 0) plant.gaps
 
--- the outage leaves the unit free from one time to another
+-- the outage is of another unit, begins at the later time or after it, or is over by the earlier one
 abbrev pub is_clear_of : ℕ → ℕ → ℕ → Outage → Bool
 is_clear_of unit from to outage = not (outage.unit == unit) || nat_le to outage.from || nat_le outage.to from
 
--- no outage of the unit lies between the two times
+-- the unit is in use from one time to another: no outage of it overlaps them
 unfoldable pub is_in_use : Plant → ℕ → ℕ → ℕ → Bool
 is_in_use plant unit from to = list_all (is_clear_of unit from to) plant.outages
 

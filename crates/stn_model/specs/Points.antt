@@ -2,14 +2,18 @@
 use Rattle.std.specs.Prelude.{ℕ, ◌+◌, ◌-◌, ◌*◌, ◌==◌, ◌&&◌, nat_le, nat_lt, Bool, if◌then◌else◌, sum_by}
 use Rattle.stn_model.specs.declared.plant.Plant.{Plant}
 use Rattle.stn_model.specs.declared.plant.Run.{Run}
-use Rattle.stn_model.specs.Plant.{task_at, duration_of, is_in_use, gap_between}
+use Rattle.stn_model.specs.declared.start.Start.{Start}
+use Rattle.stn_model.specs.Plant.{task_at, duration_of, gap_between}
+use Rattle.stn_model.specs.Fits.{is_fit}
 use Rattle.stn_model.specs.Sums.{product_by, product_below, sum_below, count_below}
 
--- a start of the run fits in the period: it ends within the horizon, and the unit is in use meanwhile
+-- the start of a run in a period with its least batch
+abbrev pub least_start : Run → ℕ → Start
+least_start run period = record { period = period; unit = run.unit; task = run.task; quanta = run.min }
+
+-- some start of the run fits in the period: the one with its least batch does
 unfoldable pub has_slot : Plant → Run → ℕ → Bool
-has_slot plant run period =
-    let ending = period + duration_of (task_at plant run.task)
-    in nat_le ending plant.periods && is_in_use plant run.unit period ending
+has_slot plant run period = is_fit plant (least_start run period)
 
 -- how many choices there are for a run in a period: no start, or one of each size
 unfoldable pub choices : Plant → Run → ℕ → ℕ
@@ -27,7 +31,7 @@ boxes plant = 2 * points plant - 1
 unfoldable pub slots_of : Plant → Run → ℕ
 slots_of plant run = count_below (has_slot plant run) plant.periods
 
--- how many slots the plant has: runs and periods in which a start fits
+-- how many slots the plant has: pairs of a run and a period in which some start of it fits
 unfoldable pub slot_count : Plant → ℕ
 slot_count plant = sum_by (slots_of plant) plant.runs
 

@@ -2,7 +2,6 @@
 use Rattle.std.specs.Prelude.{◌≡◌, ◌≢◌, ℕ, ◌*◌, ◌<◌, ◌≤◌, ◌⊎◌, ◌||◌, ◌&&◌, ◌==◌, nat_le, Bool, false, IsTrue, List, [], ◌∷◌, length, All, AllPairs, sum_by, unsigned_abs, suc}
 use Rattle.std.specs.List.{list_all}
 use Rattle.std.specs.Char.{is_ascii_alphabetic, is_ascii_digit}
-use Rattle.stn_model.specs.declared.limits.TheConstants.{MAX_PERIODS, MAX_STATES, MAX_TASKS, MAX_UNITS, MAX_RUNS, MAX_UTILITIES, MAX_SIDE, MAX_EVENTS, MAX_GAPS, MAX_SLOTS, MAX_GAP_PAIRS, MAX_QUANTA, MAX_QUANTUM, MAX_PART, MAX_AMOUNT, MAX_PRICE, MAX_DELAY, MAX_NAME}
 use Rattle.stn_model.specs.declared.plant.Plant.{Plant}
 use Rattle.stn_model.specs.declared.plant.State.{State}
 use Rattle.stn_model.specs.declared.plant.Utility.{Utility}
@@ -29,27 +28,27 @@ is_name_byte byte = is_ascii_alphabetic byte || is_ascii_digit byte || byte == 9
 -- a name: one to 32 such bytes, the first a letter
 abbrev pub is_name : List ℕ → Bool
 is_name [] = false
-is_name (byte ∷ bytes) = is_ascii_alphabetic byte && list_all is_name_byte (byte ∷ bytes) && nat_le (length (byte ∷ bytes)) MAX_NAME
+is_name (byte ∷ bytes) = is_ascii_alphabetic byte && list_all is_name_byte (byte ∷ bytes) && nat_le (length (byte ∷ bytes)) 32
 
 -- an amount is a part of the quantum: over/under of it, with small numbers
 abbrev pub IsPart : ℕ → ℕ → Type 0
-IsPart quantum amount = (over : ℕ) × ((under : ℕ) × ((Within 1 under over) × (Within 1 MAX_PART under) × (amount * under ≡ quantum * over)))
+IsPart quantum amount = (over : ℕ) × ((under : ℕ) × ((Within 1 under over) × (Within 1 10000 under) × (amount * under ≡ quantum * over)))
 
 -- a state keeps its ranges, and has a limit for each time or none
 pub record SoundState (periods : ℕ) (state : State) : Type 0 where
   pub name : IsTrue (is_name state.name)
-  pub initial : state.initial ≤ MAX_AMOUNT
+  pub initial : state.initial ≤ 1000000000
   pub limits : (state.limits ≡ []) ⊎ (length state.limits ≡ suc periods)
-  pub limit : All (λ limit. limit ≤ MAX_AMOUNT) state.limits
-  pub price : unsigned_abs state.price ≤ MAX_PRICE
-  pub holding : unsigned_abs state.holding ≤ MAX_PRICE
+  pub limit : All (λ limit. limit ≤ 1000000000) state.limits
+  pub price : unsigned_abs state.price ≤ 1000000
+  pub holding : unsigned_abs state.holding ≤ 1000000
 
 -- a utility keeps its ranges, and has a limit for each period
 pub record SoundUtility (periods : ℕ) (utility : Utility) : Type 0 where
   pub name : IsTrue (is_name utility.name)
   pub limits : length utility.limits ≡ periods
-  pub limit : All (λ limit. limit ≤ MAX_AMOUNT) utility.limits
-  pub rate : unsigned_abs utility.rate ≤ MAX_PRICE
+  pub limit : All (λ limit. limit ≤ 1000000000) utility.limits
+  pub rate : unsigned_abs utility.rate ≤ 1000000
 
 -- an input takes a part of the quantum from a state that is there
 pub record SoundInput (plant : Plant) (quantum : ℕ) (input : Input) : Type 0 where
@@ -60,23 +59,23 @@ pub record SoundInput (plant : Plant) (quantum : ℕ) (input : Input) : Type 0 w
 pub record SoundOutput (plant : Plant) (quantum : ℕ) (output : Output) : Type 0 where
   pub state : output.state < length plant.states
   pub part : IsPart quantum output.amount
-  pub delay : Within 1 MAX_DELAY output.delay
+  pub delay : Within 1 96 output.delay
 
 -- a draw is of a utility that is there, with two numbers for each period of the batch
 pub record SoundDraw (plant : Plant) (duration : ℕ) (draw : Draw) : Type 0 where
   pub utility : draw.utility < length plant.utilities
   pub fixed : length draw.fixed ≡ duration
   pub each : length draw.each ≡ duration
-  pub fixed_small : All (λ amount. amount ≤ MAX_PRICE) draw.fixed
-  pub each_small : All (λ amount. amount ≤ MAX_PRICE) draw.each
+  pub fixed_small : All (λ amount. amount ≤ 1000000) draw.fixed
+  pub each_small : All (λ amount. amount ≤ 1000000) draw.each
 
 -- a task has inputs and outputs, and the parts of each side make up the quantum
 pub record SoundTask (plant : Plant) (task : Task) : Type 0 where
   pub name : IsTrue (is_name task.name)
-  pub quantum : Within 1 MAX_QUANTUM task.quantum
-  pub inputs : Within 1 MAX_SIDE (length task.inputs)
-  pub outputs : Within 1 MAX_SIDE (length task.outputs)
-  pub draws : length task.draws ≤ MAX_SIDE
+  pub quantum : Within 1 1000000 task.quantum
+  pub inputs : Within 1 8 (length task.inputs)
+  pub outputs : Within 1 8 (length task.outputs)
+  pub draws : length task.draws ≤ 8
   pub input : All (SoundInput plant task.quantum) task.inputs
   pub output : All (SoundOutput plant task.quantum) task.outputs
   pub draw : All (SoundDraw plant (duration_of task)) task.draws
@@ -89,29 +88,29 @@ pub record SoundRun (plant : Plant) (run : Run) : Type 0 where
   pub unit : run.unit < length plant.units
   pub least : 1 ≤ run.min
   pub range : run.min ≤ run.max
-  pub most : run.max ≤ MAX_QUANTA
-  pub cost : unsigned_abs run.cost ≤ MAX_PRICE
+  pub most : run.max ≤ 255
+  pub cost : unsigned_abs run.cost ≤ 1000000
 
 -- a gap is between tasks on a unit that are there
 pub record SoundGap (plant : Plant) (gap : Gap) : Type 0 where
   pub unit : gap.unit < length plant.units
   pub from : gap.from < length plant.tasks
   pub to : gap.to < length plant.tasks
-  pub periods : gap.periods ≤ MAX_DELAY
-  pub cost : gap.cost ≤ MAX_PRICE
+  pub periods : gap.periods ≤ 96
+  pub cost : gap.cost ≤ 1000000
 
 -- a receipt comes into a state that is there, by the horizon
 pub record SoundReceipt (plant : Plant) (receipt : Receipt) : Type 0 where
   pub state : receipt.state < length plant.states
   pub time : receipt.time ≤ plant.periods
-  pub amount : Within 1 MAX_AMOUNT receipt.amount
+  pub amount : Within 1 1000000000 receipt.amount
 
 -- a delivery goes out of a state that is there, by the horizon
 pub record SoundDelivery (plant : Plant) (delivery : Delivery) : Type 0 where
   pub state : delivery.state < length plant.states
   pub time : delivery.time ≤ plant.periods
-  pub amount : Within 1 MAX_AMOUNT delivery.amount
-  pub payment : unsigned_abs delivery.payment ≤ MAX_AMOUNT
+  pub amount : Within 1 1000000000 delivery.amount
+  pub payment : unsigned_abs delivery.payment ≤ 1000000000
 
 -- an outage is of a unit that is there, and not empty
 pub record SoundOutage (plant : Plant) (outage : Outage) : Type 0 where
@@ -121,18 +120,18 @@ pub record SoundOutage (plant : Plant) (outage : Outage) : Type 0 where
 
 -- how many there are of each thing
 pub record SoundCounts (plant : Plant) : Type 0 where
-  pub periods : Within 1 MAX_PERIODS plant.periods
-  pub states : length plant.states ≤ MAX_STATES
-  pub utilities : length plant.utilities ≤ MAX_UTILITIES
-  pub units : length plant.units ≤ MAX_UNITS
-  pub tasks : length plant.tasks ≤ MAX_TASKS
-  pub runs : length plant.runs ≤ MAX_RUNS
-  pub gaps : length plant.gaps ≤ MAX_GAPS
-  pub receipts : length plant.receipts ≤ MAX_EVENTS
-  pub deliveries : length plant.deliveries ≤ MAX_EVENTS
-  pub outages : length plant.outages ≤ MAX_EVENTS
-  pub slots : slot_count plant ≤ MAX_SLOTS
-  pub gap_pairs : gap_pairs plant ≤ MAX_GAP_PAIRS
+  pub periods : Within 1 336 plant.periods
+  pub states : length plant.states ≤ 40
+  pub utilities : length plant.utilities ≤ 8
+  pub units : length plant.units ≤ 24
+  pub tasks : length plant.tasks ≤ 40
+  pub runs : length plant.runs ≤ 64
+  pub gaps : length plant.gaps ≤ 4096
+  pub receipts : length plant.receipts ≤ 256
+  pub deliveries : length plant.deliveries ≤ 256
+  pub outages : length plant.outages ≤ 256
+  pub slots : slot_count plant ≤ 512
+  pub gap_pairs : gap_pairs plant ≤ 8192
 
 -- the items of one table have names of their own, and no task stands twice on one unit
 pub record SoundNames (plant : Plant) : Type 0 where

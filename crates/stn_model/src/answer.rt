@@ -14,12 +14,13 @@ pub enum Answer {
     /// The budget was spent first: the best plan that was found, and what no feasible plan exceeds.
     BudgetSpent {
         plan: Option<List<Start>>,
+        /// The profit of the plan; 0 where none was found.
         profit: i128,
         cap: i128,
     },
 }
 
-/// An answer, and how many boxes it took.
+/// An answer, and how many boxes (parts of the search) it took.
 #[derive(Drop)]
 pub struct Outcome {
     pub answer: Answer,

@@ -1,4 +1,5 @@
 //! The limits within which a plant stands, so that every sum over it fits the machine's numbers.
+ghost use Rattle.std.specs.Prelude.{◌≡◌};
 
 /// The longest horizon, in periods.
 pub const MAX_PERIODS: u32 = 336;
@@ -53,3 +54,25 @@ pub const MAX_DELAY: u32 = 96;
 
 /// The longest name, in bytes.
 pub const MAX_NAME: usize = 32;
+
+/// Does nothing: its clauses say that the limits are the numbers that a sound plant keeps.
+pub fn limits_hold()
+    ensures periods { MAX_PERIODS ≡ 336 }
+    ensures states { MAX_STATES ≡ 40 }
+    ensures tasks { MAX_TASKS ≡ 40 }
+    ensures units { MAX_UNITS ≡ 24 }
+    ensures runs { MAX_RUNS ≡ 64 }
+    ensures utilities { MAX_UTILITIES ≡ 8 }
+    ensures side { MAX_SIDE ≡ 8 }
+    ensures events { MAX_EVENTS ≡ 256 }
+    ensures gaps { MAX_GAPS ≡ 4096 }
+    ensures slots { MAX_SLOTS ≡ 512 }
+    ensures gap_pairs { MAX_GAP_PAIRS ≡ 8192 }
+    ensures quanta { MAX_QUANTA ≡ 255 }
+    ensures quantum { MAX_QUANTUM ≡ 1000000 }
+    ensures part { MAX_PART ≡ 10000 }
+    ensures amount { MAX_AMOUNT ≡ 1000000000 }
+    ensures price { MAX_PRICE ≡ 1000000 }
+    ensures delay { MAX_DELAY ≡ 96 }
+    ensures name { MAX_NAME ≡ 32 }
+{}

@@ -3,7 +3,8 @@ ghost use Rattle.std.specs.Prelude.{◌≡◌, ◌<◌, ◌++◌, ◌∷◌, [],
 use std::alloc::{AllocError, Global};
 use std::marker::Model;
 
-/// A list that grows at its end. A contract sees the plain list of its items.
+/// A list that grows at its end. A contract sees the plain list of its items. Each call takes one step, but for a
+/// `push` that finds no room: it takes memory, and moves the items.
 #[derive(Drop)]
 pub struct List<T> {
     items: Vec<T>,

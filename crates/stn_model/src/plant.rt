@@ -85,6 +85,7 @@ pub struct Output {
 #[derive(Drop)]
 pub struct Draw {
     pub utility: u32,
+    /// For each period of the batch.
     pub fixed: List<u32>,
     pub each: List<u32>,
 }
@@ -108,6 +109,7 @@ pub struct Gap {
     pub unit: u32,
     pub from: u32,
     pub to: u32,
+    /// From the end of the one batch to the start of the other.
     pub periods: u32,
     /// What the changeover costs, in money.
     pub cost: u32,
@@ -117,6 +119,7 @@ pub struct Gap {
 #[derive(Clone, Copy)]
 pub struct Receipt {
     pub state: u32,
+    /// It is in stock from this time on.
     pub time: u32,
     /// In mass units.
     pub amount: u64,
@@ -126,6 +129,7 @@ pub struct Receipt {
 #[derive(Clone, Copy)]
 pub struct Delivery {
     pub state: u32,
+    /// It is out of stock from this time on.
     pub time: u32,
     /// In mass units.
     pub amount: u64,
@@ -133,7 +137,7 @@ pub struct Delivery {
     pub payment: i64,
 }
 
-/// Periods in which a unit is out of use: `from` to `to - 1`.
+/// Periods in which a unit is out of use: `from` to `to - 1`. No batch on it may overlap them.
 #[derive(Clone, Copy)]
 pub struct Outage {
     pub unit: u32,

@@ -1,5 +1,6 @@
-//! The questions about a plant that code asks again and again. None of them takes memory.
-ghost use Rattle.std.specs.Prelude.{◌≡◌, ◌<◌, ◌↔◌, IsTrue, IfSome, length, position};
+//! The questions about a plant that code asks again and again. None of them takes memory, and each takes time in
+//! proportion to the list that it looks through: a task's outputs, or the plant's runs, gaps or outages.
+ghost use Rattle.std.specs.Prelude.{◌≡◌, ◌<◌, IfSome, length, position};
 ghost use Rattle.stn_model.specs.Plant.{
   duration_of,
   run_number,
@@ -11,7 +12,7 @@ ghost use Rattle.stn_model.specs.Plant.{
   is_between,
   is_of,
 };
-ghost use Rattle.stn_model.specs.Fits.{Fits};
+ghost use Rattle.stn_model.specs.Fits.{is_fit, has_size};
 ghost use Rattle.stn_model.specs.Sound.{Sound};
 
 use crate::plant::{Gap, Plant, Run, Task};
@@ -107,9 +108,9 @@ fn is_listed(gap: &Gap, unit: u32, from: u32, to: u32) -> bool
     gap.unit == unit && gap.from == from && gap.to == to
 }
 
-/// Whether the unit is in use from one time to another: no outage of it lies between them.
+/// Whether the unit is in use from one time to another: no outage of it overlaps them.
 #[tactic(auto, unfolding(crate::specs::Plant::is_in_use))]
-pub fn is_open(plant: &Plant, unit: u32, from: u64, to: u64) -> bool
+pub fn in_use(plant: &Plant, unit: u32, from: u64, to: u64) -> bool
     ensures { result ≡ is_in_use plant.now unit from to }
 {
     plant.outages.as_slice().iter().all(|outage| {
@@ -131,18 +132,22 @@ pub fn end(plant: &Plant, start: &Start) -> u64
 
 /// Whether the start fits the plant: its unit can run its task with a batch of this size, within the
 /// horizon and while the unit is in use.
-#[tactic(auto, unfolding(crate::specs::Plant::run_on))]
+#[tactic(auto, unfolding(crate::specs::Fits::is_fit))]
 pub fn fits(plant: &Plant, start: &Start) -> bool
-    ensures { IsTrue result ↔ Fits plant.now start.now }
+    ensures { result ≡ is_fit plant.now start.now }
 {
     let ending = end(plant, start);
+    can_run(plant, start)
+        && ending <= plant.periods as u64
+        && in_use(plant, start.unit, start.period as u64, ending)
+}
+
+/// Whether the unit of the start can run its task with a batch of this size.
+fn can_run(plant: &Plant, start: &Start) -> bool
+    ensures { result ≡ has_size start.now.quanta (run_on plant.now start.now.task start.now.unit) }
+{
     match run_for(plant, start.task, start.unit) {
-        Some(run) => {
-            run.min <= start.quanta
-                && start.quanta <= run.max
-                && ending <= plant.periods as u64
-                && is_open(plant, start.unit, start.period as u64, ending)
-        }
+        Some(run) => run.min <= start.quanta && start.quanta <= run.max,
         None => false,
     }
 }

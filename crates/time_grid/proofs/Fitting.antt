@@ -1,20 +1,21 @@
 -- Starts that fit, and the slots that they are in.
-use Rattle.std.proofs.Common.{◌≡◌, ℕ, ◌+◌, ◌<◌, ◌≤◌, Bool, true, false, Option, Some, None, IsSomeAnd, List, length, get_or, position, slice_get, find, sym, refl, ◌∙◌, arith, inl, inr, ap₂}
+use Rattle.std.proofs.Common.{◌≡◌, ℕ, ◌+◌, ◌<◌, ◌≤◌, Bool, true, false, Option, Some, None, IsSomeAnd, List, length, get_or, position, slice_get, find, sym, refl, ◌∙◌, arith, inl, inr, ap, ap₂, subst}
 use Rattle.std.specs.List.{position_or_len}
 use Rattle.std.proofs.lemmas.Option.{none-some, same_Some, slice_get_within, get_or_from_slice_get}
 use Rattle.std.proofs.lemmas.List.{get_or_default}
 use Rattle.std.proofs.lemmas.List.Sums.{passes_at_first, fails_before_first}
 use Rattle.std.proofs.lemmas.List.Folds.{find_at}
 use Rattle.std.proofs.lemmas.List.Quantifiers.{position-Some}
-use Rattle.std.proofs.lemmas.Bool.{eqb-true, eq-eqb, le-leb, lt-ltb, and_parts, and_from, cases_lt, true≢false}
+use Rattle.std.proofs.lemmas.Bool.{eqb-true, eq-eqb, lt-ltb, and_parts, and_from, cases_lt, true≢false}
 use Rattle.stn_model.specs.declared.plant.Plant.{Plant}
+use Rattle.stn_model.specs.declared.plant.Run.{Run}
 use Rattle.stn_model.specs.declared.start.Start.{Start}
-use Rattle.stn_model.specs.Plant.{task_at, duration_of, is_of, run_on, run_number, end_of}
+use Rattle.stn_model.specs.Plant.{task_at, duration_of, is_of, run_on, run_number, end_of, no_run, run_at}
 use Rattle.stn_model.specs.Fits.{Fits}
-use Rattle.stn_model.specs.Points.{has_slot}
+use Rattle.stn_model.specs.Points.{has_slot, least_start}
 use Rattle.stn_model.specs.Sound.{Sound, SoundRun}
-use Rattle.stn_model.proofs.Fitting.{duration_pos}
-use Rattle.time_grid.specs.Slots.{no_run, run_at, slots, is_slot, IsSlotOf}
+use Rattle.stn_model.proofs.Fitting.{duration_pos, fit_parts, fits_from_parts}
+use Rattle.time_grid.specs.Slots.{slots, is_slot, IsSlotOf}
 use Rattle.time_grid.specs.PlanPoint.{is_in, IsPlaceOf}
 use Rattle.time_grid.proofs.SlotList.{Contains-slots}
 
@@ -44,6 +45,20 @@ some_and : {X : Type 0} (o : Option X) (P : X → Type 0) → IsSomeAnd o P → 
 some_and None P h = absurd h
 some_and (Some x) P h = (x, (refl, h))
 
+-- where a start of a run fits in a period, so does the one with the run's least batch
+pub least-fits : (plant : Plant) (start : Start) (run : Run) → Fits plant start → run_on plant start.task start.unit ≡ Some run →
+    run.task ≡ start.task → run.unit ≡ start.unit → has_slot plant run start.period ≡ true
+unfolding has_slot end_of
+least-fits plant start run fits found task unit =
+    let parts = fit_parts plant start fits in
+    let size = subst (λ (o : Option Run). IsSomeAnd o (λ r. (r.min ≤ start.quanta) × (start.quanta ≤ r.max))) found parts.size in
+    let found2 : run_on plant run.task run.unit ≡ Some run = ap₂ (run_on plant) task unit ∙ found in
+    fits_from_parts plant (least_start run start.period) (record {
+      size = subst (λ (o : Option Run). IsSomeAnd o (λ r. (r.min ≤ run.min) × (run.min ≤ r.max))) (sym found2) (omega arith, omega (arith, size.0, size.1));
+      ends = rw task parts.ends;
+      in_use = rw (task, unit) parts.in_use;
+    })
+
 -- a start that fits, and the run and the slot that it is of
 pub record FitsAt (plant : Plant) (start : Start) : Type 0 where
   pub run : ℕ
@@ -54,9 +69,10 @@ pub record FitsAt (plant : Plant) (start : Start) : Type 0 where
   pub most : start.quanta ≤ (run_at plant run).max
 
 pub fits-at : (plant : Plant) (start : Start) → Sound plant → Fits plant start → FitsAt plant start
-unfolding run_on run_number end_of has_slot
+unfolding run_on run_number end_of
 fits-at plant start sound fits =
-    let found = some_and (run_on plant start.task start.unit) (λ run. (run.min ≤ start.quanta) × (start.quanta ≤ run.max)) fits.size in
+    let parts_of = fit_parts plant start fits in
+    let found = some_and (run_on plant start.task start.unit) (λ run. (run.min ≤ start.quanta) × (start.quanta ≤ run.max)) parts_of.size in
     let at = found_at (is_of start.task start.unit) plant.runs found.0 found.1.0 in
     let same : run_at plant at.place ≡ found.0 = at.is no_run in
     let of : is_of start.task start.unit (run_at plant at.place) ≡ true = rw same at.holds in
@@ -66,14 +82,14 @@ fits-at plant start sound fits =
     let is : SoundRun plant (run_at plant at.place) = sound.runs at.place no_run at.within in
     let there : start.task < length plant.tasks = rw task at is.task in
     let long = duration_pos plant start.task sound there in
-    let ends : start.period + duration_of (task_at plant start.task) ≤ plant.periods = fits.ends in
+    let ends : start.period + duration_of (task_at plant start.task) ≤ plant.periods = parts_of.ends in
     record {
       run = at.place;
       number = at.position_is;
       slot = record {
         run = at.within;
         period = omega (arith, long, ends);
-        has = rw (task, unit) (and_from _ _ (le-leb _ _ ends) fits.in_use);
+        has = least-fits plant start (run_at plant at.place) fits (found.1.0 ∙ ap Some (sym same)) task unit;
       };
       holds = and_from _ _ (eq-eqb start.period start.period refl) of;
       least = rw same found.1.1.0;

@@ -10,7 +10,8 @@ use Rattle.stn_model.specs.declared.plant.Plant.{Plant}
 use Rattle.stn_model.specs.declared.start.Start.{Start}
 use Rattle.stn_model.specs.Fits.{Fits}
 use Rattle.stn_model.specs.Sound.{Sound, SoundRun}
-use Rattle.time_grid.specs.Slots.{no_run, run_at, slots, IsSlotOf, Earlier}
+use Rattle.stn_model.specs.Plant.{no_run, run_at}
+use Rattle.time_grid.specs.Slots.{slots, IsSlotOf, Earlier}
 use Rattle.time_grid.specs.PlanPoint.{ShareSlot, is_in, quanta_of, quanta_in, HasPoint, plan_point, IsPlaceOf, PutsStart}
 use Rattle.time_grid.proofs.SlotList.{slots-are, slots-rise}
 use Rattle.time_grid.proofs.Fitting.{fits-at}

@@ -7,22 +7,23 @@ use Rattle.std.proofs.lemmas.List.Sums.{position_or_len_is}
 use Rattle.std.proofs.lemmas.List.Folds.{find_at}
 use Rattle.std.proofs.lemmas.List.Sorted.{All-permutation, sum_by-IsPermutation}
 use Rattle.std.proofs.lemmas.Option.{slice_get-get_or}
-use Rattle.std.proofs.lemmas.Bool.{eqb-true, eq-eqb, ne_eqb, leb-true, and_parts, and_from, cases_Bool, cases_eq, true≢false}
+use Rattle.std.proofs.lemmas.Bool.{eqb-true, eq-eqb, ne_eqb, and_parts, and_from, cases_Bool, cases_eq, true≢false}
 use Rattle.stn_model.specs.declared.plant.Plant.{Plant}
 use Rattle.stn_model.specs.declared.plant.Run.{Run}
 use Rattle.stn_model.specs.declared.start.Start.{Start}
-use Rattle.stn_model.specs.Plant.{is_of, run_on, end_of}
+use Rattle.stn_model.specs.Plant.{is_of, run_on, end_of, no_run, run_at}
 use Rattle.stn_model.specs.Fits.{Fits}
-use Rattle.stn_model.specs.Points.{has_slot}
+use Rattle.stn_model.specs.Points.{has_slot, least_start}
 use Rattle.stn_model.specs.Sound.{Sound}
-use Rattle.time_grid.specs.Slots.{no_run, run_at, slots, IsSlotOf, Earlier}
-use Rattle.time_grid.specs.PlanPoint.{ShareSlot, is_in, quanta_of, quanta_in, HasPoint, plan_point, point_starts, start_in, IsPlanOf, IsChoice, IsPoint}
+use Rattle.stn_model.proofs.Fitting.{fit_parts, fits_from_parts}
+use Rattle.time_grid.specs.Slots.{slots, IsSlotOf, Earlier}
+use Rattle.time_grid.specs.PlanPoint.{SomeStartFits, HasAllSlots, ShareSlot, is_in, quanta_of, quanta_in, HasPoint, plan_point, point_starts, start_in, IsPlanOf, IsChoice, IsPoint}
 use Rattle.time_grid.proofs.Lists.{AllPairs-head, AllPairs-tail, AllPairs-nil}
-use Rattle.time_grid.proofs.Fitting.{fits-at}
-use Rattle.time_grid.proofs.SlotList.{slots-are, slots-rise}
+use Rattle.time_grid.proofs.Fitting.{fits-at, least-fits}
+use Rattle.time_grid.proofs.SlotList.{slots-are, slots-rise, Contains-slots}
 use Rattle.time_grid.proofs.PlanPoints.{share-from_in, in-from_share, same_slot, same_run}
 use Rattle.time_grid.proofs.Reordered.{AllPairs-permutation}
-use Rattle.time_grid.proofs.OnePlan.{quanta_in-cons, quanta_in-none, map-agree}
+use Rattle.time_grid.proofs.OnePlan.{quanta_in-cons, quanta_in-none, map-agree, ends_later}
 
 -- the start of a slot is in it
 pub in_own : (plant : Plant) (slot : ℕ × ℕ) (value : ℕ) → is_in plant slot (start_in plant slot value) ≡ true
@@ -48,12 +49,39 @@ found_run plant run sound l =
 pub start_in-fits : (plant : Plant) (slot : ℕ × ℕ) (value : ℕ) → Sound plant → IsSlotOf plant slot → (run_at plant slot.0).min ≤ value → value ≤ (run_at plant slot.0).max → Fits plant (start_in plant slot value)
 unfolding end_of has_slot
 start_in-fits plant slot value sound is least most =
-    let parts = and_parts _ _ is.has in
-    record {
+    let parts = fit_parts plant (least_start (run_at plant slot.0) slot.1) is.has in
+    fits_from_parts plant (start_in plant slot value) (record {
       size = subst (λ (o : Option Run). IsSomeAnd o (λ run. (run.min ≤ value) × (value ≤ run.max))) (sym (found_run plant slot.0 sound is.run)) (least, most);
-      ends = leb-true _ _ parts.0;
-      in_use = parts.1;
+      ends = parts.ends;
+      in_use = parts.in_use;
+    })
+
+-- a run and a period in which some start fits are a slot
+slot-from_start : (plant : Plant) (slot : ℕ × ℕ) → Sound plant → SomeStartFits plant slot → IsSlotOf plant slot
+slot-from_start plant slot sound some =
+    let start = start_in plant slot some.quanta in
+    let later = ends_later plant start sound some.fits in
+    let ends = (fit_parts plant start some.fits).ends in
+    record {
+      run = some.run;
+      period = omega (arith, later, ends);
+      has = least-fits plant start (run_at plant slot.0) some.fits (found_run plant slot.0 sound some.run) refl refl;
     }
+
+-- in a slot some start fits: the one with its run's least batch
+start-in_slot : (plant : Plant) (slot : ℕ × ℕ) → IsSlotOf plant slot → SomeStartFits plant slot
+unfolding has_slot
+start-in_slot plant slot is = record { run = is.run; quanta = (run_at plant slot.0).min; fits = is.has }
+
+-- the slots are exactly the pairs of a run and a period in which some start fits
+pub slots-have_all : (plant : Plant) → Sound plant → HasAllSlots plant (slots plant)
+slots-have_all plant sound = record {
+  exact = λ slot. (
+    λ there. start-in_slot plant slot (subst (IsSlotOf plant) there.2 (slots-are plant there.0 slot there.1)),
+    λ some. Contains-slots plant slot (slot-from_start plant slot sound some),
+  );
+  ordered = slots-rise plant;
+}
 
 -- no start of the point's is in a slot that is not among its slots
 not_in : (plant : Plant) (grid : List (ℕ × ℕ)) (values : List ℕ) (slot : ℕ × ℕ) → Sound plant → IsSlotOf plant slot → All (IsSlotOf plant) grid → All (λ t. t ≢ slot) grid →

@@ -12,7 +12,8 @@ use Rattle.stn_model.specs.declared.plant.Run.{Run}
 use Rattle.stn_model.specs.Sums.{sum_below, count_below, product_by, product_below}
 use Rattle.stn_model.specs.Sound.{Sound}
 use Rattle.stn_model.specs.Points.{has_slot, choices, points, slots_of, slot_count}
-use Rattle.time_grid.specs.Slots.{no_run, run_at, run_slots, slots_before, slots, IsGrid, slot_choices, IsSlotOf, Earlier}
+use Rattle.stn_model.specs.Plant.{no_run, run_at}
+use Rattle.time_grid.specs.Slots.{run_slots, slots_before, slots, IsGrid, slot_choices, IsSlotOf, Earlier}
 use Rattle.time_grid.proofs.Lists.{map-range_get_or, All-below, range-more, All-flat_map, Contains-map, Contains-filter, Contains-range, Contains-flat_map, AllPairs-map, AllPairs-range, AllPairs-flat_map}
 
 run_slots-are : (plant : Plant) (run : ℕ) → run < length plant.runs → All (IsSlotOf plant) (run_slots plant run)

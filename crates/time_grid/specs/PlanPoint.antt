@@ -1,11 +1,11 @@
 -- Plans as points: for each slot the quanta that start in it.
-use Rattle.std.specs.Prelude.{◌≡◌, ℕ, ◌<◌, ◌≤◌, ◌==◌, ◌&&◌, ◌⊎◌, Bool, true, false, if◌then◌else◌, List, [], ◌∷◌, map, length, sum_by, All, AllPairs, IsPermutation, slice_index, slice_index_or, slice_set}
+use Rattle.std.specs.Prelude.{◌≡◌, ℕ, ◌<◌, ◌≤◌, ◌==◌, ◌&&◌, ◌⊎◌, Bool, true, false, if◌then◌else◌, List, [], ◌∷◌, map, length, sum_by, All, AllPairs, Contains, ◌↔◌, IsPermutation, slice_index, slice_index_or, slice_set}
 use Rattle.std.specs.List.{AllAdjacentBelow, AllZip}
 use Rattle.stn_model.specs.declared.plant.Plant.{Plant}
 use Rattle.stn_model.specs.declared.start.Start.{Start}
-use Rattle.stn_model.specs.Plant.{is_of}
+use Rattle.stn_model.specs.Plant.{is_of, run_at}
 use Rattle.stn_model.specs.Fits.{Fits}
-use Rattle.time_grid.specs.Slots.{run_at, slots}
+use Rattle.time_grid.specs.Slots.{slots, Earlier}
 
 -- two starts share a slot: they are of one run, in one period
 pub record ShareSlot (a b : Start) : Type 0 where
@@ -37,6 +37,17 @@ plan_point plant plan = map (quanta_in plant plan) (slots plant)
 -- a start of this size in the slot
 abbrev pub start_in : Plant → ℕ × ℕ → ℕ → Start
 start_in plant slot quanta = record { period = slot.1; unit = (run_at plant slot.0).unit; task = (run_at plant slot.0).task; quanta = quanta }
+
+-- some start of the run fits in the period
+pub record SomeStartFits (plant : Plant) (slot : ℕ × ℕ) : Type 0 where
+  pub run : slot.0 < length plant.runs
+  pub quanta : ℕ
+  pub fits : Fits plant (start_in plant slot quanta)
+
+-- the grid has exactly the pairs of a run and a period in which some start fits, by run, then by period
+pub record HasAllSlots (plant : Plant) (grid : List (ℕ × ℕ)) : Type 0 where
+  pub exact : (slot : ℕ × ℕ) → Contains grid slot ↔ SomeStartFits plant slot
+  pub ordered : AllPairs Earlier grid
 
 -- the starts of a point: one in each slot whose value is not 0
 abbrev pub point_starts : Plant → List (ℕ × ℕ) → List ℕ → List Start

@@ -1,19 +1,11 @@
 -- Where batches may start: the slots of a plant.
-use Rattle.std.specs.Prelude.{◌≡◌, ℕ, ◌+◌, ◌-◌, ◌<◌, ◌==◌, ◌&&◌, ◌⊎◌, pos, Bool, true, List, filter, map, length, slice_index_or}
+use Rattle.std.specs.Prelude.{◌≡◌, ℕ, ◌+◌, ◌-◌, ◌<◌, ◌==◌, ◌&&◌, ◌⊎◌, Bool, true, List, filter, map, length}
 use Rattle.std.specs.List.{flat_map, range_with_len}
 use Rattle.stn_model.specs.declared.plant.Plant.{Plant}
-use Rattle.stn_model.specs.declared.plant.Run.{Run}
+use Rattle.stn_model.specs.Plant.{run_at}
 use Rattle.stn_model.specs.Points.{has_slot}
 
--- a run of nothing, in the place of one that is not there
-abbrev pub no_run : Run
-no_run = record { task = 0; unit = 0; min = 0; max = 0; cost = pos 0 }
-
--- the run of this number
-abbrev pub run_at : Plant → ℕ → Run
-run_at plant run = slice_index_or plant.runs run no_run
-
--- the slots of a run in the first periods: its number with each period in which a start of it fits, by period
+-- the slots of a run in the first periods: its number with each period in which some start of it fits, by period
 unfoldable pub slots_before : Plant → ℕ → ℕ → List (ℕ × ℕ)
 slots_before plant run periods = map (λ period. (run, period)) (filter (has_slot plant (run_at plant run)) (range_with_len 0 periods))
 
@@ -21,7 +13,7 @@ slots_before plant run periods = map (λ period. (run, period)) (filter (has_slo
 abbrev pub run_slots : Plant → ℕ → List (ℕ × ℕ)
 run_slots plant run = slots_before plant run plant.periods
 
--- the slots of the plant, each a run and a period in which a start of it fits: by run, then by period
+-- the slots of the plant, each a run and a period in which some start of it fits: by run, then by period
 unfoldable pub slots : Plant → List (ℕ × ℕ)
 slots plant = flat_map (run_slots plant) (range_with_len 0 (length plant.runs))
 
@@ -37,7 +29,7 @@ IsGrid plant grid = grid ≡ slots plant
 abbrev pub slot_choices : Plant → ℕ × ℕ → ℕ
 slot_choices plant slot = (run_at plant slot.0).max - (run_at plant slot.0).min + 2
 
--- a slot of the plant: a run and a period, and a start of the run fits in the period
+-- a slot of the plant: a run, and a period in which some start of it fits
 pub record IsSlotOf (plant : Plant) (slot : ℕ × ℕ) : Type 0 where
   pub run : slot.0 < length plant.runs
   pub period : slot.1 < plant.periods

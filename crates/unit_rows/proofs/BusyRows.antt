@@ -6,10 +6,10 @@ use Rattle.std.proofs.lemmas.List.Elements.{All-map, All-contains}
 use Rattle.std.proofs.lemmas.Bool.{eqb-true, eq-eqb, leb-true, le-leb, ltb-true, lt-ltb, and_parts, and_from, cases_lt}
 use Rattle.stn_model.specs.declared.plant.Plant.{Plant}
 use Rattle.stn_model.specs.declared.start.Start.{Start}
-use Rattle.stn_model.specs.Plant.{end_of}
+use Rattle.stn_model.specs.Plant.{end_of, no_run, run_at}
 use Rattle.stn_model.specs.Batches.{Apart}
 use Rattle.stn_model.specs.Sound.{Sound, SoundRun}
-use Rattle.time_grid.specs.Slots.{no_run, run_at}
+use Rattle.stn_model.proofs.Fitting.{fit_parts}
 use Rattle.time_grid.specs.PlanPoint.{HasPoint, plan_point, start_in}
 use Rattle.time_grid.proofs.Lists.{All-flat_map, Contains-flat_map, Contains-map, Contains-range}
 use Rattle.time_grid.proofs.Fitting.{fits-at}
@@ -116,7 +116,7 @@ apart_from_counts plant plan sound has counts i j d l m e =
     let within : i < length plan = omega arith in
     let later : a.period < end_of plant a = ends_later plant a sound (has.fits i d within) in
     let later2 : b.period < end_of plant b = ends_later plant b sound (has.fits j d m) in
-    let ends : end_of plant a ≤ plant.periods = (has.fits i d within).ends in
+    let ends : end_of plant a ≤ plant.periods = (fit_parts plant a (has.fits i d within)).ends in
     elim (cases_lt b.period (end_of plant a)) [
       | inr h ↦ inl h
       | inl h ↦ elim (cases_lt a.period (end_of plant b)) [

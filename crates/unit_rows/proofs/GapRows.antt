@@ -8,11 +8,11 @@ use Rattle.std.proofs.lemmas.List.Sums.{get_or-le-sum_by, AllPass-from_list_all,
 use Rattle.std.proofs.lemmas.Bool.{eqb-true, eq-eqb, leb-true, le-leb, ltb-true, lt-ltb, and_parts, and_from, or_left, or_right, or_from, not-true, not_from_false, cases_lt, cases_order, cases_Bool, cond-true, cond-false, false_from_ne_true}
 use Rattle.stn_model.specs.declared.plant.Plant.{Plant}
 use Rattle.stn_model.specs.declared.start.Start.{Start}
-use Rattle.stn_model.specs.Plant.{task_at, duration_of, gap_between, end_of}
+use Rattle.stn_model.specs.Plant.{task_at, duration_of, gap_between, end_of, no_run, run_at}
 use Rattle.stn_model.specs.Batches.{Apart, Cleaned, is_amid, is_next}
 use Rattle.stn_model.specs.Points.{meets_gap}
 use Rattle.stn_model.specs.Sound.{Sound, SoundRun}
-use Rattle.time_grid.specs.Slots.{no_run, run_at, slots, is_slot, IsSlotOf}
+use Rattle.time_grid.specs.Slots.{slots, is_slot, IsSlotOf}
 use Rattle.time_grid.specs.PlanPoint.{HasPoint, plan_point, start_in, is_in}
 use Rattle.time_grid.proofs.Lists.{All-flat_map, Contains-flat_map, Contains-map, Contains-filter, Contains-range}
 use Rattle.time_grid.proofs.SlotList.{slots-are, Contains-slots}

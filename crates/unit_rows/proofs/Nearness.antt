@@ -3,9 +3,9 @@ use Rattle.std.proofs.Common.{◌≡◌, ℕ, ◌+◌, ◌==◌, ◌&&◌, nat_l
 use Rattle.std.proofs.lemmas.List.{get_or-map}
 use Rattle.std.proofs.lemmas.Bool.{eqb-true, eqb-false, eq-eqb, ne_eqb}
 use Rattle.stn_model.specs.declared.plant.Plant.{Plant}
-use Rattle.stn_model.specs.Plant.{gap_between}
+use Rattle.stn_model.specs.Plant.{gap_between, no_run, run_at}
 use Rattle.stn_model.specs.Points.{meets_gap}
-use Rattle.time_grid.specs.Slots.{no_run, run_at, IsSlotOf}
+use Rattle.time_grid.specs.Slots.{IsSlotOf}
 use Rattle.unit_rows.specs.Busy.{slot_end, is_on}
 use Rattle.unit_rows.specs.Gaps.{is_too_soon, gap_after}
 

@@ -12,7 +12,8 @@ use Rattle.stn_model.specs.declared.plant.Run.{Run}
 use Rattle.stn_model.specs.Points.{has_slot, meets_gap, gap_pairs}
 use Rattle.stn_model.specs.Sound.{Sound}
 use Rattle.stn_model.specs.Sums.{sum_below, count_below}
-use Rattle.time_grid.specs.Slots.{run_at, slots}
+use Rattle.stn_model.specs.Plant.{run_at}
+use Rattle.time_grid.specs.Slots.{slots}
 use Rattle.time_grid.proofs.SlotList.{sum_by-same, sum_by-filter, sum-slots}
 use Rattle.time_grid.proofs.OnePlan.{sum_by-zero}
 use Rattle.unit_rows.proofs.Counts.{sum_by-add}

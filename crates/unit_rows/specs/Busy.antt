@@ -4,8 +4,8 @@ use Rattle.std.specs.List.{flat_map, range_with_len}
 use Rattle.row_kit.specs.declared.row.Row.{Row}
 use Rattle.row_kit.specs.Row.{entries_from}
 use Rattle.stn_model.specs.declared.plant.Plant.{Plant}
-use Rattle.stn_model.specs.Plant.{task_at, duration_of}
-use Rattle.time_grid.specs.Slots.{run_at, slots}
+use Rattle.stn_model.specs.Plant.{task_at, duration_of, run_at}
+use Rattle.time_grid.specs.Slots.{slots}
 
 -- the time at which a start in the slot ends
 abbrev pub slot_end : Plant → ℕ × ℕ → ℕ

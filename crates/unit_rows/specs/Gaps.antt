@@ -5,9 +5,9 @@ use Rattle.row_kit.specs.declared.row.Row.{Row}
 use Rattle.row_kit.specs.Row.{entries_from}
 use Rattle.stn_model.specs.declared.plant.Plant.{Plant}
 use Rattle.stn_model.specs.declared.plant.Run.{Run}
-use Rattle.stn_model.specs.Plant.{gap_between}
+use Rattle.stn_model.specs.Plant.{gap_between, run_at}
 use Rattle.stn_model.specs.Points.{meets_gap}
-use Rattle.time_grid.specs.Slots.{run_at, slots, is_slot}
+use Rattle.time_grid.specs.Slots.{slots, is_slot}
 use Rattle.unit_rows.specs.Busy.{is_on}
 
 -- the slot is one of these two

@@ -60,7 +60,8 @@ fn push_unit_rows(
 ) -> Result<(), AllocError>
     requires sound { Sound plant.now }
     requires grid { IsGrid plant.now grid.now }
-    ensures ok { OnOk result (into.new.items ≡ into.old.items ++ unit_busy_rows plant.now unit plant.now.periods) }
+    ensures ok { OnOk result (into.new.items
+        ≡ into.old.items ++ unit_busy_rows plant.now unit plant.now.periods) }
     ensures err { OnErr result (take (length into.old.items) into.new.items ≡ into.old.items) }
 {
     for period in 0..plant.periods {
@@ -97,7 +98,8 @@ fn busy_parts(
 ) -> Result<Vec<(i64, i64)>, AllocError>
     requires sound { Sound plant.now }
     requires grid { IsGrid plant.now grid.now }
-    ensures { IfOk result (λ parts. parts.items ≡ map (busy_part plant.now unit period) (slots plant.now)) }
+    ensures { IfOk result (λ parts. parts.items
+        ≡ map (busy_part plant.now unit period) (slots plant.now)) }
 {
     let mut parts = Vec::with_capacity(alloc, grid.slot_count() as usize)?;
     for slot in 0..grid.slot_count() {

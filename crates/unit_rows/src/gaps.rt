@@ -1,6 +1,7 @@
 ghost use Rattle.std.specs.Prelude.{◌≡◌, ◌<◌, ◌^◌, ◌++◌, length, map, take, IfOk, OnOk, OnErr};
 ghost use Rattle.stn_model.specs.Sound.{Sound};
-ghost use Rattle.time_grid.specs.Slots.{run_at, slots, IsGrid, IsSlotOf};
+ghost use Rattle.stn_model.specs.Plant.{run_at};
+ghost use Rattle.time_grid.specs.Slots.{slots, IsGrid, IsSlotOf};
 ghost use Rattle.unit_rows.specs.Busy.{slot_end};
 ghost use Rattle.unit_rows.specs.Gaps.{gap_part, gap_row, is_too_soon, lies_between, gap_after, rows_after, unit_gap_rows, gap_rows};
 
@@ -90,7 +91,8 @@ fn push_rows_after(
     requires grid { IsGrid plant.now grid.now }
     requires slot { IsSlotOf plant.now first }
     requires room { length gaps.old ≡ length plant.now.runs }
-    ensures ok { OnOk result (into.new.items ≡ into.old.items ++ rows_after plant.now first (slots plant.now)) }
+    ensures ok { OnOk result (into.new.items
+        ≡ into.old.items ++ rows_after plant.now first (slots plant.now)) }
     ensures err { OnErr result (take (length into.old.items) into.new.items ≡ into.old.items) }
 {
     fill_gaps(plant, first.0, gaps);
@@ -179,7 +181,8 @@ fn gap_parts(
     requires sound { Sound plant.now }
     requires grid { IsGrid plant.now grid.now }
     requires first { first.0 < length plant.now.runs }
-    ensures { IfOk result (λ parts. parts.items ≡ map (gap_part plant.now first second) (slots plant.now)) }
+    ensures { IfOk result (λ parts. parts.items
+        ≡ map (gap_part plant.now first second) (slots plant.now)) }
 {
     let mut parts = Vec::with_capacity(alloc, grid.slot_count() as usize)?;
     for place in 0..grid.slot_count() {

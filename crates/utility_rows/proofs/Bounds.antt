@@ -6,10 +6,10 @@ use Rattle.std.proofs.lemmas.List.{length-map, get_or_past}
 use Rattle.std.proofs.lemmas.List.Elements.{All-map}
 use Rattle.std.proofs.lemmas.List.Sums.{sum_by-le}
 use Rattle.stn_model.specs.declared.plant.Plant.{Plant}
-use Rattle.stn_model.specs.Plant.{task_at, no_task, utility_at, no_utility}
+use Rattle.stn_model.specs.Plant.{task_at, no_task, utility_at, no_utility, no_run, run_at}
 use Rattle.stn_model.specs.Load.{drawn_in, drawn}
 use Rattle.stn_model.specs.Sound.{Sound}
-use Rattle.time_grid.specs.Slots.{no_run, run_at, slots, IsSlotOf}
+use Rattle.time_grid.specs.Slots.{slots, IsSlotOf}
 use Rattle.time_grid.proofs.SlotList.{slots-are}
 use Rattle.row_kit.specs.Bounds.{AreBounded, IsBoundedRow}
 use Rattle.row_kit.specs.Row.{entries_from}

@@ -8,11 +8,11 @@ use Rattle.std.proofs.lemmas.List.Sums.{sum_by-cons}
 use Rattle.std.proofs.Math.IntN.{pos-*ℤ-pos}
 use Rattle.stn_model.specs.declared.plant.Plant.{Plant}
 use Rattle.stn_model.specs.declared.start.Start.{Start}
-use Rattle.stn_model.specs.Plant.{utility_at, task_at, end_of}
+use Rattle.stn_model.specs.Plant.{utility_at, task_at, end_of, run_at}
 use Rattle.stn_model.specs.Load.{drawn_in, drawn, load}
 use Rattle.stn_model.specs.Feasible.{LoadKept}
 use Rattle.stn_model.specs.Sound.{Sound}
-use Rattle.time_grid.specs.Slots.{slots, run_at}
+use Rattle.time_grid.specs.Slots.{slots}
 use Rattle.time_grid.specs.PlanPoint.{HasPoint, plan_point, start_in}
 use Rattle.time_grid.proofs.PlanPoints.{length-plan_point}
 use Rattle.time_grid.proofs.PointSums.{counted_at, total_zip-is, sum-plan_point}

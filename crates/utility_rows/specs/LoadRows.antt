@@ -2,9 +2,9 @@
 use Rattle.std.specs.Prelude.{ℕ, ℤ, pos, ◌-◌, ◌==◌, ◌&&◌, nat_le, nat_lt, Bool, if◌then◌else◌, List, length, map, sum_by, slice_index}
 use Rattle.stn_model.specs.declared.plant.Plant.{Plant}
 use Rattle.stn_model.specs.declared.plant.Draw.{Draw}
-use Rattle.stn_model.specs.Plant.{utility_at, task_at, end_of}
+use Rattle.stn_model.specs.Plant.{utility_at, task_at, end_of, run_at}
 use Rattle.stn_model.specs.Load.{drawn}
-use Rattle.time_grid.specs.Slots.{slots, run_at}
+use Rattle.time_grid.specs.Slots.{slots}
 use Rattle.time_grid.specs.PlanPoint.{start_in}
 use Rattle.row_kit.specs.declared.row.Row.{Row}
 use Rattle.row_kit.specs.Row.{entries_from}

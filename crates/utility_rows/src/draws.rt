@@ -1,9 +1,8 @@
 //! What batches draw of a utility in a period: a part whatever their size, and a part for each quantum.
 ghost use Rattle.std.specs.Prelude.{◌≡◌, ◌≤◌, ◌<◌, ◌^◌, pos, length, All, sum_by, slice_index};
 ghost use Rattle.stn_model.specs.Sound.{Sound};
-ghost use Rattle.stn_model.specs.Plant.{task_at};
+ghost use Rattle.stn_model.specs.Plant.{task_at, run_at};
 ghost use Rattle.stn_model.specs.Load.{drawn_in};
-ghost use Rattle.time_grid.specs.Slots.{run_at};
 ghost use Rattle.utility_rows.specs.LoadRows.{is_running, fixed_drawn, each_drawn, each_in};
 
 use stn_model::{Draw, Plant, Task, end};

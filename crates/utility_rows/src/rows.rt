@@ -60,7 +60,8 @@ fn push_loads(
     requires grid { IsGrid plant.now grid.now }
     requires utility { utility < length plant.now.utilities }
     requires room { length parts.old ≡ length grid.now }
-    ensures { OnOk result (rows.new.items ≡ rows.old.items ++ rows_below (load_row plant.now utility) plant.now.periods) }
+    ensures { OnOk result (rows.new.items
+        ≡ rows.old.items ++ rows_below (load_row plant.now utility) plant.now.periods) }
 {
     for period in 0..plant.periods {
         rows.push(load_row(alloc, plant, grid, utility, period, parts)?)?;

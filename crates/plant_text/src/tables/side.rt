@@ -1,19 +1,19 @@
 //! The inputs and outputs of a task.
 ghost use Rattle.std.specs.Prelude.{◌≡◌, ◌<◌, ◌≤◌, All, None, Some, [], ◌∷◌, not, length, map, if◌then◌else◌, IfOk};
-ghost use Rattle.fraction.specs.Fractions.{IsProper};
+ghost use Rattle.fraction.specs.Fractions.{IsProper, is_whole};
 ghost use Rattle.toml.specs.View.{view, table_view};
 ghost use Rattle.plant_text.specs.Tests.{Gives, rows_tests};
 ghost use Rattle.plant_text.specs.Fields.{fault, field_tests, kind_tests, at_key, items_of};
 ghost use Rattle.plant_text.specs.Fields as kind;
 ghost use Rattle.plant_text.specs.Scope.{scope_of};
-ghost use Rattle.plant_text.specs.Tables.{side_tests, side_of, is_output, is_whole, amount_in, sums_to_one, output_of, share_tests, whole_tests, sides_tests, outputs_in};
+ghost use Rattle.plant_text.specs.Tables.{side_tests, side_of, is_output, output_of, share_tests, whole_tests, sides_tests, outputs_in};
 
 use crate::fault::{KeyName, Place, PlantStop, TableName};
 use crate::find::{Key, key, present, read_fields};
 use crate::rows::Row;
 use crate::scope::{Context, Owner};
 use crate::values::{count, part, reference, rows_in};
-use fraction::Fraction;
+use fraction::{Fraction, sums_to_one};
 use std::alloc::{AllocError, Global};
 use stn_model::limits::{MAX_DELAY, MAX_SIDE};
 use stn_model::{List, Output};
@@ -61,13 +61,6 @@ impl Row for SidePart {
     }
 }
 
-fn amount_of(part: Fraction, quantum: u32) -> Option<u64>
-    requires { 0 < part.under }
-    ensures { result ≡ (if is_whole quantum part then Some (amount_in quantum part) else None) }
-{
-    part.times(quantum)
-}
-
 #[tactic(auto, unfolding(crate::specs::Tests::first_fault))]
 fn share(owner: Owner, quantum: u32, inner: u32, side: &SidePart) -> Result<Output, PlantStop>
     requires { 0 < side.now.part.under }
@@ -78,7 +71,7 @@ fn share(owner: Owner, quantum: u32, inner: u32, side: &SidePart) -> Result<Outp
         item: owner.item,
         inner,
     };
-    match amount_of(side.part, quantum) {
+    match side.part.times(quantum) {
         Some(amount) => Ok(Output {
             state: side.state,
             amount,
@@ -94,7 +87,7 @@ fn whole_shares(
     quantum: u32,
     sides: &[SidePart],
 ) -> Result<List<Output>, PlantStop>
-    requires few { length sides.now ≤ MAX_SIDE }
+    requires few { length sides.now ≤ 8 }
     requires proper { All (λ side. IsProper side.part) sides.now }
     ensures { Gives result (rows_tests (whole_tests owner quantum) (output_of quantum) [] sides.now) (map (output_of quantum) sides.now) }
 {
@@ -112,14 +105,6 @@ fn parts_of(alloc: Global, sides: &[SidePart]) -> Result<Vec<Fraction>, AllocErr
     sides.iter().map(|side| side.part).collect(alloc)
 }
 
-fn add_up(parts: &[Fraction]) -> bool
-    requires few { length parts.now ≤ 8 }
-    requires proper { All IsProper parts.now }
-    ensures { result ≡ sums_to_one parts.now }
-{
-    fraction::sums_to_one(parts)
-}
-
 /// The amounts of the items of a side, whose parts have to sum to one.
 #[tactic(auto, unfolding(crate::specs::Tables::share_tests, crate::specs::Tests::first_fault))]
 fn shares(
@@ -128,7 +113,7 @@ fn shares(
     quantum: u32,
     sides: &[SidePart],
 ) -> Result<List<Output>, PlantStop>
-    requires few { length sides.now ≤ MAX_SIDE }
+    requires few { length sides.now ≤ 8 }
     requires proper { All (λ side. IsProper side.part) sides.now }
     ensures { Gives result (share_tests owner quantum sides.now) (map (output_of quantum) sides.now) }
 {
@@ -138,7 +123,7 @@ fn shares(
         inner: 0,
     };
     let parts = parts_of(alloc, sides)?;
-    if !add_up(parts.as_slice()) {
+    if !sums_to_one(parts.as_slice()) {
         return Err(place.stop(12, KeyName::Whole));
     }
     whole_shares(alloc, owner, quantum, sides)
@@ -154,7 +139,7 @@ fn sides_in(
     quantum: u32,
 ) -> Result<List<Output>, PlantStop>
     requires { context.now.periods ≤ 336 }
-    ensures { Gives result (kind_tests place name (kind.tables MAX_SIDE (sides_tests (scope_of context.now) owner quantum)) (view value.now)) (outputs_in (scope_of context.now) (is_output owner.table) quantum (items_of (view value.now))) }
+    ensures { Gives result (kind_tests place name (kind.tables 8 (sides_tests (scope_of context.now) owner quantum)) (view value.now)) (outputs_in (scope_of context.now) (is_output owner.table) quantum (items_of (view value.now))) }
 {
     let sides: List<SidePart> = rows_in(alloc, value, place, name, MAX_SIDE, context, owner)?;
     shares(alloc, owner, quantum, sides.as_slice())
@@ -172,7 +157,7 @@ pub fn sides(
     quantum: u32,
 ) -> Result<List<Output>, PlantStop>
     requires { context.now.periods ≤ 336 }
-    ensures { Gives result (field_tests place (table_view table.now) (record { key = key; kind = kind.tables MAX_SIDE (sides_tests (scope_of context.now) owner quantum) })) (outputs_in (scope_of context.now) (is_output owner.table) quantum (at_key items_of [] (table_view table.now) key)) }
+    ensures { Gives result (field_tests place (table_view table.now) (record { key = key; kind = kind.tables 8 (sides_tests (scope_of context.now) owner quantum) })) (outputs_in (scope_of context.now) (is_output owner.table) quantum (at_key items_of [] (table_view table.now) key)) }
 {
     match present(table, place, key)? {
         None => Ok(List::new(alloc)),

@@ -1,7 +1,6 @@
 //! Tasks.
 ghost use Rattle.std.specs.Prelude.{◌≡◌, length, map, IfOk};
-ghost use Rattle.stn_model.specs.Sums.{greatest_by};
-ghost use Rattle.plant_text.specs.Tables.{task_tests, task_of, input_of};
+ghost use Rattle.plant_text.specs.Tables.{task_tests, task_of, input_of, duration_with};
 
 use crate::fault::{Place, PlantStop, TableName};
 use crate::find::{key, read_fields};
@@ -14,8 +13,9 @@ use stn_model::limits::{MAX_QUANTUM, MAX_SIDE};
 use stn_model::{Input, List, Output, Task};
 use toml::Value;
 
+#[tactic(auto, unfolding(stn_model::specs::Plant::duration_of))]
 fn longest(outputs: &[Output]) -> u32
-    ensures { result ≡ greatest_by (λ output. output.delay) outputs.now }
+    ensures { result ≡ duration_with outputs.now }
 {
     let mut longest = 0;
     for output in outputs {

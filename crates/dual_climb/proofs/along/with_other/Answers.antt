@@ -12,6 +12,6 @@ returns-clause-value c = λ v.
     (c.opposite-2.ensures.value v) (c.with_entry-2.ensures.value v) (c.opposite.ensures.value v) (c.with_entry.ensures.value v)
 
 pub returns-clause-within : goal.returns-clause-within
-returns-clause-within c =
-    let one = c.opposite.ensures.within (2 ^ 97 + 2 ^ 71) (c.with_entry.ensures.within (2 ^ 97) c.requires.within) in
-    within_le (2 ^ 97 + 2 ^ 71 + 2 ^ 71) (2 ^ 98) c.opposite-2.result (c.opposite-2.ensures.within (2 ^ 97 + 2 ^ 71 + 2 ^ 71) (c.with_entry-2.ensures.within (2 ^ 97 + 2 ^ 71) one)) (omega arith)
+returns-clause-within c = λ most h.
+    within_le (most + 2 ^ 71 + 2 ^ 71) (most + 2 ^ 72) c.opposite-2.result
+    (c.opposite-2.ensures.within (most + 2 ^ 71 + 2 ^ 71) (c.with_entry-2.ensures.within (most + 2 ^ 71) (c.opposite.ensures.within (most + 2 ^ 71) (c.with_entry.ensures.within most h)))) (omega arith)

@@ -5,8 +5,8 @@ use Rattle.row_kit.specs.Area.{present}
 use Rattle.dual_bound.specs.declared.cert.Mult.{Mult}
 use Rattle.dual_bound.specs.Total.{total_of}
 use Rattle.dual_climb.specs.Climbed.{raised}
-use Rattle.dual_climb.specs.Factors.{HaveSameSums, cert_of}
-use Rattle.dual_climb.specs.RowBest.{with_factor}
+use Rattle.dual_climb.specs.Factors.{cert_of, with_factor}
+use Rattle.dual_climb.specs.laws.Sums.{HaveSameSums}
 use Rattle.dual_climb.proofs.Sums.{best_same}
 use Rattle.dual_climb.proofs.Usable.{keeps, total_is}
 use Rattle.dual_climb.proofs.climbing.eased.Goals as goal

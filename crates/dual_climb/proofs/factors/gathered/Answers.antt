@@ -3,7 +3,7 @@ use Rattle.std.proofs.Common.{◌≡◌, ◌∙◌, List, [], ◌++◌, length, 
 use Rattle.std.proofs.lemmas.List.{at_drop_all}
 use Rattle.dual_bound.specs.declared.cert.Mult.{Mult}
 use Rattle.dual_bound.specs.Total.{are_fit}
-use Rattle.dual_climb.specs.Factors.{weighted}
+use Rattle.dual_climb.specs.laws.Sums.{weighted}
 use Rattle.dual_climb.proofs.Numbering.{kept, kept_few, kept_fit, kept_same}
 use Rattle.dual_climb.proofs.factors.gathered.Goals as goal
 

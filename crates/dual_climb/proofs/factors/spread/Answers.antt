@@ -6,7 +6,7 @@ use Rattle.std.proofs.lemmas.List.Elements.{All-push}
 use Rattle.std.proofs.Math.IntN.{zero-*ℤ, +ℤ_idr}
 use Rattle.dual_bound.specs.declared.cert.Mult.{Mult}
 use Rattle.dual_bound.specs.Total.{are_fit, IsFitMult}
-use Rattle.dual_climb.specs.Factors.{weighted, factor_first, AreNumbered}
+use Rattle.dual_climb.specs.laws.Sums.{weighted, factor_first, AreNumbered}
 use Rattle.dual_climb.proofs.Numbering.{first_small, none_left, numbered_push, row_passed, row_taken, weighted_push}
 use Rattle.dual_climb.proofs.factors.spread.Goals as goal
 use Rattle.dual_climb.proofs.factors.spread.Goals.{then-factor-ne0, else-factor-ne0}

@@ -2,7 +2,7 @@
 use Rattle.std.proofs.Common.{◌≡◌, ℕ, ◌≤◌, length, drop, true, ℤ, ◌+ℤ◌}
 use Rattle.std.specs.List.{All}
 use Rattle.dual_bound.specs.Total.{are_fit, IsFitMult}
-use Rattle.dual_climb.specs.Factors.{weighted, AreNumbered}
+use Rattle.dual_climb.specs.laws.Sums.{weighted, AreNumbered}
 use Rattle.dual_climb.proofs.factors.spread.Given as goal
 
 abbrev pub invariant-loop-number : goal.invariant-loop-number

@@ -6,7 +6,9 @@ use Rattle.row_kit.specs.Area.{present}
 use Rattle.dual_bound.specs.declared.cert.Mult.{Mult}
 use Rattle.dual_bound.specs.Cap.{scaled_cap}
 use Rattle.dual_climb.specs.Factors.{cert_of}
-use Rattle.dual_climb.specs.RowBest.{BestBy, IsReached}
+use Rattle.dual_climb.specs.Polished.{IsReached}
+use Rattle.dual_climb.specs.RowBest.{BestBy}
+use Rattle.dual_climb.proofs.Lowered.{lowered_more, lowered_none}
 use Rattle.dual_climb.proofs.Passes.{each_or, one_more}
 use Rattle.dual_climb.proofs.polishing.pass.Goals as goal
 use Rattle.dual_climb.proofs.polishing.pass.Goals.{then-step, else-step}
@@ -26,6 +28,7 @@ loop-number-preserved c =
     let new = c.step.new.held in
     let old = c.loop-number.held in
     let inv = c.loop-number.invariant in
+    let changes = lowered_more fall p ds scale c.args.held.now.mults.items old.mults.items new.mults.items inv.changes c.step.ensures.changes in
     elim c.if-step.branch [
       | then-step w ↦
           let fell = lower new.total old.total c.args.held.now.total fall (c.step.ensures.fell w.if-step.true) inv.never in
@@ -33,6 +36,7 @@ loop-number-preserved c =
             held = c.step.ensures.held;
             never = under new.total c.args.held.now.total fall fell;
             fell = λ _. fell;
+            changes = changes;
             same = λ e. absurd (false≢true (sym e ∙ w.changed-is));
             best = λ e. absurd (false≢true (sym e ∙ w.changed-is));
           }
@@ -42,6 +46,7 @@ loop-number-preserved c =
           record {
             held = c.step.ensures.held;
             never = subst (λ (x : ℤ). x ≤ℤ c.args.held.now.total) (sym same.1) inv.never;
+            changes = changes;
             fell = λ e. subst (λ (x : ℤ). (x +ℤ pos fall) ≤ℤ c.args.held.now.total) (sym same.1) (inv.fell (sym w.changed-is ∙ e));
             same = λ e. same.0 ∙ inv.same (sym w.changed-is ∙ e);
             best = λ e.

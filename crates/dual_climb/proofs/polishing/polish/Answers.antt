@@ -1,41 +1,33 @@
 -- The factors that are not 0 have the total of all.
-use Rattle.std.proofs.Common.{◌≡◌, ◌∙◌, ℕ, Option, Some, length, sym, ap, subst, inl, inr, true, arith, ℤ}
+use Rattle.std.proofs.Common.{◌≡◌, ◌∙◌, ℕ, length, ap, subst, sym, true, arith, rules}
 use Rattle.row_kit.specs.Area.{present}
-use Rattle.dual_bound.specs.Cap.{scaled_cap}
-use Rattle.dual_bound.specs.Total.{are_fit, total_at}
-use Rattle.dual_climb.specs.Factors.{weighted, HaveSameSums, cert_of}
-use Rattle.dual_climb.specs.RowBest.{IsReached}
-use Rattle.dual_climb.proofs.Sums.{best_same, total_same}
-use Rattle.dual_climb.proofs.Usable.{has_other, keeps, never_rises, total_is}
+use Rattle.dual_bound.specs.declared.cert.Cert.{Cert}
+use Rattle.dual_bound.specs.Total.{are_fit}
+use Rattle.dual_climb.specs.Factors.{cert_of}
+use Rattle.dual_climb.specs.laws.Sums.{weighted}
+use Rattle.dual_climb.proofs.Ended.{done_changed, done_kept, Descended, IsDone}
 use Rattle.dual_climb.proofs.polishing.polish.Goals as goal
+use Rattle.dual_climb.proofs.polishing.polish.Goals.{then-descend+in_ok-cert, else-descend}
 
-pub returns-clause-total : goal.returns-clause-total
-returns-clause-total c =
+pub returns : goal.returns
+returns c =
     let p = c.args.program.now in
     let ds = present c.args.area.now in
     let cert = c.args.cert.now in
     let new = c.descend.new.held in
-    let list = c.in_ok-cert.field-0 in
-    let rows : length c.as_slice.result.now ≡ length p.rows = ap length c.as_slice.ensures.value ∙ c.descend.ensures.held.full.all in
-    let fit : are_fit (length p.rows) 0 list ≡ true = subst (λ (n : ℕ). are_fit n 0 list ≡ true) rows c.in_ok-cert.ensures.fit in
-    let same : HaveSameSums list new.mults.items = λ worth. c.in_ok-cert.ensures.same worth ∙ ap (weighted worth) c.as_slice.ensures.value in
-    let has = has_other p ds cert list (keeps p ds cert c.requires.total) fit (omega (arith, rows, c.in_ok-cert.ensures.few)) in
-    let total : total_at p ds (cert_of cert.scale list) ≡ Some new.total = total_is p ds (cert_of cert.scale list) has ∙ ap (λ (x : ℤ). Some x) (total_same p ds cert.scale list new.mults.items same ∙ sym c.descend.ensures.held.is_total) in
-    never_rises (total_at p ds cert) (total_at p ds (cert_of cert.scale list)) c.in_ok-held.held.total new.total c.in_ok-held.ensures.total total c.descend.ensures.fell
-
-pub returns-clause-best : goal.returns-clause-best
-returns-clause-best c =
-    let p = c.args.program.now in
-    let ds = present c.args.area.now in
-    let cert = c.args.cert.now in
-    let new = c.descend.new.held in
-    let list = c.in_ok-cert.field-0 in
-    let rows : length c.as_slice.result.now ≡ length p.rows = ap length c.as_slice.ensures.value ∙ c.descend.ensures.held.full.all in
-    let fit : are_fit (length p.rows) 0 list ≡ true = subst (λ (n : ℕ). are_fit n 0 list ≡ true) rows c.in_ok-cert.ensures.fit in
-    let same : HaveSameSums list new.mults.items = λ worth. c.in_ok-cert.ensures.same worth ∙ ap (weighted worth) c.as_slice.ensures.value in
-    let has = has_other p ds cert list (keeps p ds cert c.requires.total) fit (omega (arith, rows, c.in_ok-cert.ensures.few)) in
-    let total : total_at p ds (cert_of cert.scale list) ≡ Some new.total = total_is p ds (cert_of cert.scale list) has ∙ ap (λ (x : ℤ). Some x) (total_same p ds cert.scale list new.mults.items same ∙ sym c.descend.ensures.held.is_total) in
-    elim c.descend.ensures.best [
-      | inl best ↦ inl (λ row lt. best_same cert.scale p ds cert.scale new.mults.items list (λ worth. sym (same worth)) row (best row lt))
-      | inr reached ↦ inr (subst (λ (o : Option ℤ). IsReached c.args.stop (scaled_cap cert.scale o)) (sym total) reached)
-    ]
+    let held = c.in_ok-held.held in
+    let d : Descended p ds cert c.args.stop held.mults.items new.mults.items held.total new.total =
+    record { same = c.in_ok-held.ensures.same; was = c.in_ok-held.ensures.total; is_total = c.descend.ensures.held.is_total; never = c.descend.ensures.never; lowered = c.descend.ensures.changes; best = c.descend.ensures.best } in
+    let done : IsDone p ds cert c.if-descend.cert c.args.stop =
+    elim c.if-descend.branch [
+      | then-descend+in_ok-cert w ↦
+          let list = w.in_ok-cert.field-0 in
+          let rows : length w.as_slice.result.now ≡ length p.rows = ap length w.as_slice.ensures.value ∙ c.descend.ensures.held.gained.full.all in
+          subst (λ (x : Cert). IsDone p ds cert x c.args.stop) (sym w.cert-is)
+          (done_changed p ds cert c.args.stop held.mults.items new.mults.items list held.total new.total d c.requires.total (c.descend.ensures.fell w.if-descend.true)
+          (subst (λ (n : ℕ). are_fit n 0 list ≡ true) rows w.in_ok-cert.ensures.fit) (omega (arith, rows, w.in_ok-cert.ensures.few)) (λ worth. w.in_ok-cert.ensures.same worth ∙ ap (weighted worth) w.as_slice.ensures.value))
+      | else-descend w ↦
+          subst (λ (x : Cert). IsDone p ds cert x c.args.stop) (sym w.cert-is)
+          (done_kept p ds cert c.args.stop held.mults.items new.mults.items held.total new.total d c.requires.total (c.descend.ensures.same w.if-descend.false))
+    ] in
+    record { scale = search rules; total = done.total; changes = done.changes; kept = done.kept; err = search rules; best = done.best }

@@ -4,7 +4,7 @@ use Rattle.stn_edge.specs.Files.{file_of}
 use Rattle.row_relax.specs.View.{view_of}
 use Rattle.proof_log.specs.LogReading.{HasRead, IsPartAfter}
 use Rattle.log_check.specs.declared.verdict.LogVerdict.TheVariants.{No}
-use Rattle.log_check.specs.Verdict.{IsVerdict, Answers, limits_of}
+use Rattle.log_check.specs.Verdict.{IsVerdict, IsEndVerdict, limits_of}
 use Rattle.log_check.proofs.Judging.{bad_verdict}
 use Rattle.log_check.proofs.Taking.{begun, item_may, item_taken, claim_taken, end_over, end_claimed, taken_verdict, taken_holds}
 use Rattle.log_check.proofs.checking.check_rows.Goals as goal
@@ -48,7 +48,7 @@ returns-in-End-clause-verdict g c =
     let limits = limits_of program c.args.depth in
     subst (λ t. IfSome t (λ m. IsVerdict program c.args.depth (file_of m c.args.name.now) c.verdict.result)) c.parts.invariant.same
     (taken_verdict taken c.next.new.self c.in_ok-line.field-0 (c.in_ok-line.ensures.part limits taken.items c.parts.claimed taken.read) c.in-End.version c.in-End.is c.verdict.result
-    (subst (λ o. IfSome c.parts.claimed (λ claim. Answers program o c.parts.began claim c.verdict.result)) c.course.ensures c.verdict.ensures))
+    (subst (λ o. IfSome c.parts.claimed (λ claim. IsEndVerdict program o c.parts.began claim c.verdict.result)) c.course.ensures c.verdict.ensures))
 
 pub returns-in-End-clause-holds : goal.returns-in-End-clause-holds
 returns-in-End-clause-holds g c =
@@ -56,7 +56,7 @@ returns-in-End-clause-holds g c =
     let program = c.args.rows.now.program in
     let limits = limits_of program c.args.depth in
     taken_holds taken c.next.new.self c.in_ok-line.field-0 (c.in_ok-line.ensures.part limits taken.items c.parts.claimed taken.read) c.in-End.version c.in-End.is c.verdict.result
-    (subst (λ o. IfSome c.parts.claimed (λ claim. Answers program o c.parts.began claim c.verdict.result)) c.course.ensures c.verdict.ensures)
+    (subst (λ o. IfSome c.parts.claimed (λ claim. IsEndVerdict program o c.parts.began claim c.verdict.result)) c.course.ensures c.verdict.ensures)
 
 pub returns-in-Bad-clause-verdict : goal.returns-in-Bad-clause-verdict
 returns-in-Bad-clause-verdict g c =

@@ -1,5 +1,5 @@
 use Rattle.std.proofs.Common.{◌≡◌, ◌≤◌, ◌*◌, ◌^◌, sum_by, take}
-use Rattle.plain_plan.specs.Summands.{given_by}
+use Rattle.stn_model.specs.Stock.{given_by}
 use Rattle.plain_plan.proofs.stock.given_of.Given as goal
 
 abbrev pub invariant-loop-output : goal.invariant-loop-output

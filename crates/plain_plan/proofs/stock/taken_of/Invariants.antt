@@ -1,5 +1,5 @@
 use Rattle.std.proofs.Common.{◌≡◌, ◌≤◌, ◌*◌, ◌^◌, sum_by, take}
-use Rattle.plain_plan.specs.Summands.{taken_by}
+use Rattle.stn_model.specs.Stock.{taken_by}
 use Rattle.plain_plan.proofs.stock.taken_of.Given as goal
 
 abbrev pub invariant-loop-input : goal.invariant-loop-input

@@ -8,6 +8,7 @@ use Rattle.stn_model.specs.Load.{drawn}
 use Rattle.plan_sim.specs.Moves.{HasRow, drawn_until}
 use Rattle.stn_model.proofs.Fitting.{placed-Fits}
 use Rattle.plan_sim.proofs.Placed.{draws_rows, draws_fixed, draws_each, begins_first}
+use Rattle.stn_model.proofs.Fitting.{fit_parts}
 use Rattle.plan_sim.proofs.loads.draw_batch.Goals as goal
 
 pub draw_task-requires-clause-quanta : goal.draw_task-requires-clause-quanta
@@ -32,3 +33,6 @@ returns-clause-drawn c = λ u p h.
     let all : drawn_until c.as_slice.result.now c.args.start.now c.end-ending.result u p ≡ drawn c.args.plant.now u p c.args.start.now =
     ap (λ (xs : List Draw). drawn_until xs c.args.start.now c.end-ending.result u p) draws ∙ ap (λ (e : ℕ). drawn_until (task_at c.args.plant.now c.args.start.now.task).draws c.args.start.now e u p) c.end-ending.ensures in
     omega (arith, c.draw_task.ensures.drawn u p h, all)
+
+pub draw_task-requires-clause-within : goal.draw_task-requires-clause-within
+draw_task-requires-clause-within c = omega (arith, c.end-ending.ensures, (fit_parts c.args.plant.now c.args.start.now c.requires.fits).ends)

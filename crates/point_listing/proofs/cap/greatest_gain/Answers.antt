@@ -1,7 +1,7 @@
 -- All sizes of the run have been tried.
 use Rattle.std.proofs.Common.{◌≡◌, ◌+◌, ◌-◌, ap, ◌∙◌, arith}
 use Rattle.std.proofs.lemmas.List.{get_or_default}
-use Rattle.time_grid.specs.Slots.{no_run, run_at}
+use Rattle.stn_model.specs.Plant.{no_run, run_at}
 use Rattle.time_grid.specs.PlanPoint.{start_in}
 use Rattle.point_listing.specs.Cap.{gain, greatest_below, slot_gain}
 use Rattle.point_listing.proofs.cap.greatest_gain.Goals as goal

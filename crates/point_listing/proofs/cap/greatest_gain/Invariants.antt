@@ -1,5 +1,5 @@
 use Rattle.std.proofs.Common.{◌≡◌, ◌+◌, ◌≤◌, ◌^◌, unsigned_abs}
-use Rattle.time_grid.specs.Slots.{run_at}
+use Rattle.stn_model.specs.Plant.{run_at}
 use Rattle.time_grid.specs.PlanPoint.{start_in}
 use Rattle.point_listing.specs.Cap.{gain, greatest_below}
 use Rattle.point_listing.proofs.cap.greatest_gain.Given as goal

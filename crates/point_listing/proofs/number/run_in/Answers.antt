@@ -2,7 +2,7 @@
 use Rattle.std.proofs.Common.{◌≡◌, sym, ap, ◌∙◌, subst}
 use Rattle.std.proofs.lemmas.List.{get_or_default}
 use Rattle.stn_model.specs.Sound.{SoundRun}
-use Rattle.time_grid.specs.Slots.{no_run, run_at}
+use Rattle.stn_model.specs.Plant.{no_run, run_at}
 use Rattle.point_listing.specs.Numbered.{slot_at}
 use Rattle.point_listing.proofs.Numbers.{slot_run, slot_is, slot_there}
 use Rattle.point_listing.proofs.number.run_in.Goals as goal

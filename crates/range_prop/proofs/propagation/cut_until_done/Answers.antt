@@ -20,7 +20,7 @@ returns-in_err-more-clause-slots c = c.step.ensures.slots ∙ HasCut-slots c.arg
 pub loop-more-preserved : goal.loop-more-preserved
 loop-more-preserved c = record {
   cut = HasCut-then c.args.program.now.rows c.args.area.now c.loop-more.area c.step.new.area c.args.cuts.now.items c.loop-more.cuts.items c.step.new.cuts.items c.loop-more.invariant.cut c.in_ok-more.ensures.cut;
-  done = c.in_ok-more.ensures.done;
+  room = c.in_ok-more.ensures.room;
   open' = c.in_ok-more.ensures.open_;
   quiet = c.in_ok-more.ensures.quiet;
   count = c.step.ensures.count ∙ c.loop-more.invariant.count;

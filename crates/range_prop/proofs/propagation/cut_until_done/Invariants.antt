@@ -3,14 +3,14 @@ use Rattle.std.proofs.Common.{◌≡◌, ◌+◌, ◌*◌, true, false, length, 
 use Rattle.std.specs.List.{All, sum_by}
 use Rattle.row_kit.specs.Area.{present}
 use Rattle.row_kit.specs.Domain.{count_of, IsOpen}
-use Rattle.range_prop.specs.Cuts.{AreDone, HasCut}
-use Rattle.range_prop.specs.Queue.{AreQuiet}
+use Rattle.range_prop.specs.Cuts.{HasCut, HaveRoom}
+use Rattle.range_prop.specs.laws.Queue.{AreQuiet}
 use Rattle.range_prop.proofs.propagation.cut_until_done.Given as goal
 
 abbrev pub invariant-loop-more : goal.invariant-loop-more
 invariant-loop-more l = record {
   cut : HasCut l.program.rows l.initial.area l.area l.initial.cuts.items l.cuts.items;
-  done : l.more ≡ false → AreDone l.program.rows (present l.area);
+  room : l.more ≡ false → HaveRoom l.program.rows (present l.area);
   open' : l.more ≡ true → All IsOpen (present l.area);
   quiet : l.more ≡ true → AreQuiet l.program.rows (present l.area) l.queue.waiting.items;
   count : length l.queue.waiting.items ≡ length l.program.rows;

@@ -10,7 +10,7 @@ use Rattle.row_kit.specs.Domain.{IsBare, IsOpen}
 use Rattle.range_prop.specs.declared.row_cut.RowCut.{RowCut}
 use Rattle.row_kit.specs.Row.{row_at}
 use Rattle.range_prop.specs.Cuts.{HasCut, HasRoom}
-use Rattle.range_prop.specs.Queue.{AreAwake}
+use Rattle.range_prop.specs.laws.Queue.{AreAwake}
 use Rattle.range_prop.specs.Index.{list_of}
 use Rattle.range_prop.proofs.Sequences.{HasCut-fewer}
 use Rattle.range_prop.proofs.Rounds.{few_wait, look_less, look_quiet, made_is, made_named}

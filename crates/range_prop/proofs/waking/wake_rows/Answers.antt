@@ -1,8 +1,9 @@
 -- One row more waits, and those before it still do.
 use Rattle.std.proofs.Common.{◌≡◌, ◌∙◌, ℕ, Bool, true, List, take, subst, arith}
 use Rattle.std.proofs.lemmas.List.{take_all}
-use Rattle.std.proofs.lemmas.List.Elements.{All-more, All-weaker}
-use Rattle.range_prop.specs.Queue.{AreAwake, waits}
+use Rattle.std.proofs.lemmas.List.Elements.{All-more}
+use Rattle.range_prop.specs.laws.Queue.{AreAwake, waits}
+use Rattle.range_prop.proofs.Rounds.{AreAwake-kept}
 use Rattle.range_prop.proofs.waking.wake_rows.Goals as goal
 
 abbrev IsAwake : List Bool → ℕ → ℕ → Type 0
@@ -18,7 +19,7 @@ loop-row-preserved c =
       count = c.wake_other.ensures.count ∙ c.loop-row.invariant.count;
       kept = λ row h. c.wake_other.ensures.kept row (c.loop-row.invariant.kept row h);
       woken = All-more (IsAwake new' c.args.cutter) rows i 0 c.loop-row-test.true
-          (All-weaker (IsAwake old c.args.cutter) (IsAwake new' c.args.cutter) (λ row h apart. c.wake_other.ensures.kept row (h apart)) (take i rows) c.loop-row.invariant.woken)
+          (AreAwake-kept old new' c.args.cutter (take i rows) c.wake_other.ensures.kept c.loop-row.invariant.woken)
           c.in_ok-wake_other.ensures.woken;
     }
 

@@ -1,6 +1,6 @@
 -- The rows so far wait, and what waited before does.
 use Rattle.std.proofs.Common.{◌≡◌, ℕ, true, length, take}
-use Rattle.range_prop.specs.Queue.{waits, AreAwake}
+use Rattle.range_prop.specs.laws.Queue.{waits, AreAwake}
 use Rattle.range_prop.proofs.waking.wake_rows.Given as goal
 
 abbrev pub invariant-loop-row : goal.invariant-loop-row

@@ -1,15 +1,13 @@
 -- The rows of one slot more wait, and those of the slots before still do.
-use Rattle.std.proofs.Common.{◌≡◌, ◌∙◌, ◌<◌, ℕ, Bool, true, List, length, take, get_or, sym, subst, arith}
+use Rattle.std.proofs.Common.{◌∙◌, ◌<◌, ℕ, length, take, get_or, sym, subst, arith}
 use Rattle.std.specs.List.{All}
 use Rattle.std.proofs.lemmas.List.{take_all}
 use Rattle.std.proofs.lemmas.List.Elements.{All-more, All-weaker, Contains-get_or}
 use Rattle.range_prop.specs.declared.row_cut.RowCut.{RowCut}
 use Rattle.range_prop.specs.Index.{list_of}
-use Rattle.range_prop.specs.Queue.{AreAwake, waits}
+use Rattle.range_prop.specs.laws.Queue.{AreAwake}
+use Rattle.range_prop.proofs.Rounds.{AreAwake-kept}
 use Rattle.range_prop.proofs.waking.wake_touched.Goals as goal
-
-abbrev IsAwake : List Bool → ℕ → ℕ → Type 0
-IsAwake waiting cutter row = (row ≡ cutter → ⊥) → waits waiting row ≡ true
 
 -- a cut for a place where there is none
 abbrev no_cut : RowCut
@@ -30,7 +28,7 @@ loop-cut-preserved c =
     let i = c.loop-cut.cut-index in
     let cutter = c.args.cutter in
     let index = c.args.index.now in
-    let still = λ (x : RowCut) (h : AreAwake old cutter (list_of index x.slot)). All-weaker (IsAwake old cutter) (IsAwake new' cutter) (λ row g apart. c.wake_rows.ensures.kept row (g apart)) (list_of index x.slot) h in
+    let still = λ (x : RowCut) (h : AreAwake old cutter (list_of index x.slot)). AreAwake-kept old new' cutter (list_of index x.slot) c.wake_rows.ensures.kept h in
     record {
       count = c.wake_rows.ensures.count ∙ c.loop-cut.invariant.count;
       kept = λ row h. c.wake_rows.ensures.kept row (c.loop-cut.invariant.kept row h);

@@ -2,7 +2,7 @@
 use Rattle.std.proofs.Common.{◌≡◌, ℕ, true, length, take}
 use Rattle.std.specs.List.{All}
 use Rattle.range_prop.specs.Index.{list_of}
-use Rattle.range_prop.specs.Queue.{waits, AreAwake}
+use Rattle.range_prop.specs.laws.Queue.{waits, AreAwake}
 use Rattle.range_prop.proofs.waking.wake_touched.Given as goal
 
 abbrev pub invariant-loop-cut : goal.invariant-loop-cut

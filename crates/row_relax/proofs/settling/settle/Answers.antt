@@ -11,7 +11,7 @@ use Rattle.row_kit.specs.Domain.{IsSingle, count_of}
 use Rattle.row_kit.specs.Point.{IsLawful, worth_of}
 use Rattle.proof_tree.specs.declared.capped.Capped.TheVariants.{AtMost, NoPoint, Bad}
 use Rattle.range_prop.proofs.Multiples.{same_test}
-use Rattle.row_relax.specs.Lawful.{lawful_true, true_lawful}
+use Rattle.row_relax.specs.laws.Lawful.{lawful_true, true_lawful}
 use Rattle.row_relax.specs.Settle.{are_single, is_lawful, only_point, settled}
 use Rattle.row_relax.proofs.settling.settle.Goals as goal
 use mir.Syntax.{w128}

@@ -1,5 +1,5 @@
 use Rattle.std.proofs.Common.{◌≡◌, map, take}
-use Rattle.time_grid.specs.Slots.{run_at}
+use Rattle.stn_model.specs.Plant.{run_at}
 use Rattle.unit_rows.specs.Gaps.{gap_after}
 use Rattle.unit_rows.proofs.gaps.fill_gaps.Given as goal
 

@@ -2,7 +2,7 @@
 use Rattle.std.proofs.Common.{◌≡◌, ◌+◌, ◌&&◌, get_or, nat_lt, ap, sym, ◌∙◌}
 use Rattle.std.proofs.lemmas.List.{get_or_default}
 use Rattle.std.proofs.lemmas.Bool.{le-leb, lt-leb}
-use Rattle.time_grid.specs.Slots.{no_run, run_at}
+use Rattle.stn_model.specs.Plant.{no_run, run_at}
 use Rattle.unit_rows.specs.Busy.{is_on}
 use Rattle.unit_rows.proofs.Nearness.{far-units, near-is, gap_at}
 use Rattle.unit_rows.proofs.gaps.is_too_soon.Goals as goal

@@ -1,8 +1,7 @@
 -- While a batch runs it draws what its task's draws say, and nothing else.
 use Rattle.std.proofs.Common.{◌≡◌, ◌-◌, true, false, sum_by, sym, ap, ◌∙◌}
 use Rattle.std.proofs.lemmas.Bool.{cond-true, cond-false}
-use Rattle.stn_model.specs.Plant.{task_at}
-use Rattle.time_grid.specs.Slots.{run_at}
+use Rattle.stn_model.specs.Plant.{task_at, run_at}
 use Rattle.utility_rows.specs.LoadRows.{is_running, each_in, each_drawn}
 use Rattle.utility_rows.proofs.draws.each_drawn.Goals as goal
 

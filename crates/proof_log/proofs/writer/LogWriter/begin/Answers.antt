@@ -3,7 +3,7 @@ use Rattle.log_lines.specs.declared.line.Line.TheVariants.{Header}
 use Rattle.log_lines.specs.Line.{line_text}
 use Rattle.proof_log.specs.Log.{lines_text}
 use Rattle.proof_log.proofs.Lines.{lines_text-one}
-use Rattle.proof_log.proofs.Writing.{IsWhole-cleared}
+use Rattle.proof_log.proofs.Writing.{rest_of, IsWhole-cleared}
 use Rattle.proof_log.proofs.writer.LogWriter.begin.Goals as goal
 
 pub returns-clause-header : goal.returns-clause-header
@@ -12,5 +12,5 @@ returns-clause-header g c =
 
 pub returns-clause-whole : goal.returns-clause-whole
 returns-clause-whole g c =
-    IsWhole-cleared c.args.name.now _ c.put_line.new.into.items (lines_text (Header 2 ∷ [])) (g.F.Shelf.files c.args.files.now) (g.F.Shelf.files c.clear.new.self) (g.F.Shelf.read_faults c.clear.new.self)
+    IsWhole-cleared c.args.name.now _ c.put_line.new.into.items (lines_text (Header 2 ∷ [])) (g.F.Shelf.files c.args.files.now) (g.F.Shelf.files c.clear.new.self) (rest_of g.F.Shelf.read_faults g.F.Shelf.may_read g.F.Shelf.may_write c.clear.new.self)
     c.in_ok-own_name.ensures.ok c.in_ok-clear.ensures.ok (returns-clause-header g c)

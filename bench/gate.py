@@ -1,0 +1,108 @@
+#!/usr/bin/env python3
+"""What the gate costs: runs `rt ci` and sums the processor seconds of every check, by crate and by kind of work.
+
+    python3 bench/gate.py            # runs the gate at the top, prints its last line and the table
+    python3 bench/gate.py --markdown # the table as docs/gate.md has it
+
+A check is a process of the prover; what it took is read off /proc while it runs, twice a second, so a row may lack half a
+second for each of its checks. 'edits' counts the must-fail edits of the crate.
+"""
+import glob, os, subprocess, sys, tempfile, threading, time
+
+top = os.path.dirname(os.path.dirname(os.path.abspath(__file__)))
+TICK = os.sysconf("SC_CLK_TCK")
+
+
+def children_of(root):
+    """The processes below a process, by their numbers."""
+    parents = {}
+    for path in glob.glob("/proc/[0-9]*/stat"):
+        try:
+            with open(path) as it:
+                text = it.read()
+        except OSError:
+            continue
+        pid, rest = int(path.split("/")[2]), text.rpartition(")")[2].split()
+        parents[pid] = (int(rest[1]), (int(rest[11]) + int(rest[12]) + int(rest[13]) + int(rest[14])) / TICK)
+    below, found = {root}, {}
+    for _ in range(12):
+        more = {pid for pid, (parent, _) in parents.items() if parent in below and pid not in below}
+        if not more:
+            break
+        below |= more
+    for pid in below - {root}:
+        found[pid] = parents[pid]
+    return found
+
+
+def kind_of(pid):
+    """The crate that a process checks and for what: its proof, its tests or an edit; nothing for other processes."""
+    try:
+        with open(f"/proc/{pid}/cmdline", "rb") as it:
+            words = it.read().decode(errors="replace").split("\0")
+        folder = os.readlink(f"/proc/{pid}/cwd")
+    except OSError:
+        return None
+    if not words[0].endswith("rattle") or "--crate-name" not in words:
+        return None
+    crate = words[words.index("--crate-name") + 1]
+    if "rt-edit" in folder:
+        return crate, "edits"
+    return crate, "tests" if "--test" in words else "proof"
+
+
+def watch(root, taken, done):
+    """Notes what each check below a process has taken so far, until told to stop."""
+    kinds, seconds = {}, {}
+    while not done.is_set():
+        now = children_of(root)
+        for pid, (parent, used) in now.items():
+            if pid not in kinds:
+                kinds[pid] = kind_of(pid)
+            if kinds[pid] and kinds.get(parent) is None:
+                seconds[pid] = max(seconds.get(pid, 0.0), used)
+        taken.clear()
+        for pid, used in seconds.items():
+            taken[kinds[pid]] = taken.get(kinds[pid], 0.0) + used
+        time.sleep(0.5)
+
+
+def table(taken, markdown):
+    """The lines of the table: a crate each, those that cost most first, then the sums."""
+    names = sorted({crate for crate, _ in taken}, key=lambda it: -sum(s for (c, _), s in taken.items() if c == it))
+    form = "| `{}` | {:.0f} | {:.0f} | {:.0f} | {} | {:.0f} |" if markdown else "{:14} {:7.0f} {:7.0f} {:7.0f} {:>5} {:7.0f}"
+    head = ["crate", "proof", "tests", "edits", "count", "all"]
+    lines = ["| " + " | ".join(head) + " |", "|---|---|---|---|---|---|"] if markdown else ["{:14} {:>7} {:>7} {:>7} {:>5} {:>7}".format(*head)]
+    for name in names:
+        parts = [taken.get((name, kind), 0.0) for kind in ("proof", "tests", "edits")]
+        count = len(glob.glob(os.path.join(top, "crates", name, "must-fail", "*.edit")))
+        lines.append(form.format(name, *parts, count, sum(parts)))
+    sums = [sum(s for (_, kind), s in taken.items() if kind == it) for it in ("proof", "tests", "edits")]
+    count = len(glob.glob(os.path.join(top, "crates", "*", "must-fail", "*.edit")))
+    lines.append(form.format("all", *sums, count, sum(sums)).replace("`", ""))
+    return lines
+
+
+def main():
+    begun, taken, done = time.monotonic(), {}, threading.Event()
+    gate = subprocess.Popen(["rt", "ci"], cwd=top, stdout=subprocess.PIPE, stderr=subprocess.STDOUT, text=True)
+    watcher = threading.Thread(target=watch, args=(gate.pid, taken, done))
+    watcher.start()
+    last = ""
+    with tempfile.NamedTemporaryFile("w", prefix="gate-", suffix=".log", delete=False) as log:
+        print(f"the gate's output goes to {log.name}", file=sys.stderr, flush=True)
+        for line in gate.stdout:
+            log.write(line)
+            log.flush()
+            last = line.strip() or last
+    status = gate.wait()
+    done.set()
+    watcher.join()
+    print("\n".join(table(taken, "--markdown" in sys.argv)))
+    minutes = (time.monotonic() - begun) / 60
+    whole = sum(taken.values()) / 60
+    print(f"\n{last}; {minutes:.0f} minutes on the clock, {whole:.0f} of processor time, {os.cpu_count()} processors")
+    sys.exit(status)
+
+
+main()

@@ -1,0 +1,256 @@
+use crate::dictionary::{Dictionary, Line, Place};
+use crate::number::{ONE, OutOfRange, cleaned, less_times, raised, sum};
+use crate::reserved::{at, numbered, put, put_last};
+use crate::scales::{Scales, counted};
+use row_kit::{Domain, Entry, Program, Row};
+
+/// The variable of a slot that says how far it stands at its domain's least value.
+pub fn low_variable(slot: u32) -> u32 {
+    slot.saturating_mul(2)
+}
+
+/// The variable of a slot that says how far it stands at its domain's greatest value; where 0 is not held, how far it has come
+/// from the least to the greatest.
+pub fn high_variable(slot: u32) -> u32 {
+    low_variable(slot).saturating_add(1)
+}
+
+/// The variable that says what a row has left.
+pub fn slack_variable(program: &Program, row: u32) -> u32 {
+    low_variable(numbered(program.root.len())).saturating_add(row)
+}
+
+/// Puts the columns of slots with these domains, each at the end that brings more.
+pub fn fill_columns(
+    dictionary: &mut Dictionary,
+    program: &Program,
+    scales: &Scales,
+    domains: &[Domain],
+) -> Result<(), OutOfRange> {
+    dictionary.clear();
+    for slot in 0..domains.len() {
+        add_slot(dictionary, numbered(slot), &domains[slot]);
+    }
+    for entry in program.profit.as_slice() {
+        if let Some(domain) = domains.get(entry.slot as usize) {
+            put_profits(dictionary, scales, entry, domain)?;
+        }
+    }
+    Ok(())
+}
+
+// Puts the columns of a slot. One value besides 0 needs one column, and one value alone none.
+fn add_slot(dictionary: &mut Dictionary, slot: u32, domain: &Domain) {
+    if domain.zero && domain.lo < domain.hi {
+        dictionary.add_column(low_variable(slot), ONE);
+    }
+    if domain.lo < domain.hi || (domain.zero && domain.lo == domain.hi) {
+        dictionary.add_column(high_variable(slot), ONE);
+    }
+}
+
+// Writes the profits of the variables of a slot.
+fn put_profits(
+    dictionary: &mut Dictionary,
+    scales: &Scales,
+    entry: &Entry,
+    domain: &Domain,
+) -> Result<(), OutOfRange> {
+    let exponent = scales.up.saturating_add(30);
+    let low = raised(&low_amount(entry, domain), exponent)?;
+    let high = raised(&high_amount(entry, domain), exponent)?;
+    put_profit(dictionary, low_variable(entry.slot), low);
+    put_profit(dictionary, high_variable(entry.slot), high);
+    Ok(())
+}
+
+// Writes the profit of a variable that stands in a column, and moves it to the end that brings more.
+fn put_profit(dictionary: &mut Dictionary, variable: u32, profit: i64) {
+    if let Place::Column(column) = dictionary.place(variable) {
+        let column = column as usize;
+        if column < dictionary.columns.len() {
+            dictionary.columns[column].profit = profit;
+            dictionary.columns[column].high = profit > 0;
+        }
+    }
+}
+
+// What an entry counts for one unit of the variable of a slot's least value.
+fn low_amount(entry: &Entry, domain: &Domain) -> i128 {
+    counted(entry, domain.lo)
+}
+
+// What an entry counts for one unit of the variable of a slot's greatest value.
+fn high_amount(entry: &Entry, domain: &Domain) -> i128 {
+    if domain.zero {
+        counted(entry, domain.hi)
+    } else {
+        counted(entry, domain.hi).saturating_sub(counted(entry, domain.lo))
+    }
+}
+
+/// What an entry counts where both variables of its slot are 0.
+pub fn base_amount(entry: &Entry, domain: &Domain) -> i128 {
+    if domain.zero || domain.lo > domain.hi {
+        0
+    } else {
+        counted(entry, domain.lo)
+    }
+}
+
+// The least that an entry counts over a domain.
+fn least_amount(entry: &Entry, domain: &Domain) -> i128 {
+    if domain.lo > domain.hi {
+        return 0;
+    }
+    let least = counted(entry, domain.lo).min(counted(entry, domain.hi));
+    if domain.zero && least > 0 { 0 } else { least }
+}
+
+/// Puts the line of a row: what the row has left. False where there is no room for it.
+pub fn add_row(
+    dictionary: &mut Dictionary,
+    program: &Program,
+    scales: &Scales,
+    domains: &[Domain],
+    number: u32,
+) -> Result<bool, OutOfRange> {
+    let row = match program.rows.as_slice().get(number as usize) {
+        None => return Ok(false),
+        Some(row) => row,
+    };
+    let mut line = match dictionary.spare.pop() {
+        None => return Ok(false),
+        Some(line) => line,
+    };
+    let down = scales.down(number);
+    let written = write_row(dictionary, row, down, domains, &mut line);
+    line.variable = slack_variable(program, number);
+    put_line(dictionary, line);
+    written?;
+    Ok(true)
+}
+
+// Puts a line at the end.
+fn put_line(dictionary: &mut Dictionary, line: Line) {
+    let place = Place::Line(numbered(dictionary.lines.len()));
+    dictionary.put_place(line.variable, place);
+    put_last(&mut dictionary.lines, line);
+}
+
+// Writes what a row has left.
+fn write_row(
+    dictionary: &Dictionary,
+    row: &Row,
+    down: u32,
+    domains: &[Domain],
+    line: &mut Line,
+) -> Result<(), OutOfRange> {
+    let (base, least) = totals(row.entries.as_slice(), domains);
+    let exponent = 30i32.saturating_sub_unsigned(down);
+    blank(line, dictionary.columns.len());
+    line.bound = raised(&row.limit.saturating_sub(least).max(0), exponent)?;
+    line.constant = raised(&row.limit.saturating_sub(base), exponent)?;
+    line.value = line.constant;
+    for entry in row.entries.as_slice() {
+        if let Some(domain) = domains.get(entry.slot as usize) {
+            take_entry(dictionary, line, entry, domain, exponent)?;
+        }
+    }
+    clean(line.parts.as_mut_slice());
+    Ok(())
+}
+
+// What entries count where all variables of slots are 0, and the least that they count.
+fn totals(entries: &[Entry], domains: &[Domain]) -> (i128, i128) {
+    let mut base = 0i128;
+    let mut least = 0i128;
+    for entry in entries {
+        if let Some(domain) = domains.get(entry.slot as usize) {
+            base = base.saturating_add(base_amount(entry, domain));
+            least = least.saturating_add(least_amount(entry, domain));
+        }
+    }
+    (base, least)
+}
+
+// Makes a line with no parts of this many columns.
+fn blank(line: &mut Line, columns: usize) {
+    line.passed = false;
+    line.parts.clear();
+    for _ in 0..columns {
+        put_last(&mut line.parts, 0);
+    }
+}
+
+// Takes an entry off a line, for both variables of its slot.
+fn take_entry(
+    dictionary: &Dictionary,
+    line: &mut Line,
+    entry: &Entry,
+    domain: &Domain,
+    exponent: i32,
+) -> Result<(), OutOfRange> {
+    let low = raised(&low_amount(entry, domain), exponent)?;
+    let high = raised(&high_amount(entry, domain), exponent)?;
+    take_variable(dictionary, line, low_variable(entry.slot), low)?;
+    take_variable(dictionary, line, high_variable(entry.slot), high)
+}
+
+/// Takes an amount of a variable off a line, wherever the variable stands.
+pub fn take_variable(
+    dictionary: &Dictionary,
+    line: &mut Line,
+    variable: u32,
+    amount: i64,
+) -> Result<(), OutOfRange> {
+    match dictionary.place(variable) {
+        Place::Nowhere => Ok(()),
+        Place::Column(column) => take_column(dictionary, line, column as usize, amount),
+        Place::Line(other) => match dictionary.lines.get(other as usize) {
+            None => Ok(()),
+            Some(other) => take_line(line, other, amount),
+        },
+    }
+}
+
+// Takes an amount of the variable of a column off a line.
+fn take_column(
+    dictionary: &Dictionary,
+    line: &mut Line,
+    column: usize,
+    amount: i64,
+) -> Result<(), OutOfRange> {
+    if column >= dictionary.columns.len() {
+        return Ok(());
+    }
+    let part = sum(at(line.parts.as_slice(), column), amount)?;
+    put(line.parts.as_mut_slice(), column, part);
+    line.value = less_times(line.value, amount, dictionary.columns[column].value())?;
+    Ok(())
+}
+
+// Takes an amount of the variable of another line off a line.
+fn take_line(line: &mut Line, other: &Line, amount: i64) -> Result<(), OutOfRange> {
+    line.constant = less_times(line.constant, amount, other.constant)?;
+    line.value = less_times(line.value, amount, other.value)?;
+    take_parts(line.parts.as_mut_slice(), other.parts.as_slice(), amount)
+}
+
+// Takes an amount of other parts off parts.
+fn take_parts(parts: &mut [i64], others: &[i64], amount: i64) -> Result<(), OutOfRange> {
+    for column in 0..parts.len() {
+        let other = at(others, column);
+        if other != 0 {
+            parts[column] = less_times(parts[column], amount, other)?;
+        }
+    }
+    Ok(())
+}
+
+// Makes parts 0 that are only noise.
+fn clean(parts: &mut [i64]) {
+    for part in parts.iter_mut() {
+        *part = cleaned(*part);
+    }
+}

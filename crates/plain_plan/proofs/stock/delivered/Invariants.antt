@@ -1,9 +1,0 @@
-use Rattle.std.proofs.Common.{◌≡◌, ◌≤◌, ◌*◌, ◌^◌, sum_by, take}
-use Rattle.plain_plan.specs.Summands.{carried_off}
-use Rattle.plain_plan.proofs.stock.delivered.Given as goal
-
-abbrev pub invariant-loop-delivery : goal.invariant-loop-delivery
-invariant-loop-delivery l = record {
-  value : l.sum ≡ sum_by (carried_off l.state l.time) (take l.delivery-index l.deliveries);
-  small : l.sum ≤ l.delivery-index * 2 ^ 30;
-}
