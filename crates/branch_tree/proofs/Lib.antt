@@ -1,0 +1,9 @@
+pub mod Best
+pub mod Cutting
+pub mod Depths
+pub mod Growing
+pub mod Handing
+pub mod Opened
+pub mod Stopping
+pub mod Trees
+pub mod Whole

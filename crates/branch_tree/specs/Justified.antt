@@ -1,5 +1,5 @@
 -- When no box of a proof over rows was split without cause.
-use Rattle.std.specs.Prelude.{◌≡◌, ℕ, ◌+◌, ◌-◌, ◌/◌, ◌<◌, ◌≤◌, nat_le, Bool, ◌&&◌, if◌then◌else◌, List, [], ◌++◌, length, Option, Some, None, option_to_list, IfSome, IsSome, ◌≤ℤ◌, ◌<ℤ◌, ⊤}
+use Rattle.std.specs.Prelude.{◌≡◌, ℕ, ◌+◌, ◌-◌, ◌/◌, ◌<◌, ◌≤◌, nat_le, Bool, ◌&&◌, if◌then◌else◌, List, [], ◌++◌, length, Option, Some, None, option_to_list, IfSome, IsSome, ◌<ℤ◌, ⊤}
 use Rattle.std.specs.List.{All}
 use Rattle.row_kit.specs.declared.domain.Domain.{Domain}
 use Rattle.row_kit.specs.declared.found.Found.{Found}
@@ -12,6 +12,7 @@ use Rattle.dual_bound.specs.declared.cert.Cert.{Cert}
 use Rattle.dual_bound.specs.Cap.{cert_cap}
 use Rattle.dual_bound.specs.Total.{total_at}
 use Rattle.dual_climb.specs.RowBest.{RowBest}
+use Rattle.dual_simplex.specs.Solved.{plain_cert, IsWithin}
 use Rattle.proof_tree.specs.declared.capped.Capped.{Capped}
 use Rattle.proof_tree.specs.declared.capped.Capped.TheVariants.{AtMost, NoPoint, Bad}
 use Rattle.proof_tree.specs.Nodes.{Node, NodeEnd, closed, parted, EachNode}
@@ -42,22 +43,12 @@ abbrev pub IsAbove : Capped → List Found → Type 0
 IsAbove (AtMost cap) found = All (λ f. f.value <ℤ cap) found
 IsAbove _ found = ⊥
 
--- a cap is not above another, which is a number
-abbrev pub IsNoHigher : Capped → Capped → Type 0
-IsNoHigher (AtMost cap) (AtMost most) = cap ≤ℤ most
-IsNoHigher NoPoint (AtMost most) = ⊤
-IsNoHigher _ _ = ⊥
-
--- scale 1 without multipliers
-abbrev pub plain_cert : Cert
-plain_cert = record { scale = 1; mults = [] }
-
 -- a certificate of scale 1 or more: no change of a single factor lowers its total by the scale or more, and its cap is not above that of scale 1 without multipliers
 pub record IsPolished (program : Program) (domains : List Domain) (cert : Cert) : Type 0 where
   pub scale : 1 ≤ cert.scale
   pub total : IsSome (total_at program domains cert)
   pub row_best : RowBest program domains cert
-  pub no_higher : IsNoHigher (cert_cap program domains cert) (cert_cap program domains plain_cert)
+  pub no_higher : IsWithin (cert_cap program domains plain_cert) (cert_cap program domains cert)
 
 -- where a domain is split: at 0 where it holds 0 and other values, else at the middle of its values
 abbrev pub split_value : Domain → ℕ

@@ -3,11 +3,11 @@ ghost use Rattle.std.specs.List.{All};
 ghost use Rattle.std.specs.Option.{IsSomeAnd, option_map};
 ghost use Rattle.row_kit.specs.Area.{present};
 ghost use Rattle.row_kit.specs.Domain.{IsOpen};
-ghost use Rattle.range_prop.specs.Cuts.{AreDone};
+ghost use Rattle.range_prop.specs.Cuts.{AreDone, HaveRoom};
 ghost use Rattle.proof_tree.specs.Cap.{Bounds};
 ghost use Rattle.proof_tree.specs.Taker.{Rose};
 ghost use Rattle.row_relax.specs.Steps.{row_steps};
-ghost use Rattle.row_relax.specs.View.{Fits, view_of};
+ghost use Rattle.row_relax.specs.View.{Fits, domains_of, view_of};
 ghost use Rattle.branch_tree.specs.Justified.{IsGroup, HasCause};
 ghost use Rattle.branch_tree.specs.Searched.{IsBest, IsFitItem};
 ghost use Rattle.branch_tree.specs.laws.Ends.{ItemEnds};
@@ -133,7 +133,7 @@ pub(crate) fn search_box<H: Hinter, G: Guide, O, T: NodeTaker<Rows, O>>(
     ensures failed { IsErrOf result TakeStop.Failed → Rose (T.faults out.old) (T.faults out.new) }
 {
     let start = ground.rows.mark(area);
-    open_box(ground, area, taker, out)?;
+    open_box(ground, area, reached.changed.take(), taker, out)?;
     reached.spent += 1;
     let item = look(ground, area, depth, reached, hinter, guide, taker, out)?;
     let cap = search_end(ground, area, depth, item, reached, hinter, guide, taker, out)?;
@@ -157,6 +157,7 @@ fn search_end<H: Hinter, G: Guide, O, T: NodeTaker<Rows, O>>(
     requires stands { StandsIn ground.now (seen area.old) depth reached.old }
     requires within { reached.old.spent ≤ ground.now.budget }
     requires none { reached.old.own ≡ None }
+    requires room { HaveRoom (program_of ground.now).rows (domains_of (seen area.old)) }
     requires ends { (found : Listed Found) → IsBest reached.old.best found → ItemEnds (program_of ground.now) (seen area.old) found item }
     requires fit { IsFitItem (program_of ground.now) item }
     requires ready { T.ready taker.old out.old }
@@ -200,6 +201,7 @@ fn search_parts<H: Hinter, G: Guide, O, T: NodeTaker<Rows, O>>(
     requires stands { StandsIn ground.now (seen area.old) depth reached.old }
     requires within { reached.old.spent ≤ ground.now.budget }
     requires none { reached.old.own ≡ None }
+    requires room { HaveRoom (program_of ground.now).rows (domains_of (seen area.old)) }
     requires split { IsSplitAt (program_of ground.now) (seen area.old) pick.now cert.now }
     requires ready { T.ready taker.old out.old }
     ensures as_before { OnOk result (map view_of area.new ≡ map view_of area.old) }
@@ -215,9 +217,11 @@ fn search_parts<H: Hinter, G: Guide, O, T: NodeTaker<Rows, O>>(
 {
     let mark = ground.rows.mark(area);
     let _ = ground.rows.left(area, pick);
+    reached.changed = Some(pick.slot);
     let first = search_part(ground, area, depth + 1, cert, reached, hinter, guide, taker, out)?;
     ground.rows.back(area, mark);
     let _ = ground.rows.right(area, pick);
+    reached.changed = Some(pick.slot);
     let second = search_part(ground, area, depth + 1, cert, reached, hinter, guide, taker, out)?;
     ground.rows.back(area, mark);
     Ok(greater_cap(first, second))

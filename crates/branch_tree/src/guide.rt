@@ -4,6 +4,7 @@ ghost use Rattle.row_kit.specs.Area.{present};
 ghost use Rattle.row_kit.specs.Domain.{IsOpen};
 
 use dual_bound::Cert;
+use dual_simplex::solve_dual;
 use row_kit::{Area, Program};
 use std::alloc::{AllocError, Global};
 
@@ -40,7 +41,7 @@ pub trait Guide {
         requires each_open { All IsOpen (present area.now) };
 }
 
-/// The guide of the plain calls: it leaves no box open.
+/// The guide of the plain calls: it advises the certificate of the dual simplex, and leaves no box open.
 #[derive(Drop)]
 pub struct PlainGuide;
 
@@ -51,15 +52,16 @@ impl Guide for PlainGuide {
 
     fn advise(
         &mut self,
-        _alloc: Global,
-        _program: &Program,
-        _area: &Area,
+        alloc: Global,
+        program: &Program,
+        area: &Area,
         _depth: u32,
         _best: Option<i128>,
         _point: &mut [u8],
     ) -> Result<Advice, AllocError> {
+        let cert = solve_dual(alloc, program, area)?;
         Ok(Advice {
-            cert: None,
+            cert: Some(cert),
             slot: None,
         })
     }

@@ -16,8 +16,8 @@ mod picking;
 mod putting;
 mod reached;
 mod searching;
-#[cfg(test)]
-mod tests;
+
+
 
 pub use ended::{Ended, Guided, Searched};
 pub use guide::{Advice, Guide, PlainGuide};

@@ -1,13 +1,13 @@
-ghost use Rattle.std.specs.Prelude.{◌≡◌, ◌≢◌, ◌≤◌, Option, Some, None, [], ◌∷◌, map, option_to_list, IfOk, IfSome, OnOk, OnErr, IsErrOf};
+ghost use Rattle.std.specs.Prelude.{◌≡◌, ◌≢◌, ◌≤◌, ◌<◌, length, Option, Some, None, [], ◌∷◌, map, option_to_list, IfOk, IfSome, OnOk, OnErr, IsErrOf};
 ghost use Rattle.std.specs.List.{All};
 ghost use Rattle.row_kit.specs.Area.{present};
-ghost use Rattle.range_prop.specs.Cuts.{AreDone};
+ghost use Rattle.range_prop.specs.Cuts.{AreDone, HaveRoom, HaveRoomBut};
 ghost use Rattle.dual_bound.specs.Total.{is_fit};
 ghost use Rattle.proof_tree.specs.Taker.{Rose};
 ghost use Rattle.proof_tree.specs.Views.{KeepsViews};
 ghost use Rattle.proof_tree.specs.declared.item.Item.TheVariants.{Node as NodeItem, Cut as CutItem, Found as FoundItem, Pending as PendingItem};
 ghost use Rattle.row_relax.specs.Steps.{row_steps};
-ghost use Rattle.row_relax.specs.View.{Fits, view_of};
+ghost use Rattle.row_relax.specs.View.{Fits, domains_of, view_of};
 ghost use Rattle.branch_tree.specs.Justified.{IsGroup};
 ghost use Rattle.branch_tree.specs.Searched.{IsFitItem};
 ghost use Rattle.branch_tree.specs.laws.Ends.{better_of};
@@ -48,15 +48,19 @@ fn put_cuts<O, T: NodeTaker<Rows, O>>(
 pub(crate) fn open_box<O, T: NodeTaker<Rows, O>>(
     ground: &Ground,
     area: &mut Area,
+    changed: Option<u32>,
     taker: &mut T,
     out: &mut O,
 ) -> Result<(), TakeStop>
     requires ground { IsGround ground.now }
     requires fits { Fits (program_of ground.now) (seen area.old) }
+    requires room { IfSome changed (λ slot. (slot < length (program_of ground.now).root)
+        × HaveRoomBut (program_of ground.now).rows (slot ∷ []) (domains_of (seen area.old))) }
     requires ready { T.ready taker.old out.old }
     ensures fits { OnOk result (Fits (program_of ground.now) (seen area.new)) }
     ensures keeps { OnOk result (KeepsViews (map view_of area.old) (map view_of area.new)) }
     ensures done { OnOk result (AreDone (program_of ground.now).rows (present area.new)) }
+    ensures room { OnOk result (HaveRoom (program_of ground.now).rows (present area.new)) }
     ensures ready { OnOk result (T.ready taker.new out.new) }
     ensures handed { OnOk result (HeadHanded T.took (program_of ground.now) (seen area.old) taker.old out.old (seen area.new) taker.new out.new) }
     ensures err { OnErr result (HeadStopped T.took T.broke (program_of ground.now) taker.old out.old taker.new out.new) }
@@ -64,7 +68,7 @@ pub(crate) fn open_box<O, T: NodeTaker<Rows, O>>(
     ensures failed { IsErrOf result TakeStop.Failed → Rose (T.faults out.old) (T.faults out.new) }
 {
     taker.put(out, &Item::Node)?;
-    let cuts = cut_box(ground, area)?;
+    let cuts = cut_box(ground, area, changed)?;
     put_cuts(cuts, taker, out)
 }
 

@@ -26,6 +26,8 @@ pub(crate) struct Reached {
     pub best: Option<Found>,
     // A lawful point of the next box, that is offered there.
     pub own: Option<Found>,
+    // The slot that was split above the next box.
+    pub changed: Option<u32>,
     // The certificate of the split above the next box.
     pub held: Option<Cert>,
     // Where points are offered: a place for each slot.

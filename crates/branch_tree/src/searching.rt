@@ -31,6 +31,7 @@ fn begun(alloc: Global, rows: &Rows) -> Result<Reached, AllocError>
         spent: 0,
         best: None,
         own,
+        changed: None,
         held: None,
         point,
     })

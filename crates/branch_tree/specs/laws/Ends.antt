@@ -1,12 +1,11 @@
 -- How the nodes of a search end, and what its choices are. Only clauses of private functions cite it.
 use Rattle.std.specs.Prelude.{◌≡◌, ◌≢◌, ℕ, ◌+◌, ◌-◌, ◌<◌, ◌≤◌, nat_le, nat_lt, Bool, true, false, ◌&&◌, if◌then◌else◌, List, [], ◌∷◌, ◌++◌, Option, Some, None, IfSome, ℤ, ◌≤ℤ◌, int_lt, ⊤}
-use Rattle.std.specs.List.{All, Any, sum_by}
+use Rattle.std.specs.List.{All, Contains, sum_by}
 use Rattle.std.specs.Option.{IsSomeAnd}
 use Rattle.row_kit.specs.declared.domain.Domain.{Domain}
 use Rattle.row_kit.specs.declared.found.Found.{Found}
 use Rattle.row_kit.specs.declared.program.Program.{Program}
 use Rattle.row_kit.specs.Domain.{IsSingle}
-use Rattle.row_kit.specs.Points.{points_of}
 use Rattle.dual_bound.specs.declared.cert.Cert.{Cert}
 use Rattle.dual_bound.specs.Cap.{cert_cap}
 use Rattle.proof_tree.specs.declared.capped.Capped.{Capped}
@@ -23,7 +22,7 @@ use Rattle.branch_tree.specs.Searched.{RowItem}
 
 -- a cap that leaves nothing above these found points: one of them is worth as much, or there is no point
 abbrev pub ClosedBy : Capped → List Found → Type 0
-ClosedBy (AtMost cap) found = Any (λ f. cap ≤ℤ f.value) found
+ClosedBy (AtMost cap) found = (f : Found) × Contains found f × (cap ≤ℤ f.value)
 ClosedBy NoPoint found = ⊤
 ClosedBy Bad found = ⊥
 
@@ -94,10 +93,6 @@ abbrev pub Reaches : Capped → Option Found → Type 0
 Reaches (AtMost cap) found = IsSomeAnd found (λ f. cap ≤ℤ f.value)
 Reaches NoPoint found = ⊤
 Reaches Bad found = ⊥
-
--- the number of points of a view
-abbrev pub view_points : View → ℕ
-view_points view = points_of (domains_of view)
 
 -- 1 where a number is above another
 abbrev pub step_at : ℕ → ℕ → ℕ

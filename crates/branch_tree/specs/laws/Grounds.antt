@@ -1,5 +1,5 @@
 -- What a search goes over, and where it stands. Only clauses of private functions cite it.
-use Rattle.std.specs.Prelude.{◌≡◌, ◌≢◌, ℕ, ◌+◌, ◌≤◌, false, List, length, map, Option, None, IfSome, MatchOption, ◌≤ℤ◌}
+use Rattle.std.specs.Prelude.{◌≡◌, ◌≢◌, ℕ, ◌+◌, ◌≤◌, ◌<◌, false, List, [], ◌∷◌, length, map, Option, None, IfSome, MatchOption, ◌≤ℤ◌}
 use Rattle.std.specs.List.{All}
 use Rattle.std.specs.Option.{IsSomeAnd}
 use Rattle.row_kit.specs.declared.domain.Domain.{Domain}
@@ -12,6 +12,7 @@ use Rattle.dual_bound.specs.Total.{is_fit}
 use Rattle.proof_tree.specs.declared.capped.Capped.TheVariants.{Bad}
 use Rattle.row_relax.specs.declared.pick.RowPick.{RowPick}
 use Rattle.row_relax.specs.Steps.{row_steps}
+use Rattle.range_prop.specs.Cuts.{HaveRoomBut}
 use Rattle.range_prop.specs.Index.{IsIndex}
 use Rattle.proof_tree.specs.Views.{View, present}
 use Rattle.row_relax.specs.View.{Fits, IsIn, domains_of, view_of}
@@ -35,10 +36,12 @@ pub record IsGround (ground : Ground) : Type 0 where
 
 -- a search stands in an area that fits, with a place for each slot, and below no more splits than there may be
 pub record StandsIn (ground : Ground) (view : View) (depth : ℕ) (reached : Reached) : Type 0 where
-  pub ground : IsGround ground
+  pub indexed : IsGround ground
   pub fits : Fits (program_of ground) view
   pub places : length reached.point.items ≡ length (program_of ground).root
   pub deep : depth + view_splits view ≤ 4608
+  -- but for rows with an entry of the slot that was split last, each row has room
+  pub room : IfSome reached.changed (λ slot. (slot < length (program_of ground).root) × HaveRoomBut (program_of ground).rows (slot ∷ []) (domains_of view))
   -- the point that is to be offered is lawful, and lies in the area
   pub own : IfSome reached.own (λ found. IsGroup (program_of ground) found × IsIn view found.point)
 
@@ -46,6 +49,7 @@ pub record StandsIn (ground : Ground) (view : View) (depth : ℕ) (reached : Rea
 pub record IsStart (program : Program) (reached : Reached) : Type 0 where
   pub spent : reached.spent ≡ 0
   pub best : reached.best ≡ None
+  pub changed : reached.changed ≡ None
   pub places : length reached.point.items ≡ length program.root
   pub own : MatchOption reached.own (¬ IsLawful program (only_point program.root)) (λ found. IsGroup program found × (found.point ≡ only_point program.root))
 
