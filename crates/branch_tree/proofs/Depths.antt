@@ -45,14 +45,14 @@ step_one a k = at (ltb a k)
 step_is : (a k : ℕ) → a < k → step_at a k ≡ 1
 step_is a k less = at (ltb a k) refl
   where
-    at : (s : Bool) → ltb a k ≡ s → cond s 1 0 ≡ 1
+    at : (s : Bool) → ltb a k ≡ s → ◌≡◌ {A = ℕ} (cond s 1 0) 1
     at true e = refl
     at false e = absurd (grind (arith, nat_tests))
 
 step_none : (a k : ℕ) → k ≤ a → step_at a k ≡ 0
 step_none a k more = at (ltb a k) refl
   where
-    at : (s : Bool) → ltb a k ≡ s → cond s 1 0 ≡ 0
+    at : (s : Bool) → ltb a k ≡ s → ◌≡◌ {A = ℕ} (cond s 1 0) 0
     at true e = absurd (grind (arith, nat_tests))
     at false e = refl
 
@@ -173,14 +173,14 @@ splits-zero false = refl
 normal_there : (z : Bool) (l h : ℕ) → l ≤ h → normal z l h ≡ record { zero = z; lo = l; hi = h }
 normal_there z l h low = at (leb l h) refl
   where
-    at : (t : Bool) → leb l h ≡ t → cond t (record { zero = z; lo = l; hi = h }) (record { zero = z; lo = 1; hi = 0 }) ≡ record { zero = z; lo = l; hi = h }
+    at : (t : Bool) → leb l h ≡ t → ◌≡◌ {A = Domain} (cond t (record { zero = z; lo = l; hi = h }) (record { zero = z; lo = 1; hi = 0 })) (record { zero = z; lo = l; hi = h })
     at true e = refl
     at false e = absurd (grind (arith, nat_tests))
 
 normal_none : (z : Bool) (l h : ℕ) → h < l → normal z l h ≡ record { zero = z; lo = 1; hi = 0 }
 normal_none z l h low = at (leb l h) refl
   where
-    at : (t : Bool) → leb l h ≡ t → cond t (record { zero = z; lo = l; hi = h }) (record { zero = z; lo = 1; hi = 0 }) ≡ record { zero = z; lo = 1; hi = 0 }
+    at : (t : Bool) → leb l h ≡ t → ◌≡◌ {A = Domain} (cond t (record { zero = z; lo = l; hi = h }) (record { zero = z; lo = 1; hi = 0 })) (record { zero = z; lo = 1; hi = 0 })
     at true e = absurd (grind (arith, nat_tests))
     at false e = refl
 
@@ -212,7 +212,11 @@ parts_zero : (l h : ℕ) → 1 ≤ l → h ≤ 255 → l ≤ h → PartsLess (re
 parts_zero l h low byte there =
     let whole = splits_there true l h there in
     let none : normal true (max l 1) (min h 0) ≡ record { zero = true; lo = 1; hi = 0 } = normal_none true (max l 1) (min h 0) (omega arith) in
-    let some : splits_of (record { zero = false; lo = max l 1; hi = min h 255 }) ≡ halvings (h + 1 - l) = splits_there false (max l 1) (min h 255) (omega arith) ∙ ap (λ n. 0 + halvings n) (omega arith) in
+    let some : splits_of (record { zero = false; lo = max l 1; hi = min h 255 }) ≡ halvings (h + 1 - l) =
+        let e = splits_there false (max l 1) (min h 255) (omega arith) in
+        let n : min h 255 + 1 - max l 1 ≡ h + 1 - l = omega arith in
+        let same = ap halvings n in
+        omega (arith, e, same) in
     let range = over_part true l h 0 low byte there (omega arith) in
     let left' : splits_of (normal true (max l 1) (min h 0)) ≡ 0 = ap splits_of none ∙ splits-zero true in
     let right' : splits_of (shared (record { zero = true; lo = l; hi = h }) (over 0)) ≡ halvings (h + 1 - l) = ap splits_of range ∙ some in

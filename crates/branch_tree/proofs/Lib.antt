@@ -1,5 +1,6 @@
 pub mod Best
-pub mod Cutting
+pub mod Caps
+pub mod CutsMade
 pub mod Depths
 pub mod Growing
 pub mod Handing

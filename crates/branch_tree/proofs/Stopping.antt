@@ -1,7 +1,9 @@
 -- The items that were put before a search broke off begin those of some proof.
-use Rattle.std.proofs.Common.{◌≡◌, ℕ, ◌+◌, ◌≤◌, max, List, [], ◌∷◌, ◌++◌, refl, ap, sym, ◌∙◌, Option, Some, None, append_assoc, append-nil, map, inl, inr, arith, option_to_list, subst}
+use Rattle.std.proofs.Common.{◌≡◌, ℕ, suc, ◌+◌, ◌<◌, ◌≤◌, max, length, get_or, take, drop, List, [], ◌∷◌, ◌++◌, refl, ap, sym, ◌∙◌, Option, Some, None, append_assoc, append-nil, map, inl, inr, arith, option_to_list, subst}
 use Rattle.std.specs.Prelude.{OnErr, Result, Ok, Err, ◌⊎◌, IfSome}
 use Rattle.std.specs.List.{All}
+use Rattle.std.proofs.Math.Seq.{drop-cons}
+use Rattle.std.proofs.lemmas.List.{map-append, take-append-drop}
 use Rattle.std.proofs.lemmas.List.Elements.{All-append, All-cons, All-nil}
 use Rattle.row_kit.specs.declared.found.Found.{Found}
 use Rattle.row_kit.specs.declared.program.Program.{Program}
@@ -53,6 +55,18 @@ module _ {T O : Type 0} (took broke : T → O → List RowItem → T → O → T
     | inr more ↦ inr (Grows-more took broke t o xs t1 o1 s.items t2 o2 grown more)
     ];
   }
+
+  -- the taker stopped at a cut
+  pub stopped_cut : (cuts : List RowCut) (place : ℕ) (d : RowCut) (t : T) (o : O) (t1 : T) (o1 : O) (t2 : T) (o2 : O) → place < length cuts
+      → Grows took took t o (map Cut (take place cuts)) t1 o1 → Grows took broke t1 o1 (Cut (get_or cuts place d) ∷ []) t2 o2 → Stopped took broke t o (map Cut cuts) t2 o2
+  stopped_cut cuts place d t o t1 o1 t2 o2 less grown last =
+      let rest : List RowItem = map Cut (drop (suc place) cuts) in
+      let here : map Cut (drop place cuts) ≡ Cut (get_or cuts place d) ∷ rest = ap (map Cut) (drop-cons cuts place d less) in
+      let all : map Cut (take place cuts) ++ Cut (get_or cuts place d) ∷ rest ≡ map Cut cuts =
+          ap (λ xs. map Cut (take place cuts) ++ xs) (sym here) ∙ sym (map-append Cut (take place cuts) (drop place cuts)) ∙ ap (map Cut) (take-append-drop place cuts) in
+      subst (λ items. Stopped took broke t o items t2 o2) all
+      (stopped_after t o (map Cut (take place cuts)) t1 o1 (Cut (get_or cuts place d) ∷ rest) t2 o2 grown
+      (stopped_longer t1 o1 (Cut (get_or cuts place d) ∷ []) rest t2 o2 (stopped_last t1 o1 (Cut (get_or cuts place d) ∷ []) t2 o2 last)))
 
   -- at the first of two items, or at the second
   pub stopped_first : (t : T) (o : O) (x y : RowItem) (t2 : T) (o2 : O) → Grows took broke t o (x ∷ []) t2 o2 → Stopped took broke t o (x ∷ (y ∷ [])) t2 o2

@@ -1,5 +1,5 @@
 -- What follows from how each node of a search ends.
-use Rattle.std.proofs.Common.{◌≡◌, ◌≢◌, ℕ, zero, suc, ◌+◌, ◌*◌, ◌<◌, ◌≤◌, max, Bool, true, false, cond, List, [], ◌∷◌, ◌++◌, length, Option, Some, None, option_to_list, refl, ap, sym, ◌∙◌, subst, arith, append_assoc, inl, inr, ⊎_elim}
+use Rattle.std.proofs.Common.{◌≡◌, ◌≢◌, ℕ, zero, suc, ◌+◌, ◌-◌, ◌*◌, ◌<◌, ◌≤◌, max, Bool, true, false, cond, List, [], ◌∷◌, ◌++◌, length, Option, Some, None, option_to_list, refl, ap, sym, ◌∙◌, subst, arith, append_assoc, inl, inr, ⊎_elim}
 use Rattle.std.specs.Prelude.{ℤ, IfSome, ⊤, ◌⊎◌}
 use Rattle.std.specs.List.{All}
 use Rattle.std.specs.Option.{IsSomeAnd}
@@ -157,15 +157,15 @@ module _ (program : Program) where
   -- the parts of a split have points
   left_points : (v w : View) (pick : RowPick) → IsParted (domains_of v) pick → (row_steps program).left v pick ≡ Some w → 0 < points_in w
   unfolding row_steps
-  left_points v w pick parted is =
+  left_points v w pick parts is =
       let ds = kept_at (domains_of v) pick.slot (up_to pick.max) in
-      subst (λ xs. 0 < points_of xs) (sym (domains_there _ ds w is)) (points-open ds parted.left)
+      subst (λ xs. 0 < points_of xs) (sym (domains_there _ ds w is)) (points-open ds parts.left)
 
   right_points : (v w : View) (pick : RowPick) → IsParted (domains_of v) pick → (row_steps program).right v pick ≡ Some w → 0 < points_in w
   unfolding row_steps
-  right_points v w pick parted is =
+  right_points v w pick parts is =
       let ds = kept_at (domains_of v) pick.slot (over pick.max) in
-      subst (λ xs. 0 < points_of xs) (sym (domains_there _ ds w is)) (points-open ds parted.right)
+      subst (λ xs. 0 < points_of xs) (sym (domains_there _ ds w is)) (points-open ds parts.right)
 
   -- a box of n points counts at most 2 n - 1 boxes, and one less for each box that is left open
   pub tree-boxes : (tree : RowTree) (parent : Option Cert) (before : List Found) (v : View) → Fits program v → 0 < points_in v → EachNode (NodeDone program) (row_steps program) parent before v tree

@@ -27,19 +27,19 @@ use row_relax::Rows;
 
 // Puts cuts.
 fn put_cuts<O, T: NodeTaker<Rows, O>>(
-    cuts: Vec<RowCut>,
+    cuts: &[RowCut],
     taker: &mut T,
     out: &mut O,
 ) -> Result<(), TakeStop>
     requires { T.ready taker.old out.old }
     ensures ready { OnOk result (T.ready taker.new out.new) }
-    ensures handed { OnOk result (Grows T.took T.took taker.old out.old (map CutItem cuts.items) taker.new out.new) }
-    ensures err { OnErr result (Stopped T.took T.broke taker.old out.old (map CutItem cuts.items) taker.new out.new) }
+    ensures handed { OnOk result (Grows T.took T.took taker.old out.old (map CutItem cuts.now) taker.new out.new) }
+    ensures err { OnErr result (Stopped T.took T.broke taker.old out.old (map CutItem cuts.now) taker.new out.new) }
     ensures later { T.faults out.old ≤ T.faults out.new }
     ensures failed { IsErrOf result TakeStop.Failed → Rose (T.faults out.old) (T.faults out.new) }
 {
     for cut in cuts {
-        taker.put(out, &Item::Cut(cut))?;
+        taker.put(out, &Item::Cut(*cut))?;
     }
     Ok(())
 }
@@ -69,7 +69,7 @@ pub(crate) fn open_box<O, T: NodeTaker<Rows, O>>(
 {
     taker.put(out, &Item::Node)?;
     let cuts = cut_box(ground, area, changed)?;
-    put_cuts(cuts, taker, out)
+    put_cuts(cuts.as_slice(), taker, out)
 }
 
 // Puts a found point, and gives it back.

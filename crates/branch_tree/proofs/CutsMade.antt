@@ -1,6 +1,6 @@
 -- Cuts that were made lead to the view that the area shows afterwards.
-use Rattle.std.proofs.Common.{◌≡◌, ℕ, ◌<◌, Bool, true, ◌&&◌, ltb, List, [], ◌∷◌, map, length, set, Some, refl, sym, ap, ◌∙◌, subst}
-use Rattle.std.specs.Prelude.{option_and_then, take}
+use Rattle.std.proofs.Common.{◌≡◌, ℕ, ◌<◌, Bool, true, ◌&&◌, ltb, List, [], ◌∷◌, ◌++◌, map, length, set, Option, Some, refl, sym, ap, ◌∙◌, subst}
+use Rattle.std.specs.Prelude.{option_and_then, IfSome}
 use Rattle.std.specs.List.{All}
 use Rattle.std.proofs.Math.Seq.{take-length}
 use Rattle.std.proofs.lemmas.Bool.{lt-ltb}
@@ -11,13 +11,13 @@ use Rattle.row_kit.specs.Area.{present}
 use Rattle.row_kit.specs.Row.{row_at}
 use Rattle.range_prop.specs.declared.row_cut.RowCut.{RowCut}
 use Rattle.range_prop.specs.Cut.{cut_domain, cut_domains}
-use Rattle.range_prop.specs.Cuts.{AreMade, after_cut, after_cuts as marks_after}
+use Rattle.range_prop.specs.Cuts.{AreMade, HasCut, HaveRoomBut, after_cut, after_cuts as marks_after}
 use Rattle.proof_tree.specs.declared.item.Item.TheVariants.{Cut as CutItem}
 use Rattle.proof_tree.specs.Tree.{after_cuts}
 use Rattle.proof_tree.specs.Views.{KeepsViews, MovesTo, View}
 use Rattle.proof_tree.proofs.Views.{KeepsViews-then}
 use Rattle.row_relax.specs.Steps.{row_steps, shown_if}
-use Rattle.row_relax.specs.View.{Fits, view_of}
+use Rattle.row_relax.specs.View.{Fits, domains_of, view_of}
 use Rattle.row_relax.specs.laws.Laws.{rows_sound}
 use Rattle.row_relax.proofs.Marks.{domains-views, fits_slots, moves_there}
 use Rattle.branch_tree.specs.Searched.{IsFitItem}
@@ -58,3 +58,14 @@ cuts_lead program (cut ∷ cuts) old fit made =
       fits = rest.fits;
       fit = All-cons (IsFitItem program) (CutItem cut) (map CutItem cuts) (made.0.row, subst (λ n. cut.slot < n) (fits_slots program old fit) made.0.slot) rest.fit;
     }
+
+-- so a list that has grown by cuts from nothing leads there
+pub has_cut-leads : (program : Program) (old new : List (List Domain)) (before after : List RowCut) → Fits program (seen old) → before ≡ [] → HasCut program.rows old new before after → CutsLead program old new after
+has_cut-leads program old new before after fit none cut =
+    let same : cut.made ≡ after = sym (cut.listed ∙ ap (λ xs. xs ++ cut.made) none) in
+    subst (CutsLead program old new) same (subst (λ marks. CutsLead program old marks cut.made) (sym cut.led) (cuts_lead program cut.made old fit cut.each))
+
+-- room in the domains that a view shows
+pub room_shown : (program : Program) (marks : List (List Domain)) (changed : Option ℕ) → IfSome changed (λ slot. (slot < length program.root) × HaveRoomBut program.rows (slot ∷ []) (domains_of (seen marks)))
+    → IfSome changed (λ slot. (slot < length program.root) × HaveRoomBut program.rows (slot ∷ []) (present marks))
+room_shown program marks changed room = subst (λ (ds : List Domain). IfSome changed (λ slot. (slot < length program.root) × HaveRoomBut program.rows (slot ∷ []) ds)) (domains-views marks) room
