@@ -123,3 +123,26 @@ closed-not_over (AtMost n) (Some b) fs is closed =
     let low : closed.0.value ≤ℤ b.value = All-contains (λ f. f.value ≤ℤ b.value) fs closed.0 is.1 closed.1 in
     let at_most : n ≤ℤ closed.0.value = closed.2 in
     grind (arith, ints)
+
+-- a point of one's own is among three of which the best is taken
+pub own-third : (own other last : Option Found) → IfSome own (λ f. IsSomeAnd (better_of (better_of own other) last) (λ b. f.value ≤ℤ b.value))
+own-third None other last = tt
+own-third (Some f) other last = at (better_of (Some f) other) (better-first (Some f) other)
+  where
+    at : (mid : Option Found) → IsSomeAnd mid (λ b. f.value ≤ℤ b.value) → IsSomeAnd (better_of mid last) (λ b. f.value ≤ℤ b.value)
+    at None low = absurd low
+    at (Some g) low = over (better_of (Some g) last) (better-first (Some g) last)
+      where
+        over : (best : Option Found) → IsSomeAnd best (λ b. g.value ≤ℤ b.value) → IsSomeAnd best (λ b. f.value ≤ℤ b.value)
+        over None more = absurd more
+        over (Some b) more = omega (arith, ints, low, more)
+
+-- a point that is worth as much as one's own is found, and the best is worth as much
+pub own-best : (own found best : Option Found) → IfSome own (λ f. IsSomeAnd found (λ g. f.value ≤ℤ g.value)) → IfSome own (λ f. IsSomeAnd (better_of best found) (λ b. f.value ≤ℤ b.value))
+own-best None found best more = tt
+own-best (Some f) None best more = absurd more
+own-best (Some f) (Some g) best more = over (better_of best (Some g)) (better-second best (Some g))
+  where
+    over : (top : Option Found) → IsSomeAnd top (λ b. g.value ≤ℤ b.value) → IsSomeAnd top (λ b. f.value ≤ℤ b.value)
+    over None low = absurd low
+    over (Some b) low = omega (arith, ints, low, more)

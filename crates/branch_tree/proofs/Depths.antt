@@ -203,7 +203,7 @@ over_part z l h m low byte there less =
     ap (shared (record { zero = z; lo = l; hi = h })) (normal_there false (m + 1) 255 (omega arith)) ∙ normal_there (z && false) (max l (m + 1)) (min h 255) (omega arith)
 
 -- nothing is above a value that is the greatest or more
-over_none : (z : Bool) (l h m : ℕ) → 1 ≤ l → h ≤ 255 → h ≤ m → count_of (shared (record { zero = z; lo = l; hi = h }) (over m)) ≡ 0
+pub over_none : (z : Bool) (l h m : ℕ) → 1 ≤ l → h ≤ 255 → h ≤ m → count_of (shared (record { zero = z; lo = l; hi = h }) (over m)) ≡ 0
 over_none true l h m low byte most = grind (arith, nat_tests)
 over_none false l h m low byte most = grind (arith, nat_tests)
 
@@ -249,7 +249,7 @@ parts_less d n right = at d.zero d.lo d.hi n.positive n.byte (leb d.lo d.hi) ref
     at false l h low byte t e some = parts_middle l h (l + (h - l) / 2) low byte (middle false l h (l + (h - l) / 2) low byte refl some) refl
 
 -- the domain that a slot is given
-at_slot : (ds : List Domain) (slot : ℕ) (e : Domain) → slot < length ds → All IsOpen (set ds slot e) → IsOpen e
+pub at_slot : (ds : List Domain) (slot : ℕ) (e : Domain) → slot < length ds → All IsOpen (set ds slot e) → IsOpen e
 at_slot ds slot e less each = subst IsOpen (get_or-set_same ds slot e no_values less) (each slot no_values (omega (arith, length-set ds slot e, less)))
 
 parts_of : (ds : List Domain) (pick : RowPick) → All IsNormal ds → IsParted ds pick → PartsLess (domain_at ds pick.slot) pick.max

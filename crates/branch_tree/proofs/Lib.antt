@@ -5,6 +5,8 @@ pub mod Depths
 pub mod Growing
 pub mod Handing
 pub mod Opened
+pub mod Singles
 pub mod Stopping
 pub mod Trees
+pub mod Verdicts
 pub mod Whole

@@ -209,6 +209,13 @@ module _ {T O : Type 0} (took broke : T → O → List RowItem → T → O → T
   pub look_before : (t : T) (o : O) → LookStopped took broke program t o t o
   look_before t o = record { found = None; fit = All-nil (IsFitItem program); stopped = stopped_none took broke t o [] }
 
+  -- the found point stopped, or what comes after it
+  pub look_in_found : (found : Option Found) (t : T) (o : O) (t2 : T) (o2 : O) → IfSome found (IsGroup program) → Stopped took broke t o (found_items found) t2 o2 → LookStopped took broke program t o t2 o2
+  look_in_found found t o t2 o2 group s = record { found = found; fit = fit_found program found group; stopped = s }
+
+  pub look_after : (found : Option Found) (t : T) (o : O) (t2 : T) (o2 : O) → IfSome found (IsGroup program) → Grows took took t o (found_items found) t2 o2 → LookStopped took broke program t o t2 o2
+  look_after found t o t2 o2 group grown = record { found = found; fit = fit_found program found group; stopped = stopped_done took broke t o (found_items found) t2 o2 grown }
+
   -- the node stopped, or its cuts did
   pub head_at_node : (t : T) (o : O) (t2 : T) (o2 : O) → Grows took broke t o (Node ∷ []) t2 o2 → HeadStopped took broke program t o t2 o2
   head_at_node t o t2 o2 grown = record { cuts = []; fit = All-cons (IsFitItem program) Node [] tt (All-nil (IsFitItem program)); stopped = stopped_last took broke t o (Node ∷ []) t2 o2 grown }

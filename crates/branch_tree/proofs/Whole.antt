@@ -134,7 +134,7 @@ module _ {T O : Type 0} (took : T → O → List RowItem → T → O → Type 0)
           absurd (apart left_open over (root.over ∙ ap (λ c. is_over c (option_map (λ f. f.value) new.best)) root.box.capped ∙ not_over))
         where
           apart : (b : Bool) → b ≡ true → b ≡ false → ⊥
-          apart b yes never = cc
+          apart b is_true is_false = cc
       at (suc n) is = omega arith
 
   pub ended_of_root : Ended
