@@ -47,7 +47,7 @@ not_over-not_bad cap best over bad = apart (is_over cap best) over (ap (λ c. is
 -- a cap that is no bad one has a total
 pub cap-total : (scale : ℕ) (o : Option ℤ) → scaled_cap scale o ≢ Bad → IsSome o
 cap-total scale None some = absurd (some refl)
-cap-total scale (Some t) some = tt
+cap-total scale (Some t) some = refl
 
 -- a certificate that has a total is fit
 pub total-fit : (program : Program) (ds : List Domain) (cert : Cert) → IsSome (total_at program ds cert) → is_fit (length program.rows) cert ≡ true
@@ -55,7 +55,7 @@ total-fit program ds cert some = at (has_total program ds cert) refl some
   where
     at : (b : Bool) → has_total program ds cert ≡ b → IsSome (cond b (Some (total_of program ds cert)) None) → is_fit (length program.rows) cert ≡ true
     at true is some' = (and_parts (is_fit (length program.rows) cert) (list_all (λ (d : Domain). nat_lt 0 (count_of d)) ds) is).0
-    at false is some' = absurd some'
+    at false is some' = cc
 
 div_le : (a b n : ℕ) → 0 < n → a ≤ b → a / n ≤ b / n
 div_le a b n some low = (le-div_iff_mul-le {k = n} {x = a / n} {y = b} some).1 (omega (arith, div-mul-le_self a n, low))
@@ -92,7 +92,7 @@ never-within scale (Some t) (Some u) most some never within = at (eqb scale 0) r
 never-some : (o p : Option ℤ) → NeverRises o p → IsSome p
 never-some None p never = absurd never
 never-some (Some t) None never = absurd never
-never-some (Some t) (Some u) never = tt
+never-some (Some t) (Some u) never = refl
 
 reached-not_over : (cap : Capped) (best : Option ℤ) → IsReached best cap → is_over cap best ≡ true → ⊥
 reached-not_over (AtMost n) (Some stop) reached over = let less : stop <ℤ n = grind (arith, ints) in omega (arith, ints, less, reached)

@@ -9,6 +9,7 @@ use Rattle.std.proofs.lemmas.List.{get_or-set_same, length-set}
 use Rattle.row_kit.specs.declared.domain.Domain.{Domain}
 use Rattle.row_kit.specs.declared.program.Program.{Program}
 use Rattle.row_kit.specs.Domain.{Holds, IsNormal, IsOpen, count_of, domain_at, no_values, normal, over, shared, up_to}
+use Rattle.row_kit.specs.Point.{IsLawful}
 use Rattle.row_kit.specs.Row.{row_at}
 use Rattle.row_kit.proofs.Parts.{shared_normal, shared_within}
 use Rattle.range_prop.specs.declared.row_cut.RowCut.{RowCut}
@@ -18,7 +19,7 @@ use Rattle.proof_tree.specs.Tree.{after_cuts}
 use Rattle.proof_tree.specs.Views.{View}
 use Rattle.row_relax.specs.declared.pick.RowPick.{RowPick}
 use Rattle.row_relax.specs.Steps.{kept_at, row_steps}
-use Rattle.row_relax.specs.View.{Fits, domains_of, points_in, view_of}
+use Rattle.row_relax.specs.View.{Fits, IsIn, domains_of, points_in, view_of}
 use Rattle.row_relax.specs.laws.Laws.{rows_sound}
 use Rattle.row_relax.specs.laws.Shown.{domains_of-view_of, domains_there, shown_there}
 use Rattle.row_relax.proofs.PointCounts.{points-cut}
@@ -135,14 +136,15 @@ splits-cut program v w cut fit is =
     subst (λ (xs : List Domain). sum_by splits_of xs ≤ sum_by splits_of ds) (sym (domains_there there (cut_domains row cut.slot ds) w is))
     (sum_le ds cut.slot (cut_domain row cut.slot ds) lt (splits_le (cut_domain row cut.slot ds) (domain_at ds cut.slot) (cut_normal row cut.slot ds normal') (λ u held. cut_within row cut.slot ds u normal'.positive held)))
 
--- what cuts leave: a view that fits, with no more points and no more splits
+-- what cuts leave: a view that fits and keeps each lawful point, with no more points and no more splits
 pub record CutsLeave (program : Program) (v w : View) : Type 0 where
   pub fits : Fits program w
+  pub keeps : (point : List ℕ) → IsIn v point → IsLawful program point → IsIn w point
   pub points : points_in w ≤ points_in v
   pub splits : view_splits w ≤ view_splits v
 
 pub cuts_leave : (program : Program) (cuts : List RowCut) (v w : View) → Fits program v → after_cuts (row_steps program) v cuts ≡ Some w → CutsLeave program v w
-cuts_leave program [] v w fit is = let same : v ≡ w = cc in subst (CutsLeave program v) same (record { fits = fit; points = omega arith; splits = omega arith })
+cuts_leave program [] v w fit is = let same : v ≡ w = cc in subst (CutsLeave program v) same (record { fits = fit; keeps = λ point lies lawful. lies; points = omega arith; splits = omega arith })
 cuts_leave program (u ∷ us) v w fit is = next (λ x. cuts_leave program us x w) ((row_steps program).cut v u) refl is
   where
     next : ((x : View) → Fits program x → after_cuts (row_steps program) x us ≡ Some w → CutsLeave program x w) → (o : Option View) → (row_steps program).cut v u ≡ o
@@ -156,6 +158,7 @@ cuts_leave program (u ∷ us) v w fit is = next (λ x. cuts_leave program us x w
         let rest = others x fit' later in
         record {
           fits = rest.fits;
+          keeps = λ point lies lawful. rest.keeps point ((rows_sound program).cut_keeps v x u fit first point lies lawful) lawful;
           points = omega (arith, rest.points, points-cut program v x u fit first);
           splits = omega (arith, rest.splits, splits-cut program v x u fit first);
         }

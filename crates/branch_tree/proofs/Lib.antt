@@ -6,6 +6,7 @@ pub mod Growing
 pub mod Handing
 pub mod Opened
 pub mod Singles
+pub mod Standing
 pub mod Stopping
 pub mod Trees
 pub mod Verdicts

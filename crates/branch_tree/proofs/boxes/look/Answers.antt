@@ -3,6 +3,7 @@ use Rattle.std.proofs.Common.{◌≡◌, List, [], ◌∷◌, ◌++◌, Option, 
 use Rattle.std.specs.Prelude.{IfSome, ◌≤ℤ◌}
 use Rattle.std.specs.Option.{IsSomeAnd, option_map}
 use Rattle.row_kit.specs.Area.{present}
+use Rattle.row_kit.specs.declared.found.Found.{Found}
 use Rattle.row_relax.proofs.Marks.{fits_normal, fits_slots}
 use Rattle.branch_tree.specs.Searched.{IsBest}
 use Rattle.branch_tree.specs.laws.Ends.{IsVerdict, better_of}
@@ -52,8 +53,29 @@ returns-in_err-judge-clause-err g c = at_err _ _ (look_after g.T.NodeTaker.took 
 pub returns-clause-handed : goal.returns-clause-handed
 returns-clause-handed g c =
     let program = program_of c.args.ground.now in
+    let marks = c.args.area.now in
+    let old = c.args.reached.now.best in
     let found = c.in_ok-found.found in
-    ?
+    let same : c.advised.new.reached.best ≡ old = ap (λ r. r.best) c.advised.ensures.same in
+    let new : c.put_found.new.best ≡ better_of old found = c.in_ok-put_found.ensures.best ∙ ap (λ b. better_of b found) same in
+    let worth : c.worth_of-best.result ≡ option_map (λ f. f.value) c.put_found.new.best = c.worth_of-best.ensures in
+    let verdict = subst (λ best. IsVerdict program (present marks) best c.in_ok-judge.field-0) worth c.in_ok-judge.ensures in
+    let best = λ (before : List Found) (is : IsBest old before). subst (λ b. IsBest b (before ++ option_to_list found)) (sym new) (IsBest-more old found before is) in
+    record {
+      found = found;
+      group = c.in_ok-found.ensures.group;
+      best = best;
+      ends = λ before is. verdict-ends program marks c.in_ok-judge.field-0 found c.put_found.new.best before c.requires.done (open_of (present marks) c.has_empty.result c.if-has_empty.false c.has_empty.ensures.1) c.in_ok-found.ensures.only (best before is) verdict;
+      fit = verdict-fit program (present marks) (option_map (λ f. f.value) c.put_found.new.best) c.in_ok-judge.field-0 (fits_normal program marks c.requires.stands.fits) (fits_slots program marks c.requires.stands.fits) verdict;
+      handed = c.in_ok-put_found.ensures.handed;
+    }
 
 pub returns-clause-own : goal.returns-clause-own
-returns-clause-own g c = ?
+returns-clause-own g c =
+    let own = c.args.reached.now.own in
+    let old = c.args.reached.now.best in
+    let found = c.in_ok-found.found in
+    let same : c.advised.new.reached.best ≡ old = ap (λ r. r.best) c.advised.ensures.same in
+    let new : c.put_found.new.best ≡ better_of old found = c.in_ok-put_found.ensures.best ∙ ap (λ b. better_of b found) same in
+    let low = subst (λ o. IfSome o (λ f. IsSomeAnd found (λ b. f.value ≤ℤ b.value))) c.take-own.ensures.value c.in_ok-found.ensures.own in
+    subst (IsOwnBest own) (sym new) (own-best own found old low)
