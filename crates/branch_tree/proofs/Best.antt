@@ -146,3 +146,15 @@ own-best (Some f) (Some g) best more = over (better_of best (Some g)) (better-se
     over : (top : Option Found) → IsSomeAnd top (λ b. g.value ≤ℤ b.value) → IsSomeAnd top (λ b. f.value ≤ℤ b.value)
     over None low = absurd low
     over (Some b) low = omega (arith, ints, low, more)
+
+-- what is closed or above by the best of some points is so by the best of others that have the same best
+pub closed-same : (cap : Capped) (best : Option Found) (fs gs : List Found) → IsBest best fs → IsBest best gs → ClosedBy cap fs → ClosedBy cap gs
+closed-same cap best fs gs is other closed = not_over-closed cap best gs other (closed-not_over cap best fs is closed)
+
+pub above-same : (cap : Capped) (best : Option Found) (fs gs : List Found) → IsBest best fs → IsBest best gs → IsAbove cap fs → IsAbove cap gs
+above-same Bad best fs gs is other above = above
+above-same NoPoint best fs gs is other above = above
+above-same (AtMost n) None fs gs is other above = subst (All (λ f. f.value <ℤ n)) (sym other) (All-nil (λ f. f.value <ℤ n))
+above-same (AtMost n) (Some b) fs gs is other above =
+    let more : b.value <ℤ n = All-contains (λ f. f.value <ℤ n) fs b above is.0 in
+    All-weaker (λ f. f.value ≤ℤ b.value) (λ f. f.value <ℤ n) (λ f low. omega (arith, ints, more)) gs other.1

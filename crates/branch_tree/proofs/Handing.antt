@@ -1,6 +1,6 @@
 -- From what the parts of a search put to what the whole put.
 use Rattle.std.proofs.Common.{◌≡◌, ◌≢◌, ℕ, zero, suc, ◌+◌, ◌<◌, ◌≤◌, Bool, true, false, cond, List, [], ◌∷◌, ◌++◌, Option, Some, None, option_to_list, refl, ap, sym, ◌∙◌, subst, arith, append_assoc, append-nil}
-use Rattle.std.specs.Prelude.{IfSome, ⊤}
+use Rattle.std.specs.Prelude.{IfOk, IfSome, OnOk, Result, Ok, Err, ⊤}
 use Rattle.std.specs.List.{All}
 use Rattle.std.specs.Option.{IsSomeAnd}
 use Rattle.std.proofs.lemmas.List.Elements.{All-append, All-cons, All-nil}
@@ -203,3 +203,8 @@ module _ {T O : Type 0} (took : T → O → List RowItem → T → O → Type 0)
     fit = box.fit;
     handed = box.handed;
   }
+
+-- both facts of what a call answers
+pub both_ok : {X E : Type 0} {Q : Type 0} (r : Result X E) (P R : X → Type 0) → IfOk r P → OnOk r Q → ((x : X) → P x → Q → R x) → IfOk r R
+both_ok (Ok x) P R p q f = f x p q
+both_ok (Err e) P R p q f = tt

@@ -61,15 +61,16 @@ stands_after ground v w depth old new stands leave places changed own = record {
     kept None is = tt
     kept (Some f) is = (is.0, leave.keeps f.point is.1 is.0.lawful)
 
--- a search stands where it stood when only what it found has changed
-pub stands_on : (ground : Ground) (v : View) (depth : ℕ) (old new : Reached) → StandsIn ground v depth old → length new.point.items ≡ length old.point.items → new.changed ≡ None → new.own ≡ None → StandsIn ground v depth new
-stands_on ground v depth old new stands places changed own = record {
+-- and after its own point was offered there
+pub stands_on : (ground : Ground) (v w : View) (depth : ℕ) (old new : Reached) → StandsIn ground v depth old → CutsLeave (program_of ground) v w
+    → length new.point.items ≡ length old.point.items → new.changed ≡ None → new.own ≡ None → StandsIn ground w depth new
+stands_on ground v w depth old new stands leave places changed own = record {
   indexed = stands.indexed;
-  fits = stands.fits;
+  fits = leave.fits;
   places = places ∙ stands.places;
-  deep = stands.deep;
-  room = subst (λ o. IfSome o (λ slot. (slot < length (program_of ground).root) × HaveRoomBut (program_of ground).rows (slot ∷ []) (domains_of v))) (sym changed) tt;
-  own = subst (λ o. IfSome o (λ found. IsGroup (program_of ground) found × IsIn v found.point)) (sym own) tt;
+  deep = omega (arith, stands.deep, leave.splits);
+  room = subst (λ o. IfSome o (λ slot. (slot < length (program_of ground).root) × HaveRoomBut (program_of ground).rows (slot ∷ []) (domains_of w))) (sym changed) tt;
+  own = subst (λ o. IfSome o (λ found. IsGroup (program_of ground) found × IsIn w found.point)) (sym own) tt;
 }
 
 -- what is best later is worth as much as one's own too

@@ -18,6 +18,7 @@ use Rattle.dual_bound.specs.declared.cert.Cert.{Cert}
 use Rattle.dual_bound.specs.Cap.{cert_cap}
 use Rattle.dual_bound.specs.Total.{total_at}
 use Rattle.dual_simplex.specs.Solved.{plain_cert}
+use Rattle.proof_tree.specs.declared.capped.Capped.TheVariants.{Bad}
 use Rattle.proof_tree.specs.declared.item.Item.TheVariants.{Node, Cut, Found as FoundItem, Empty, Dual, Point, Pending, Split}
 use Rattle.proof_tree.specs.Views.{View}
 use Rattle.row_relax.specs.declared.pick.RowPick.{RowPick}
@@ -28,11 +29,12 @@ use Rattle.row_relax.specs.laws.Laws.{rows_sound}
 use Rattle.row_relax.proofs.Marks.{domains-views}
 use Rattle.branch_tree.specs.Justified.{HasCause, IsGroup, IsParted}
 use Rattle.branch_tree.specs.Searched.{RowItem, IsBest, IsFitItem}
-use Rattle.branch_tree.specs.laws.Ends.{ClosedBy, IsVerdict, ItemEnds, Reaches}
+use Rattle.branch_tree.specs.laws.Ends.{ClosedBy, IsVerdict, ItemEnds, Reaches, view_splits}
 use Rattle.branch_tree.specs.laws.Grounds.{IsOwnBest, seen}
-use Rattle.branch_tree.proofs.Best.{not_over-closed, over-above, reached-closed}
+use Rattle.branch_tree.proofs.Best.{above-same, closed-same, not_over-closed, over-above, reached-closed}
 use Rattle.branch_tree.proofs.Caps.{cap-total, not_over-not_bad, total-fit, within-not_bad}
-use Rattle.branch_tree.proofs.Depths.{at_slot, over_none}
+use Rattle.branch_tree.proofs.Depths.{at_slot, over_none, splits-left}
+use Rattle.branch_tree.proofs.Standing.{left_there}
 
 -- an area with an empty domain shows a view that is empty
 pub empty_is : (program : Program) (marks : List (List Domain)) → Any IsBare (present marks) → (row_steps program).empty (seen marks) ≡ true
@@ -112,3 +114,48 @@ verdict-fit program ds best (Cut cut) normal' slots verdict = absurd verdict
 verdict-fit program ds best (FoundItem f) normal' slots verdict = absurd verdict
 verdict-fit program ds best Empty normal' slots verdict = absurd verdict
 verdict-fit program ds best (Pending cert) normal' slots verdict = absurd verdict
+
+-- an item that ends a box with some found points ends it with any that have the same best
+pub ends-same : (program : Program) (view : View) (item : RowItem) (best : Option Found) (fs gs : List Found) → IsBest best fs → IsBest best gs → ItemEnds program view fs item → ItemEnds program view gs item
+ends-same program view Empty best fs gs is other ends = ends
+ends-same program view (Dual cert) best fs gs is other ends = closed-same ((row_steps program).cap view cert) best fs gs is other ends
+ends-same program view Point best fs gs is other ends = closed-same ((row_steps program).settle view) best fs gs is other ends
+ends-same program view (Split pick cert) best fs gs is other ends = record {
+  exhausted = ends.exhausted;
+  polished = ends.polished;
+  above = above-same (cert_cap program (domains_of view) cert) best fs gs is other ends.above;
+  parted = ends.parted;
+}
+ends-same program view Node best fs gs is other ends = absurd ends
+ends-same program view (Cut cut) best fs gs is other ends = absurd ends
+ends-same program view (FoundItem f) best fs gs is other ends = absurd ends
+ends-same program view (Pending cert) best fs gs is other ends = absurd ends
+
+-- no other item ends a box
+pub ends-only : (program : Program) (view : View) (fs : List Found) (item : RowItem) → ItemEnds program view fs item → (item ≡ Empty → ⊥) → ((cert : Cert) → item ≡ Dual cert → ⊥) → (item ≡ Point → ⊥) → ((pick : RowPick) (cert : Cert) → item ≡ Split pick cert → ⊥) → ⊥
+ends-only program view fs Empty ends empty dual point split = empty refl
+ends-only program view fs (Dual cert) ends empty dual point split = dual cert refl
+ends-only program view fs Point ends empty dual point split = point refl
+ends-only program view fs (Split pick cert) ends empty dual point split = split pick cert refl
+ends-only program view fs Node ends empty dual point split = ends
+ends-only program view fs (Cut cut) ends empty dual point split = ends
+ends-only program view fs (FoundItem f) ends empty dual point split = ends
+ends-only program view fs (Pending cert) ends empty dual point split = ends
+
+-- a split leaves a split to its parts
+pub ends-room : (program : Program) (view : View) (fs : List Found) (item : RowItem) → Fits program view → ItemEnds program view fs item → (1 ≤ view_splits view) ⊎ ((pick : RowPick) (cert : Cert) → item ≡ Split pick cert → ⊥)
+ends-room program view fs Empty fit ends = inr (λ pick cert same. cc)
+ends-room program view fs (Dual c) fit ends = inr (λ pick cert same. cc)
+ends-room program view fs Point fit ends = inr (λ pick cert same. cc)
+ends-room program view fs (Split pick cert) fit ends =
+    let part = left_there program view pick ends.parted in
+    inl (omega (arith, splits-left program view part.0 pick fit ends.parted part.1))
+ends-room program view fs Node fit ends = absurd ends
+ends-room program view fs (Cut cut) fit ends = absurd ends
+ends-room program view fs (FoundItem f) fit ends = absurd ends
+ends-room program view fs (Pending cert) fit ends = absurd ends
+
+-- the certificate of a part that is left open is fit
+pub pending-fit : (program : Program) (view : View) (cert : Cert) → (row_steps program).cap view cert ≢ Bad → IsFitItem program (Pending cert)
+unfolding row_steps
+pending-fit program view cert some = total-fit program (domains_of view) cert (cap-total cert.scale (total_at program (domains_of view) cert) some)

@@ -88,6 +88,7 @@ fn look<H: Hinter, G: Guide, O, T: NodeTaker<Rows, O>>(
         reached.old taker.old out.old reached.new taker.new out.new) }
     ensures own { OnOk result (IsOwnBest reached.old.own reached.new.best) }
     ensures spent { reached.new.spent ≡ reached.old.spent }
+    ensures changed { reached.new.changed ≡ reached.old.changed }
     ensures none { OnOk result (reached.new.own ≡ None) }
     ensures places { length reached.new.point.items ≡ length reached.old.point.items }
     ensures err { OnErr result (LookStopped T.took T.broke (program_of ground.now) taker.old out.old taker.new out.new) }
