@@ -33,7 +33,9 @@ use Rattle.branch_tree.specs.declared.reached.Reached.{Reached}
 use Rattle.branch_tree.specs.Justified.{RowTree, IsGroup, IsAbove}
 use Rattle.branch_tree.specs.Searched.{RowItem, HasOpenBox, IsBest, IsBrokenOff, IsExact, IsFitItem, IsSearch, IsSearchedTo, IsSettled, spared}
 use Rattle.branch_tree.specs.laws.Ends.{NodeDone, is_over, view_splits}
-use Rattle.branch_tree.specs.laws.Grounds.{IsOwnBest, IsStart}
+use Rattle.range_prop.specs.Cuts.{HaveRoomBut}
+use Rattle.branch_tree.specs.declared.reached.Ground.{Ground}
+use Rattle.branch_tree.specs.laws.Grounds.{IsGround, IsOwnBest, IsStart, StandsIn, program_of, seen}
 use Rattle.branch_tree.specs.laws.Handed.{Grows, BoxHanded, opens}
 use Rattle.branch_tree.specs.laws.Stops.{BoxStopped, Stopped}
 use Rattle.branch_tree.proofs.Best.{closed-not_over, not_over-closed, over-above}
@@ -92,6 +94,25 @@ module _ (program : Program) where
   least_best None best is offered lawful = absurd (is lawful)
   least_best (Some f) None is offered lawful = offered
   least_best (Some f) (Some b) is offered lawful = subst (λ z. z ≤ℤ b.value) (is.0.worth ∙ ap (worth_of program) is.1) offered
+
+-- the start of a search stands in the root
+pub root-stands : (ground : Ground) (marks : List (List Domain)) (start : Reached) → IsGround ground → marks ≡ (program_of ground).root ∷ [] → IsStart (program_of ground) start → StandsIn ground (seen marks) 0 start
+root-stands ground marks start indexed is begun = subst (λ (ms : List (List Domain)). StandsIn ground (seen ms) 0 start) (sym is) at_root
+  where
+    own_at : (own : Option Found) → MatchOption own (¬ IsLawful (program_of ground) (only_point (program_of ground).root)) (λ found. IsGroup (program_of ground) found × (found.point ≡ only_point (program_of ground).root))
+        → IfSome own (λ found. IsGroup (program_of ground) found × IsIn (view_of (program_of ground).root) found.point)
+    own_at None offered = tt
+    own_at (Some f) offered = (offered.0, subst (λ (ds : List Domain). LiesIn ds f.point) (sym (domains_of-view_of (program_of ground).root)) offered.0.lawful.lies)
+
+    at_root : StandsIn ground (view_of (program_of ground).root) 0 start
+    at_root = record {
+      indexed = indexed;
+      fits = root_fits (program_of ground);
+      places = begun.places;
+      deep = omega (arith, splits-root (program_of ground));
+      room = subst (λ o. IfSome o (λ slot. (slot < length (program_of ground).root) × HaveRoomBut (program_of ground).rows (slot ∷ []) (domains_of (view_of (program_of ground).root)))) (sym begun.changed) tt;
+      own = own_at start.own begun.own;
+    }
 
 -- what is known of the search of the root
 pub record RootSearched {T O : Type 0} (took : T → O → List RowItem → T → O → Type 0) (program : Program) (budget : ℕ) (may_leave : Bool) (cap : Capped) (start new : Reached) (left_open : Bool) (t : T) (o : O) (t2 : T) (o2 : O) : Type 0 where
@@ -168,6 +189,10 @@ module _ {T O : Type 0} (took : T → O → List RowItem → T → O → Type 0)
       groups : All (IsGroup program) (found_points root.box.tree)
       groups = subst (All (IsGroup program)) (found_in-tree Rows Area root.box.tree) (fit-groups program (tree_items root.box.tree) root.box.fit)
 
+  -- the items of the proof were taken
+  pub root-taken : took t o [] t o → IsSearchedTo took program budget (record { best = new.best; cap = cap; spent = new.spent; left_open = left_open }) t o t2 o2
+  root-taken none = record { tree = root.box.tree; search = root-search; handed = root.box.handed t o [] none }
+
   -- a budget that was spent makes the count exact
   pub root-exact : (left_open ≡ true → new.spent ≡ budget) → IsExact program budget (record { best = new.best; cap = cap; spent = new.spent; left_open = left_open })
   root-exact spent = record {
@@ -177,6 +202,18 @@ module _ {T O : Type 0} (took : T → O → List RowItem → T → O → Type 0)
 
   pub root-full : may_leave ≡ false → left_open ≡ true → new.spent ≡ budget
   root-full never over = root.box.counts.full never (some_open over)
+
+-- what the search of the root comes to
+pub root-searched : {T O : Type 0} (took : T → O → List RowItem → T → O → Type 0) (program : Program) (budget : ℕ) (may_leave : Bool) (cap : Capped) (start new : Reached) (left_open : Bool) (t : T) (o : O) (t2 : T) (o2 : O)
+    (marks : List (List Domain)) (worth : Option ℤ) → marks ≡ program.root ∷ [] → BoxHanded took (λ parent. ⊤) program budget may_leave (seen marks) cap start t o new t2 o2 → IsStart program start → IsOwnBest start.own new.best
+    → new.spent ≤ budget → worth ≡ option_map (λ f. f.value) new.best → left_open ≡ is_over cap worth → RootSearched took program budget may_leave cap start new left_open t o t2 o2
+root-searched took program budget may_leave cap start new left_open t o t2 o2 marks worth is box begun own within worth_is over = record {
+  box = subst (λ (ms : List (List Domain)). BoxHanded took (λ parent. ⊤) program budget may_leave (seen ms) cap start t o new t2 o2) is box;
+  begun = begun;
+  own = own;
+  within = within;
+  over = over ∙ ap (is_over cap) worth_is;
+}
 
 -- a search that broke off
 pub root-stopped : {T O : Type 0} (took broke : T → O → List RowItem → T → O → Type 0) (program : Program) (t : T) (o : O) (t2 : T) (o2 : O) → took t o [] t o → BoxStopped took broke program (view_of program.root) t o t2 o2 → IsBrokenOff took broke program t o t2 o2

@@ -17,8 +17,6 @@ mod putting;
 mod reached;
 mod searching;
 
-
-
 pub use ended::{Ended, Guided, Searched};
 pub use guide::{Advice, Guide, PlainGuide};
 pub use hinter::Hinter;
