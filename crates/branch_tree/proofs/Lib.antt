@@ -1,0 +1,13 @@
+pub mod Best
+pub mod Caps
+pub mod CutsMade
+pub mod Depths
+pub mod Growing
+pub mod Handing
+pub mod Opened
+pub mod Singles
+pub mod Standing
+pub mod Stopping
+pub mod Trees
+pub mod Verdicts
+pub mod Whole

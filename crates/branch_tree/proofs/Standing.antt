@@ -1,0 +1,211 @@
+-- Where a search stands after cuts, and in the parts of a split.
+use Rattle.std.proofs.Common.{◌≡◌, ◌≢◌, ℕ, ◌+◌, ◌*◌, ◌-◌, ◌<◌, ◌≤◌, Bool, true, false, ◌&&◌, cond, eqb, ltb, List, [], ◌∷◌, ◌++◌, length, get_or, map, take, Option, Some, None, option_to_list, refl, sym, ap, ◌∙◌, subst, arith, inl, inr}
+use Rattle.std.specs.Prelude.{ℤ, pos, int_lt, ◌≤ℤ◌, IfSome, IsSome, ⊤, ◌⊎◌}
+use Rattle.std.specs.Int.{int_div_euclid}
+use Rattle.std.proofs.lemmas.Bool.Decides.{nat_tests}
+use Rattle.std.specs.List.{All, Any, list_all, list_any}
+use Rattle.std.specs.Option.{IsSomeAnd}
+use Rattle.std.proofs.lemmas.Bool.{lt-ltb}
+use Rattle.std.proofs.lemmas.Int.{ints}
+use Rattle.std.proofs.lemmas.List.{get_or_default, length-take}
+use Rattle.std.proofs.lemmas.List.Elements.{All-head}
+use Rattle.std.proofs.lemmas.List.Sums.{list_all-from_AllPass}
+use Rattle.row_kit.specs.declared.domain.Domain.{Domain}
+use Rattle.row_kit.specs.declared.found.Found.{Found}
+use Rattle.row_kit.specs.declared.program.Program.{Program}
+use Rattle.row_kit.specs.declared.row.Row.{Row}
+use Rattle.row_kit.specs.Area.{present}
+use Rattle.row_kit.specs.Domain.{IsBare, IsOpen, count_of, domain_at, no_values, over, shared, up_to}
+use Rattle.row_kit.specs.Points.{points_of}
+use Rattle.row_kit.proofs.PointCounts.{points-bare, points-open, points-shared_le}
+use Rattle.range_prop.specs.Cut.{is_bare}
+use Rattle.range_prop.specs.Cuts.{HasRoom, HaveRoom, HaveRoomBut}
+use Rattle.range_prop.proofs.Looks.{open_none}
+use Rattle.range_prop.proofs.Rooms.{HaveRoomBut-shared}
+use Rattle.dual_bound.specs.declared.cert.Cert.{Cert}
+use Rattle.dual_bound.specs.Cap.{cert_cap, scaled_cap}
+use Rattle.dual_bound.specs.Total.{has_total, is_fit, total_at, total_of}
+use Rattle.proof_tree.specs.declared.capped.Capped.{Capped}
+use Rattle.proof_tree.specs.declared.capped.Capped.TheVariants.{AtMost, NoPoint, Bad}
+use Rattle.proof_tree.specs.Views.{KeepsViews, MovesTo, View, present as last_view}
+use Rattle.row_relax.specs.declared.pick.RowPick.{RowPick}
+use Rattle.row_relax.specs.Steps.{kept_at, row_steps, shown_if}
+use Rattle.row_relax.specs.View.{Fits, IsIn, domains_of, points_in}
+use Rattle.row_relax.specs.laws.Laws.{rows_sound}
+use Rattle.row_relax.specs.laws.Shown.{domains_there}
+use Rattle.row_relax.proofs.Marks.{domains-views}
+use Rattle.row_relax.proofs.PointCounts.{points-both}
+use Rattle.branch_tree.specs.declared.reached.Ground.{Ground}
+use Rattle.branch_tree.specs.declared.reached.Reached.{Reached}
+use Rattle.branch_tree.specs.Justified.{IsGroup, IsParted, IsPolished}
+use Rattle.branch_tree.specs.Searched.{IsBest}
+use Rattle.branch_tree.specs.laws.Ends.{view_splits}
+use Rattle.branch_tree.specs.laws.Grounds.{IsOwnBest, IsPartOf, IsSplitAt, StandsIn, program_of, seen}
+use Rattle.branch_tree.proofs.Caps.{total-fit}
+use Rattle.branch_tree.proofs.Depths.{CutsLeave, splits-left, splits-right}
+use Rattle.branch_tree.proofs.Opened.{none_bare-open}
+
+-- after its cuts a search stands in the view that they leave
+pub stands_after : (ground : Ground) (v w : View) (depth : ℕ) (old new : Reached) → StandsIn ground v depth old → CutsLeave (program_of ground) v w
+    → length new.point.items ≡ length old.point.items → new.changed ≡ None → new.own ≡ old.own → StandsIn ground w depth new
+stands_after ground v w depth old new stands leave places changed own = record {
+  indexed = stands.indexed;
+  fits = leave.fits;
+  places = places ∙ stands.places;
+  deep = omega (arith, stands.deep, leave.splits);
+  room = subst (λ o. IfSome o (λ slot. (slot < length (program_of ground).root) × HaveRoomBut (program_of ground).rows (slot ∷ []) (domains_of w))) (sym changed) tt;
+  own = subst (λ o. IfSome o (λ found. IsGroup (program_of ground) found × IsIn w found.point)) (sym own) (kept old.own stands.own);
+}
+  where
+    kept : (o : Option Found) → IfSome o (λ found. IsGroup (program_of ground) found × IsIn v found.point) → IfSome o (λ found. IsGroup (program_of ground) found × IsIn w found.point)
+    kept None is = tt
+    kept (Some f) is = (is.0, leave.keeps f.point is.1 is.0.lawful)
+
+-- and after its own point was offered there
+pub stands_on : (ground : Ground) (v w : View) (depth : ℕ) (old new : Reached) → StandsIn ground v depth old → CutsLeave (program_of ground) v w
+    → length new.point.items ≡ length old.point.items → new.changed ≡ None → new.own ≡ None → StandsIn ground w depth new
+stands_on ground v w depth old new stands leave places changed own = record {
+  indexed = stands.indexed;
+  fits = leave.fits;
+  places = places ∙ stands.places;
+  deep = omega (arith, stands.deep, leave.splits);
+  room = subst (λ o. IfSome o (λ slot. (slot < length (program_of ground).root) × HaveRoomBut (program_of ground).rows (slot ∷ []) (domains_of w))) (sym changed) tt;
+  own = subst (λ o. IfSome o (λ found. IsGroup (program_of ground) found × IsIn w found.point)) (sym own) tt;
+}
+
+-- what is best later is worth as much as one's own too
+pub own_later : (own mid new : Option Found) (later : List Found) → IsOwnBest own mid → IsBest new (option_to_list mid ++ later) → IsOwnBest own new
+own_later None mid new later first last = tt
+own_later (Some f) None new later first last = absurd first
+own_later (Some f) (Some m) None later first last = absurd (some_left m later last)
+  where
+    some_left : (x : Found) (xs : List Found) → x ∷ xs ≡ [] → ⊥
+    some_left x xs same = cc
+own_later (Some f) (Some m) (Some n) later first last =
+    let low : m.value ≤ℤ n.value = All-head (λ g. g.value ≤ℤ n.value) m later last.1 in
+    omega (arith, ints, first, low)
+
+-- a call that leads somewhere
+pub moved_to : (next : Option View) (old new : List View) (answer : Bool) (x : View) → next ≡ Some x → MovesTo next old new answer → (next ≡ Some (last_view new)) × KeepsViews old new
+moved_to next old new true x there moves = moves
+moved_to next old new false x there moves = absurd (some_none next x there moves.0)
+  where
+    some_none : (o : Option View) (y : View) → o ≡ Some y → o ≡ None → ⊥
+    some_none o y some none = cc
+
+-- views that keep others are no fewer
+pub kept_length : (old new : List View) → KeepsViews old new → length old ≤ length new
+kept_length old new keeps = omega (arith, length-take (length old) new, ap length keeps)
+
+-- the parts of a split are there
+pub left_there : (program : Program) (v : View) (pick : RowPick) → IsParted (domains_of v) pick → (x : View) × ((row_steps program).left v pick ≡ Some x)
+unfolding row_steps
+left_there program v pick parts = (_, ap (λ there. shown_if there (kept_at (domains_of v) pick.slot (up_to pick.max))) (lt-ltb pick.slot (length (domains_of v)) parts.slot))
+
+pub right_there : (program : Program) (v : View) (pick : RowPick) → IsParted (domains_of v) pick → (x : View) × ((row_steps program).right v pick ≡ Some x)
+unfolding row_steps
+right_there program v pick parts = (_, ap (λ there. shown_if there (kept_at (domains_of v) pick.slot (over pick.max))) (lt-ltb pick.slot (length (domains_of v)) parts.slot))
+
+-- the domains of the parts of a split
+left_domains : (program : Program) (v x : View) (pick : RowPick) → (row_steps program).left v pick ≡ Some x → domains_of x ≡ kept_at (domains_of v) pick.slot (up_to pick.max)
+unfolding row_steps
+left_domains program v x pick is = domains_there (ltb pick.slot (length (domains_of v))) (kept_at (domains_of v) pick.slot (up_to pick.max)) x is
+
+right_domains : (program : Program) (v x : View) (pick : RowPick) → (row_steps program).right v pick ≡ Some x → domains_of x ≡ kept_at (domains_of v) pick.slot (over pick.max)
+unfolding row_steps
+right_domains program v x pick is = domains_there (ltb pick.slot (length (domains_of v))) (kept_at (domains_of v) pick.slot (over pick.max)) x is
+
+-- where a part of a domain's slot is open, no domain is empty
+part_open : (ds : List Domain) (slot : ℕ) (d : Domain) → All IsOpen (kept_at ds slot d) → Any IsBare ds → ⊥
+part_open ds slot d each bare =
+    let some = points-open (kept_at ds slot d) each in
+    let fewer = points-shared_le ds slot d in
+    let none = points-bare ds bare.0 bare.2 (ap count_of (get_or_default ds bare.0 no_values bare.1 bare.2 ∙ bare.3) ∙ bare.4) in
+    omega (arith, some, fewer, none)
+
+-- so each row has room
+rooms_of : (rows : List Row) (ds : List Domain) (slot : ℕ) (d : Domain) → All IsOpen (kept_at ds slot d) → HaveRoom rows ds → All (HasRoom ds) rows
+rooms_of rows ds slot d each room = elim room [ inl bare ↦ absurd (part_open ds slot d each bare) | inr rooms ↦ rooms ]
+
+-- a fit certificate of scale 1 or more has a cap where no domain is empty
+capped_open : (program : Program) (ds : List Domain) (cert : Cert) → is_fit (length program.rows) cert ≡ true → 1 ≤ cert.scale → All IsOpen ds → cert_cap program ds cert ≢ Bad
+capped_open program ds cert fit scale each = at (has_total program ds cert) (both (is_fit (length program.rows) cert) (list_all (λ (d : Domain). ltb 0 (count_of d)) ds) fit (list_all-from_AllPass (λ (d : Domain). ltb 0 (count_of d)) ds (λ k d lt. lt-ltb 0 (count_of (get_or ds k d)) (each k d lt))))
+  where
+    both : (a b : Bool) → a ≡ true → b ≡ true → (a && b) ≡ true
+    both a b e h = cc
+
+    apart : false ≡ true → ⊥
+    apart same = cc
+
+    never_bad : (n : ℤ) → AtMost n ≡ Bad → ⊥
+    never_bad n same = cc
+
+    by_scale : (z : Bool) → eqb cert.scale 0 ≡ z → cond z (cond (int_lt (total_of program ds cert) (pos 0)) NoPoint Bad) (AtMost (int_div_euclid (total_of program ds cert) (pos cert.scale))) ≡ Bad → ⊥
+    by_scale true e = absurd (grind (arith, nat_tests))
+    by_scale false e = never_bad (int_div_euclid (total_of program ds cert) (pos cert.scale))
+
+    at : (b : Bool) → b ≡ true → scaled_cap cert.scale (cond b (Some (total_of program ds cert)) None) ≢ Bad
+    at false is = λ same. apart is
+    at true is = by_scale (eqb cert.scale 0) refl
+
+-- the left part of a split
+pub left_stands : (ground : Ground) (v x : View) (pick : RowPick) (cert : Cert) (depth : ℕ) (old new : Reached) → StandsIn ground v depth old → HaveRoom (program_of ground).rows (domains_of v) → IsSplitAt (program_of ground) v pick cert
+    → (row_steps (program_of ground)).left v pick ≡ Some x → length new.point.items ≡ length old.point.items → new.changed ≡ Some pick.slot → new.own ≡ None → StandsIn ground x (depth + 1) new
+left_stands ground v x pick cert depth old new stands room cause moved places changed own =
+    let program = program_of ground in
+    let ds = domains_of v in
+    let rooms = HaveRoomBut-shared program.rows ds pick.slot (up_to pick.max) cause.parted.slot (rooms_of program.rows ds pick.slot (up_to pick.max) cause.parted.left room) in
+    record {
+      indexed = stands.indexed;
+      fits = (rows_sound program).left_fits v x pick stands.fits moved;
+      places = places ∙ stands.places;
+      deep = omega (arith, stands.deep, splits-left program v x pick stands.fits cause.parted moved);
+      room = subst (λ o. IfSome o (λ slot. (slot < length program.root) × HaveRoomBut program.rows (slot ∷ []) (domains_of x))) (sym changed)
+          (subst (λ n. pick.slot < n) stands.fits.slots cause.parted.slot, subst (λ (xs : List Domain). HaveRoomBut program.rows (pick.slot ∷ []) xs) (sym (left_domains program v x pick moved)) rooms);
+      own = subst (λ o. IfSome o (λ found. IsGroup program found × IsIn x found.point)) (sym own) tt;
+    }
+
+pub right_stands : (ground : Ground) (v x : View) (pick : RowPick) (cert : Cert) (depth : ℕ) (old new : Reached) → StandsIn ground v depth old → HaveRoom (program_of ground).rows (domains_of v) → IsSplitAt (program_of ground) v pick cert
+    → (row_steps (program_of ground)).right v pick ≡ Some x → length new.point.items ≡ length old.point.items → new.changed ≡ Some pick.slot → new.own ≡ None → StandsIn ground x (depth + 1) new
+right_stands ground v x pick cert depth old new stands room cause moved places changed own =
+    let program = program_of ground in
+    let ds = domains_of v in
+    let rooms = HaveRoomBut-shared program.rows ds pick.slot (over pick.max) cause.parted.slot (rooms_of program.rows ds pick.slot (over pick.max) cause.parted.right room) in
+    record {
+      indexed = stands.indexed;
+      fits = (rows_sound program).right_fits v x pick stands.fits moved;
+      places = places ∙ stands.places;
+      deep = omega (arith, stands.deep, splits-right program v x pick stands.fits cause.parted moved);
+      room = subst (λ o. IfSome o (λ slot. (slot < length program.root) × HaveRoomBut program.rows (slot ∷ []) (domains_of x))) (sym changed)
+          (subst (λ n. pick.slot < n) stands.fits.slots cause.parted.slot, subst (λ (xs : List Domain). HaveRoomBut program.rows (pick.slot ∷ []) xs) (sym (right_domains program v x pick moved)) rooms);
+      own = subst (λ o. IfSome o (λ found. IsGroup program found × IsIn x found.point)) (sym own) tt;
+    }
+
+-- a part whose domains are open is a part of the split
+part_is : (program : Program) (v x : View) (ds : List Domain) (pick : RowPick) (cert : Cert) → IsSplitAt program v pick cert → domains_of x ≡ ds → All IsOpen ds → IsPartOf program x cert
+unfolding row_steps
+part_is program v x ds pick cert cause same each =
+    let fit = total-fit program (domains_of v) cert cause.polished.total in
+    record {
+      some = subst (λ (xs : List Domain). list_any is_bare xs ≡ false) (sym same) (open_none ds each);
+      capped = subst (λ (xs : List Domain). cert_cap program xs cert ≢ Bad) (sym same) (capped_open program ds cert fit cause.polished.scale each);
+    }
+
+pub left_is : (program : Program) (v x : View) (pick : RowPick) (cert : Cert) → IsSplitAt program v pick cert → (row_steps program).left v pick ≡ Some x → IsPartOf program x cert
+left_is program v x pick cert cause moved = part_is program v x (kept_at (domains_of v) pick.slot (up_to pick.max)) pick cert cause (left_domains program v x pick moved) cause.parted.left
+
+pub right_is : (program : Program) (v x : View) (pick : RowPick) (cert : Cert) → IsSplitAt program v pick cert → (row_steps program).right v pick ≡ Some x → IsPartOf program x cert
+right_is program v x pick cert cause moved = part_is program v x (kept_at (domains_of v) pick.slot (over pick.max)) pick cert cause (right_domains program v x pick moved) cause.parted.right
+
+-- each part has fewer points
+pub parts_fewer : (program : Program) (v x y : View) (pick : RowPick) → Fits program v → IsParted (domains_of v) pick → (row_steps program).left v pick ≡ Some x → (row_steps program).right v pick ≡ Some y → (points_in x < points_in v) × (points_in y < points_in v)
+parts_fewer program v x y pick fit parts left right =
+    let both : points_in x + points_in y ≡ points_in v = points-both program v x y pick fit left right in
+    let some_x : 0 < points_in x = subst (λ (ds : List Domain). 0 < points_of ds) (sym (left_domains program v x pick left)) (points-open (kept_at (domains_of v) pick.slot (up_to pick.max)) parts.left) in
+    let some_y : 0 < points_in y = subst (λ (ds : List Domain). 0 < points_of ds) (sym (right_domains program v y pick right)) (points-open (kept_at (domains_of v) pick.slot (over pick.max)) parts.right) in
+    (omega arith, omega arith)
+
+-- a part that has points has no empty domain
+pub part_each_open : (program : Program) (marks : List (List Domain)) → (row_steps program).empty (seen marks) ≡ false → All IsOpen (present marks)
+unfolding row_steps
+part_each_open program marks some = none_bare-open (present marks) (subst (λ (ds : List Domain). list_any is_bare ds ≡ false) (domains-views marks) some)

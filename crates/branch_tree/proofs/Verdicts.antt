@@ -1,0 +1,161 @@
+-- What is judged of a box ends it.
+use Rattle.std.proofs.Common.{◌≡◌, ◌≢◌, ℕ, ◌+◌, ◌≤◌, ◌<◌, Bool, true, false, List, [], ◌∷◌, ◌++◌, length, get_or, Option, Some, None, option_to_list, refl, sym, ap, ◌∙◌, subst, arith, inl, inr, ⊎_elim}
+use Rattle.std.specs.Prelude.{ℤ, ◌≤ℤ◌, IfSome, ⊤, ◌⊎◌}
+use Rattle.std.specs.List.{All, Any, list_any}
+use Rattle.std.specs.Option.{IsSomeAnd, option_map}
+use Rattle.std.proofs.lemmas.Bool.{cases_eq, cases_lt, eq-eqb}
+use Rattle.std.proofs.lemmas.List.{get_or_default}
+use Rattle.std.proofs.lemmas.List.Folds.{list_any-from_Any}
+use Rattle.row_kit.specs.declared.domain.Domain.{Domain}
+use Rattle.row_kit.specs.declared.found.Found.{Found}
+use Rattle.row_kit.specs.declared.program.Program.{Program}
+use Rattle.row_kit.specs.declared.row.Row.{Row}
+use Rattle.row_kit.specs.Area.{present}
+use Rattle.row_kit.specs.Domain.{IsBare, IsNormal, IsOpen, IsSingle, count_of, domain_at, no_values, over, shared}
+use Rattle.range_prop.specs.Cut.{is_bare}
+use Rattle.range_prop.specs.Cuts.{AreDone, IsStill}
+use Rattle.dual_bound.specs.declared.cert.Cert.{Cert}
+use Rattle.dual_bound.specs.Cap.{cert_cap}
+use Rattle.dual_bound.specs.Total.{total_at}
+use Rattle.dual_simplex.specs.Solved.{plain_cert}
+use Rattle.proof_tree.specs.declared.capped.Capped.TheVariants.{Bad}
+use Rattle.proof_tree.specs.declared.item.Item.TheVariants.{Node, Cut, Found as FoundItem, Empty, Dual, Point, Pending, Split}
+use Rattle.proof_tree.specs.Views.{View}
+use Rattle.row_relax.specs.declared.pick.RowPick.{RowPick}
+use Rattle.row_relax.specs.Settle.{settled}
+use Rattle.row_relax.specs.Steps.{row_steps}
+use Rattle.row_relax.specs.View.{Fits, IsIn, domains_of}
+use Rattle.row_relax.specs.laws.Laws.{rows_sound}
+use Rattle.row_relax.proofs.Marks.{domains-views}
+use Rattle.branch_tree.specs.Justified.{HasCause, IsGroup, IsParted}
+use Rattle.branch_tree.specs.Searched.{RowItem, IsBest, IsFitItem}
+use Rattle.branch_tree.specs.laws.Ends.{ClosedBy, IsVerdict, ItemEnds, Reaches, view_splits}
+use Rattle.branch_tree.specs.laws.Grounds.{IsOwnBest, seen}
+use Rattle.branch_tree.proofs.Best.{above-same, closed-same, not_over-closed, over-above, reached-closed}
+use Rattle.branch_tree.proofs.Caps.{cap-total, not_over-not_bad, total-fit, within-not_bad}
+use Rattle.branch_tree.proofs.Depths.{at_slot, over_none, splits-left}
+use Rattle.branch_tree.proofs.Standing.{left_there}
+
+-- an area with an empty domain shows a view that is empty
+pub empty_is : (program : Program) (marks : List (List Domain)) → Any IsBare (present marks) → (row_steps program).empty (seen marks) ≡ true
+unfolding row_steps
+empty_is program marks bare =
+    subst (λ (ds : List Domain). list_any is_bare ds ≡ true) (sym (domains-views marks)) (list_any-from_Any is_bare (present marks) (bare.0, bare.1, bare.2, bare.3, eq-eqb (count_of bare.1) 0 bare.4))
+
+-- where the test finds no empty domain, each holds a value
+pub open_of : (ds : List Domain) (b : Bool) → b ≡ false → (Any IsBare ds → b ≡ true) → All IsOpen ds
+open_of ds b none found = λ k d lt.
+    let x = get_or ds k d in
+    ⊎_elim
+    (λ (bare : count_of x ≡ 0). absurd (apart b none (found (k, x, lt, get_or_default ds k x d lt, bare))))
+    (λ (some : count_of x ≡ 0 → ⊥). omega (arith, some))
+    (cases_eq (count_of x) 0)
+  where
+    apart : (t : Bool) → t ≡ false → t ≡ true → ⊥
+    apart t is_false is_true = cc
+
+-- a lawful point of an area is in none that is empty
+pub own_empty : (program : Program) (view : View) (own best : Option Found) → Fits program view → (row_steps program).empty view ≡ true → IfSome own (λ found. IsGroup program found × IsIn view found.point) → IsOwnBest own best
+own_empty program view None best fit bare is = tt
+own_empty program view (Some f) best fit bare is = absurd ((rows_sound program).empty_holds view fit bare f.point is.1)
+
+-- where no domain is empty, what is done is exhausted
+exhausted_of : (rows : List Row) (ds : List Domain) → All IsOpen ds → AreDone rows ds → All (IsStill ds) rows
+exhausted_of rows ds each done =
+    elim done [
+      inl bare ↦ let some = each bare.0 bare.1 bare.2 in let none = bare.4 in let same = ap count_of bare.3 in absurd (omega (arith, some, none, same))
+    | inr still ↦ still
+    ]
+
+-- what is judged of a box ends it
+pub verdict-ends : (program : Program) (marks : List (List Domain)) (item : RowItem) (found best : Option Found) (before : List Found)
+    → AreDone program.rows (present marks) → All IsOpen (present marks) → (All IsSingle (present marks) → Reaches (settled program (present marks)) found)
+    → IsBest best (before ++ option_to_list found) → IsVerdict program (present marks) (option_map (λ f. f.value) best) item → ItemEnds program (seen marks) (before ++ option_to_list found) item
+unfolding row_steps
+verdict-ends program marks (Dual cert) found best before done each only is verdict =
+    subst (λ (ds : List Domain). ClosedBy (cert_cap program ds cert) (before ++ option_to_list found)) (sym (domains-views marks)) (not_over-closed (cert_cap program (present marks) cert) best (before ++ option_to_list found) is verdict)
+verdict-ends program marks Point found best before done each only is verdict =
+    subst (λ (ds : List Domain). ClosedBy (settled program ds) (before ++ option_to_list found)) (sym (domains-views marks)) (reached-closed (settled program (present marks)) found before (only verdict))
+verdict-ends program marks (Split pick cert) found best before done each only is verdict =
+    subst (λ (ds : List Domain). HasCause program ds (before ++ option_to_list found) pick cert) (sym (domains-views marks)) (record {
+      exhausted = exhausted_of program.rows (present marks) each done;
+      polished = verdict.0;
+      above = over-above (cert_cap program (present marks) cert) best (before ++ option_to_list found) (within-not_bad (cert_cap program (present marks) plain_cert) (cert_cap program (present marks) cert) verdict.0.no_higher) is verdict.2;
+      parted = verdict.1;
+    })
+verdict-ends program marks Node found best before done each only is verdict = absurd verdict
+verdict-ends program marks (Cut cut) found best before done each only is verdict = absurd verdict
+verdict-ends program marks (FoundItem f) found best before done each only is verdict = absurd verdict
+verdict-ends program marks Empty found best before done each only is verdict = absurd verdict
+verdict-ends program marks (Pending cert) found best before done each only is verdict = absurd verdict
+
+-- a split leaves a value above it
+max_most : (d : Domain) (m : ℕ) → IsNormal d → IsOpen (shared d (over m)) → m ≤ 254
+max_most d m n some =
+    ⊎_elim
+    (λ (less : m < 255). omega arith)
+    (λ (more : 255 ≤ m). let none = over_none d.zero d.lo d.hi m n.positive n.byte (omega (arith, n.byte)) in absurd (omega (arith, none, some)))
+    (cases_lt m 255)
+
+-- and its item is fit
+pub verdict-fit : (program : Program) (ds : List Domain) (best : Option ℤ) (item : RowItem) → All IsNormal ds → length ds ≡ length program.root → IsVerdict program ds best item → IsFitItem program item
+verdict-fit program ds best (Dual cert) normal' slots verdict =
+    total-fit program ds cert (cap-total cert.scale (total_at program ds cert) (not_over-not_bad (cert_cap program ds cert) best verdict))
+verdict-fit program ds best Point normal' slots verdict = tt
+verdict-fit program ds best (Split pick cert) normal' slots verdict =
+    let parts : IsParted ds pick = verdict.1 in
+    let right = at_slot ds pick.slot (shared (domain_at ds pick.slot) (over pick.max)) parts.slot parts.right in (
+      subst (λ n. pick.slot < n) slots parts.slot,
+      max_most (domain_at ds pick.slot) pick.max (normal' pick.slot no_values parts.slot) right,
+      total-fit program ds cert verdict.0.total,
+    )
+verdict-fit program ds best Node normal' slots verdict = absurd verdict
+verdict-fit program ds best (Cut cut) normal' slots verdict = absurd verdict
+verdict-fit program ds best (FoundItem f) normal' slots verdict = absurd verdict
+verdict-fit program ds best Empty normal' slots verdict = absurd verdict
+verdict-fit program ds best (Pending cert) normal' slots verdict = absurd verdict
+
+-- an item that ends a box with some found points ends it with any that have the same best
+pub ends-same : (program : Program) (view : View) (item : RowItem) (best : Option Found) (fs gs : List Found) → IsBest best fs → IsBest best gs → ItemEnds program view fs item → ItemEnds program view gs item
+ends-same program view Empty best fs gs is other ends = ends
+ends-same program view (Dual cert) best fs gs is other ends = closed-same ((row_steps program).cap view cert) best fs gs is other ends
+ends-same program view Point best fs gs is other ends = closed-same ((row_steps program).settle view) best fs gs is other ends
+ends-same program view (Split pick cert) best fs gs is other ends = record {
+  exhausted = ends.exhausted;
+  polished = ends.polished;
+  above = above-same (cert_cap program (domains_of view) cert) best fs gs is other ends.above;
+  parted = ends.parted;
+}
+ends-same program view Node best fs gs is other ends = absurd ends
+ends-same program view (Cut cut) best fs gs is other ends = absurd ends
+ends-same program view (FoundItem f) best fs gs is other ends = absurd ends
+ends-same program view (Pending cert) best fs gs is other ends = absurd ends
+
+-- no other item ends a box
+pub ends-only : (program : Program) (view : View) (fs : List Found) (item : RowItem) → ItemEnds program view fs item → (item ≡ Empty → ⊥) → ((cert : Cert) → item ≡ Dual cert → ⊥) → (item ≡ Point → ⊥) → ((pick : RowPick) (cert : Cert) → item ≡ Split pick cert → ⊥) → ⊥
+ends-only program view fs Empty ends empty dual point split = empty refl
+ends-only program view fs (Dual cert) ends empty dual point split = dual cert refl
+ends-only program view fs Point ends empty dual point split = point refl
+ends-only program view fs (Split pick cert) ends empty dual point split = split pick cert refl
+ends-only program view fs Node ends empty dual point split = ends
+ends-only program view fs (Cut cut) ends empty dual point split = ends
+ends-only program view fs (FoundItem f) ends empty dual point split = ends
+ends-only program view fs (Pending cert) ends empty dual point split = ends
+
+-- a split leaves a split to its parts
+pub ends-room : (program : Program) (view : View) (fs : List Found) (item : RowItem) → Fits program view → ItemEnds program view fs item → (1 ≤ view_splits view) ⊎ ((pick : RowPick) (cert : Cert) → item ≡ Split pick cert → ⊥)
+ends-room program view fs Empty fit ends = inr (λ pick cert same. cc)
+ends-room program view fs (Dual c) fit ends = inr (λ pick cert same. cc)
+ends-room program view fs Point fit ends = inr (λ pick cert same. cc)
+ends-room program view fs (Split pick cert) fit ends =
+    let part = left_there program view pick ends.parted in
+    inl (omega (arith, splits-left program view part.0 pick fit ends.parted part.1))
+ends-room program view fs Node fit ends = absurd ends
+ends-room program view fs (Cut cut) fit ends = absurd ends
+ends-room program view fs (FoundItem f) fit ends = absurd ends
+ends-room program view fs (Pending cert) fit ends = absurd ends
+
+-- the certificate of a part that is left open is fit
+pub pending-fit : (program : Program) (view : View) (cert : Cert) → (row_steps program).cap view cert ≢ Bad → IsFitItem program (Pending cert)
+unfolding row_steps
+pending-fit program view cert some = total-fit program (domains_of view) cert (cap-total cert.scale (total_at program (domains_of view) cert) some)

@@ -1,0 +1,231 @@
+-- A whole search, from the search of its root.
+use Rattle.std.proofs.Common.{◌≡◌, ◌≢◌, ℕ, zero, suc, ◌+◌, ◌*◌, ◌<◌, ◌≤◌, Bool, true, false, List, [], ◌∷◌, ◌++◌, Option, Some, None, refl, ap, sym, ◌∙◌, subst, arith, inl, inr, append-nil}
+use Rattle.std.specs.Prelude.{ℤ, ◌≤ℤ◌, IfSome, MatchOption, ⊤, ◌⊎◌, length}
+use Rattle.std.specs.List.{All, Contains, sum_by}
+use Rattle.std.specs.Option.{IsSomeAnd, option_map}
+use Rattle.std.proofs.lemmas.Int.{ints}
+use Rattle.std.proofs.lemmas.List.Elements.{All-contains, All-cons, All-head, All-nil, All-tail}
+use Rattle.row_kit.specs.declared.area.Area.{Area}
+use Rattle.row_kit.specs.declared.domain.Domain.{Domain}
+use Rattle.row_kit.specs.declared.found.Found.{Found}
+use Rattle.row_kit.specs.declared.program.Program.{Program}
+use Rattle.row_kit.specs.Point.{IsLawful, LiesIn, worth_of}
+use Rattle.row_kit.specs.Points.{points_of}
+use Rattle.row_kit.proofs.PointCounts.{points-open}
+use Rattle.proof_tree.specs.Cap.{Bounds}
+use Rattle.proof_tree.specs.declared.capped.Capped.{Capped}
+use Rattle.proof_tree.specs.declared.capped.Capped.TheVariants.{AtMost, NoPoint, Bad}
+use Rattle.proof_tree.specs.declared.item.Item.TheVariants.{Node, Cut, Found as FoundItem, Empty, Dual, Point, Pending, Split}
+use Rattle.proof_tree.specs.Items.{tree_items, depth, found_in}
+use Rattle.proof_tree.specs.Nodes.{EachNode, counted, found_points}
+use Rattle.proof_tree.specs.Tree.{tree_cap}
+use Rattle.proof_tree.specs.Views.{View}
+use Rattle.proof_tree.proofs.Folds.{found_in-tree}
+use Rattle.proof_tree.proofs.Sound.{tree_cap-bounds}
+use Rattle.row_relax.specs.declared.Rows.{Rows}
+use Rattle.row_relax.specs.Settle.{only_point}
+use Rattle.row_relax.specs.Steps.{row_steps}
+use Rattle.row_relax.specs.View.{Fits, IsIn, domains_of, points_in, view_of}
+use Rattle.row_relax.specs.laws.Laws.{rows_sound}
+use Rattle.row_relax.specs.laws.Shown.{domains_of-view_of, fits_of}
+use Rattle.branch_tree.specs.declared.ended.Ended.{Ended}
+use Rattle.branch_tree.specs.declared.reached.Reached.{Reached}
+use Rattle.branch_tree.specs.Justified.{RowTree, IsGroup, IsAbove}
+use Rattle.branch_tree.specs.Searched.{RowItem, HasOpenBox, IsBest, IsBrokenOff, IsExact, IsFitItem, IsSearch, IsSearchedTo, IsSettled, spared}
+use Rattle.branch_tree.specs.laws.Ends.{NodeDone, is_over, view_splits}
+use Rattle.range_prop.specs.Cuts.{HaveRoomBut}
+use Rattle.branch_tree.specs.declared.reached.Ground.{Ground}
+use Rattle.branch_tree.specs.laws.Grounds.{IsGround, IsOwnBest, IsStart, StandsIn, program_of, seen}
+use Rattle.branch_tree.specs.laws.Handed.{Grows, BoxHanded, opens}
+use Rattle.branch_tree.specs.laws.Stops.{BoxStopped, Stopped}
+use Rattle.branch_tree.proofs.Best.{closed-not_over, not_over-closed, over-above}
+use Rattle.branch_tree.proofs.Depths.{splits-root}
+use Rattle.branch_tree.proofs.Stopping.{box_before}
+use Rattle.branch_tree.proofs.Trees.{defined-not_bad, tree-boxes, tree-closed, tree-defined, tree-depth, tree-justified, tree-open}
+
+-- found points among fit items are lawful and stand with their worth
+fit-groups : (program : Program) (items : List RowItem) → All (IsFitItem program) items → All (IsGroup program) (found_in items)
+fit-groups program [] fit = All-nil (IsGroup program)
+fit-groups program (item ∷ items) fit = at item (All-head (IsFitItem program) item items fit) (fit-groups program items (All-tail (IsFitItem program) item items fit))
+  where
+    at : (first : RowItem) → IsFitItem program first → All (IsGroup program) (found_in items) → All (IsGroup program) (found_in (first ∷ items))
+    at (FoundItem f) is rest = All-cons (IsGroup program) f (found_in items) is rest
+    at Node is rest = rest
+    at (Cut cut) is rest = rest
+    at Empty is rest = rest
+    at (Dual cert) is rest = rest
+    at Point is rest = rest
+    at (Pending cert) is rest = rest
+    at (Split pick cert) is rest = rest
+
+module _ (program : Program) where
+  -- the root's view fits, and has the root's points
+  root_fits : Fits program (view_of program.root)
+  root_fits = fits_of program program.root refl program.root_normal
+
+  root_points : points_in (view_of program.root) ≡ points_of program.root
+  root_points = ap points_of (domains_of-view_of program.root)
+
+  -- the cap of a proof bounds every lawful point of the root
+  root_bounds : (tree : RowTree) → Bounds (LiesIn program.root) (IsLawful program) (worth_of program) (tree_cap (row_steps program) (view_of program.root) tree)
+  root_bounds tree =
+      let bounds : Bounds (IsIn (view_of program.root)) (IsLawful program) (worth_of program) (tree_cap (row_steps program) (view_of program.root) tree)
+          = tree_cap-bounds (row_steps program) (Fits program) IsIn (IsLawful program) (worth_of program) (rows_sound program) tree (view_of program.root) root_fits in
+      subst (λ (ds : List Domain). Bounds (LiesIn ds) (IsLawful program) (worth_of program) (tree_cap (row_steps program) (view_of program.root) tree)) (domains_of-view_of program.root) bounds
+
+  -- a cap that is not over the best is its worth
+  settled : (cap : Capped) (best : Option Found) (fs : List Found) → IsBest best fs → All (IsGroup program) fs → Bounds (LiesIn program.root) (IsLawful program) (worth_of program) cap
+      → is_over cap (option_map (λ f. f.value) best) ≡ false → IsSettled cap best
+  settled Bad best fs is groups bounds over = cc
+  settled NoPoint None fs is groups bounds over = tt
+  settled NoPoint (Some b) fs is groups bounds over =
+      let group = All-contains (IsGroup program) fs b groups is.0 in
+      bounds b.point group.lawful.lies group.lawful
+  settled (AtMost n) None fs is groups bounds over = cc
+  settled (AtMost n) (Some b) fs is groups bounds over =
+      let group = All-contains (IsGroup program) fs b groups is.0 in
+      let low : b.value ≤ℤ n = subst (λ z. z ≤ℤ n) (sym group.worth) (bounds b.point group.lawful.lies group.lawful) in
+      let high : n ≤ℤ b.value = grind (arith, ints) in
+      omega (arith, ints, low, high)
+
+  -- where the root's least point is lawful, the best is worth as much
+  least_best : (own best : Option Found) → MatchOption own (¬ IsLawful program (only_point program.root)) (λ found. IsGroup program found × (found.point ≡ only_point program.root))
+      → IsOwnBest own best → IsLawful program (only_point program.root) → IsSomeAnd best (λ b. worth_of program (only_point program.root) ≤ℤ b.value)
+  least_best None best is offered lawful = absurd (is lawful)
+  least_best (Some f) None is offered lawful = offered
+  least_best (Some f) (Some b) is offered lawful = subst (λ z. z ≤ℤ b.value) (is.0.worth ∙ ap (worth_of program) is.1) offered
+
+-- the start of a search stands in the root
+pub root-stands : (ground : Ground) (marks : List (List Domain)) (start : Reached) → IsGround ground → marks ≡ (program_of ground).root ∷ [] → IsStart (program_of ground) start → StandsIn ground (seen marks) 0 start
+root-stands ground marks start indexed is begun = subst (λ (ms : List (List Domain)). StandsIn ground (seen ms) 0 start) (sym is) at_root
+  where
+    own_at : (own : Option Found) → MatchOption own (¬ IsLawful (program_of ground) (only_point (program_of ground).root)) (λ found. IsGroup (program_of ground) found × (found.point ≡ only_point (program_of ground).root))
+        → IfSome own (λ found. IsGroup (program_of ground) found × IsIn (view_of (program_of ground).root) found.point)
+    own_at None offered = tt
+    own_at (Some f) offered = (offered.0, subst (λ (ds : List Domain). LiesIn ds f.point) (sym (domains_of-view_of (program_of ground).root)) offered.0.lawful.lies)
+
+    at_root : StandsIn ground (view_of (program_of ground).root) 0 start
+    at_root = record {
+      indexed = indexed;
+      fits = root_fits (program_of ground);
+      places = begun.places;
+      deep = omega (arith, splits-root (program_of ground));
+      room = subst (λ o. IfSome o (λ slot. (slot < length (program_of ground).root) × HaveRoomBut (program_of ground).rows (slot ∷ []) (domains_of (view_of (program_of ground).root)))) (sym begun.changed) tt;
+      own = own_at start.own begun.own;
+    }
+
+-- what is known of the search of the root
+pub record RootSearched {T O : Type 0} (took : T → O → List RowItem → T → O → Type 0) (program : Program) (budget : ℕ) (may_leave : Bool) (cap : Capped) (start new : Reached) (left_open : Bool) (t : T) (o : O) (t2 : T) (o2 : O) : Type 0 where
+  pub box : BoxHanded took (λ parent. ⊤) program budget may_leave (view_of program.root) cap start t o new t2 o2
+  pub begun : IsStart program start
+  pub own : IsOwnBest start.own new.best
+  pub within : new.spent ≤ budget
+  pub over : left_open ≡ is_over cap (option_map (λ f. f.value) new.best)
+
+module _ {T O : Type 0} (took : T → O → List RowItem → T → O → Type 0) (program : Program) (budget : ℕ) (may_leave : Bool) (cap : Capped) (start new : Reached) (left_open : Bool) (t : T) (o : O) (t2 : T) (o2 : O)
+    (root : RootSearched took program budget may_leave cap start new left_open t o t2 o2) where
+  -- each node of the proof
+  nodes : EachNode (NodeDone program) (row_steps program) None [] (view_of program.root) root.box.tree
+  nodes = root.box.done None [] tt (subst (λ b. IsBest b []) (sym root.begun.best) refl)
+
+  -- the best of its found points
+  best : IsBest new.best (found_points root.box.tree)
+  best = root.box.best [] (subst (λ b. IsBest b []) (sym root.begun.best) refl)
+
+  defined : cap ≢ Bad
+  defined bad = defined-not_bad (tree_cap (row_steps program) (view_of program.root) root.box.tree) (tree-defined program root.box.tree None [] (view_of program.root) nodes) (sym root.box.capped ∙ bad)
+
+  -- the boxes of the proof
+  boxes : counted root.box.tree + opens root.box.tree + 1 ≤ 2 * points_of program.root
+  boxes =
+      let some : 0 < points_in (view_of program.root) = subst (λ n. 0 < n) (sym (root_points program)) (points-open program.root program.root_open) in
+      subst (λ n. counted root.box.tree + opens root.box.tree + 1 ≤ 2 * n) (root_points program) (tree-boxes program root.box.tree None [] (view_of program.root) (root_fits program) some nodes)
+
+  spent_is : new.spent ≡ counted root.box.tree
+  spent_is = let sum : new.spent ≡ start.spent + counted root.box.tree = root.box.counts.counted in omega (arith, sum, root.begun.spent)
+
+  -- where the cap is over the best, a box is left open
+  some_open : left_open ≡ true → 0 < opens root.box.tree
+  some_open over = at (opens root.box.tree) refl
+    where
+      at : (n : ℕ) → opens root.box.tree ≡ n → 0 < opens root.box.tree
+      at zero none =
+          let closed = tree-closed program root.box.tree None [] (view_of program.root) nodes none in
+          let not_over = closed-not_over (tree_cap (row_steps program) (view_of program.root) root.box.tree) new.best (found_points root.box.tree) best closed in
+          absurd (apart left_open over (root.over ∙ ap (λ c. is_over c (option_map (λ f. f.value) new.best)) root.box.capped ∙ not_over))
+        where
+          apart : (b : Bool) → b ≡ true → b ≡ false → ⊥
+          apart b is_true is_false = cc
+      at (suc n) is = omega arith
+
+  pub ended_of_root : Ended
+  ended_of_root = record { best = new.best; cap = cap; spent = new.spent; left_open = left_open }
+
+  pub root-search : IsSearch program budget root.box.tree (record { best = new.best; cap = cap; spent = new.spent; left_open = left_open })
+  root-search = record {
+    cap = root.box.capped;
+    defined = defined;
+    bounds = bounds;
+    justified = tree-justified program root.box.tree None [] (view_of program.root) nodes;
+    writable = record {
+      fit = root.box.fit;
+      shallow = omega (arith, tree-depth program root.box.tree None [] (view_of program.root) (root_fits program) nodes, splits-root program);
+    };
+    best = best;
+    spent = spent_is;
+    within = root.within;
+    few = omega (arith, boxes, spent_is);
+    left_open = λ over. (
+      tree-open program root.box.tree None [] (view_of program.root) nodes (some_open over),
+      over-above cap new.best (found_points root.box.tree) defined best (sym root.over ∙ over),
+    );
+    settled = λ over. settled program cap new.best (found_points root.box.tree) best groups bounds (sym root.over ∙ over);
+    least = least_best program start.own new.best root.begun.own root.own;
+  }
+    where
+      bounds : Bounds (LiesIn program.root) (IsLawful program) (worth_of program) cap
+      bounds = subst (Bounds (LiesIn program.root) (IsLawful program) (worth_of program)) (sym root.box.capped) (root_bounds program root.box.tree)
+
+      groups : All (IsGroup program) (found_points root.box.tree)
+      groups = subst (All (IsGroup program)) (found_in-tree Rows Area root.box.tree) (fit-groups program (tree_items root.box.tree) root.box.fit)
+
+  -- the items of the proof were taken
+  pub root-taken : took t o [] t o → IsSearchedTo took program budget (record { best = new.best; cap = cap; spent = new.spent; left_open = left_open }) t o t2 o2
+  root-taken none = record { tree = root.box.tree; search = root-search; handed = root.box.handed t o [] none }
+
+  -- a budget that was spent makes the count exact
+  pub root-exact : (left_open ≡ true → new.spent ≡ budget) → IsExact program budget (record { best = new.best; cap = cap; spent = new.spent; left_open = left_open })
+  root-exact spent = record {
+    spent = spent;
+    below = λ over. let full : new.spent ≡ budget = spent over in omega (arith, full, boxes, spent_is, some_open over);
+  }
+
+  pub root-full : may_leave ≡ false → left_open ≡ true → new.spent ≡ budget
+  root-full never over = root.box.counts.full never (some_open over)
+
+-- what the search of the root comes to
+pub root-searched : {T O : Type 0} (took : T → O → List RowItem → T → O → Type 0) (program : Program) (budget : ℕ) (may_leave : Bool) (cap : Capped) (start new : Reached) (left_open : Bool) (t : T) (o : O) (t2 : T) (o2 : O)
+    (marks : List (List Domain)) (worth : Option ℤ) → marks ≡ program.root ∷ [] → BoxHanded took (λ parent. ⊤) program budget may_leave (seen marks) cap start t o new t2 o2 → IsStart program start → IsOwnBest start.own new.best
+    → new.spent ≤ budget → worth ≡ option_map (λ f. f.value) new.best → left_open ≡ is_over cap worth → RootSearched took program budget may_leave cap start new left_open t o t2 o2
+root-searched took program budget may_leave cap start new left_open t o t2 o2 marks worth is box begun own within worth_is over = record {
+  box = subst (λ (ms : List (List Domain)). BoxHanded took (λ parent. ⊤) program budget may_leave (seen ms) cap start t o new t2 o2) is box;
+  begun = begun;
+  own = own;
+  within = within;
+  over = over ∙ ap (is_over cap) worth_is;
+}
+
+-- a search that broke off
+pub root-stopped : {T O : Type 0} (took broke : T → O → List RowItem → T → O → Type 0) (program : Program) (t : T) (o : O) (t2 : T) (o2 : O) → took t o [] t o → BoxStopped took broke program (view_of program.root) t o t2 o2 → IsBrokenOff took broke program t o t2 o2
+root-stopped took broke program t o t2 o2 none s = record {
+  tree = s.tree;
+  items = s.stopped.items;
+  later = s.stopped.later;
+  first = s.stopped.first;
+  handed = elim s.stopped.grows [ inl grown ↦ inl (grown t o [] none) | inr grown ↦ inr (grown t o [] none) ];
+  writable = record { fit = s.fit; shallow = omega (arith, s.deep, splits-root program) };
+}
+
+-- a search that broke off before its first item
+pub root-before : {T O : Type 0} (took broke : T → O → List RowItem → T → O → Type 0) (program : Program) (t : T) (o : O) → took t o [] t o → IsBrokenOff took broke program t o t o
+root-before took broke program t o none = root-stopped took broke program t o t o none (box_before took broke program (view_of program.root) t o)

@@ -1,0 +1,287 @@
+-- A box is its first items, its found point and its end; an end that is a split has both its parts.
+use Rattle.std.proofs.Common.{◌≡◌, ℕ, Bool, length, take, ◌+◌, ◌<◌, ◌≤◌, List, [], ◌∷◌, ◌++◌, map, Option, Some, None, option_to_list, refl, sym, ap, ◌∙◌, subst, arith, rules, inl, inr, true, false}
+use Rattle.std.specs.Prelude.{IfOk, IfSome}
+use Rattle.std.proofs.lemmas.Result.{IfOk-weaker, on_err_weaker}
+use Rattle.row_kit.specs.declared.found.Found.{Found}
+use Rattle.row_relax.specs.Steps.{row_steps}
+use Rattle.row_relax.specs.View.{domains_of, points_in, view_of}
+use Rattle.row_relax.proofs.Marks.{domains-views, fits_slots}
+use Rattle.range_prop.specs.Cuts.{HaveRoom}
+use Rattle.proof_tree.specs.declared.item.Item.TheVariants.{Empty, Dual, Point, Split}
+use Rattle.proof_tree.specs.Views.{MovesTo, present as last_view}
+use Rattle.branch_tree.specs.Searched.{IsBest, IsFitItem}
+use Rattle.branch_tree.specs.laws.Ends.{ItemEnds}
+use Rattle.branch_tree.specs.laws.Grounds.{IsSplitAt, StandsIn, program_of, seen}
+use Rattle.branch_tree.specs.laws.Handed.{Grows, PartsHanded}
+use Rattle.branch_tree.proofs.Best.{IsBest-itself}
+use Rattle.branch_tree.proofs.Depths.{cuts_leave, splits-left, splits-right}
+use Rattle.branch_tree.proofs.Handing.{both_ok, box_handed, open_handed, parts_handed, tail_dual, tail_empty, tail_point, tail_split}
+use Rattle.branch_tree.proofs.Standing.{kept_length, left_is, left_stands, left_there, moved_to, own_later, part_each_open, parts_fewer, right_is, right_stands, right_there, stands_after, stands_on}
+use Rattle.branch_tree.proofs.Stopping.{at_err, box_before, box_in_head, box_in_look, box_in_tail, open_stopped, parts_in_first, parts_in_second, tail_at_item, tail_in_parts}
+use Rattle.branch_tree.proofs.Trees.{tree-depth}
+use Rattle.branch_tree.proofs.Verdicts.{ends-only, ends-room, ends-same, pending-fit}
+use Rattle.branch_tree.proofs.boxes.+search.Goals as goal
+use Rattle.branch_tree.proofs.boxes.+search.Goals.{search_part-then-reached-ground-via-then-reached-ground, search_part-then-reached-ground-via-else-reached-ground+then-is_left}
+
+may_not : (b : Bool) → b ≡ false → b ≡ true → ⊥
+may_not b is_false is_true = cc
+
+pub search_box-returns-in_err-open_box-clause-err : goal.search_box-returns-in_err-open_box-clause-err
+search_box-returns-in_err-open_box-clause-err g t c = at_err _ _ (box_in_head g.T.NodeTaker.took g.T.NodeTaker.broke (program_of c.args.ground.now) (seen c.args.area.now) _ _ _ _ c.in_err-open_box.ensures.err)
+
+pub search_box-look-requires-clause-stands : goal.search_box-look-requires-clause-stands
+search_box-look-requires-clause-stands g t c =
+    let head = c.in_ok-open_box.ensures.handed in
+    stands_after c.args.ground.now (seen c.args.area.now) (seen c.open_box.new.area) c.args.depth c.args.reached.now _ c.requires.stands
+    (cuts_leave (program_of c.args.ground.now) head.cuts (seen c.args.area.now) (seen c.open_box.new.area) c.requires.stands.fits head.moved) refl c.take.ensures.after refl
+
+pub search_box-returns-in_err-item-clause-err : goal.search_box-returns-in_err-item-clause-err
+search_box-returns-in_err-item-clause-err g t c =
+    let head = c.in_ok-open_box.ensures.handed in
+    at_err _ _ (box_in_look g.T.NodeTaker.took g.T.NodeTaker.broke (program_of c.args.ground.now) (seen c.args.area.now) head.cuts _ _ _ _ _ _ head.fit head.handed c.in_err-item.ensures.err)
+
+pub search_box-search_end-requires : goal.search_box-search_end-requires
+search_box-search_end-requires g t c =
+    let program = program_of c.args.ground.now in
+    let head = c.in_ok-open_box.ensures.handed in
+    let look = c.in_ok-item.ensures.handed in
+    let old = c.args.reached.now.best in
+    let leave = cuts_leave program head.cuts (seen c.args.area.now) (seen c.open_box.new.area) c.requires.stands.fits head.moved in
+    let fewer : points_in (seen c.open_box.new.area) ≤ points_in (seen c.args.area.now) = leave.points in
+    let stands : StandsIn c.args.ground.now (seen c.open_box.new.area) c.args.depth c.look.new.reached =
+        stands_on c.args.ground.now (seen c.args.area.now) (seen c.open_box.new.area) c.args.depth c.args.reached.now c.look.new.reached c.requires.stands leave c.look.ensures.places (c.look.ensures.changed ∙ c.take.ensures.after) c.in_ok-item.ensures.none in
+    let within : c.look.new.reached.spent ≤ c.args.ground.now.budget = omega (arith, c.look.ensures.spent, c.requires.room) in
+    let none : c.look.new.reached.own ≡ None = c.in_ok-item.ensures.none in
+    let room : HaveRoom program.rows (domains_of (seen c.open_box.new.area)) = subst (HaveRoom program.rows) (sym (domains-views c.open_box.new.area)) c.in_ok-open_box.ensures.room in
+    let here = IsBest-itself old in
+    let ends : (fs : List Found) → IsBest c.look.new.reached.best fs → ItemEnds program (seen c.open_box.new.area) fs c.in_ok-item.item =
+        λ fs best. ends-same program (seen c.open_box.new.area) c.in_ok-item.item c.look.new.reached.best (option_to_list old ++ option_to_list look.found) fs (look.best (option_to_list old) here) best (look.ends (option_to_list old) here) in
+    let fit : IsFitItem program c.in_ok-item.item = look.fit in
+    let ready : g.T.NodeTaker.ready c.look.new.taker c.look.new.out = c.in_ok-item.ensures.ready in
+    search rules
+
+pub search_box-returns-in_err-cap-clause-err : goal.search_box-returns-in_err-cap-clause-err
+search_box-returns-in_err-cap-clause-err g t c =
+    let head = c.in_ok-open_box.ensures.handed in
+    let look = c.in_ok-item.ensures.handed in
+    let leave = cuts_leave (program_of c.args.ground.now) head.cuts (seen c.args.area.now) (seen c.open_box.new.area) c.requires.stands.fits head.moved in
+    at_err _ _ (box_in_tail g.T.NodeTaker.took g.T.NodeTaker.broke (program_of c.args.ground.now) (seen c.args.area.now) head.cuts look.found _ _ _ _ _ _ _ _ (seen c.open_box.new.area) leave.splits head.fit look.group head.handed look.handed c.in_err-cap.ensures.err)
+
+pub search_box-returns-clause-own : goal.search_box-returns-clause-own
+search_box-returns-clause-own g t c =
+    let tail = c.in_ok-cap.ensures.handed in
+    own_later c.args.reached.now.own c.look.new.reached.best c.search_end.new.reached.best _ c.in_ok-item.ensures.own (tail.best (option_to_list c.look.new.reached.best) (IsBest-itself c.look.new.reached.best))
+
+pub search_box-returns-clause-handed : goal.search_box-returns-clause-handed
+search_box-returns-clause-handed g t c =
+    box_handed g.T.NodeTaker.took (program_of c.args.ground.now) c.args.ground.now.budget c.args.ground.now.may_leave (seen c.args.area.now) (seen c.open_box.new.area) c.in_ok-cap.cap c.in_ok-item.item
+    c.args.reached.now _ c.look.new.reached c.search_end.new.reached _ _ _ _ _ _ _ _ c.in_ok-open_box.ensures.fits refl c.look.ensures.spent c.in_ok-open_box.ensures.handed c.in_ok-item.ensures.handed c.in_ok-cap.ensures.handed
+
+pub search_end-returns-in_err-put-clause-err : goal.search_end-returns-in_err-put-clause-err
+search_end-returns-in_err-put-clause-err g t c =
+    let program = program_of c.args.ground.now in
+    let fs = option_to_list c.args.reached.now.best in
+    let ends = c.requires.ends fs (IsBest-itself c.args.reached.now.best) in
+    at_err _ _ (tail_at_item g.T.NodeTaker.took g.T.NodeTaker.broke program (seen c.args.area.now) c.args.item fs _ _ _ _ ends c.requires.fit (ends-room program (seen c.args.area.now) fs c.args.item c.requires.stands.fits ends) c.in_err-put.ensures.broke)
+
+pub search_end-returns-in-Empty-clause-handed : goal.search_end-returns-in-Empty-clause-handed
+search_end-returns-in-Empty-clause-handed g t c =
+    let program = program_of c.args.ground.now in
+    let ends = subst (λ item. (fs : List Found) → IsBest c.args.reached.now.best fs → ItemEnds program (seen c.args.area.now) fs item) c.in-Empty.is c.requires.ends in
+    let taken = subst (λ item. Grows g.T.NodeTaker.took g.T.NodeTaker.took c.args.taker.now c.args.out.now (item ∷ []) c.put.new.self c.put.new.out) c.in-Empty.is c.in_ok-put.ensures.took in
+    tail_empty g.T.NodeTaker.took program c.args.ground.now.budget c.args.ground.now.may_leave (seen c.args.area.now) c.args.reached.now _ _ _ _ ends taken
+
+pub search_end-returns-in-Dual-clause-handed : goal.search_end-returns-in-Dual-clause-handed
+search_end-returns-in-Dual-clause-handed g t c =
+    let program = program_of c.args.ground.now in
+    let ends = subst (λ item. (fs : List Found) → IsBest c.args.reached.now.best fs → ItemEnds program (seen c.args.area.now) fs item) c.in-Dual.is c.requires.ends in
+    let fit = subst (IsFitItem program) c.in-Dual.is c.requires.fit in
+    let taken = subst (λ item. Grows g.T.NodeTaker.took g.T.NodeTaker.took c.args.taker.now c.args.out.now (item ∷ []) c.put.new.self c.put.new.out) c.in-Dual.is c.in_ok-put.ensures.took in
+    tail_dual g.T.NodeTaker.took program c.args.ground.now.budget c.args.ground.now.may_leave (seen c.args.area.now) c.in-Dual.cert c.cap.result c.args.reached.now _ _ _ _ ends c.cap.ensures fit taken
+
+pub search_end-returns-in-Point-clause-handed : goal.search_end-returns-in-Point-clause-handed
+search_end-returns-in-Point-clause-handed g t c =
+    let program = program_of c.args.ground.now in
+    let ends = subst (λ item. (fs : List Found) → IsBest c.args.reached.now.best fs → ItemEnds program (seen c.args.area.now) fs item) c.in-Point.is c.requires.ends in
+    let taken = subst (λ item. Grows g.T.NodeTaker.took g.T.NodeTaker.took c.args.taker.now c.args.out.now (item ∷ []) c.put.new.self c.put.new.out) c.in-Point.is c.in_ok-put.ensures.took in
+    tail_point g.T.NodeTaker.took program c.args.ground.now.budget c.args.ground.now.may_leave (seen c.args.area.now) c.settle.result c.args.reached.now _ _ _ _ ends c.settle.ensures taken
+
+pub search_end-search_parts-requires : goal.search_end-search_parts-requires
+search_end-search_parts-requires g t c =
+    let program = program_of c.args.ground.now in
+    let ends = subst (λ item. ItemEnds program (seen c.args.area.now) (option_to_list c.args.reached.now.best) item) c.in-Split.is (c.requires.ends (option_to_list c.args.reached.now.best) (IsBest-itself c.args.reached.now.best)) in
+    let cause : IsSplitAt program (seen c.args.area.now) c.in-Split.pick c.in-Split.cert = record { polished = ends.polished; parted = ends.parted } in
+    search rules
+
+pub search_end-returns-in-Split-clause-handed : goal.search_end-returns-in-Split-clause-handed
+search_end-returns-in-Split-clause-handed g t c =
+    let program = program_of c.args.ground.now in
+    let ends = subst (λ item. (fs : List Found) → IsBest c.args.reached.now.best fs → ItemEnds program (seen c.args.area.now) fs item) c.in-Split.is c.requires.ends in
+    let fit = subst (IsFitItem program) c.in-Split.is c.requires.fit in
+    let taken = subst (λ item. Grows g.T.NodeTaker.took g.T.NodeTaker.took c.args.taker.now c.args.out.now (item ∷ []) c.put.new.self c.put.new.out) c.in-Split.is c.in_ok-put.ensures.took in
+    IfOk-weaker c.search_parts.result _ _
+    (λ cap parts. tail_split g.T.NodeTaker.took program c.args.ground.now.budget c.args.ground.now.may_leave (seen c.args.area.now) c.in-Split.pick c.in-Split.cert cap c.args.reached.now c.search_parts.new.reached _ _ _ _ _ _ ends fit taken parts)
+    c.search_parts.ensures.handed
+
+pub search_end-returns-in-Split-clause-err : goal.search_end-returns-in-Split-clause-err
+search_end-returns-in-Split-clause-err g t c =
+    let program = program_of c.args.ground.now in
+    let fit = subst (IsFitItem program) c.in-Split.is c.requires.fit in
+    let taken = subst (λ item. Grows g.T.NodeTaker.took g.T.NodeTaker.took c.args.taker.now c.args.out.now (item ∷ []) c.put.new.self c.put.new.out) c.in-Split.is c.in_ok-put.ensures.took in
+    on_err_weaker c.search_parts.result
+    (λ stopped. tail_in_parts g.T.NodeTaker.took g.T.NodeTaker.broke program (seen c.args.area.now) c.in-Split.pick c.in-Split.cert _ _ _ _ _ _ fit taken stopped)
+    c.search_parts.ensures.err
+
+pub search_end-unreachable-requires : goal.search_end-unreachable-requires
+search_end-unreachable-requires g t c =
+    ends-only (program_of c.args.ground.now) (seen c.args.area.now) (option_to_list c.args.reached.now.best) c.args.item (c.requires.ends (option_to_list c.args.reached.now.best) (IsBest-itself c.args.reached.now.best))
+    c.in_default.not-Empty c.in_default.not-Dual c.in_default.not-Point c.in_default.not-Split
+
+pub search_part-is_left-requires-clause-slots : goal.search_part-is_left-requires-clause-slots
+search_part-is_left-requires-clause-slots g t c = fits_slots (program_of c.args.ground.now) c.args.area.now c.requires.stands.fits
+
+pub search_part-is_left-requires-clause-each_open : goal.search_part-is_left-requires-clause-each_open
+search_part-is_left-requires-clause-each_open g t c = part_each_open (program_of c.args.ground.now) c.args.area.now c.requires.part.some
+
+pub search_part-returns-then-reached-ground-clause-handed : goal.search_part-returns-then-reached-ground-clause-handed
+search_part-returns-then-reached-ground-clause-handed g t c =
+    let program = program_of c.args.ground.now in
+    let view = seen c.args.area.now in
+    let full : c.args.ground.now.may_leave ≡ false → c.args.reached.now.spent ≡ c.args.ground.now.budget =
+        λ never. elim c.then-reached-ground.branch [
+          search_part-then-reached-ground-via-then-reached-ground w ↦ w.if-reached-ground.true
+        | search_part-then-reached-ground-via-else-reached-ground+then-is_left w ↦ absurd (may_not c.args.ground.now.may_leave never (w.is_left.ensures w.if-is_left.true))
+        ] in
+    both_ok c.leave_open.result _ _ c.leave_open.ensures.cap c.leave_open.ensures.handed
+    (λ cap is taken. open_handed g.T.NodeTaker.took program c.args.ground.now.budget c.args.ground.now.may_leave view c.args.cert.now cap c.args.reached.now _ _ _ _ c.requires.stands.fits c.requires.part.some c.requires.part.capped is full (pending-fit program view c.args.cert.now c.requires.part.capped) taken)
+
+pub search_part-returns-then-reached-ground-clause-err : goal.search_part-returns-then-reached-ground-clause-err
+search_part-returns-then-reached-ground-clause-err g t c =
+    let program = program_of c.args.ground.now in
+    let view = seen c.args.area.now in
+    on_err_weaker c.leave_open.result
+    (λ stopped. open_stopped g.T.NodeTaker.took g.T.NodeTaker.broke program view c.args.cert.now _ _ _ _ (pending-fit program view c.args.cert.now c.requires.part.capped) stopped)
+    c.leave_open.ensures.err
+
+pub search_part-returns-in_err-copied_cert-clause-err : goal.search_part-returns-in_err-copied_cert-clause-err
+search_part-returns-in_err-copied_cert-clause-err g t c = at_err _ _ (box_before g.T.NodeTaker.took g.T.NodeTaker.broke (program_of c.args.ground.now) (seen c.args.area.now) c.args.taker.now c.args.out.now)
+
+pub search_parts-search_part-requires : goal.search_parts-search_part-requires
+search_parts-search_part-requires g t c =
+    let program = program_of c.args.ground.now in
+    let view = seen c.args.area.now in
+    let pick = c.args.pick.now in
+    let parts = c.requires.split.parted in
+    let part = left_there program view pick parts in
+    let left = moved_to ((row_steps program).left view pick) (map view_of c.args.area.now) (map view_of c.left.new.area) c.left.result part.0 part.1 c.left.ensures.moves in
+    let other = right_there program view pick parts in
+    let fewer = (parts_fewer program view (seen c.left.new.area) other.0 pick c.requires.stands.fits parts left.0 other.1).0 in
+    let stands = left_stands c.args.ground.now view (seen c.left.new.area) pick c.args.cert.now c.args.depth c.args.reached.now (record c.args.reached.now { changed = Some pick.slot }) c.requires.stands c.requires.room c.requires.split left.0 refl refl c.requires.none in
+    let is_part = left_is program view (seen c.left.new.area) pick c.args.cert.now c.requires.split left.0 in
+    search rules
+
+pub search_parts-returns-in_err-first-clause-err : goal.search_parts-returns-in_err-first-clause-err
+search_parts-returns-in_err-first-clause-err g t c =
+    let program = program_of c.args.ground.now in
+    let view = seen c.args.area.now in
+    let pick = c.args.pick.now in
+    let parts = c.requires.split.parted in
+    let part = left_there program view pick parts in
+    let left = moved_to ((row_steps program).left view pick) (map view_of c.args.area.now) (map view_of c.left.new.area) c.left.result part.0 part.1 c.left.ensures.moves in
+    at_err _ _ (parts_in_first g.T.NodeTaker.took g.T.NodeTaker.broke program view (seen c.left.new.area) _ _ _ _ (splits-left program view (seen c.left.new.area) pick c.requires.stands.fits parts left.0) c.in_err-first.ensures.err)
+
+pub search_parts-back-requires-clause-within : goal.search_parts-back-requires-clause-within
+search_parts-back-requires-clause-within g t c =
+    let program = program_of c.args.ground.now in
+    let view = seen c.args.area.now in
+    let pick = c.args.pick.now in
+    let parts = c.requires.split.parted in
+    let part = left_there program view pick parts in
+    let left = moved_to ((row_steps program).left view pick) (map view_of c.args.area.now) (map view_of c.left.new.area) c.left.result part.0 part.1 c.left.ensures.moves in
+    omega (arith, c.mark-mark.ensures, kept_length (map view_of c.args.area.now) (map view_of c.left.new.area) left.1, ap length c.in_ok-first.ensures.as_before)
+
+pub search_parts-search_part-requires-2 : goal.search_parts-search_part-requires-2
+search_parts-search_part-requires-2 g t c =
+    let program = program_of c.args.ground.now in
+    let view = seen c.args.area.now in
+    let pick = c.args.pick.now in
+    let parts = c.requires.split.parted in
+    let part = left_there program view pick parts in
+    let left = moved_to ((row_steps program).left view pick) (map view_of c.args.area.now) (map view_of c.left.new.area) c.left.result part.0 part.1 c.left.ensures.moves in
+    let same : map view_of c.back.new.area ≡ map view_of c.args.area.now =
+        c.back.ensures.views ∙ ap (take (c.mark-mark.result + 1)) c.in_ok-first.ensures.as_before ∙ ap (λ n. take n (map view_of c.left.new.area)) c.mark-mark.ensures ∙ left.1 in
+    let other = right_there program view pick parts in
+    let moves = subst (λ views. MovesTo ((row_steps program).right (last_view views) pick) views (map view_of c.right.new.area) c.right.result) same c.right.ensures.moves in
+    let right = moved_to ((row_steps program).right view pick) (map view_of c.args.area.now) (map view_of c.right.new.area) c.right.result other.0 other.1 moves in
+    let fewer = (parts_fewer program view (seen c.left.new.area) (seen c.right.new.area) pick c.requires.stands.fits parts left.0 right.0).1 in
+    let places : length c.search_part.new.reached.point.items ≡ length c.args.reached.now.point.items = c.search_part.ensures.places in
+    let stands = right_stands c.args.ground.now view (seen c.right.new.area) pick c.args.cert.now c.args.depth c.args.reached.now (record c.search_part.new.reached { changed = Some pick.slot }) c.requires.stands c.requires.room c.requires.split right.0 places refl c.in_ok-first.ensures.none in
+    let is_part = right_is program view (seen c.right.new.area) pick c.args.cert.now c.requires.split right.0 in
+    search rules
+
+pub search_parts-returns-in_err-second-clause-err : goal.search_parts-returns-in_err-second-clause-err
+search_parts-returns-in_err-second-clause-err g t c =
+    let program = program_of c.args.ground.now in
+    let view = seen c.args.area.now in
+    let pick = c.args.pick.now in
+    let parts = c.requires.split.parted in
+    let part = left_there program view pick parts in
+    let left = moved_to ((row_steps program).left view pick) (map view_of c.args.area.now) (map view_of c.left.new.area) c.left.result part.0 part.1 c.left.ensures.moves in
+    let same : map view_of c.back.new.area ≡ map view_of c.args.area.now =
+        c.back.ensures.views ∙ ap (take (c.mark-mark.result + 1)) c.in_ok-first.ensures.as_before ∙ ap (λ n. take n (map view_of c.left.new.area)) c.mark-mark.ensures ∙ left.1 in
+    let other = right_there program view pick parts in
+    let moves = subst (λ views. MovesTo ((row_steps program).right (last_view views) pick) views (map view_of c.right.new.area) c.right.result) same c.right.ensures.moves in
+    let right = moved_to ((row_steps program).right view pick) (map view_of c.args.area.now) (map view_of c.right.new.area) c.right.result other.0 other.1 moves in
+    let first = c.in_ok-first.ensures.handed in
+    let done = first.done (Some c.args.cert.now) (option_to_list c.args.reached.now.best) refl (IsBest-itself c.args.reached.now.best) in
+    let deep = tree-depth program first.tree (Some c.args.cert.now) (option_to_list c.args.reached.now.best) (seen c.left.new.area) c.left.ensures.fits done in
+    let less = splits-left program view (seen c.left.new.area) pick c.requires.stands.fits parts left.0 in
+    at_err _ _ (parts_in_second g.T.NodeTaker.took g.T.NodeTaker.broke program view (seen c.right.new.area) first.tree _ _ _ _ _ _ (omega (arith, deep, less)) (splits-right program view (seen c.right.new.area) pick c.requires.stands.fits parts right.0) first.fit first.handed c.in_err-second.ensures.err)
+
+pub search_parts-back-requires-2-clause-within : goal.search_parts-back-requires-2-clause-within
+search_parts-back-requires-2-clause-within g t c =
+    let program = program_of c.args.ground.now in
+    let view = seen c.args.area.now in
+    let pick = c.args.pick.now in
+    let parts = c.requires.split.parted in
+    let part = left_there program view pick parts in
+    let left = moved_to ((row_steps program).left view pick) (map view_of c.args.area.now) (map view_of c.left.new.area) c.left.result part.0 part.1 c.left.ensures.moves in
+    let same : map view_of c.back.new.area ≡ map view_of c.args.area.now =
+        c.back.ensures.views ∙ ap (take (c.mark-mark.result + 1)) c.in_ok-first.ensures.as_before ∙ ap (λ n. take n (map view_of c.left.new.area)) c.mark-mark.ensures ∙ left.1 in
+    let other = right_there program view pick parts in
+    let moves = subst (λ views. MovesTo ((row_steps program).right (last_view views) pick) views (map view_of c.right.new.area) c.right.result) same c.right.ensures.moves in
+    let right = moved_to ((row_steps program).right view pick) (map view_of c.args.area.now) (map view_of c.right.new.area) c.right.result other.0 other.1 moves in
+    omega (arith, c.mark-mark.ensures, kept_length (map view_of c.args.area.now) (map view_of c.right.new.area) right.1, ap length c.in_ok-second.ensures.as_before)
+
+pub search_parts-returns-clause-as_before : goal.search_parts-returns-clause-as_before
+search_parts-returns-clause-as_before g t c =
+    let program = program_of c.args.ground.now in
+    let view = seen c.args.area.now in
+    let pick = c.args.pick.now in
+    let parts = c.requires.split.parted in
+    let part = left_there program view pick parts in
+    let left = moved_to ((row_steps program).left view pick) (map view_of c.args.area.now) (map view_of c.left.new.area) c.left.result part.0 part.1 c.left.ensures.moves in
+    let same : map view_of c.back.new.area ≡ map view_of c.args.area.now =
+        c.back.ensures.views ∙ ap (take (c.mark-mark.result + 1)) c.in_ok-first.ensures.as_before ∙ ap (λ n. take n (map view_of c.left.new.area)) c.mark-mark.ensures ∙ left.1 in
+    let other = right_there program view pick parts in
+    let moves = subst (λ views. MovesTo ((row_steps program).right (last_view views) pick) views (map view_of c.right.new.area) c.right.result) same c.right.ensures.moves in
+    let right = moved_to ((row_steps program).right view pick) (map view_of c.args.area.now) (map view_of c.right.new.area) c.right.result other.0 other.1 moves in
+    c.back-2.ensures.views ∙ ap (take (c.mark-mark.result + 1)) c.in_ok-second.ensures.as_before ∙ ap (λ n. take n (map view_of c.right.new.area)) c.mark-mark.ensures ∙ right.1
+
+pub search_parts-returns-clause-handed : goal.search_parts-returns-clause-handed
+search_parts-returns-clause-handed g t c =
+    let program = program_of c.args.ground.now in
+    let view = seen c.args.area.now in
+    let pick = c.args.pick.now in
+    let parts = c.requires.split.parted in
+    let part = left_there program view pick parts in
+    let left = moved_to ((row_steps program).left view pick) (map view_of c.args.area.now) (map view_of c.left.new.area) c.left.result part.0 part.1 c.left.ensures.moves in
+    let same : map view_of c.back.new.area ≡ map view_of c.args.area.now =
+        c.back.ensures.views ∙ ap (take (c.mark-mark.result + 1)) c.in_ok-first.ensures.as_before ∙ ap (λ n. take n (map view_of c.left.new.area)) c.mark-mark.ensures ∙ left.1 in
+    let other = right_there program view pick parts in
+    let moves = subst (λ views. MovesTo ((row_steps program).right (last_view views) pick) views (map view_of c.right.new.area) c.right.result) same c.right.ensures.moves in
+    let right = moved_to ((row_steps program).right view pick) (map view_of c.args.area.now) (map view_of c.right.new.area) c.right.result other.0 other.1 moves in
+    let all = parts_handed g.T.NodeTaker.took program c.args.ground.now.budget c.args.ground.now.may_leave view (seen c.left.new.area) (seen c.right.new.area) pick c.args.cert.now c.in_ok-first.first c.in_ok-second.second
+        c.args.reached.now (record c.args.reached.now { changed = Some pick.slot }) c.search_part.new.reached (record c.search_part.new.reached { changed = Some pick.slot }) c.search_part-2.new.reached _ _ _ _ _ _
+        refl refl refl refl c.in_ok-second.ensures.within left.0 right.0 c.in_ok-first.ensures.handed c.in_ok-second.ensures.handed in
+    subst (λ cap. PartsHanded g.T.NodeTaker.took program c.args.ground.now.budget c.args.ground.now.may_leave view pick c.args.cert.now cap c.args.reached.now c.args.taker.now c.args.out.now c.search_part-2.new.reached c.search_part-2.new.taker c.search_part-2.new.out) (sym c.greater_cap.ensures) all

@@ -1,0 +1,17 @@
+-- The taker that took all items of a proof has the proof.
+use Rattle.std.proofs.Common.{List, [], sym, subst}
+use Rattle.proof_tree.specs.Tree.{tree_of}
+use Rattle.branch_tree.specs.Justified.{RowTree}
+use Rattle.branch_tree.specs.Searched.{IsSearch, ended_of}
+use Rattle.branch_tree.specs.declared.ended.Ended.{Ended}
+use Rattle.branch_tree.proofs.searching.search.Goals as goal
+
+pub with_tree-requires : goal.with_tree-requires
+with_tree-requires g c = let found = c.in-Ok.ensures.ok in (found.tree, found.handed.0.grown [] c.new-taker.ensures)
+
+pub returns-in-Ok-clause-ok : goal.returns-in-Ok-clause-ok
+returns-in-Ok-clause-ok g c =
+    let found = c.in-Ok.ensures.ok in
+    let same = c.with_tree.ensures.tree found.tree (found.handed.0.grown [] c.new-taker.ensures) in
+    subst (λ (tree : RowTree). IsSearch c.args.rows.now.program c.args.budget tree (ended_of c.with_tree.result)) (sym same)
+    (subst (λ (ended : Ended). IsSearch c.args.rows.now.program c.args.budget found.tree ended) (sym c.with_tree.ensures.ended) found.search)

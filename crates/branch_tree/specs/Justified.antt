@@ -1,0 +1,93 @@
+-- When no box of a proof over rows was split without cause.
+use Rattle.std.specs.Prelude.{◌≡◌, ℕ, ◌+◌, ◌-◌, ◌/◌, ◌<◌, ◌≤◌, nat_le, Bool, ◌&&◌, if◌then◌else◌, List, [], ◌++◌, length, Option, Some, None, option_to_list, IfSome, IsSome, ◌<ℤ◌, ⊤}
+use Rattle.std.specs.List.{All}
+use Rattle.row_kit.specs.declared.domain.Domain.{Domain}
+use Rattle.row_kit.specs.declared.found.Found.{Found}
+use Rattle.row_kit.specs.declared.program.Program.{Program}
+use Rattle.row_kit.specs.Domain.{IsOpen, domain_at, over, up_to}
+use Rattle.row_kit.specs.Point.{IsLawful, worth_of}
+use Rattle.range_prop.specs.declared.row_cut.RowCut.{RowCut}
+use Rattle.range_prop.specs.Cuts.{IsStill}
+use Rattle.dual_bound.specs.declared.cert.Cert.{Cert}
+use Rattle.dual_bound.specs.Cap.{cert_cap}
+use Rattle.dual_bound.specs.Total.{total_at}
+use Rattle.dual_climb.specs.RowBest.{RowBest}
+use Rattle.dual_simplex.specs.Solved.{plain_cert, IsWithin}
+use Rattle.proof_tree.specs.declared.capped.Capped.{Capped}
+use Rattle.proof_tree.specs.declared.capped.Capped.TheVariants.{AtMost, NoPoint, Bad}
+use Rattle.proof_tree.specs.Nodes.{Node, NodeEnd, closed, parted, EachNode}
+use Rattle.proof_tree.specs.Tree.{Tree, pending}
+use Rattle.row_relax.specs.declared.pick.RowPick.{RowPick}
+use Rattle.row_relax.specs.Steps.{kept_at, row_steps}
+use Rattle.row_relax.specs.View.{domains_of, view_of}
+
+-- a proof over rows, as a tree
+abbrev pub RowTree : Type 0
+RowTree = Tree RowCut Cert RowPick Found
+
+-- a node of it where it stands
+abbrev pub RowNode : Type 0
+RowNode = Node RowCut Cert RowPick Found
+
+-- a found point is lawful, and stands with its worth
+pub record IsGroup (program : Program) (found : Found) : Type 0 where
+  pub lawful : IsLawful program found.point
+  pub worth : found.value ≡ worth_of program found.point
+
+-- the found points up to a node: those before it in prefix order, and its own
+abbrev pub found_up_to : RowNode → List Found
+found_up_to node = node.before ++ option_to_list node.found
+
+-- a cap is a number above the worth of each of these found points
+abbrev pub IsAbove : Capped → List Found → Type 0
+IsAbove (AtMost cap) found = All (λ f. f.value <ℤ cap) found
+IsAbove _ found = ⊥
+
+-- a certificate of scale 1 or more: no change of a single factor lowers its total by the scale or more, and its cap is not above that of scale 1 without multipliers
+pub record IsPolished (program : Program) (domains : List Domain) (cert : Cert) : Type 0 where
+  pub scale : 1 ≤ cert.scale
+  pub total : IsSome (total_at program domains cert)
+  pub row_best : RowBest program domains cert
+  pub no_higher : IsWithin (cert_cap program domains plain_cert) (cert_cap program domains cert)
+
+-- where a domain is split: at 0 where it holds 0 and other values, else at the middle of its values
+abbrev pub split_value : Domain → ℕ
+split_value domain =
+    if domain.zero && nat_le domain.lo domain.hi then 0 else domain.lo + (domain.hi - domain.lo) / 2
+
+-- a pick splits the domain of a slot so, and neither part has an empty domain
+pub record IsParted (domains : List Domain) (pick : RowPick) : Type 0 where
+  pub slot : pick.slot < length domains
+  pub value : pick.max ≡ split_value (domain_at domains pick.slot)
+  pub left : All IsOpen (kept_at domains pick.slot (up_to pick.max))
+  pub right : All IsOpen (kept_at domains pick.slot (over pick.max))
+
+-- what a split needs, over the domains after the cuts of its node and the found points up to it
+pub record HasCause (program : Program) (domains : List Domain) (found : List Found) (pick : RowPick) (cert : Cert) : Type 0 where
+  -- no cut of any row at any slot shrinks a domain
+  pub exhausted : All (IsStill domains) program.rows
+  pub polished : IsPolished program domains cert
+  -- the cap of the certificate is above the worth of each of the found points
+  pub above : IsAbove (cert_cap program domains cert) found
+  pub parted : IsParted domains pick
+
+-- a node that is left open has no cuts and no found point, and holds the certificate of its parent
+pub record IsLeftOpen (node : RowNode) (cert : Cert) : Type 0 where
+  pub held : node.parent ≡ Some cert
+  pub cuts : node.cuts ≡ []
+  pub found : node.found ≡ None
+
+-- the end of a node is justified: a split has cause, and an open end is one that was left open
+abbrev pub EndIsJustified : Program → RowNode → NodeEnd Cert RowPick → Type 0
+EndIsJustified program node (parted pick cert) = HasCause program (domains_of node.view) (found_up_to node) pick cert
+EndIsJustified program node (closed (pending cert)) = IsLeftOpen node cert
+EndIsJustified program node (closed end) = ⊤
+
+-- a node is justified where its end is, and its found point is lawful and stands with its worth
+pub record NodeIsJustified (program : Program) (node : RowNode) : Type 0 where
+  pub group : IfSome node.found (IsGroup program)
+  pub end : EndIsJustified program node node.end
+
+-- a proof is justified where each of its nodes is, over the root
+abbrev pub IsJustified : Program → RowTree → Type 0
+IsJustified program tree = EachNode (NodeIsJustified program) (row_steps program) None [] (view_of program.root) tree

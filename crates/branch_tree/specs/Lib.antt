@@ -1,0 +1,3 @@
+pub mod Justified
+pub mod Searched
+pub mod laws

@@ -1,0 +1,5 @@
+-- What only clauses of private functions cite: the language wants the definitions of every clause in specs/.
+pub mod Ends
+pub mod Grounds
+pub mod Handed
+pub mod Stops

@@ -1,0 +1,111 @@
+-- How the nodes of a search end, and what its choices are. Only clauses of private functions cite it.
+use Rattle.std.specs.Prelude.{◌≡◌, ◌≢◌, ℕ, ◌+◌, ◌-◌, ◌<◌, ◌≤◌, nat_le, nat_lt, Bool, true, false, ◌&&◌, if◌then◌else◌, List, [], ◌∷◌, ◌++◌, Option, Some, None, IfSome, ℤ, ◌≤ℤ◌, int_lt, ⊤}
+use Rattle.std.specs.List.{All, Contains, sum_by}
+use Rattle.std.specs.Option.{IsSomeAnd}
+use Rattle.row_kit.specs.declared.domain.Domain.{Domain}
+use Rattle.row_kit.specs.declared.found.Found.{Found}
+use Rattle.row_kit.specs.declared.program.Program.{Program}
+use Rattle.row_kit.specs.Domain.{IsSingle}
+use Rattle.dual_bound.specs.declared.cert.Cert.{Cert}
+use Rattle.dual_bound.specs.Cap.{cert_cap}
+use Rattle.proof_tree.specs.declared.capped.Capped.{Capped}
+use Rattle.proof_tree.specs.declared.capped.Capped.TheVariants.{AtMost, NoPoint, Bad}
+use Rattle.proof_tree.specs.declared.item.Item.TheVariants.{Empty, Dual, Point, Split}
+use Rattle.proof_tree.specs.Nodes.{NodeEnd, closed, parted}
+use Rattle.proof_tree.specs.Tree.{Leaf, no_point, dual, one_point, pending}
+use Rattle.proof_tree.specs.Views.{View}
+use Rattle.row_relax.specs.declared.pick.RowPick.{RowPick}
+use Rattle.row_relax.specs.Steps.{row_steps}
+use Rattle.row_relax.specs.View.{Fits, domains_of}
+use Rattle.branch_tree.specs.Justified.{RowNode, IsGroup, IsPolished, IsParted, HasCause, IsLeftOpen, found_up_to}
+use Rattle.branch_tree.specs.Searched.{RowItem}
+
+-- a cap that leaves nothing above these found points: one of them is worth as much, or there is no point
+abbrev pub ClosedBy : Capped → List Found → Type 0
+ClosedBy (AtMost cap) found = (f : Found) × Contains found f × (cap ≤ℤ f.value)
+ClosedBy NoPoint found = ⊤
+ClosedBy Bad found = ⊥
+
+-- how a counted node ends, over its view after its cuts and with the found points up to it
+abbrev pub EndDone : Program → View → List Found → NodeEnd Cert RowPick → Type 0
+EndDone program view found (closed no_point) = (row_steps program).empty view ≡ true
+EndDone program view found (closed (dual cert)) = ClosedBy ((row_steps program).cap view cert) found
+EndDone program view found (closed one_point) = ClosedBy ((row_steps program).settle view) found
+EndDone program view found (closed (pending cert)) = ⊥
+EndDone program view found (parted pick cert) = HasCause program (domains_of view) found pick cert
+
+-- a node that is left open has points, and a cap
+pub record OpenDone (program : Program) (node : RowNode) (cert : Cert) : Type 0 where
+  pub left_open : IsLeftOpen node cert
+  pub some : (row_steps program).empty node.view ≡ false
+  pub capped : (row_steps program).cap node.view cert ≢ Bad
+
+-- how a node ends
+abbrev pub NodeEndDone : Program → RowNode → NodeEnd Cert RowPick → Type 0
+NodeEndDone program node (closed (pending cert)) = OpenDone program node cert
+NodeEndDone program node (closed no_point) = EndDone program node.view (found_up_to node) (closed no_point)
+NodeEndDone program node (closed (dual cert)) = EndDone program node.view (found_up_to node) (closed (dual cert))
+NodeEndDone program node (closed one_point) = EndDone program node.view (found_up_to node) (closed one_point)
+NodeEndDone program node (parted pick cert) = EndDone program node.view (found_up_to node) (parted pick cert)
+
+-- a node of a search
+pub record NodeDone (program : Program) (node : RowNode) : Type 0 where
+  pub group : IfSome node.found (IsGroup program)
+  pub fits : Fits program node.view
+  pub end : NodeEndDone program node node.end
+
+-- an item ends a counted node so
+abbrev pub ItemEnds : Program → View → List Found → RowItem → Type 0
+ItemEnds program view found Empty = EndDone program view found (closed no_point)
+ItemEnds program view found (Dual cert) = EndDone program view found (closed (dual cert))
+ItemEnds program view found Point = EndDone program view found (closed one_point)
+ItemEnds program view found (Split pick cert) = EndDone program view found (parted pick cert)
+ItemEnds program view found _ = ⊥
+
+-- a cap leaves something above the best worth
+abbrev pub is_over : Capped → Option ℤ → Bool
+is_over NoPoint best = false
+is_over Bad best = true
+is_over (AtMost cap) None = true
+is_over (AtMost cap) (Some worth) = int_lt worth cap
+
+-- a cap says more than another: that there is no point, or a lesser number
+abbrev pub says_more : Capped → Capped → Bool
+says_more NoPoint (AtMost most) = true
+says_more (AtMost cap) (AtMost most) = int_lt cap most
+says_more _ _ = false
+
+-- what is judged of a box with points: a certificate leaves nothing above the best worth, it has one point, or it is to be split
+abbrev pub IsVerdict : Program → List Domain → Option ℤ → RowItem → Type 0
+IsVerdict program domains best (Dual cert) = is_over (cert_cap program domains cert) best ≡ false
+IsVerdict program domains best Point = All IsSingle domains
+IsVerdict program domains best (Split pick cert) = IsPolished program domains cert × IsParted domains pick × (is_over (cert_cap program domains cert) best ≡ true)
+IsVerdict program domains best _ = ⊥
+
+-- the one of two found points that is worth more, the first where both are worth the same
+abbrev pub better_of : Option Found → Option Found → Option Found
+better_of None other = other
+better_of (Some one) None = Some one
+better_of (Some one) (Some other) = if int_lt one.value other.value then Some other else Some one
+
+-- a found point is there that is worth as much as a cap says, where it says a number
+abbrev pub Reaches : Capped → Option Found → Type 0
+Reaches (AtMost cap) found = IsSomeAnd found (λ f. cap ≤ℤ f.value)
+Reaches NoPoint found = ⊤
+Reaches Bad found = ⊥
+
+-- 1 where a number is above another
+abbrev pub step_at : ℕ → ℕ → ℕ
+step_at least n = if nat_lt least n then 1 else 0
+
+-- how often so many values can be halved
+abbrev pub halvings : ℕ → ℕ
+halvings n = step_at 1 n + step_at 2 n + step_at 4 n + step_at 8 n + step_at 16 n + step_at 32 n + step_at 64 n + step_at 128 n
+
+-- how often a domain can be split: once at 0, and as often as its other values can be halved
+abbrev pub splits_of : Domain → ℕ
+splits_of domain = (if domain.zero && nat_le domain.lo domain.hi then 1 else 0) + halvings (domain.hi + 1 - domain.lo)
+
+-- how many splits can stand one below another in a view
+abbrev pub view_splits : View → ℕ
+view_splits view = sum_by splits_of (domains_of view)

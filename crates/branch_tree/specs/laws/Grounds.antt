@@ -1,0 +1,68 @@
+-- What a search goes over, and where it stands. Only clauses of private functions cite it.
+use Rattle.std.specs.Prelude.{◌≡◌, ◌≢◌, ℕ, ◌+◌, ◌≤◌, ◌<◌, false, List, [], ◌∷◌, length, map, Option, None, IfSome, MatchOption, ◌≤ℤ◌}
+use Rattle.std.specs.List.{All}
+use Rattle.std.specs.Option.{IsSomeAnd}
+use Rattle.row_kit.specs.declared.domain.Domain.{Domain}
+use Rattle.row_kit.specs.declared.found.Found.{Found}
+use Rattle.row_kit.specs.declared.program.Program.{Program}
+use Rattle.row_kit.specs.Point.{IsLawful}
+use Rattle.row_relax.specs.Settle.{only_point}
+use Rattle.dual_bound.specs.declared.cert.Cert.{Cert}
+use Rattle.dual_bound.specs.Total.{is_fit}
+use Rattle.proof_tree.specs.declared.capped.Capped.TheVariants.{Bad}
+use Rattle.row_relax.specs.declared.pick.RowPick.{RowPick}
+use Rattle.row_relax.specs.Steps.{row_steps}
+use Rattle.range_prop.specs.Cuts.{HaveRoomBut}
+use Rattle.range_prop.specs.Index.{IsIndex}
+use Rattle.proof_tree.specs.Views.{View, present}
+use Rattle.row_relax.specs.View.{Fits, IsIn, domains_of, view_of}
+use Rattle.branch_tree.specs.declared.reached.Ground.{Ground}
+use Rattle.branch_tree.specs.declared.reached.Reached.{Reached}
+use Rattle.branch_tree.specs.Justified.{IsGroup, IsPolished, IsParted}
+use Rattle.branch_tree.specs.laws.Ends.{view_splits}
+
+-- the view that an area shows
+abbrev pub seen : List (List Domain) → View
+seen marks = present (map view_of marks)
+
+-- the program of a ground
+abbrev pub program_of : Ground → Program
+program_of ground = ground.rows.now.program
+
+-- the index is that of the program's rows
+pub record IsGround (ground : Ground) : Type 0 where
+  pub index : IsIndex (program_of ground).rows ground.index
+  pub lists : length ground.index ≡ length (program_of ground).root
+
+-- a search stands in an area that fits, with a place for each slot, and below no more splits than there may be
+pub record StandsIn (ground : Ground) (view : View) (depth : ℕ) (reached : Reached) : Type 0 where
+  pub indexed : IsGround ground
+  pub fits : Fits (program_of ground) view
+  pub places : length reached.point.items ≡ length (program_of ground).root
+  pub deep : depth + view_splits view ≤ 4608
+  -- but for rows with an entry of the slot that was split last, each row has room
+  pub room : IfSome reached.changed (λ slot. (slot < length (program_of ground).root) × HaveRoomBut (program_of ground).rows (slot ∷ []) (domains_of view))
+  -- the point that is to be offered is lawful, and lies in the area
+  pub own : IfSome reached.own (λ found. IsGroup (program_of ground) found × IsIn view found.point)
+
+-- the start of a search: nothing is counted or found, and the least point of the root is to be offered where it is lawful
+pub record IsStart (program : Program) (reached : Reached) : Type 0 where
+  pub spent : reached.spent ≡ 0
+  pub best : reached.best ≡ None
+  pub changed : reached.changed ≡ None
+  pub places : length reached.point.items ≡ length program.root
+  pub own : MatchOption reached.own (¬ IsLawful program (only_point program.root)) (λ found. IsGroup program found × (found.point ≡ only_point program.root))
+
+-- where a point of one's own was to be offered, the best found point is worth as much
+abbrev pub IsOwnBest : Option Found → Option Found → Type 0
+IsOwnBest own best = IfSome own (λ f. IsSomeAnd best (λ b. f.value ≤ℤ b.value))
+
+-- a view is split here, with such a certificate
+pub record IsSplitAt (program : Program) (view : View) (pick : RowPick) (cert : Cert) : Type 0 where
+  pub polished : IsPolished program (domains_of view) cert
+  pub parted : IsParted (domains_of view) pick
+
+-- a part of a split with this certificate has points, and the certificate has a cap over it
+pub record IsPartOf (program : Program) (view : View) (cert : Cert) : Type 0 where
+  pub some : (row_steps program).empty view ≡ false
+  pub capped : (row_steps program).cap view cert ≢ Bad

@@ -1,0 +1,274 @@
+ghost use Rattle.std.specs.Prelude.{◌≡◌, ◌≢◌, ℕ, ◌+◌, ◌<◌, ◌≤◌, List as Listed, Option, Some, None, length, map, false, ⊤, IfOk, IfSome, OnOk, OnErr, IsErrOf, IsTrue, true, ◌≤ℤ◌};
+ghost use Rattle.std.specs.List.{All};
+ghost use Rattle.std.specs.Option.{IsSomeAnd, option_map};
+ghost use Rattle.row_kit.specs.Area.{present};
+ghost use Rattle.row_kit.specs.Domain.{IsOpen};
+ghost use Rattle.range_prop.specs.Cuts.{AreDone, HaveRoom};
+ghost use Rattle.proof_tree.specs.Cap.{Bounds};
+ghost use Rattle.proof_tree.specs.Taker.{Rose};
+ghost use Rattle.row_relax.specs.Steps.{row_steps};
+ghost use Rattle.row_relax.specs.View.{Fits, domains_of, view_of};
+ghost use Rattle.branch_tree.specs.Justified.{IsGroup, HasCause};
+ghost use Rattle.branch_tree.specs.Searched.{IsBest, IsFitItem};
+ghost use Rattle.branch_tree.specs.laws.Ends.{ItemEnds};
+ghost use Rattle.branch_tree.specs.laws.Grounds.{StandsIn, IsOwnBest, IsPartOf, IsSplitAt, program_of, seen};
+ghost use Rattle.branch_tree.specs.laws.Handed.{LookHanded, TailHanded, PartsHanded, BoxHanded};
+ghost use Rattle.branch_tree.specs.laws.Stops.{LookStopped, TailStopped, PartsStopped, BoxStopped};
+
+use crate::copies::copied_cert;
+use crate::found::found_at;
+use crate::guide::{Advice, Guide};
+use crate::hinter::Hinter;
+use crate::judging::judge;
+use crate::putting::{leave_open, open_box, put_found};
+use crate::reached::{Ground, Reached};
+use dual_bound::Cert;
+use proof_tree::{Capped, Item, NodeTaker, Relaxation, TakeStop, greater_cap};
+use row_kit::{Area, Found};
+use row_relax::{RowPick, Rows};
+use std::alloc::AllocError;
+
+// The worth of a found point.
+pub(crate) fn worth_of(found: &Option<Found>) -> Option<i128>
+    ensures { result ≡ option_map (λ f. f.value) found.now }
+{
+    match found {
+        None => None,
+        Some(found) => Some(found.value),
+    }
+}
+
+// What the guide advises on a box with points.
+fn advised<G: Guide>(
+    ground: &Ground,
+    area: &Area,
+    depth: u32,
+    reached: &mut Reached,
+    guide: &mut G,
+) -> Result<Advice, AllocError>
+    requires slots { length (present area.now) ≡ length (program_of ground.now).root }
+    requires places { length reached.old.point.items ≡ length (program_of ground.now).root }
+    requires each_open { All IsOpen (present area.now) }
+    ensures places { length reached.new.point.items ≡ length reached.old.point.items }
+    ensures same { reached.new ≡ record reached.old { point = reached.new.point } }
+{
+    if area.is_point() {
+        return Ok(Advice {
+            cert: None,
+            slot: None,
+        });
+    }
+    let best = worth_of(&reached.best);
+    guide.advise(
+        ground.alloc,
+        &ground.rows.program,
+        area,
+        depth,
+        best,
+        &mut reached.point,
+    )
+}
+
+// Looks at a counted box after its cuts: puts its found point, and answers its end.
+fn look<H: Hinter, G: Guide, O, T: NodeTaker<Rows, O>>(
+    ground: &Ground,
+    area: &Area,
+    depth: u32,
+    reached: &mut Reached,
+    hinter: &mut H,
+    guide: &mut G,
+    taker: &mut T,
+    out: &mut O,
+) -> Result<Item<Rows>, TakeStop>
+    requires stands { StandsIn ground.now (seen area.now) depth reached.old }
+    requires done { AreDone (program_of ground.now).rows (present area.now) }
+    requires ready { T.ready taker.old out.old }
+    ensures ready { OnOk result (T.ready taker.new out.new) }
+    ensures handed { IfOk result (λ item. LookHanded T.took (program_of ground.now) (seen area.now) item
+        reached.old taker.old out.old reached.new taker.new out.new) }
+    ensures own { OnOk result (IsOwnBest reached.old.own reached.new.best) }
+    ensures spent { reached.new.spent ≡ reached.old.spent }
+    ensures changed { reached.new.changed ≡ reached.old.changed }
+    ensures none { OnOk result (reached.new.own ≡ None) }
+    ensures places { length reached.new.point.items ≡ length reached.old.point.items }
+    ensures err { OnErr result (LookStopped T.took T.broke (program_of ground.now) taker.old out.old taker.new out.new) }
+    ensures later { T.faults out.old ≤ T.faults out.new }
+    ensures failed { IsErrOf result TakeStop.Failed → Rose (T.faults out.old) (T.faults out.new) }
+{
+    let own = reached.own.take();
+    if area.has_empty() {
+        return Ok(Item::Empty);
+    }
+    let advice = advised(ground, area, depth, reached, guide)?;
+    let found = found_at(ground, area, own, hinter, &mut reached.point)?;
+    put_found(found, &mut reached.best, taker, out)?;
+    let best = worth_of(&reached.best);
+    Ok(judge(ground, area, advice, reached.held.take(), best)?)
+}
+
+// Searches a counted box. The area is afterwards as before.
+#[cycle(search)]
+pub(crate) fn search_box<H: Hinter, G: Guide, O, T: NodeTaker<Rows, O>>(
+    ground: &Ground,
+    area: &mut Area,
+    depth: u32,
+    reached: &mut Reached,
+    hinter: &mut H,
+    guide: &mut G,
+    taker: &mut T,
+    out: &mut O,
+) -> Result<Capped, TakeStop>
+    requires stands { StandsIn ground.now (seen area.old) depth reached.old }
+    requires room { reached.old.spent < ground.now.budget }
+    requires ready { T.ready taker.old out.old }
+    ensures as_before { OnOk result (map view_of area.new ≡ map view_of area.old) }
+    ensures ready { OnOk result (T.ready taker.new out.new) }
+    ensures within { OnOk result (reached.new.spent ≤ ground.now.budget) }
+    ensures none { OnOk result (reached.new.own ≡ None) }
+    ensures own { OnOk result (IsOwnBest reached.old.own reached.new.best) }
+    ensures places { length reached.new.point.items ≡ length reached.old.point.items }
+    ensures handed { IfOk result (λ cap. BoxHanded T.took (λ _. ⊤) (program_of ground.now) ground.now.budget ground.now.may_leave
+        (seen area.old) cap reached.old taker.old out.old reached.new taker.new out.new) }
+    ensures err { OnErr result (BoxStopped T.took T.broke (program_of ground.now) (seen area.old) taker.old out.old taker.new out.new) }
+    ensures later { T.faults out.old ≤ T.faults out.new }
+    ensures failed { IsErrOf result TakeStop.Failed → Rose (T.faults out.old) (T.faults out.new) }
+{
+    let start = ground.rows.mark(area);
+    open_box(ground, area, reached.changed.take(), taker, out)?;
+    reached.spent += 1;
+    let item = look(ground, area, depth, reached, hinter, guide, taker, out)?;
+    let cap = search_end(ground, area, depth, item, reached, hinter, guide, taker, out)?;
+    ground.rows.back(area, start);
+    Ok(cap)
+}
+
+// Puts the end of a counted box, and searches its parts where it is a split.
+#[cycle(search)]
+fn search_end<H: Hinter, G: Guide, O, T: NodeTaker<Rows, O>>(
+    ground: &Ground,
+    area: &mut Area,
+    depth: u32,
+    item: Item<Rows>,
+    reached: &mut Reached,
+    hinter: &mut H,
+    guide: &mut G,
+    taker: &mut T,
+    out: &mut O,
+) -> Result<Capped, TakeStop>
+    requires stands { StandsIn ground.now (seen area.old) depth reached.old }
+    requires within { reached.old.spent ≤ ground.now.budget }
+    requires none { reached.old.own ≡ None }
+    requires room { HaveRoom (program_of ground.now).rows (domains_of (seen area.old)) }
+    requires ends { (found : Listed Found) → IsBest reached.old.best found → ItemEnds (program_of ground.now) (seen area.old) found item }
+    requires fit { IsFitItem (program_of ground.now) item }
+    requires ready { T.ready taker.old out.old }
+    ensures as_before { OnOk result (map view_of area.new ≡ map view_of area.old) }
+    ensures ready { OnOk result (T.ready taker.new out.new) }
+    ensures within { OnOk result (reached.new.spent ≤ ground.now.budget) }
+    ensures none { OnOk result (reached.new.own ≡ None) }
+    ensures places { length reached.new.point.items ≡ length reached.old.point.items }
+    ensures handed { IfOk result (λ cap. TailHanded T.took (program_of ground.now) ground.now.budget ground.now.may_leave
+        (seen area.old) cap reached.old taker.old out.old reached.new taker.new out.new) }
+    ensures err { OnErr result (TailStopped T.took T.broke (program_of ground.now) (seen area.old) taker.old out.old taker.new out.new) }
+    ensures later { T.faults out.old ≤ T.faults out.new }
+    ensures failed { IsErrOf result TakeStop.Failed → Rose (T.faults out.old) (T.faults out.new) }
+{
+    taker.put(out, &item)?;
+    match &item {
+        Item::Empty => Ok(Capped::NoPoint),
+        Item::Dual(cert) => Ok(ground.rows.cap(area, cert)),
+        Item::Point => Ok(ground.rows.settle(area)),
+        Item::Split(pick, cert) => search_parts(
+            ground, area, depth, pick, cert, reached, hinter, guide, taker, out,
+        ),
+        _ => unreachable!(),
+    }
+}
+
+// Searches both parts of a split.
+#[cycle(search)]
+fn search_parts<H: Hinter, G: Guide, O, T: NodeTaker<Rows, O>>(
+    ground: &Ground,
+    area: &mut Area,
+    depth: u32,
+    pick: &RowPick,
+    cert: &Cert,
+    reached: &mut Reached,
+    hinter: &mut H,
+    guide: &mut G,
+    taker: &mut T,
+    out: &mut O,
+) -> Result<Capped, TakeStop>
+    requires stands { StandsIn ground.now (seen area.old) depth reached.old }
+    requires within { reached.old.spent ≤ ground.now.budget }
+    requires none { reached.old.own ≡ None }
+    requires room { HaveRoom (program_of ground.now).rows (domains_of (seen area.old)) }
+    requires split { IsSplitAt (program_of ground.now) (seen area.old) pick.now cert.now }
+    requires ready { T.ready taker.old out.old }
+    ensures as_before { OnOk result (map view_of area.new ≡ map view_of area.old) }
+    ensures ready { OnOk result (T.ready taker.new out.new) }
+    ensures within { OnOk result (reached.new.spent ≤ ground.now.budget) }
+    ensures none { OnOk result (reached.new.own ≡ None) }
+    ensures places { length reached.new.point.items ≡ length reached.old.point.items }
+    ensures handed { IfOk result (λ cap. PartsHanded T.took (program_of ground.now) ground.now.budget ground.now.may_leave
+        (seen area.old) pick.now cert.now cap reached.old taker.old out.old reached.new taker.new out.new) }
+    ensures err { OnErr result (PartsStopped T.took T.broke (program_of ground.now) (seen area.old) taker.old out.old taker.new out.new) }
+    ensures later { T.faults out.old ≤ T.faults out.new }
+    ensures failed { IsErrOf result TakeStop.Failed → Rose (T.faults out.old) (T.faults out.new) }
+{
+    let mark = ground.rows.mark(area);
+    let _ = ground.rows.left(area, pick);
+    reached.changed = Some(pick.slot);
+    let first = search_part(ground, area, depth + 1, cert, reached, hinter, guide, taker, out)?;
+    ground.rows.back(area, mark);
+    let _ = ground.rows.right(area, pick);
+    reached.changed = Some(pick.slot);
+    let second = search_part(ground, area, depth + 1, cert, reached, hinter, guide, taker, out)?;
+    ground.rows.back(area, mark);
+    Ok(greater_cap(first, second))
+}
+
+// Searches a part of a split, or leaves it open where the budget is spent or the guide says so.
+#[cycle(search)]
+fn search_part<H: Hinter, G: Guide, O, T: NodeTaker<Rows, O>>(
+    ground: &Ground,
+    area: &mut Area,
+    depth: u32,
+    cert: &Cert,
+    reached: &mut Reached,
+    hinter: &mut H,
+    guide: &mut G,
+    taker: &mut T,
+    out: &mut O,
+) -> Result<Capped, TakeStop>
+    requires stands { StandsIn ground.now (seen area.old) depth reached.old }
+    requires within { reached.old.spent ≤ ground.now.budget }
+    requires none { reached.old.own ≡ None }
+    requires part { IsPartOf (program_of ground.now) (seen area.old) cert.now }
+    requires ready { T.ready taker.old out.old }
+    ensures as_before { OnOk result (map view_of area.new ≡ map view_of area.old) }
+    ensures ready { OnOk result (T.ready taker.new out.new) }
+    ensures within { OnOk result (reached.new.spent ≤ ground.now.budget) }
+    ensures none { OnOk result (reached.new.own ≡ None) }
+    ensures places { length reached.new.point.items ≡ length reached.old.point.items }
+    ensures handed { IfOk result (λ cap. BoxHanded T.took (λ parent. parent ≡ Some cert.now) (program_of ground.now) ground.now.budget
+        ground.now.may_leave (seen area.old) cap reached.old taker.old out.old reached.new taker.new out.new) }
+    ensures err { OnErr result (BoxStopped T.took T.broke (program_of ground.now) (seen area.old) taker.old out.old taker.new out.new) }
+    ensures later { T.faults out.old ≤ T.faults out.new }
+    ensures failed { IsErrOf result TakeStop.Failed → Rose (T.faults out.old) (T.faults out.new) }
+{
+    if reached.spent == ground.budget || is_left(ground, area, depth, guide) {
+        return leave_open(ground, area, cert, taker, out);
+    }
+    reached.held = Some(copied_cert(ground.alloc, cert)?);
+    search_box(ground, area, depth, reached, hinter, guide, taker, out)
+}
+
+// Whether the guide leaves a part of a split open, and may.
+fn is_left<G: Guide>(ground: &Ground, area: &Area, depth: u32, guide: &mut G) -> bool
+    requires slots { length (present area.now) ≡ length (program_of ground.now).root }
+    requires each_open { All IsOpen (present area.now) }
+    ensures { IsTrue result → ground.now.may_leave ≡ true }
+{
+    ground.may_leave && guide.leaves(&ground.rows.program, area, depth)
+}

@@ -1,0 +1,135 @@
+ghost use Rattle.std.specs.Prelude.{◌≡◌, length, MatchOption, IfOk, IfSome, ◌≤ℤ◌};
+ghost use Rattle.std.specs.List.{All};
+ghost use Rattle.std.specs.Option.{IsSomeAnd};
+ghost use Rattle.row_kit.specs.Area.{present};
+ghost use Rattle.row_kit.specs.Domain.{IsOpen, IsSingle};
+ghost use Rattle.row_kit.specs.Point.{IsLawful};
+ghost use Rattle.row_relax.specs.Settle.{only_value, only_point, settled};
+ghost use Rattle.branch_tree.specs.Justified.{IsGroup};
+ghost use Rattle.branch_tree.specs.laws.Ends.{better_of, Reaches};
+ghost use Rattle.branch_tree.specs.laws.Grounds.{program_of};
+
+use crate::hinter::Hinter;
+use crate::reached::Ground;
+use row_kit::{Area, Domain, Found, List, Program, is_lawful, worth};
+use std::alloc::{AllocError, Global};
+
+// The point as a found point, where it is lawful.
+pub(crate) fn tested(
+    alloc: Global,
+    program: &Program,
+    point: &[u8],
+) -> Result<Option<Found>, AllocError>
+    ensures { IfOk result (λ found. MatchOption found (¬ IsLawful program.now point.now)
+        (λ f. IsGroup program.now f × (f.point ≡ point.now))) }
+{
+    if !is_lawful(program, point) {
+        return Ok(None);
+    }
+    Ok(Some(Found {
+        value: worth(program, point),
+        point: List::from_slice(alloc, point)?,
+    }))
+}
+
+// The least value of a domain that has one: 0 where it holds 0.
+fn least_value(domain: Domain) -> u8
+    ensures { result ≡ only_value domain }
+{
+    if domain.zero { 0 } else { domain.lo }
+}
+
+// Fills in the least point of domains.
+pub(crate) fn put_least(domains: &[Domain], point: &mut [u8])
+    requires { length point.old ≡ length domains.now }
+    ensures { point.new ≡ only_point domains.now }
+{
+    for slot in 0..point.len() {
+        point[slot] = least_value(domains[slot]);
+    }
+}
+
+// Fills in the least point of an area.
+fn put_least_of(area: &Area, point: &mut [u8])
+    requires { length point.old ≡ length (present area.now) }
+    ensures { point.new ≡ only_point (present area.now) }
+{
+    for slot in 0..area.slot_count() {
+        point[slot as usize] = least_value(area.domain(slot));
+    }
+}
+
+// The only point of an area, where it has one and that is lawful.
+fn only_found(
+    ground: &Ground,
+    area: &Area,
+    point: &mut [u8],
+) -> Result<Option<Found>, AllocError>
+    requires slots { length (present area.now) ≡ length (program_of ground.now).root }
+    requires places { length point.old ≡ length (program_of ground.now).root }
+    ensures group { IfOk result (λ found. IfSome found (IsGroup (program_of ground.now))) }
+    ensures only { IfOk result (λ found. All IsSingle (present area.now)
+        → Reaches (settled (program_of ground.now) (present area.now)) found) }
+{
+    if !area.is_point() {
+        return Ok(None);
+    }
+    put_least_of(area, point);
+    tested(ground.alloc, &ground.rows.program, point)
+}
+
+// The point that is offered, where it is lawful.
+fn hinted<H: Hinter>(
+    ground: &Ground,
+    area: &Area,
+    hinter: &mut H,
+    point: &mut [u8],
+) -> Result<Option<Found>, AllocError>
+    requires slots { length (present area.now) ≡ length (program_of ground.now).root }
+    requires places { length point.old ≡ length (program_of ground.now).root }
+    requires each_open { All IsOpen (present area.now) }
+    ensures { IfOk result (λ found. IfSome found (IsGroup (program_of ground.now))) }
+{
+    if hinter.offer(&ground.rows.program, area, point) {
+        tested(ground.alloc, &ground.rows.program, point)
+    } else {
+        Ok(None)
+    }
+}
+
+// The one of two found points that is worth more, the first where both are worth the same.
+pub(crate) fn better(one: Option<Found>, other: Option<Found>) -> Option<Found>
+    ensures { result ≡ better_of one other }
+{
+    match (one, other) {
+        (None, other) => other,
+        (one, None) => one,
+        (Some(one), Some(other)) => if one.value < other.value {
+            Some(other)
+        } else {
+            Some(one)
+        },
+    }
+}
+
+// The found point of a box: the best of its own, its only one and the hinter's.
+pub(crate) fn found_at<H: Hinter>(
+    ground: &Ground,
+    area: &Area,
+    own: Option<Found>,
+    hinter: &mut H,
+    point: &mut [u8],
+) -> Result<Option<Found>, AllocError>
+    requires slots { length (present area.now) ≡ length (program_of ground.now).root }
+    requires places { length point.old ≡ length (program_of ground.now).root }
+    requires each_open { All IsOpen (present area.now) }
+    requires own { IfSome own (IsGroup (program_of ground.now)) }
+    ensures group { IfOk result (λ found. IfSome found (IsGroup (program_of ground.now))) }
+    ensures own { IfOk result (λ found. IfSome own (λ f. IsSomeAnd found (λ best. f.value ≤ℤ best.value))) }
+    ensures only { IfOk result (λ found. All IsSingle (present area.now)
+        → Reaches (settled (program_of ground.now) (present area.now)) found) }
+{
+    let hinted = hinted(ground, area, hinter, point)?;
+    let only = only_found(ground, area, point)?;
+    Ok(better(better(own, only), hinted))
+}

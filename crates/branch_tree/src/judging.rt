@@ -1,0 +1,135 @@
+ghost use Rattle.std.specs.Prelude.{◌≡◌, length, IfOk, true, false, [], Some, unsigned_abs, ◌<◌, ◌^◌};
+ghost use Rattle.std.specs.List.{All};
+ghost use Rattle.row_kit.specs.Area.{present};
+ghost use Rattle.row_kit.specs.Domain.{IsOpen, IsSingle};
+ghost use Rattle.dual_bound.specs.Cap.{cert_cap};
+ghost use Rattle.dual_simplex.specs.Solved.{plain_cert, IsWithin};
+ghost use Rattle.branch_tree.specs.laws.Ends.{is_over, says_more, IsVerdict};
+ghost use Rattle.branch_tree.specs.laws.Grounds.{program_of};
+
+use crate::guide::Advice;
+use crate::picking::pick_of;
+use crate::reached::Ground;
+use dual_bound::{Cert, cap};
+use dual_climb::{climb, polish};
+use proof_tree::{Capped, Item};
+use row_kit::{Area, List, Program};
+use row_relax::Rows;
+use std::alloc::{AllocError, Global};
+
+// Scale 1 without multipliers.
+fn plain_cert(alloc: Global) -> Cert
+    ensures { result ≡ plain_cert }
+{
+    Cert {
+        scale: 1,
+        mults: List::new(alloc),
+    }
+}
+
+// Whether a cap says more than another: that there is no point, or a lesser number.
+fn says_more(one: Capped, other: Capped) -> bool
+    ensures { result ≡ says_more one other }
+{
+    match (one, other) {
+        (Capped::NoPoint, Capped::AtMost(_)) => true,
+        (Capped::AtMost(a), Capped::AtMost(b)) => a < b,
+        _ => false,
+    }
+}
+
+// Whether a cap leaves something above the best worth.
+pub(crate) fn exceeds(cap: Capped, best: Option<i128>) -> bool
+    ensures { result ≡ is_over cap best }
+{
+    match (cap, best) {
+        (Capped::NoPoint, _) => false,
+        (Capped::AtMost(most), Some(worth)) => worth < most,
+        _ => true,
+    }
+}
+
+// The one of two certificates whose cap says more; the first where neither's does.
+fn lower(program: &Program, area: &Area, one: Cert, other: Option<Cert>) -> Cert
+    requires slots { length (present area.now) ≡ length program.now.root }
+    requires no_higher { IsWithin (cert_cap program.now (present area.now) plain_cert) (cert_cap program.now (present area.now) one) }
+    ensures { IsWithin (cert_cap program.now (present area.now) plain_cert) (cert_cap program.now (present area.now) result) }
+{
+    match other {
+        None => one,
+        Some(other) => if says_more(cap(program, area, &other), cap(program, area, &one)) {
+            other
+        } else {
+            one
+        },
+    }
+}
+
+// The certificate whose cap says most: the advised one, that of the split above, scale 1 without multipliers, or, where none
+// says more than that, one that is climbed to from there.
+fn chosen(
+    ground: &Ground,
+    area: &Area,
+    advised: Option<Cert>,
+    held: Option<Cert>,
+) -> Result<Cert, AllocError>
+    requires slots { length (present area.now) ≡ length (program_of ground.now).root }
+    requires each_open { All IsOpen (present area.now) }
+    ensures { IfOk result (λ cert. IsWithin (cert_cap (program_of ground.now) (present area.now) plain_cert) (cert_cap (program_of ground.now) (present area.now) cert)) }
+{
+    let program = &ground.rows.program;
+    let plain = plain_cert(ground.alloc);
+    let cert = lower(program, area, plain_cert(ground.alloc), advised);
+    let cert = lower(program, area, cert, held);
+    if says_more(cap(program, area, &cert), cap(program, area, &plain)) {
+        return Ok(cert);
+    }
+    let climbed = climb(ground.alloc, program, area, &plain)?;
+    Ok(lower(program, area, cert, Some(climbed)))
+}
+
+// The end of a box with points: its only point, a certificate that leaves nothing above the best worth, or a split.
+pub(crate) fn judge(
+    ground: &Ground,
+    area: &Area,
+    advice: Advice,
+    held: Option<Cert>,
+    best: Option<i128>,
+) -> Result<Item<Rows>, AllocError>
+    requires slots { length (present area.now) ≡ length (program_of ground.now).root }
+    requires each_open { All IsOpen (present area.now) }
+    ensures { IfOk result (IsVerdict (program_of ground.now) (present area.now) best) }
+{
+    let Advice { cert, slot } = advice;
+    if area.is_point() {
+        return Ok(Item::Point);
+    }
+    let cert = chosen(ground, area, cert, held)?;
+    if !exceeds(cap(&ground.rows.program, area, &cert), best) {
+        return Ok(Item::Dual(cert));
+    }
+    settle_or_split(ground, area, cert, slot, best)
+}
+
+// A split with the polished certificate, or the end of a box that the polished certificate closes.
+fn settle_or_split(
+    ground: &Ground,
+    area: &Area,
+    cert: Cert,
+    slot: Option<u32>,
+    best: Option<i128>,
+) -> Result<Item<Rows>, AllocError>
+    requires slots { length (present area.now) ≡ length (program_of ground.now).root }
+    requires each_open { All IsOpen (present area.now) }
+    requires more { ¬ All IsSingle (present area.now) }
+    requires no_higher { IsWithin (cert_cap (program_of ground.now) (present area.now) plain_cert) (cert_cap (program_of ground.now) (present area.now) cert) }
+    requires over { is_over (cert_cap (program_of ground.now) (present area.now) cert) best ≡ true }
+    ensures { IfOk result (IsVerdict (program_of ground.now) (present area.now) best) }
+{
+    let mut cert = cert;
+    polish(ground.alloc, &ground.rows.program, area, &mut cert, best)?;
+    if !exceeds(cap(&ground.rows.program, area, &cert), best) {
+        return Ok(Item::Dual(cert));
+    }
+    Ok(Item::Split(pick_of(area, slot), cert))
+}

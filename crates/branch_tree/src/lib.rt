@@ -1,0 +1,23 @@
+//! Branch and bound over the rows of a program: the loop that makes a proof, item by item.
+//!
+//! The loop cuts, tests points and certificates, closes boxes or splits them, and hands each item of the proof to a taker. It
+//! trusts no adviser: what a `Hinter` or a `Guide` says is tested before it is used.
+#![tactic(auto)]
+
+mod boxes;
+mod copies;
+mod cutting;
+mod ended;
+mod found;
+mod guide;
+mod hinter;
+mod judging;
+mod picking;
+mod putting;
+mod reached;
+mod searching;
+
+pub use ended::{Ended, Guided, Searched};
+pub use guide::{Advice, Guide, PlainGuide};
+pub use hinter::Hinter;
+pub use searching::{search, search_guided, search_guided_to, search_to};

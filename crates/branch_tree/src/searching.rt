@@ -1,0 +1,196 @@
+ghost use Rattle.std.specs.Prelude.{◌≡◌, ◌≢◌, ◌≤◌, List, [], IfOk, OnOk, OnErr, IsErrOf, IsTrue, ◌↔◌, false, true};
+ghost use Rattle.proof_tree.specs.Taker.{Rose};
+ghost use Rattle.proof_tree.specs.Tree.{tree_of};
+ghost use Rattle.proof_tree.specs.Items.{tree_items};
+ghost use Rattle.proof_tree.specs.Built.{HoldsItems};
+ghost use Rattle.branch_tree.specs.Searched.{IsExact, IsSearch, IsSearchedTo, IsBrokenOff, ended_of};
+ghost use Rattle.branch_tree.specs.Justified.{RowTree};
+ghost use Rattle.branch_tree.specs.laws.Grounds.{IsGround, IsStart, program_of};
+
+use crate::boxes::{search_box, worth_of};
+use crate::copies::RowCopier;
+use crate::ended::{Ended, Guided, Searched};
+use crate::found::{put_least, tested};
+use crate::guide::{Guide, PlainGuide};
+use crate::hinter::Hinter;
+use crate::judging::exceeds;
+use crate::reached::{Ground, Reached};
+use proof_tree::{NodeTaker, TakeStop, TreeTaker};
+use range_prop::RowIndex;
+use row_relax::Rows;
+use std::alloc::{AllocError, Global};
+
+// The start of a search: nothing is counted, and the least point of the root is offered first where it is lawful.
+fn begun(alloc: Global, rows: &Rows) -> Result<Reached, AllocError>
+    ensures { IfOk result (IsStart rows.now.program) }
+{
+    let mut point = vec![in alloc; 0u8; rows.program.root.len()]?;
+    put_least(rows.program.root.as_slice(), &mut point);
+    let own = tested(alloc, &rows.program, point.as_slice())?;
+    Ok(Reached {
+        spent: 0,
+        best: None,
+        own,
+        changed: None,
+        held: None,
+        point,
+    })
+}
+
+// Searches the root.
+fn search_root<H: Hinter, G: Guide, O, T: NodeTaker<Rows, O>>(
+    ground: &Ground,
+    hinter: &mut H,
+    guide: &mut G,
+    taker: &mut T,
+    out: &mut O,
+) -> Result<Ended, TakeStop>
+    requires ground { IsGround ground.now }
+    requires budget { 1 ≤ ground.now.budget }
+    requires ready { T.ready taker.old out.old }
+    ensures ready { OnOk result (T.ready taker.new out.new) }
+    ensures ok { IfOk result (λ ended. IsSearchedTo T.took (program_of ground.now) ground.now.budget ended taker.old out.old taker.new out.new) }
+    ensures exact { IfOk result (λ ended. ground.now.may_leave ≡ false → IsExact (program_of ground.now) ground.now.budget ended) }
+    ensures guided { IfOk result (λ ended. ended.spent ≡ ground.now.budget → IsExact (program_of ground.now) ground.now.budget ended) }
+    ensures err { OnErr result (IsBrokenOff T.took T.broke (program_of ground.now) taker.old out.old taker.new out.new) }
+    ensures later { T.faults out.old ≤ T.faults out.new }
+    ensures failed { IsErrOf result TakeStop.Failed → Rose (T.faults out.old) (T.faults out.new) }
+{
+    let mut reached = begun(ground.alloc, ground.rows)?;
+    let mut area = ground.rows.root_area(ground.alloc)?;
+    let cap = search_box(ground, &mut area, 0, &mut reached, hinter, guide, taker, out)?;
+    let left_open = exceeds(cap, worth_of(&reached.best));
+    let Reached { best, spent, .. } = reached;
+    Ok(Ended {
+        best,
+        cap,
+        spent,
+        left_open,
+    })
+}
+
+/// As `search_to`, with a guide that may leave boxes open though budget is left. The answer also says whether the count is
+/// exact: whether the budget was spent, or nothing is left open.
+pub fn search_guided_to<H: Hinter, G: Guide, O, T: NodeTaker<Rows, O>>(
+    alloc: Global,
+    rows: &Rows,
+    budget: u32,
+    hinter: &mut H,
+    guide: &mut G,
+    taker: &mut T,
+    out: &mut O,
+) -> Result<Guided, TakeStop>
+    requires budget { (1 ≤ budget) × (budget ≤ 100000) }
+    requires ready { T.ready taker.old out.old }
+    ensures ready { OnOk result (T.ready taker.new out.new) }
+    ensures ok { IfOk result (λ guided. IsSearchedTo T.took rows.now.program budget guided.ended taker.old out.old taker.new out.new) }
+    ensures exact { IfOk result (λ guided. guided.exact ≡ true → IsExact rows.now.program budget guided.ended) }
+    ensures inexact { IfOk result (λ guided. guided.exact ≡ false → (guided.ended.left_open ≡ true) × (guided.ended.spent ≢ budget)) }
+    ensures err { OnErr result (IsBrokenOff T.took T.broke rows.now.program taker.old out.old taker.new out.new) }
+    ensures later { T.faults out.old ≤ T.faults out.new }
+    ensures failed { IsErrOf result TakeStop.Failed → Rose (T.faults out.old) (T.faults out.new) }
+{
+    let ground = Ground {
+        alloc,
+        rows,
+        index: RowIndex::new(alloc, &rows.program)?,
+        budget,
+        may_leave: true,
+    };
+    let ended = search_root(&ground, hinter, guide, taker, out)?;
+    let exact = !ended.left_open || ended.spent == budget;
+    Ok(Guided { ended, exact })
+}
+
+/// Searches the root by branch and bound, and puts the items of the proof as it is made: after `Ok` the taker took the items of
+/// a justified proof that covers the root, whose numbers the answer tells. It counts at most as many boxes as the budget, and
+/// leaves a box open only where it counted just as many. After an error the taker took the first items of some proof.
+pub fn search_to<H: Hinter, O, T: NodeTaker<Rows, O>>(
+    alloc: Global,
+    rows: &Rows,
+    budget: u32,
+    hinter: &mut H,
+    taker: &mut T,
+    out: &mut O,
+) -> Result<Ended, TakeStop>
+    requires budget { (1 ≤ budget) × (budget ≤ 100000) }
+    requires ready { T.ready taker.old out.old }
+    ensures ready { OnOk result (T.ready taker.new out.new) }
+    ensures ok { IfOk result (λ ended. IsSearchedTo T.took rows.now.program budget ended taker.old out.old taker.new out.new) }
+    ensures exact { IfOk result (IsExact rows.now.program budget) }
+    ensures err { OnErr result (IsBrokenOff T.took T.broke rows.now.program taker.old out.old taker.new out.new) }
+    ensures later { T.faults out.old ≤ T.faults out.new }
+    ensures failed { IsErrOf result TakeStop.Failed → Rose (T.faults out.old) (T.faults out.new) }
+{
+    let ground = Ground {
+        alloc,
+        rows,
+        index: RowIndex::new(alloc, &rows.program)?,
+        budget,
+        may_leave: false,
+    };
+    search_root(&ground, hinter, &mut PlainGuide, taker, out)
+}
+
+/// As `search`, with a guide that may leave boxes open though budget is left. The answer also says whether the count is exact.
+pub fn search_guided<H: Hinter, G: Guide>(
+    alloc: Global,
+    rows: &Rows,
+    budget: u32,
+    hinter: &mut H,
+    guide: &mut G,
+) -> Result<(Searched, bool), AllocError>
+    requires { (1 ≤ budget) × (budget ≤ 100000) }
+    ensures ok { IfOk result (λ found. IsSearch rows.now.program budget (tree_of found.0.tree) (ended_of found.0)) }
+    ensures exact { IfOk result (λ found. found.1 ≡ true → IsExact rows.now.program budget (ended_of found.0)) }
+    ensures inexact { IfOk result (λ found. found.1 ≡ false → (found.0.left_open ≡ true) × (found.0.spent ≢ budget)) }
+{
+    let mut taker = TreeTaker::new(alloc, RowCopier);
+    match search_guided_to(alloc, rows, budget, hinter, guide, &mut taker, &mut ()) {
+        Ok(guided) => Ok((with_tree(guided.ended, taker), guided.exact)),
+        Err(_) => Err(AllocError),
+    }
+}
+
+/// Searches the root by branch and bound, and builds the proof: a justified one that covers the root, whose numbers the answer
+/// tells. It counts at most as many boxes as the budget, and leaves a box open only where it counted just as many.
+pub fn search<H: Hinter>(
+    alloc: Global,
+    rows: &Rows,
+    budget: u32,
+    hinter: &mut H,
+) -> Result<Searched, AllocError>
+    requires { (1 ≤ budget) × (budget ≤ 100000) }
+    ensures ok { IfOk result (λ searched. IsSearch rows.now.program budget (tree_of searched.tree) (ended_of searched)) }
+    ensures exact { IfOk result (λ searched. IsExact rows.now.program budget (ended_of searched)) }
+{
+    let mut taker = TreeTaker::new(alloc, RowCopier);
+    match search_to(alloc, rows, budget, hinter, &mut taker, &mut ()) {
+        Ok(ended) => Ok(with_tree(ended, taker)),
+        Err(_) => Err(AllocError),
+    }
+}
+
+// What a search ended with, with the tree that was built.
+fn with_tree(ended: Ended, taker: TreeTaker<Rows, RowCopier>) -> Searched
+    requires { (tree : RowTree) × HoldsItems (tree_items tree) taker }
+    ensures ended { ended_of result ≡ ended }
+    ensures tree { (tree : RowTree) → HoldsItems (tree_items tree) taker → tree_of result.tree ≡ tree }
+{
+    let Ended {
+        best,
+        cap,
+        spent,
+        left_open,
+    } = ended;
+    match taker.proof() {
+        Some(tree) => Searched {
+            tree,
+            best,
+            cap,
+            spent,
+            left_open,
+        },
+        None => unreachable!(),
+    }
+}
