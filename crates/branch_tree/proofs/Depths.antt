@@ -1,5 +1,5 @@
 -- How many splits can stand one below another: a cut adds none, and each part of a split has one less.
-use Rattle.std.proofs.Common.{◌≡◌, ℕ, zero, suc, ◌+◌, ◌-◌, ◌*◌, ◌/◌, ◌<◌, ◌≤◌, max, min, Bool, true, false, ◌&&◌, cond, leb, ltb, List, [], ◌∷◌, length, get_or, set, refl, sym, ap, ◌∙◌, subst, ⊎_elim, arith, Option, Some, None}
+use Rattle.std.proofs.Common.{◌≡◌, ℕ, ◌+◌, ◌-◌, ◌*◌, ◌/◌, ◌<◌, ◌≤◌, max, min, Bool, true, false, ◌&&◌, cond, leb, ltb, List, [], ◌∷◌, length, set, refl, sym, ap, ◌∙◌, subst, ⊎_elim, arith, Option, Some, None}
 use Rattle.std.specs.Prelude.{option_and_then}
 use Rattle.std.specs.List.{All, sum_by}
 use Rattle.std.proofs.lemmas.Bool.{and_parts, cases_lt, ltb-true}
@@ -11,7 +11,6 @@ use Rattle.row_kit.specs.declared.program.Program.{Program}
 use Rattle.row_kit.specs.Domain.{Holds, IsNormal, IsOpen, count_of, domain_at, no_values, normal, over, shared, up_to}
 use Rattle.row_kit.specs.Point.{IsLawful}
 use Rattle.row_kit.specs.Row.{row_at}
-use Rattle.row_kit.proofs.Parts.{shared_normal, shared_within}
 use Rattle.range_prop.specs.declared.row_cut.RowCut.{RowCut}
 use Rattle.range_prop.specs.Cut.{cut_domain, cut_domains}
 use Rattle.range_prop.proofs.CutLaws.{cut_normal, cut_within}
@@ -60,9 +59,17 @@ step_none a k more = at (ltb a k) refl
 -- fewer values can be halved no more often
 halvings_le : (k n : ℕ) → k ≤ n → halvings k ≤ halvings n
 halvings_le k n low =
-    omega (arith,
-      step_le 1 1 k n (λ h. omega arith), step_le 2 2 k n (λ h. omega arith), step_le 4 4 k n (λ h. omega arith), step_le 8 8 k n (λ h. omega arith),
-      step_le 16 16 k n (λ h. omega arith), step_le 32 32 k n (λ h. omega arith), step_le 64 64 k n (λ h. omega arith), step_le 128 128 k n (λ h. omega arith))
+    omega (
+      arith,
+      step_le 1 1 k n (λ h. omega arith),
+      step_le 2 2 k n (λ h. omega arith),
+      step_le 4 4 k n (λ h. omega arith),
+      step_le 8 8 k n (λ h. omega arith),
+      step_le 16 16 k n (λ h. omega arith),
+      step_le 32 32 k n (λ h. omega arith),
+      step_le 64 64 k n (λ h. omega arith),
+      step_le 128 128 k n (λ h. omega arith),
+    )
 
 halvings_most : (n : ℕ) → halvings n ≤ 8
 halvings_most n =
@@ -71,10 +78,18 @@ halvings_most n =
 -- half of two values or more can be halved once less
 halvings_half : (k n : ℕ) → 2 ≤ n → n ≤ 255 → 2 * k ≤ n + 1 → halvings k + 1 ≤ halvings n
 halvings_half k n two few half =
-    omega (arith,
-      step_is 1 n (omega arith), step_none 128 k (omega arith),
-      step_le 1 2 k n (λ h. omega arith), step_le 2 4 k n (λ h. omega arith), step_le 4 8 k n (λ h. omega arith), step_le 8 16 k n (λ h. omega arith),
-      step_le 16 32 k n (λ h. omega arith), step_le 32 64 k n (λ h. omega arith), step_le 64 128 k n (λ h. omega arith))
+    omega (
+      arith,
+      step_is 1 n (omega arith),
+      step_none 128 k (omega arith),
+      step_le 1 2 k n (λ h. omega arith),
+      step_le 2 4 k n (λ h. omega arith),
+      step_le 4 8 k n (λ h. omega arith),
+      step_le 8 16 k n (λ h. omega arith),
+      step_le 16 32 k n (λ h. omega arith),
+      step_le 32 64 k n (λ h. omega arith),
+      step_le 64 128 k n (λ h. omega arith),
+    )
 
 -- a domain whose values are all another's can be split no more often
 splits_le : (e d : Domain) → IsNormal e → ((v : ℕ) → Holds e v → Holds d v) → splits_of e ≤ splits_of d
@@ -216,10 +231,10 @@ parts_zero l h low byte there =
     let whole = splits_there true l h there in
     let none : normal true (max l 1) (min h 0) ≡ record { zero = true; lo = 1; hi = 0 } = normal_none true (max l 1) (min h 0) (omega arith) in
     let some : splits_of (record { zero = false; lo = max l 1; hi = min h 255 }) ≡ halvings (h + 1 - l) =
-        let e = splits_there false (max l 1) (min h 255) (omega arith) in
-        let n : min h 255 + 1 - max l 1 ≡ h + 1 - l = omega arith in
-        let same = ap halvings n in
-        omega (arith, e, same) in
+    let e = splits_there false (max l 1) (min h 255) (omega arith) in
+    let n : min h 255 + 1 - max l 1 ≡ h + 1 - l = omega arith in
+    let same = ap halvings n in
+    omega (arith, e, same) in
     let range = over_part true l h 0 low byte there (omega arith) in
     let left' : splits_of (normal true (max l 1) (min h 0)) ≡ 0 = ap splits_of none ∙ splits-zero true in
     let right' : splits_of (shared (record { zero = true; lo = l; hi = h }) (over 0)) ≡ halvings (h + 1 - l) = ap splits_of range ∙ some in

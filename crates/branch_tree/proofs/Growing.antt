@@ -1,5 +1,5 @@
 -- Items that were taken one after another.
-use Rattle.std.proofs.Common.{◌≡◌, List, [], ◌∷◌, ◌++◌, append_assoc, append-nil, sym, subst}
+use Rattle.std.proofs.Common.{◌≡◌, List, [], ◌++◌, append_assoc, append-nil, sym, subst}
 use Rattle.branch_tree.specs.Searched.{RowItem}
 use Rattle.branch_tree.specs.laws.Handed.{Grows}
 

@@ -1,7 +1,6 @@
 -- From what the parts of a search put to what the whole put.
-use Rattle.std.proofs.Common.{◌≡◌, ◌≢◌, ℕ, zero, suc, ◌+◌, ◌<◌, ◌≤◌, Bool, true, false, cond, List, [], ◌∷◌, ◌++◌, Option, Some, None, option_to_list, refl, ap, sym, ◌∙◌, subst, arith, append_assoc, append-nil}
+use Rattle.std.proofs.Common.{◌≡◌, ◌≢◌, ℕ, zero, suc, ◌+◌, ◌<◌, ◌≤◌, Bool, false, cond, List, [], ◌∷◌, ◌++◌, Option, Some, None, option_to_list, refl, ap, sym, ◌∙◌, subst, arith, append_assoc, append-nil}
 use Rattle.std.specs.Prelude.{IfOk, IfSome, OnOk, Result, Ok, Err, ⊤}
-use Rattle.std.specs.List.{All}
 use Rattle.std.specs.Option.{IsSomeAnd}
 use Rattle.std.proofs.lemmas.List.Elements.{All-append, All-cons, All-nil}
 use Rattle.row_kit.specs.declared.found.Found.{Found}
@@ -9,21 +8,21 @@ use Rattle.row_kit.specs.declared.program.Program.{Program}
 use Rattle.range_prop.specs.declared.row_cut.RowCut.{RowCut}
 use Rattle.dual_bound.specs.declared.cert.Cert.{Cert}
 use Rattle.proof_tree.specs.declared.capped.Capped.{Capped}
-use Rattle.proof_tree.specs.declared.capped.Capped.TheVariants.{AtMost, NoPoint, Bad}
+use Rattle.proof_tree.specs.declared.capped.Capped.TheVariants.{NoPoint, Bad}
 use Rattle.proof_tree.specs.declared.item.Item.TheVariants.{Node as NodeItem, Empty, Dual, Point, Pending, Split}
 use Rattle.proof_tree.specs.Cap.{greater}
 use Rattle.proof_tree.specs.Items.{tree_items, leaf_item}
-use Rattle.proof_tree.specs.Nodes.{EachNode, closed, parted, counted, found_points}
-use Rattle.proof_tree.specs.Tree.{Leaf, no_point, dual, one_point, pending, leaf, split, tree_cap, leaf_cap, cap_if, after_cuts}
+use Rattle.proof_tree.specs.Nodes.{EachNode, closed, counted, found_points}
+use Rattle.proof_tree.specs.Tree.{Leaf, no_point, dual, one_point, pending, leaf, tree_cap, leaf_cap, cap_if, after_cuts}
 use Rattle.proof_tree.specs.Views.{View}
 use Rattle.row_relax.specs.declared.pick.RowPick.{RowPick}
 use Rattle.row_relax.specs.Steps.{row_steps}
 use Rattle.row_relax.specs.View.{Fits}
 use Rattle.branch_tree.specs.declared.reached.Reached.{Reached}
-use Rattle.branch_tree.specs.Justified.{RowNode, RowTree, IsGroup}
+use Rattle.branch_tree.specs.Justified.{RowNode, IsGroup}
 use Rattle.branch_tree.specs.Searched.{RowItem, IsBest, IsFitItem}
 use Rattle.branch_tree.specs.laws.Ends.{EndDone, ItemEnds, NodeDone, NodeEndDone}
-use Rattle.branch_tree.specs.laws.Handed.{Grows, Tail, closing, parting, node_of, head_items, found_items, tail_items, tail_found, opens, TailDone, CountsTo, HeadHanded, LookHanded, TailHanded, PartsHanded, BoxHanded}
+use Rattle.branch_tree.specs.laws.Handed.{Grows, Tail, closing, parting, node_of, head_items, found_items, tail_items, tail_found, opens, TailDone, HeadHanded, LookHanded, TailHanded, PartsHanded, BoxHanded}
 use Rattle.branch_tree.proofs.Best.{IsBest-itself}
 use Rattle.branch_tree.proofs.Growing.{Grows-more, Grows-same}
 use Rattle.branch_tree.proofs.Stopping.{fit_found, fit_node, node_items}

@@ -1,12 +1,12 @@
 -- Domains none of which is empty, as a test says it and as a fact.
-use Rattle.std.proofs.Common.{◌≡◌, ℕ, ◌<◌, true, false, List, length, get_or, ⊎_elim, arith}
-use Rattle.std.specs.List.{All, Any, list_any}
+use Rattle.std.proofs.Common.{◌≡◌, false, List, get_or, ⊎_elim, arith}
+use Rattle.std.specs.List.{All, list_any}
 use Rattle.std.proofs.lemmas.Bool.{cases_eq, eq-eqb, false≢true}
 use Rattle.std.proofs.lemmas.List.{get_or_default}
 use Rattle.std.proofs.lemmas.List.Folds.{list_any-from_Any}
 use Rattle.std.proofs.Common.{sym, ◌∙◌}
 use Rattle.row_kit.specs.declared.domain.Domain.{Domain}
-use Rattle.row_kit.specs.Domain.{IsBare, IsOpen, count_of}
+use Rattle.row_kit.specs.Domain.{IsOpen, count_of}
 use Rattle.range_prop.specs.Cut.{is_bare}
 
 -- where the test finds no empty domain, each holds a value

@@ -1,10 +1,9 @@
 -- Where a search stands after cuts, and in the parts of a split.
-use Rattle.std.proofs.Common.{◌≡◌, ◌≢◌, ℕ, ◌+◌, ◌*◌, ◌-◌, ◌<◌, ◌≤◌, Bool, true, false, ◌&&◌, cond, eqb, ltb, List, [], ◌∷◌, ◌++◌, length, get_or, map, take, Option, Some, None, option_to_list, refl, sym, ap, ◌∙◌, subst, arith, inl, inr}
-use Rattle.std.specs.Prelude.{ℤ, pos, int_lt, ◌≤ℤ◌, IfSome, IsSome, ⊤, ◌⊎◌}
+use Rattle.std.proofs.Common.{◌≡◌, ◌≢◌, ℕ, ◌+◌, ◌<◌, ◌≤◌, Bool, true, false, ◌&&◌, cond, eqb, ltb, List, [], ◌∷◌, ◌++◌, length, get_or, Option, Some, None, option_to_list, refl, sym, ap, ◌∙◌, subst, arith, inl, inr}
+use Rattle.std.specs.Prelude.{ℤ, pos, int_lt, ◌≤ℤ◌, IfSome}
 use Rattle.std.specs.Int.{int_div_euclid}
 use Rattle.std.proofs.lemmas.Bool.Decides.{nat_tests}
 use Rattle.std.specs.List.{All, Any, list_all, list_any}
-use Rattle.std.specs.Option.{IsSomeAnd}
 use Rattle.std.proofs.lemmas.Bool.{lt-ltb}
 use Rattle.std.proofs.lemmas.Int.{ints}
 use Rattle.std.proofs.lemmas.List.{get_or_default, length-take}
@@ -15,7 +14,7 @@ use Rattle.row_kit.specs.declared.found.Found.{Found}
 use Rattle.row_kit.specs.declared.program.Program.{Program}
 use Rattle.row_kit.specs.declared.row.Row.{Row}
 use Rattle.row_kit.specs.Area.{present}
-use Rattle.row_kit.specs.Domain.{IsBare, IsOpen, count_of, domain_at, no_values, over, shared, up_to}
+use Rattle.row_kit.specs.Domain.{IsBare, IsOpen, count_of, no_values, over, up_to}
 use Rattle.row_kit.specs.Points.{points_of}
 use Rattle.row_kit.proofs.PointCounts.{points-bare, points-open, points-shared_le}
 use Rattle.range_prop.specs.Cut.{is_bare}
@@ -24,8 +23,7 @@ use Rattle.range_prop.proofs.Looks.{open_none}
 use Rattle.range_prop.proofs.Rooms.{HaveRoomBut-shared}
 use Rattle.dual_bound.specs.declared.cert.Cert.{Cert}
 use Rattle.dual_bound.specs.Cap.{cert_cap, scaled_cap}
-use Rattle.dual_bound.specs.Total.{has_total, is_fit, total_at, total_of}
-use Rattle.proof_tree.specs.declared.capped.Capped.{Capped}
+use Rattle.dual_bound.specs.Total.{has_total, is_fit, total_of}
 use Rattle.proof_tree.specs.declared.capped.Capped.TheVariants.{AtMost, NoPoint, Bad}
 use Rattle.proof_tree.specs.Views.{KeepsViews, MovesTo, View, present as last_view}
 use Rattle.row_relax.specs.declared.pick.RowPick.{RowPick}
@@ -37,9 +35,8 @@ use Rattle.row_relax.proofs.Marks.{domains-views}
 use Rattle.row_relax.proofs.PointCounts.{points-both}
 use Rattle.branch_tree.specs.declared.reached.Ground.{Ground}
 use Rattle.branch_tree.specs.declared.reached.Reached.{Reached}
-use Rattle.branch_tree.specs.Justified.{IsGroup, IsParted, IsPolished}
+use Rattle.branch_tree.specs.Justified.{IsGroup, IsParted}
 use Rattle.branch_tree.specs.Searched.{IsBest}
-use Rattle.branch_tree.specs.laws.Ends.{view_splits}
 use Rattle.branch_tree.specs.laws.Grounds.{IsOwnBest, IsPartOf, IsSplitAt, StandsIn, program_of, seen}
 use Rattle.branch_tree.proofs.Caps.{total-fit}
 use Rattle.branch_tree.proofs.Depths.{CutsLeave, splits-left, splits-right}

@@ -1,5 +1,5 @@
 -- The items that were put before a search broke off begin those of some proof.
-use Rattle.std.proofs.Common.{◌≡◌, ℕ, suc, ◌+◌, ◌<◌, ◌≤◌, max, length, get_or, take, drop, List, [], ◌∷◌, ◌++◌, refl, ap, sym, ◌∙◌, Option, Some, None, append_assoc, append-nil, map, inl, inr, arith, option_to_list, subst}
+use Rattle.std.proofs.Common.{◌≡◌, ℕ, suc, ◌+◌, ◌<◌, ◌≤◌, length, get_or, take, drop, List, [], ◌∷◌, ◌++◌, refl, ap, sym, ◌∙◌, Option, Some, None, append_assoc, append-nil, map, inl, inr, arith, subst}
 use Rattle.std.specs.Prelude.{OnErr, Result, Ok, Err, ◌⊎◌, IfSome}
 use Rattle.std.specs.List.{All}
 use Rattle.std.proofs.Math.Seq.{drop-cons}
@@ -11,7 +11,7 @@ use Rattle.range_prop.specs.declared.row_cut.RowCut.{RowCut}
 use Rattle.dual_bound.specs.declared.cert.Cert.{Cert}
 use Rattle.proof_tree.specs.declared.item.Item.TheVariants.{Node, Cut, Found as FoundItem, Empty, Dual, Point, Pending, Split}
 use Rattle.proof_tree.specs.Items.{tree_items, depth}
-use Rattle.proof_tree.specs.Tree.{no_point, dual, one_point, pending, leaf, split}
+use Rattle.proof_tree.specs.Tree.{no_point, dual, one_point, pending, leaf}
 use Rattle.proof_tree.specs.Views.{View}
 use Rattle.row_relax.specs.declared.pick.RowPick.{RowPick}
 use Rattle.branch_tree.specs.Justified.{RowTree, IsGroup}
@@ -51,8 +51,8 @@ module _ {T O : Type 0} (took broke : T → O → List RowItem → T → O → T
     later = s.later;
     first = ap (λ zs. xs ++ zs) s.first ∙ sym (append_assoc xs s.items s.later);
     grows = elim s.grows [
-      inl more ↦ inl (Grows-more took took t o xs t1 o1 s.items t2 o2 grown more)
-    | inr more ↦ inr (Grows-more took broke t o xs t1 o1 s.items t2 o2 grown more)
+      | inl more ↦ inl (Grows-more took took t o xs t1 o1 s.items t2 o2 grown more)
+      | inr more ↦ inr (Grows-more took broke t o xs t1 o1 s.items t2 o2 grown more)
     ];
   }
 
@@ -63,7 +63,7 @@ module _ {T O : Type 0} (took broke : T → O → List RowItem → T → O → T
       let rest : List RowItem = map Cut (drop (suc place) cuts) in
       let here : map Cut (drop place cuts) ≡ Cut (get_or cuts place d) ∷ rest = ap (map Cut) (drop-cons cuts place d less) in
       let all : map Cut (take place cuts) ++ Cut (get_or cuts place d) ∷ rest ≡ map Cut cuts =
-          ap (λ xs. map Cut (take place cuts) ++ xs) (sym here) ∙ sym (map-append Cut (take place cuts) (drop place cuts)) ∙ ap (map Cut) (take-append-drop place cuts) in
+      ap (λ xs. map Cut (take place cuts) ++ xs) (sym here) ∙ sym (map-append Cut (take place cuts) (drop place cuts)) ∙ ap (map Cut) (take-append-drop place cuts) in
       subst (λ items. Stopped took broke t o items t2 o2) all
       (stopped_after t o (map Cut (take place cuts)) t1 o1 (Cut (get_or cuts place d) ∷ rest) t2 o2 grown
       (stopped_longer t1 o1 (Cut (get_or cuts place d) ∷ []) rest t2 o2 (stopped_last t1 o1 (Cut (get_or cuts place d) ∷ []) t2 o2 last)))
@@ -151,9 +151,17 @@ module _ {T O : Type 0} (took broke : T → O → List RowItem → T → O → T
   tail_at_item view (Pending cert) fs t o t2 o2 ends fit room grown = absurd ends
   tail_at_item view Empty fs t o t2 o2 ends fit room grown = record { tail = closing no_point; fit = fit_empty program; deep = omega arith; stopped = stopped_last took broke t o (Empty ∷ []) t2 o2 grown }
   tail_at_item view (Dual cert) fs t o t2 o2 ends fit room grown = record {
-    tail = closing (dual cert); fit = All-cons (IsFitItem program) (Dual cert) [] fit (All-nil (IsFitItem program)); deep = omega arith; stopped = stopped_last took broke t o (Dual cert ∷ []) t2 o2 grown }
+    tail = closing (dual cert);
+    fit = All-cons (IsFitItem program) (Dual cert) [] fit (All-nil (IsFitItem program));
+    deep = omega arith;
+    stopped = stopped_last took broke t o (Dual cert ∷ []) t2 o2 grown;
+  }
   tail_at_item view Point fs t o t2 o2 ends fit room grown = record {
-    tail = closing one_point; fit = All-cons (IsFitItem program) Point [] tt (All-nil (IsFitItem program)); deep = omega arith; stopped = stopped_last took broke t o (Point ∷ []) t2 o2 grown }
+    tail = closing one_point;
+    fit = All-cons (IsFitItem program) Point [] tt (All-nil (IsFitItem program));
+    deep = omega arith;
+    stopped = stopped_last took broke t o (Point ∷ []) t2 o2 grown;
+  }
   tail_at_item view (Split pick cert) fs t o t2 o2 ends fit room grown = record {
     tail = parting pick cert bare_box bare_box;
     fit = All-cons (IsFitItem program) (Split pick cert) (tree_items bare_box ++ tree_items bare_box) fit (All-append (IsFitItem program) (tree_items bare_box) (tree_items bare_box) (fit_bare program) (fit_bare program));

@@ -1,6 +1,6 @@
 -- What follows from how each node of a search ends.
-use Rattle.std.proofs.Common.{◌≡◌, ◌≢◌, ℕ, zero, suc, ◌+◌, ◌-◌, ◌*◌, ◌<◌, ◌≤◌, max, Bool, true, false, cond, List, [], ◌∷◌, ◌++◌, length, Option, Some, None, option_to_list, refl, ap, sym, ◌∙◌, subst, arith, append_assoc, inl, inr, ⊎_elim}
-use Rattle.std.specs.Prelude.{ℤ, IfSome, ⊤, ◌⊎◌}
+use Rattle.std.proofs.Common.{◌≡◌, ◌≢◌, ℕ, zero, suc, ◌+◌, ◌-◌, ◌*◌, ◌<◌, ◌≤◌, Bool, true, false, cond, List, ◌++◌, Option, Some, None, option_to_list, refl, ap, sym, ◌∙◌, subst, arith, append_assoc, inl, inr}
+use Rattle.std.specs.Prelude.{⊤, ◌⊎◌}
 use Rattle.std.specs.List.{All}
 use Rattle.std.specs.Option.{IsSomeAnd}
 use Rattle.std.proofs.lemmas.List.{get_or-map, length-map}
@@ -17,7 +17,7 @@ use Rattle.proof_tree.specs.declared.capped.Capped.{Capped}
 use Rattle.proof_tree.specs.declared.capped.Capped.TheVariants.{AtMost, NoPoint, Bad}
 use Rattle.proof_tree.specs.Cap.{greater}
 use Rattle.proof_tree.specs.Items.{depth}
-use Rattle.proof_tree.specs.Nodes.{Node, NodeEnd, closed, parted, EachNode, counted, found_points}
+use Rattle.proof_tree.specs.Nodes.{NodeEnd, closed, parted, EachNode, counted, found_points}
 use Rattle.proof_tree.specs.Tree.{Leaf, no_point, dual, one_point, pending, leaf, split, tree_cap, leaf_cap, cap_if, after_cuts}
 use Rattle.proof_tree.specs.Views.{View}
 use Rattle.proof_tree.proofs.NodeFacts.{EachNode-weaker}
@@ -27,14 +27,14 @@ use Rattle.row_relax.specs.Steps.{kept_at, row_steps}
 use Rattle.row_relax.specs.View.{Fits, IsIn, domains_of, points_in}
 use Rattle.row_relax.specs.laws.Laws.{rows_sound}
 use Rattle.row_relax.specs.laws.Shown.{domains_there}
-use Rattle.row_relax.proofs.PointCounts.{points-both, points-some}
-use Rattle.branch_tree.specs.Justified.{RowNode, RowTree, HasCause, IsGroup, IsParted, EndIsJustified, NodeIsJustified}
+use Rattle.row_relax.proofs.PointCounts.{points-both}
+use Rattle.branch_tree.specs.Justified.{RowNode, RowTree, IsParted, EndIsJustified, NodeIsJustified}
 use Rattle.branch_tree.specs.Searched.{HasOpenBox}
-use Rattle.branch_tree.specs.laws.Ends.{ClosedBy, EndDone, NodeDone, NodeEndDone, OpenDone, view_splits}
+use Rattle.branch_tree.specs.laws.Ends.{ClosedBy, NodeDone, NodeEndDone, view_splits}
 use Rattle.branch_tree.specs.laws.Handed.{opens}
 use Rattle.branch_tree.proofs.Best.{ClosedBy-greater, ClosedBy-left}
 use Rattle.branch_tree.proofs.Opened.{none_bare-open}
-use Rattle.branch_tree.proofs.Depths.{CutsLeave, cuts_leave, splits-left, splits-right}
+use Rattle.branch_tree.proofs.Depths.{cuts_leave, splits-left, splits-right}
 
 -- what is there and has a fact
 pub fact_of : {X : Type 0} (o : Option X) (P : X → Type 0) → IsSomeAnd o P → (x : X) × ((o ≡ Some x) × P x)

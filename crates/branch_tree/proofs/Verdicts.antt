@@ -1,8 +1,8 @@
 -- What is judged of a box ends it.
-use Rattle.std.proofs.Common.{◌≡◌, ◌≢◌, ℕ, ◌+◌, ◌≤◌, ◌<◌, Bool, true, false, List, [], ◌∷◌, ◌++◌, length, get_or, Option, Some, None, option_to_list, refl, sym, ap, ◌∙◌, subst, arith, inl, inr, ⊎_elim}
-use Rattle.std.specs.Prelude.{ℤ, ◌≤ℤ◌, IfSome, ⊤, ◌⊎◌}
+use Rattle.std.proofs.Common.{◌≡◌, ◌≢◌, ℕ, ◌≤◌, ◌<◌, Bool, true, false, List, ◌++◌, length, get_or, Option, Some, None, option_to_list, refl, sym, ap, subst, arith, inl, inr, ⊎_elim}
+use Rattle.std.specs.Prelude.{ℤ, IfSome, ◌⊎◌}
 use Rattle.std.specs.List.{All, Any, list_any}
-use Rattle.std.specs.Option.{IsSomeAnd, option_map}
+use Rattle.std.specs.Option.{option_map}
 use Rattle.std.proofs.lemmas.Bool.{cases_eq, cases_lt, eq-eqb}
 use Rattle.std.proofs.lemmas.List.{get_or_default}
 use Rattle.std.proofs.lemmas.List.Folds.{list_any-from_Any}
@@ -63,8 +63,8 @@ own_empty program view (Some f) best fit bare is = absurd ((rows_sound program).
 exhausted_of : (rows : List Row) (ds : List Domain) → All IsOpen ds → AreDone rows ds → All (IsStill ds) rows
 exhausted_of rows ds each done =
     elim done [
-      inl bare ↦ let some = each bare.0 bare.1 bare.2 in let none = bare.4 in let same = ap count_of bare.3 in absurd (omega (arith, some, none, same))
-    | inr still ↦ still
+      | inl bare ↦ let some = each bare.0 bare.1 bare.2 in let none = bare.4 in let same = ap count_of bare.3 in absurd (omega (arith, some, none, same))
+      | inr still ↦ still
     ]
 
 -- what is judged of a box ends it

@@ -1,7 +1,7 @@
 -- A whole search, from the search of its root.
-use Rattle.std.proofs.Common.{◌≡◌, ◌≢◌, ℕ, zero, suc, ◌+◌, ◌*◌, ◌<◌, ◌≤◌, Bool, true, false, List, [], ◌∷◌, ◌++◌, Option, Some, None, refl, ap, sym, ◌∙◌, subst, arith, inl, inr, append-nil}
-use Rattle.std.specs.Prelude.{ℤ, ◌≤ℤ◌, IfSome, MatchOption, ⊤, ◌⊎◌, length}
-use Rattle.std.specs.List.{All, Contains, sum_by}
+use Rattle.std.proofs.Common.{◌≡◌, ◌≢◌, ℕ, zero, suc, ◌+◌, ◌*◌, ◌<◌, ◌≤◌, Bool, true, false, List, [], ◌∷◌, Option, Some, None, refl, ap, sym, ◌∙◌, subst, arith, inl, inr}
+use Rattle.std.specs.Prelude.{ℤ, ◌≤ℤ◌, IfSome, MatchOption, ⊤, length}
+use Rattle.std.specs.List.{All}
 use Rattle.std.specs.Option.{IsSomeAnd, option_map}
 use Rattle.std.proofs.lemmas.Int.{ints}
 use Rattle.std.proofs.lemmas.List.Elements.{All-contains, All-cons, All-head, All-nil, All-tail}
@@ -16,10 +16,9 @@ use Rattle.proof_tree.specs.Cap.{Bounds}
 use Rattle.proof_tree.specs.declared.capped.Capped.{Capped}
 use Rattle.proof_tree.specs.declared.capped.Capped.TheVariants.{AtMost, NoPoint, Bad}
 use Rattle.proof_tree.specs.declared.item.Item.TheVariants.{Node, Cut, Found as FoundItem, Empty, Dual, Point, Pending, Split}
-use Rattle.proof_tree.specs.Items.{tree_items, depth, found_in}
+use Rattle.proof_tree.specs.Items.{tree_items, found_in}
 use Rattle.proof_tree.specs.Nodes.{EachNode, counted, found_points}
 use Rattle.proof_tree.specs.Tree.{tree_cap}
-use Rattle.proof_tree.specs.Views.{View}
 use Rattle.proof_tree.proofs.Folds.{found_in-tree}
 use Rattle.proof_tree.proofs.Sound.{tree_cap-bounds}
 use Rattle.row_relax.specs.declared.Rows.{Rows}
@@ -30,15 +29,15 @@ use Rattle.row_relax.specs.laws.Laws.{rows_sound}
 use Rattle.row_relax.specs.laws.Shown.{domains_of-view_of, fits_of}
 use Rattle.branch_tree.specs.declared.ended.Ended.{Ended}
 use Rattle.branch_tree.specs.declared.reached.Reached.{Reached}
-use Rattle.branch_tree.specs.Justified.{RowTree, IsGroup, IsAbove}
-use Rattle.branch_tree.specs.Searched.{RowItem, HasOpenBox, IsBest, IsBrokenOff, IsExact, IsFitItem, IsSearch, IsSearchedTo, IsSettled, spared}
-use Rattle.branch_tree.specs.laws.Ends.{NodeDone, is_over, view_splits}
+use Rattle.branch_tree.specs.Justified.{RowTree, IsGroup}
+use Rattle.branch_tree.specs.Searched.{RowItem, IsBest, IsBrokenOff, IsExact, IsFitItem, IsSearch, IsSearchedTo, IsSettled}
+use Rattle.branch_tree.specs.laws.Ends.{NodeDone, is_over}
 use Rattle.range_prop.specs.Cuts.{HaveRoomBut}
 use Rattle.branch_tree.specs.declared.reached.Ground.{Ground}
 use Rattle.branch_tree.specs.laws.Grounds.{IsGround, IsOwnBest, IsStart, StandsIn, program_of, seen}
-use Rattle.branch_tree.specs.laws.Handed.{Grows, BoxHanded, opens}
-use Rattle.branch_tree.specs.laws.Stops.{BoxStopped, Stopped}
-use Rattle.branch_tree.proofs.Best.{closed-not_over, not_over-closed, over-above}
+use Rattle.branch_tree.specs.laws.Handed.{BoxHanded, opens}
+use Rattle.branch_tree.specs.laws.Stops.{BoxStopped}
+use Rattle.branch_tree.proofs.Best.{closed-not_over, over-above}
 use Rattle.branch_tree.proofs.Depths.{splits-root}
 use Rattle.branch_tree.proofs.Stopping.{box_before}
 use Rattle.branch_tree.proofs.Trees.{defined-not_bad, tree-boxes, tree-closed, tree-defined, tree-depth, tree-justified, tree-open}
@@ -70,7 +69,7 @@ module _ (program : Program) where
   root_bounds : (tree : RowTree) → Bounds (LiesIn program.root) (IsLawful program) (worth_of program) (tree_cap (row_steps program) (view_of program.root) tree)
   root_bounds tree =
       let bounds : Bounds (IsIn (view_of program.root)) (IsLawful program) (worth_of program) (tree_cap (row_steps program) (view_of program.root) tree)
-          = tree_cap-bounds (row_steps program) (Fits program) IsIn (IsLawful program) (worth_of program) (rows_sound program) tree (view_of program.root) root_fits in
+      = tree_cap-bounds (row_steps program) (Fits program) IsIn (IsLawful program) (worth_of program) (rows_sound program) tree (view_of program.root) root_fits in
       subst (λ (ds : List Domain). Bounds (LiesIn ds) (IsLawful program) (worth_of program) (tree_cap (row_steps program) (view_of program.root) tree)) (domains_of-view_of program.root) bounds
 
   -- a cap that is not over the best is its worth

@@ -1,5 +1,5 @@
 -- When no box of a proof over rows was split without cause.
-use Rattle.std.specs.Prelude.{◌≡◌, ℕ, ◌+◌, ◌-◌, ◌/◌, ◌<◌, ◌≤◌, nat_le, Bool, ◌&&◌, if◌then◌else◌, List, [], ◌++◌, length, Option, Some, None, option_to_list, IfSome, IsSome, ◌<ℤ◌, ⊤}
+use Rattle.std.specs.Prelude.{◌≡◌, ℕ, ◌+◌, ◌-◌, ◌/◌, ◌<◌, ◌≤◌, nat_le, ◌&&◌, if◌then◌else◌, List, [], ◌++◌, length, Some, None, option_to_list, IfSome, IsSome, ◌<ℤ◌, ⊤}
 use Rattle.std.specs.List.{All}
 use Rattle.row_kit.specs.declared.domain.Domain.{Domain}
 use Rattle.row_kit.specs.declared.found.Found.{Found}
@@ -14,7 +14,7 @@ use Rattle.dual_bound.specs.Total.{total_at}
 use Rattle.dual_climb.specs.RowBest.{RowBest}
 use Rattle.dual_simplex.specs.Solved.{plain_cert, IsWithin}
 use Rattle.proof_tree.specs.declared.capped.Capped.{Capped}
-use Rattle.proof_tree.specs.declared.capped.Capped.TheVariants.{AtMost, NoPoint, Bad}
+use Rattle.proof_tree.specs.declared.capped.Capped.TheVariants.{AtMost}
 use Rattle.proof_tree.specs.Nodes.{Node, NodeEnd, closed, parted, EachNode}
 use Rattle.proof_tree.specs.Tree.{Tree, pending}
 use Rattle.row_relax.specs.declared.pick.RowPick.{RowPick}

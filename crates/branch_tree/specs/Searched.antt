@@ -1,5 +1,5 @@
 -- What a search over the rows of a program comes to.
-use Rattle.std.specs.Prelude.{◌≡◌, ◌≢◌, ℕ, ◌+◌, ◌*◌, ◌<◌, ◌≤◌, nat_le, Bool, true, false, ◌&&◌, if◌then◌else◌, List, [], ◌∷◌, ◌++◌, length, Option, Some, None, ◌≤ℤ◌, ⊤, ◌⊎◌}
+use Rattle.std.specs.Prelude.{◌≡◌, ◌≢◌, ℕ, ◌+◌, ◌*◌, ◌<◌, ◌≤◌, nat_le, true, false, ◌&&◌, if◌then◌else◌, List, [], ◌++◌, length, Option, Some, None, ◌≤ℤ◌, ⊤, ◌⊎◌}
 use Rattle.std.specs.List.{All, Contains, sum_by}
 use Rattle.std.specs.Option.{IsSomeAnd}
 use Rattle.row_kit.specs.declared.area.Area.{Area}
@@ -18,8 +18,7 @@ use Rattle.proof_tree.specs.declared.item.Item.{Item}
 use Rattle.proof_tree.specs.declared.item.Item.TheVariants.{Node, Cut, Found as FoundItem, Empty, Dual, Point, Pending, Split}
 use Rattle.proof_tree.specs.Items.{tree_items, depth}
 use Rattle.proof_tree.specs.Nodes.{counted, found_points}
-use Rattle.proof_tree.specs.Relaxation.{Steps}
-use Rattle.proof_tree.specs.Tree.{Tree, leaf, split, pending, tree_cap, after_cuts}
+use Rattle.proof_tree.specs.Tree.{leaf, split, pending, tree_cap, after_cuts}
 use Rattle.proof_tree.specs.Views.{View}
 use Rattle.row_relax.specs.declared.RowPick.{RowPick}
 use Rattle.row_relax.specs.declared.Rows.{Rows}

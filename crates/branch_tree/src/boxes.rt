@@ -137,7 +137,9 @@ pub(crate) fn search_box<H: Hinter, G: Guide, O, T: NodeTaker<Rows, O>>(
     open_box(ground, area, reached.changed.take(), taker, out)?;
     reached.spent += 1;
     let item = look(ground, area, depth, reached, hinter, guide, taker, out)?;
-    let cap = search_end(ground, area, depth, item, reached, hinter, guide, taker, out)?;
+    let cap = search_end(
+        ground, area, depth, item, reached, hinter, guide, taker, out,
+    )?;
     ground.rows.back(area, start);
     Ok(cap)
 }
@@ -219,11 +221,31 @@ fn search_parts<H: Hinter, G: Guide, O, T: NodeTaker<Rows, O>>(
     let mark = ground.rows.mark(area);
     let _ = ground.rows.left(area, pick);
     reached.changed = Some(pick.slot);
-    let first = search_part(ground, area, depth + 1, cert, reached, hinter, guide, taker, out)?;
+    let first = search_part(
+        ground,
+        area,
+        depth + 1,
+        cert,
+        reached,
+        hinter,
+        guide,
+        taker,
+        out,
+    )?;
     ground.rows.back(area, mark);
     let _ = ground.rows.right(area, pick);
     reached.changed = Some(pick.slot);
-    let second = search_part(ground, area, depth + 1, cert, reached, hinter, guide, taker, out)?;
+    let second = search_part(
+        ground,
+        area,
+        depth + 1,
+        cert,
+        reached,
+        hinter,
+        guide,
+        taker,
+        out,
+    )?;
     ground.rows.back(area, mark);
     Ok(greater_cap(first, second))
 }

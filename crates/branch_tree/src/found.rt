@@ -60,11 +60,7 @@ fn put_least_of(area: &Area, point: &mut [u8])
 }
 
 // The only point of an area, where it has one and that is lawful.
-fn only_found(
-    ground: &Ground,
-    area: &Area,
-    point: &mut [u8],
-) -> Result<Option<Found>, AllocError>
+fn only_found(ground: &Ground, area: &Area, point: &mut [u8]) -> Result<Option<Found>, AllocError>
     requires slots { length (present area.now) ≡ length (program_of ground.now).root }
     requires places { length point.old ≡ length (program_of ground.now).root }
     ensures group { IfOk result (λ found. IfSome found (IsGroup (program_of ground.now))) }

@@ -58,7 +58,16 @@ fn search_root<H: Hinter, G: Guide, O, T: NodeTaker<Rows, O>>(
 {
     let mut reached = begun(ground.alloc, ground.rows)?;
     let mut area = ground.rows.root_area(ground.alloc)?;
-    let cap = search_box(ground, &mut area, 0, &mut reached, hinter, guide, taker, out)?;
+    let cap = search_box(
+        ground,
+        &mut area,
+        0,
+        &mut reached,
+        hinter,
+        guide,
+        taker,
+        out,
+    )?;
     let left_open = exceeds(cap, worth_of(&reached.best));
     let Reached { best, spent, .. } = reached;
     Ok(Ended {

@@ -1,6 +1,5 @@
 -- What a search goes over, and where it stands. Only clauses of private functions cite it.
 use Rattle.std.specs.Prelude.{◌≡◌, ◌≢◌, ℕ, ◌+◌, ◌≤◌, ◌<◌, false, List, [], ◌∷◌, length, map, Option, None, IfSome, MatchOption, ◌≤ℤ◌}
-use Rattle.std.specs.List.{All}
 use Rattle.std.specs.Option.{IsSomeAnd}
 use Rattle.row_kit.specs.declared.domain.Domain.{Domain}
 use Rattle.row_kit.specs.declared.found.Found.{Found}
@@ -8,7 +7,6 @@ use Rattle.row_kit.specs.declared.program.Program.{Program}
 use Rattle.row_kit.specs.Point.{IsLawful}
 use Rattle.row_relax.specs.Settle.{only_point}
 use Rattle.dual_bound.specs.declared.cert.Cert.{Cert}
-use Rattle.dual_bound.specs.Total.{is_fit}
 use Rattle.proof_tree.specs.declared.capped.Capped.TheVariants.{Bad}
 use Rattle.row_relax.specs.declared.pick.RowPick.{RowPick}
 use Rattle.row_relax.specs.Steps.{row_steps}

@@ -1,5 +1,5 @@
 -- What the functions of a search hand to a taker. Only clauses of private functions cite it.
-use Rattle.std.specs.Prelude.{◌≡◌, ℕ, ◌+◌, ◌<◌, max, Bool, false, List, [], ◌∷◌, ◌++◌, map, Option, Some, None, option_to_list, IfSome, ◌≤ℤ◌}
+use Rattle.std.specs.Prelude.{◌≡◌, ℕ, ◌+◌, ◌<◌, Bool, false, List, [], ◌∷◌, ◌++◌, map, Option, Some, option_to_list, IfSome}
 use Rattle.std.specs.List.{All}
 use Rattle.std.specs.Option.{IsSomeAnd}
 use Rattle.row_kit.specs.declared.found.Found.{Found}
@@ -9,14 +9,14 @@ use Rattle.dual_bound.specs.declared.cert.Cert.{Cert}
 use Rattle.proof_tree.specs.declared.capped.Capped.{Capped}
 use Rattle.proof_tree.specs.declared.item.Item.TheVariants.{Node, Cut, Found as FoundItem, Split}
 use Rattle.proof_tree.specs.Cap.{greater}
-use Rattle.proof_tree.specs.Items.{tree_items, leaf_item, depth}
+use Rattle.proof_tree.specs.Items.{tree_items, leaf_item}
 use Rattle.proof_tree.specs.Nodes.{EachNode, closed, parted, counted, found_points}
-use Rattle.proof_tree.specs.Tree.{Leaf, no_point, dual, one_point, pending, leaf, split, tree_cap, leaf_cap, cap_if, after_cuts}
+use Rattle.proof_tree.specs.Tree.{Leaf, no_point, dual, one_point, pending, leaf, split, tree_cap, cap_if, after_cuts}
 use Rattle.proof_tree.specs.Views.{View}
 use Rattle.row_relax.specs.declared.pick.RowPick.{RowPick}
 use Rattle.row_relax.specs.Steps.{row_steps}
 use Rattle.branch_tree.specs.declared.reached.Reached.{Reached}
-use Rattle.branch_tree.specs.Justified.{RowTree, IsGroup, HasCause}
+use Rattle.branch_tree.specs.Justified.{RowTree, IsGroup}
 use Rattle.branch_tree.specs.Searched.{RowItem, IsBest, IsFitItem}
 use Rattle.branch_tree.specs.laws.Ends.{EndDone, ItemEnds, NodeDone}
 

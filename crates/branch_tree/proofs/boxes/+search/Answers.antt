@@ -1,13 +1,11 @@
 -- A box is its first items, its found point and its end; an end that is a split has both its parts.
-use Rattle.std.proofs.Common.{◌≡◌, ℕ, Bool, length, take, ◌+◌, ◌<◌, ◌≤◌, List, [], ◌∷◌, ◌++◌, map, Option, Some, None, option_to_list, refl, sym, ap, ◌∙◌, subst, arith, rules, inl, inr, true, false}
-use Rattle.std.specs.Prelude.{IfOk, IfSome}
+use Rattle.std.proofs.Common.{◌≡◌, Bool, length, take, ◌+◌, ◌≤◌, List, [], ◌∷◌, ◌++◌, map, Some, None, option_to_list, refl, sym, ap, ◌∙◌, subst, arith, rules, true, false}
 use Rattle.std.proofs.lemmas.Result.{IfOk-weaker, on_err_weaker}
 use Rattle.row_kit.specs.declared.found.Found.{Found}
 use Rattle.row_relax.specs.Steps.{row_steps}
 use Rattle.row_relax.specs.View.{domains_of, points_in, view_of}
 use Rattle.row_relax.proofs.Marks.{domains-views, fits_slots}
 use Rattle.range_prop.specs.Cuts.{HaveRoom}
-use Rattle.proof_tree.specs.declared.item.Item.TheVariants.{Empty, Dual, Point, Split}
 use Rattle.proof_tree.specs.Views.{MovesTo, present as last_view}
 use Rattle.branch_tree.specs.Searched.{IsBest, IsFitItem}
 use Rattle.branch_tree.specs.laws.Ends.{ItemEnds}
@@ -49,13 +47,13 @@ search_box-search_end-requires g t c =
     let leave = cuts_leave program head.cuts (seen c.args.area.now) (seen c.open_box.new.area) c.requires.stands.fits head.moved in
     let fewer : points_in (seen c.open_box.new.area) ≤ points_in (seen c.args.area.now) = leave.points in
     let stands : StandsIn c.args.ground.now (seen c.open_box.new.area) c.args.depth c.look.new.reached =
-        stands_on c.args.ground.now (seen c.args.area.now) (seen c.open_box.new.area) c.args.depth c.args.reached.now c.look.new.reached c.requires.stands leave c.look.ensures.places (c.look.ensures.changed ∙ c.take.ensures.after) c.in_ok-item.ensures.none in
+    stands_on c.args.ground.now (seen c.args.area.now) (seen c.open_box.new.area) c.args.depth c.args.reached.now c.look.new.reached c.requires.stands leave c.look.ensures.places (c.look.ensures.changed ∙ c.take.ensures.after) c.in_ok-item.ensures.none in
     let within : c.look.new.reached.spent ≤ c.args.ground.now.budget = omega (arith, c.look.ensures.spent, c.requires.room) in
     let none : c.look.new.reached.own ≡ None = c.in_ok-item.ensures.none in
     let room : HaveRoom program.rows (domains_of (seen c.open_box.new.area)) = subst (HaveRoom program.rows) (sym (domains-views c.open_box.new.area)) c.in_ok-open_box.ensures.room in
     let here = IsBest-itself old in
     let ends : (fs : List Found) → IsBest c.look.new.reached.best fs → ItemEnds program (seen c.open_box.new.area) fs c.in_ok-item.item =
-        λ fs best. ends-same program (seen c.open_box.new.area) c.in_ok-item.item c.look.new.reached.best (option_to_list old ++ option_to_list look.found) fs (look.best (option_to_list old) here) best (look.ends (option_to_list old) here) in
+    λ fs best. ends-same program (seen c.open_box.new.area) c.in_ok-item.item c.look.new.reached.best (option_to_list old ++ option_to_list look.found) fs (look.best (option_to_list old) here) best (look.ends (option_to_list old) here) in
     let fit : IsFitItem program c.in_ok-item.item = look.fit in
     let ready : g.T.NodeTaker.ready c.look.new.taker c.look.new.out = c.in_ok-item.ensures.ready in
     search rules
@@ -148,10 +146,10 @@ search_part-returns-then-reached-ground-clause-handed g t c =
     let program = program_of c.args.ground.now in
     let view = seen c.args.area.now in
     let full : c.args.ground.now.may_leave ≡ false → c.args.reached.now.spent ≡ c.args.ground.now.budget =
-        λ never. elim c.then-reached-ground.branch [
-          search_part-then-reached-ground-via-then-reached-ground w ↦ w.if-reached-ground.true
-        | search_part-then-reached-ground-via-else-reached-ground+then-is_left w ↦ absurd (may_not c.args.ground.now.may_leave never (w.is_left.ensures w.if-is_left.true))
-        ] in
+    λ never. elim c.then-reached-ground.branch [
+      | search_part-then-reached-ground-via-then-reached-ground w ↦ w.if-reached-ground.true
+      | search_part-then-reached-ground-via-else-reached-ground+then-is_left w ↦ absurd (may_not c.args.ground.now.may_leave never (w.is_left.ensures w.if-is_left.true))
+    ] in
     both_ok c.leave_open.result _ _ c.leave_open.ensures.cap c.leave_open.ensures.handed
     (λ cap is taken. open_handed g.T.NodeTaker.took program c.args.ground.now.budget c.args.ground.now.may_leave view c.args.cert.now cap c.args.reached.now _ _ _ _ c.requires.stands.fits c.requires.part.some c.requires.part.capped is full (pending-fit program view c.args.cert.now c.requires.part.capped) taken)
 
@@ -209,7 +207,7 @@ search_parts-search_part-requires-2 g t c =
     let part = left_there program view pick parts in
     let left = moved_to ((row_steps program).left view pick) (map view_of c.args.area.now) (map view_of c.left.new.area) c.left.result part.0 part.1 c.left.ensures.moves in
     let same : map view_of c.back.new.area ≡ map view_of c.args.area.now =
-        c.back.ensures.views ∙ ap (take (c.mark-mark.result + 1)) c.in_ok-first.ensures.as_before ∙ ap (λ n. take n (map view_of c.left.new.area)) c.mark-mark.ensures ∙ left.1 in
+    c.back.ensures.views ∙ ap (take (c.mark-mark.result + 1)) c.in_ok-first.ensures.as_before ∙ ap (λ n. take n (map view_of c.left.new.area)) c.mark-mark.ensures ∙ left.1 in
     let other = right_there program view pick parts in
     let moves = subst (λ views. MovesTo ((row_steps program).right (last_view views) pick) views (map view_of c.right.new.area) c.right.result) same c.right.ensures.moves in
     let right = moved_to ((row_steps program).right view pick) (map view_of c.args.area.now) (map view_of c.right.new.area) c.right.result other.0 other.1 moves in
@@ -228,7 +226,7 @@ search_parts-returns-in_err-second-clause-err g t c =
     let part = left_there program view pick parts in
     let left = moved_to ((row_steps program).left view pick) (map view_of c.args.area.now) (map view_of c.left.new.area) c.left.result part.0 part.1 c.left.ensures.moves in
     let same : map view_of c.back.new.area ≡ map view_of c.args.area.now =
-        c.back.ensures.views ∙ ap (take (c.mark-mark.result + 1)) c.in_ok-first.ensures.as_before ∙ ap (λ n. take n (map view_of c.left.new.area)) c.mark-mark.ensures ∙ left.1 in
+    c.back.ensures.views ∙ ap (take (c.mark-mark.result + 1)) c.in_ok-first.ensures.as_before ∙ ap (λ n. take n (map view_of c.left.new.area)) c.mark-mark.ensures ∙ left.1 in
     let other = right_there program view pick parts in
     let moves = subst (λ views. MovesTo ((row_steps program).right (last_view views) pick) views (map view_of c.right.new.area) c.right.result) same c.right.ensures.moves in
     let right = moved_to ((row_steps program).right view pick) (map view_of c.args.area.now) (map view_of c.right.new.area) c.right.result other.0 other.1 moves in
@@ -247,7 +245,7 @@ search_parts-back-requires-2-clause-within g t c =
     let part = left_there program view pick parts in
     let left = moved_to ((row_steps program).left view pick) (map view_of c.args.area.now) (map view_of c.left.new.area) c.left.result part.0 part.1 c.left.ensures.moves in
     let same : map view_of c.back.new.area ≡ map view_of c.args.area.now =
-        c.back.ensures.views ∙ ap (take (c.mark-mark.result + 1)) c.in_ok-first.ensures.as_before ∙ ap (λ n. take n (map view_of c.left.new.area)) c.mark-mark.ensures ∙ left.1 in
+    c.back.ensures.views ∙ ap (take (c.mark-mark.result + 1)) c.in_ok-first.ensures.as_before ∙ ap (λ n. take n (map view_of c.left.new.area)) c.mark-mark.ensures ∙ left.1 in
     let other = right_there program view pick parts in
     let moves = subst (λ views. MovesTo ((row_steps program).right (last_view views) pick) views (map view_of c.right.new.area) c.right.result) same c.right.ensures.moves in
     let right = moved_to ((row_steps program).right view pick) (map view_of c.args.area.now) (map view_of c.right.new.area) c.right.result other.0 other.1 moves in
@@ -262,7 +260,7 @@ search_parts-returns-clause-as_before g t c =
     let part = left_there program view pick parts in
     let left = moved_to ((row_steps program).left view pick) (map view_of c.args.area.now) (map view_of c.left.new.area) c.left.result part.0 part.1 c.left.ensures.moves in
     let same : map view_of c.back.new.area ≡ map view_of c.args.area.now =
-        c.back.ensures.views ∙ ap (take (c.mark-mark.result + 1)) c.in_ok-first.ensures.as_before ∙ ap (λ n. take n (map view_of c.left.new.area)) c.mark-mark.ensures ∙ left.1 in
+    c.back.ensures.views ∙ ap (take (c.mark-mark.result + 1)) c.in_ok-first.ensures.as_before ∙ ap (λ n. take n (map view_of c.left.new.area)) c.mark-mark.ensures ∙ left.1 in
     let other = right_there program view pick parts in
     let moves = subst (λ views. MovesTo ((row_steps program).right (last_view views) pick) views (map view_of c.right.new.area) c.right.result) same c.right.ensures.moves in
     let right = moved_to ((row_steps program).right view pick) (map view_of c.args.area.now) (map view_of c.right.new.area) c.right.result other.0 other.1 moves in
@@ -277,11 +275,11 @@ search_parts-returns-clause-handed g t c =
     let part = left_there program view pick parts in
     let left = moved_to ((row_steps program).left view pick) (map view_of c.args.area.now) (map view_of c.left.new.area) c.left.result part.0 part.1 c.left.ensures.moves in
     let same : map view_of c.back.new.area ≡ map view_of c.args.area.now =
-        c.back.ensures.views ∙ ap (take (c.mark-mark.result + 1)) c.in_ok-first.ensures.as_before ∙ ap (λ n. take n (map view_of c.left.new.area)) c.mark-mark.ensures ∙ left.1 in
+    c.back.ensures.views ∙ ap (take (c.mark-mark.result + 1)) c.in_ok-first.ensures.as_before ∙ ap (λ n. take n (map view_of c.left.new.area)) c.mark-mark.ensures ∙ left.1 in
     let other = right_there program view pick parts in
     let moves = subst (λ views. MovesTo ((row_steps program).right (last_view views) pick) views (map view_of c.right.new.area) c.right.result) same c.right.ensures.moves in
     let right = moved_to ((row_steps program).right view pick) (map view_of c.args.area.now) (map view_of c.right.new.area) c.right.result other.0 other.1 moves in
     let all = parts_handed g.T.NodeTaker.took program c.args.ground.now.budget c.args.ground.now.may_leave view (seen c.left.new.area) (seen c.right.new.area) pick c.args.cert.now c.in_ok-first.first c.in_ok-second.second
-        c.args.reached.now (record c.args.reached.now { changed = Some pick.slot }) c.search_part.new.reached (record c.search_part.new.reached { changed = Some pick.slot }) c.search_part-2.new.reached _ _ _ _ _ _
-        refl refl refl refl c.in_ok-second.ensures.within left.0 right.0 c.in_ok-first.ensures.handed c.in_ok-second.ensures.handed in
+    c.args.reached.now (record c.args.reached.now { changed = Some pick.slot }) c.search_part.new.reached (record c.search_part.new.reached { changed = Some pick.slot }) c.search_part-2.new.reached _ _ _ _ _ _
+    refl refl refl refl c.in_ok-second.ensures.within left.0 right.0 c.in_ok-first.ensures.handed c.in_ok-second.ensures.handed in
     subst (λ cap. PartsHanded g.T.NodeTaker.took program c.args.ground.now.budget c.args.ground.now.may_leave view pick c.args.cert.now cap c.args.reached.now c.args.taker.now c.args.out.now c.search_part-2.new.reached c.search_part-2.new.taker c.search_part-2.new.out) (sym c.greater_cap.ensures) all

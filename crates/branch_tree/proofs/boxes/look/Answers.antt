@@ -1,5 +1,5 @@
 -- The end that is judged ends the box, with the found points up to it.
-use Rattle.std.proofs.Common.{◌≡◌, List, [], ◌∷◌, ◌++◌, Option, Some, None, option_to_list, refl, sym, ap, ◌∙◌, subst, append-nil}
+use Rattle.std.proofs.Common.{◌≡◌, List, ◌++◌, None, option_to_list, sym, ap, ◌∙◌, subst, append-nil}
 use Rattle.std.specs.Prelude.{IfSome, ◌≤ℤ◌}
 use Rattle.std.specs.Option.{IsSomeAnd, option_map}
 use Rattle.row_kit.specs.Area.{present}

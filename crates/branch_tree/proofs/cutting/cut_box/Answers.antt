@@ -1,5 +1,5 @@
 -- The cuts that were made lead to the view that the area shows.
-use Rattle.std.proofs.Common.{[], ◌∷◌, map}
+use Rattle.std.proofs.Common.{map}
 use Rattle.std.proofs.lemmas.List.Elements.{All-cons}
 use Rattle.proof_tree.specs.declared.item.Item.TheVariants.{Node as NodeItem, Cut as CutItem}
 use Rattle.row_relax.proofs.Marks.{fits_slots}

@@ -12,5 +12,5 @@ returns-then-says_more c =
     let domains = present c.args.area.now in
     let more : says_more c.cap.result c.cap-in-Some.result ≡ true = sym c.says_more.ensures ∙ c.if-says_more.true in
     let caps : says_more (cert_cap program domains c.in-Some.other) (cert_cap program domains c.args.one) ≡ true =
-        ap (λ cap. says_more cap (cert_cap program domains c.args.one)) (sym c.cap.ensures.cap) ∙ ap (says_more c.cap.result) (sym c.cap-in-Some.ensures.cap) ∙ more in
+    ap (λ cap. says_more cap (cert_cap program domains c.args.one)) (sym c.cap.ensures.cap) ∙ ap (says_more c.cap.result) (sym c.cap-in-Some.ensures.cap) ∙ more in
     says_more-within _ _ _ caps c.requires.no_higher

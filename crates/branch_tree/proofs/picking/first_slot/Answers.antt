@@ -1,5 +1,5 @@
 -- Where no slot has two values, each has one.
-use Rattle.std.proofs.Common.{◌≡◌, ℕ, ◌<◌, ap, arith}
+use Rattle.std.proofs.Common.{◌<◌, ap, arith}
 use Rattle.std.proofs.lemmas.List.{get_or_default}
 use Rattle.row_kit.specs.Area.{present}
 use Rattle.row_kit.specs.Domain.{count_of, domain_at, no_values}

@@ -1,5 +1,5 @@
 -- The node and its cuts, put one after another.
-use Rattle.std.proofs.Common.{[], ◌∷◌, map, subst, sym}
+use Rattle.std.proofs.Common.{[], ◌∷◌, map, subst}
 use Rattle.std.proofs.lemmas.Result.{on_err_weaker, on_ok_weaker}
 use Rattle.proof_tree.specs.declared.item.Item.TheVariants.{Node as NodeItem, Cut as CutItem}
 use Rattle.branch_tree.specs.laws.Grounds.{program_of}
@@ -32,5 +32,5 @@ pub returns-clause-err : goal.returns-clause-err
 returns-clause-err g c =
     on_err_weaker c.put_cuts.result
     (λ stopped. head_in_cuts g.T.NodeTaker.took g.T.NodeTaker.broke (program_of c.args.ground.now) c.in_ok-cuts.cuts.items _ _ _ _ _ _ c.in_ok-cuts.ensures.fit c.in_ok-put.ensures.took
-        (subst (λ cuts. Stopped g.T.NodeTaker.took g.T.NodeTaker.broke c.put.new.self c.put.new.out (map CutItem cuts) c.put_cuts.new.taker c.put_cuts.new.out) c.as_slice.ensures.value stopped))
+    (subst (λ cuts. Stopped g.T.NodeTaker.took g.T.NodeTaker.broke c.put.new.self c.put.new.out (map CutItem cuts) c.put_cuts.new.taker c.put_cuts.new.out) c.as_slice.ensures.value stopped))
     c.put_cuts.ensures.err

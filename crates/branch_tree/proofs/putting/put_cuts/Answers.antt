@@ -1,5 +1,4 @@
 -- The taker stopped at a cut.
-use Rattle.std.proofs.Common.{arith}
 use Rattle.branch_tree.proofs.Stopping.{at_err, stopped_cut}
 use Rattle.branch_tree.proofs.putting.put_cuts.Goals as goal
 

@@ -1,6 +1,5 @@
 -- The taker that took all items of a proof has the proof.
-use Rattle.std.proofs.Common.{List, [], sym, subst}
-use Rattle.proof_tree.specs.Tree.{tree_of}
+use Rattle.std.proofs.Common.{[], sym, subst}
 use Rattle.branch_tree.specs.Justified.{RowTree}
 use Rattle.branch_tree.specs.Searched.{IsSearch, ended_of}
 use Rattle.branch_tree.specs.declared.ended.Ended.{Ended}

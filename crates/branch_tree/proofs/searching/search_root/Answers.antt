@@ -1,5 +1,5 @@
 -- What the search of the root comes to is told by what was handed.
-use Rattle.std.proofs.Common.{◌≡◌, ◌≢◌, ◌≤◌, Bool, List, [], ◌∷◌, subst}
+use Rattle.std.proofs.Common.{List, subst}
 use Rattle.row_kit.specs.declared.domain.Domain.{Domain}
 use Rattle.branch_tree.specs.laws.Grounds.{program_of, seen}
 use Rattle.branch_tree.specs.laws.Stops.{BoxStopped}
@@ -27,25 +27,25 @@ returns-in_err-cap-clause-err g c =
 pub returns-clause-ok : goal.returns-clause-ok
 returns-clause-ok g c =
     let root = root-searched g.T.NodeTaker.took (program_of c.args.ground.now) c.args.ground.now.budget c.args.ground.now.may_leave c.in_ok-cap.cap c.in_ok-reached.reached c.search_box.new.reached c.exceeds-left_open.result
-      c.args.taker.now c.args.out.now c.search_box.new.taker c.search_box.new.out c.in_ok-area.area c.worth_of.result
-      c.in_ok-area.ensures.root c.in_ok-cap.ensures.handed c.in_ok-reached.ensures c.in_ok-cap.ensures.own c.in_ok-cap.ensures.within c.worth_of.ensures c.exceeds-left_open.ensures in
+    c.args.taker.now c.args.out.now c.search_box.new.taker c.search_box.new.out c.in_ok-area.area c.worth_of.result
+    c.in_ok-area.ensures.root c.in_ok-cap.ensures.handed c.in_ok-reached.ensures c.in_ok-cap.ensures.own c.in_ok-cap.ensures.within c.worth_of.ensures c.exceeds-left_open.ensures in
     root-taken g.T.NodeTaker.took (program_of c.args.ground.now) c.args.ground.now.budget c.args.ground.now.may_leave c.in_ok-cap.cap c.in_ok-reached.reached c.search_box.new.reached c.exceeds-left_open.result
-      c.args.taker.now c.args.out.now c.search_box.new.taker c.search_box.new.out root (g.met.T.NodeTaker.took_none c.args.taker.now c.args.out.now)
+    c.args.taker.now c.args.out.now c.search_box.new.taker c.search_box.new.out root (g.met.T.NodeTaker.took_none c.args.taker.now c.args.out.now)
 
 pub returns-clause-exact : goal.returns-clause-exact
 returns-clause-exact g c never =
     let root = root-searched g.T.NodeTaker.took (program_of c.args.ground.now) c.args.ground.now.budget c.args.ground.now.may_leave c.in_ok-cap.cap c.in_ok-reached.reached c.search_box.new.reached c.exceeds-left_open.result
-      c.args.taker.now c.args.out.now c.search_box.new.taker c.search_box.new.out c.in_ok-area.area c.worth_of.result
-      c.in_ok-area.ensures.root c.in_ok-cap.ensures.handed c.in_ok-reached.ensures c.in_ok-cap.ensures.own c.in_ok-cap.ensures.within c.worth_of.ensures c.exceeds-left_open.ensures in
+    c.args.taker.now c.args.out.now c.search_box.new.taker c.search_box.new.out c.in_ok-area.area c.worth_of.result
+    c.in_ok-area.ensures.root c.in_ok-cap.ensures.handed c.in_ok-reached.ensures c.in_ok-cap.ensures.own c.in_ok-cap.ensures.within c.worth_of.ensures c.exceeds-left_open.ensures in
     root-exact g.T.NodeTaker.took (program_of c.args.ground.now) c.args.ground.now.budget c.args.ground.now.may_leave c.in_ok-cap.cap c.in_ok-reached.reached c.search_box.new.reached c.exceeds-left_open.result
-      c.args.taker.now c.args.out.now c.search_box.new.taker c.search_box.new.out root
-      (root-full g.T.NodeTaker.took (program_of c.args.ground.now) c.args.ground.now.budget c.args.ground.now.may_leave c.in_ok-cap.cap c.in_ok-reached.reached c.search_box.new.reached c.exceeds-left_open.result
-        c.args.taker.now c.args.out.now c.search_box.new.taker c.search_box.new.out root never)
+    c.args.taker.now c.args.out.now c.search_box.new.taker c.search_box.new.out root
+    (root-full g.T.NodeTaker.took (program_of c.args.ground.now) c.args.ground.now.budget c.args.ground.now.may_leave c.in_ok-cap.cap c.in_ok-reached.reached c.search_box.new.reached c.exceeds-left_open.result
+    c.args.taker.now c.args.out.now c.search_box.new.taker c.search_box.new.out root never)
 
 pub returns-clause-guided : goal.returns-clause-guided
 returns-clause-guided g c full =
     let root = root-searched g.T.NodeTaker.took (program_of c.args.ground.now) c.args.ground.now.budget c.args.ground.now.may_leave c.in_ok-cap.cap c.in_ok-reached.reached c.search_box.new.reached c.exceeds-left_open.result
-      c.args.taker.now c.args.out.now c.search_box.new.taker c.search_box.new.out c.in_ok-area.area c.worth_of.result
-      c.in_ok-area.ensures.root c.in_ok-cap.ensures.handed c.in_ok-reached.ensures c.in_ok-cap.ensures.own c.in_ok-cap.ensures.within c.worth_of.ensures c.exceeds-left_open.ensures in
+    c.args.taker.now c.args.out.now c.search_box.new.taker c.search_box.new.out c.in_ok-area.area c.worth_of.result
+    c.in_ok-area.ensures.root c.in_ok-cap.ensures.handed c.in_ok-reached.ensures c.in_ok-cap.ensures.own c.in_ok-cap.ensures.within c.worth_of.ensures c.exceeds-left_open.ensures in
     root-exact g.T.NodeTaker.took (program_of c.args.ground.now) c.args.ground.now.budget c.args.ground.now.may_leave c.in_ok-cap.cap c.in_ok-reached.reached c.search_box.new.reached c.exceeds-left_open.result
-      c.args.taker.now c.args.out.now c.search_box.new.taker c.search_box.new.out root (λ over. full)
+    c.args.taker.now c.args.out.now c.search_box.new.taker c.search_box.new.out root (λ over. full)
