@@ -38,6 +38,12 @@ mod programs;
 mod relaxations;
 #[cfg(test)]
 mod runs;
+#[cfg(test)]
+mod searches;
+#[cfg(test)]
+mod simplex;
+#[cfg(test)]
+mod tables;
 mod texts;
 #[cfg(test)]
 mod trees;
