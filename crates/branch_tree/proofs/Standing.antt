@@ -16,11 +16,11 @@ use Rattle.row_kit.specs.declared.row.Row.{Row}
 use Rattle.row_kit.specs.Area.{present}
 use Rattle.row_kit.specs.Domain.{IsBare, IsOpen, count_of, no_values, over, up_to}
 use Rattle.row_kit.specs.Points.{points_of}
-use Rattle.row_kit.proofs.PointCounts.{points-bare, points-open, points-shared_le}
+use Rattle.row_kit.proofs.PointCounts.{points-bare, points-open, points-kept_le}
 use Rattle.range_prop.specs.Cut.{is_bare}
 use Rattle.range_prop.specs.Cuts.{HasRoom, HaveRoom, HaveRoomBut}
 use Rattle.range_prop.proofs.Looks.{open_none}
-use Rattle.range_prop.proofs.Rooms.{HaveRoomBut-shared}
+use Rattle.range_prop.proofs.Rooms.{HaveRoomBut-kept_at}
 use Rattle.dual_bound.specs.declared.cert.Cert.{Cert}
 use Rattle.dual_bound.specs.Cap.{cert_cap, scaled_cap}
 use Rattle.dual_bound.specs.Total.{has_total, is_fit, total_of}
@@ -116,7 +116,7 @@ right_domains program v x pick is = domains_there (ltb pick.slot (length (domain
 part_open : (ds : List Domain) (slot : ℕ) (d : Domain) → All IsOpen (kept_at ds slot d) → Any IsBare ds → ⊥
 part_open ds slot d each bare =
     let some = points-open (kept_at ds slot d) each in
-    let fewer = points-shared_le ds slot d in
+    let fewer = points-kept_le ds slot d in
     let none = points-bare ds bare.0 bare.2 (ap count_of (get_or_default ds bare.0 no_values bare.1 bare.2 ∙ bare.3) ∙ bare.4) in
     omega (arith, some, fewer, none)
 
@@ -151,7 +151,7 @@ pub left_stands : (ground : Ground) (v x : View) (pick : RowPick) (cert : Cert) 
 left_stands ground v x pick cert depth old new stands room cause moved places changed own =
     let program = program_of ground in
     let ds = domains_of v in
-    let rooms = HaveRoomBut-shared program.rows ds pick.slot (up_to pick.max) cause.parted.slot (rooms_of program.rows ds pick.slot (up_to pick.max) cause.parted.left room) in
+    let rooms = HaveRoomBut-kept_at program.rows ds pick.slot (up_to pick.max) cause.parted.slot (rooms_of program.rows ds pick.slot (up_to pick.max) cause.parted.left room) in
     record {
       indexed = stands.indexed;
       fits = (rows_sound program).left_fits v x pick stands.fits moved;
@@ -167,7 +167,7 @@ pub right_stands : (ground : Ground) (v x : View) (pick : RowPick) (cert : Cert)
 right_stands ground v x pick cert depth old new stands room cause moved places changed own =
     let program = program_of ground in
     let ds = domains_of v in
-    let rooms = HaveRoomBut-shared program.rows ds pick.slot (over pick.max) cause.parted.slot (rooms_of program.rows ds pick.slot (over pick.max) cause.parted.right room) in
+    let rooms = HaveRoomBut-kept_at program.rows ds pick.slot (over pick.max) cause.parted.slot (rooms_of program.rows ds pick.slot (over pick.max) cause.parted.right room) in
     record {
       indexed = stands.indexed;
       fits = (rows_sound program).right_fits v x pick stands.fits moved;

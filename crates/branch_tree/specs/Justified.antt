@@ -12,7 +12,7 @@ use Rattle.dual_bound.specs.declared.cert.Cert.{Cert}
 use Rattle.dual_bound.specs.Cap.{cert_cap}
 use Rattle.dual_bound.specs.Total.{total_at}
 use Rattle.dual_climb.specs.RowBest.{RowBest}
-use Rattle.dual_simplex.specs.Solved.{plain_cert, IsWithin}
+use Rattle.dual_simplex.specs.Solved.{plain_cert, IsNoWorseThanPlain}
 use Rattle.proof_tree.specs.declared.capped.Capped.{Capped}
 use Rattle.proof_tree.specs.declared.capped.Capped.TheVariants.{AtMost}
 use Rattle.proof_tree.specs.Nodes.{Node, NodeEnd, closed, parted, EachNode}
@@ -48,7 +48,7 @@ pub record IsPolished (program : Program) (domains : List Domain) (cert : Cert) 
   pub scale : 1 ≤ cert.scale
   pub total : IsSome (total_at program domains cert)
   pub row_best : RowBest program domains cert
-  pub no_higher : IsWithin (cert_cap program domains plain_cert) (cert_cap program domains cert)
+  pub no_higher : IsNoWorseThanPlain program domains cert
 
 -- where a domain is split: at 0 where it holds 0 and other values, else at the middle of its values
 abbrev pub split_value : Domain → ℕ

@@ -3,7 +3,7 @@ ghost use Rattle.std.specs.List.{All};
 ghost use Rattle.row_kit.specs.Area.{present};
 ghost use Rattle.row_kit.specs.Domain.{IsOpen, IsSingle};
 ghost use Rattle.dual_bound.specs.Cap.{cert_cap};
-ghost use Rattle.dual_simplex.specs.Solved.{plain_cert, IsWithin};
+ghost use Rattle.dual_simplex.specs.Solved.{plain_cert, IsNoWorseThanPlain};
 ghost use Rattle.branch_tree.specs.laws.Ends.{is_over, says_more, IsVerdict};
 ghost use Rattle.branch_tree.specs.laws.Grounds.{program_of};
 
@@ -52,8 +52,8 @@ pub(crate) fn exceeds(cap: Capped, best: Option<i128>) -> bool
 // The one of two certificates whose cap says more; the first where neither's does.
 fn lower(program: &Program, area: &Area, one: Cert, other: Option<Cert>) -> Cert
     requires slots { length (present area.now) ≡ length program.now.root }
-    requires no_higher { IsWithin (cert_cap program.now (present area.now) plain_cert) (cert_cap program.now (present area.now) one) }
-    ensures { IsWithin (cert_cap program.now (present area.now) plain_cert) (cert_cap program.now (present area.now) result) }
+    requires no_higher { IsNoWorseThanPlain program.now (present area.now) one }
+    ensures { IsNoWorseThanPlain program.now (present area.now) result }
 {
     match other {
         None => one,
@@ -75,7 +75,7 @@ fn chosen(
 ) -> Result<Cert, AllocError>
     requires slots { length (present area.now) ≡ length (program_of ground.now).root }
     requires each_open { All IsOpen (present area.now) }
-    ensures { IfOk result (λ cert. IsWithin (cert_cap (program_of ground.now) (present area.now) plain_cert) (cert_cap (program_of ground.now) (present area.now) cert)) }
+    ensures { IfOk result (IsNoWorseThanPlain (program_of ground.now) (present area.now)) }
 {
     let program = &ground.rows.program;
     let plain = plain_cert(ground.alloc);
@@ -122,7 +122,7 @@ fn settle_or_split(
     requires slots { length (present area.now) ≡ length (program_of ground.now).root }
     requires each_open { All IsOpen (present area.now) }
     requires more { ¬ All IsSingle (present area.now) }
-    requires no_higher { IsWithin (cert_cap (program_of ground.now) (present area.now) plain_cert) (cert_cap (program_of ground.now) (present area.now) cert) }
+    requires no_higher { IsNoWorseThanPlain (program_of ground.now) (present area.now) cert }
     requires over { is_over (cert_cap (program_of ground.now) (present area.now) cert) best ≡ true }
     ensures { IfOk result (IsVerdict (program_of ground.now) (present area.now) best) }
 {

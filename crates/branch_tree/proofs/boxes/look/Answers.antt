@@ -19,7 +19,7 @@ returns-then-has_empty-clause-handed g c = record {
   found = None;
   group = tt;
   best = λ before best. subst (IsBest c.args.reached.now.best) (sym (append-nil before)) best;
-  ends = λ before best. empty_is (program_of c.args.ground.now) c.args.area.now (c.has_empty.ensures.0 c.if-has_empty.true);
+  ends = λ before best. empty_is (program_of c.args.ground.now) c.args.area.now (c.has_empty.ensures.bare.0 c.if-has_empty.true);
   fit = tt;
   handed = Grows-none g.T.NodeTaker.took c.args.taker.now c.args.out.now;
 }
@@ -27,7 +27,7 @@ returns-then-has_empty-clause-handed g c = record {
 pub returns-then-has_empty-clause-own : goal.returns-then-has_empty-clause-own
 returns-then-has_empty-clause-own g c =
     own_empty (program_of c.args.ground.now) (seen c.args.area.now) c.args.reached.now.own c.args.reached.now.best c.requires.stands.fits
-    (empty_is (program_of c.args.ground.now) c.args.area.now (c.has_empty.ensures.0 c.if-has_empty.true)) c.requires.stands.own
+    (empty_is (program_of c.args.ground.now) c.args.area.now (c.has_empty.ensures.bare.0 c.if-has_empty.true)) c.requires.stands.own
 
 pub advised-requires-clause-slots : goal.advised-requires-clause-slots
 advised-requires-clause-slots g c = fits_slots (program_of c.args.ground.now) c.args.area.now c.requires.stands.fits
@@ -65,7 +65,7 @@ returns-clause-handed g c =
       found = found;
       group = c.in_ok-found.ensures.group;
       best = best;
-      ends = λ before is. verdict-ends program marks c.in_ok-judge.field-0 found c.put_found.new.best before c.requires.done (open_of (present marks) c.has_empty.result c.if-has_empty.false c.has_empty.ensures.1) c.in_ok-found.ensures.only (best before is) verdict;
+      ends = λ before is. verdict-ends program marks c.in_ok-judge.field-0 found c.put_found.new.best before c.requires.done (open_of (present marks) c.has_empty.result c.if-has_empty.false c.has_empty.ensures.bare.1) c.in_ok-found.ensures.only (best before is) verdict;
       fit = verdict-fit program (present marks) (option_map (λ f. f.value) c.put_found.new.best) c.in_ok-judge.field-0 (fits_normal program marks c.requires.stands.fits) (fits_slots program marks c.requires.stands.fits) verdict;
       handed = c.in_ok-put_found.ensures.handed;
     }

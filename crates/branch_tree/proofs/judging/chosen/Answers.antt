@@ -2,8 +2,8 @@
 use Rattle.std.proofs.Common.{sym, subst}
 use Rattle.row_kit.specs.Area.{present}
 use Rattle.dual_bound.specs.Cap.{cert_cap}
-use Rattle.dual_simplex.specs.Solved.{plain_cert, IsWithin}
-use Rattle.dual_simplex.proofs.Plain.{plain_within}
+use Rattle.dual_simplex.specs.Solved.{IsNoWorseThanPlain}
+use Rattle.dual_simplex.proofs.Totals.{plain_within}
 use Rattle.branch_tree.specs.laws.Grounds.{program_of}
 use Rattle.branch_tree.proofs.judging.chosen.Goals as goal
 
@@ -11,4 +11,4 @@ pub lower-cert-requires-clause-no_higher : goal.lower-cert-requires-clause-no_hi
 lower-cert-requires-clause-no_higher c =
     let program = program_of c.args.ground.now in
     let domains = present c.args.area.now in
-    subst (λ cert. IsWithin (cert_cap program domains plain_cert) (cert_cap program domains cert)) (sym c.plain_cert.ensures) (plain_within program domains c.requires.each_open)
+    subst (IsNoWorseThanPlain program domains) (sym c.plain_cert.ensures) (plain_within program domains c.requires.each_open)
