@@ -1,11 +1,11 @@
 //! Searches of small programs, with hinters, guides and takers that try them.
-ghost use Rattle.std.specs.Prelude.{tt};
-
-use crate::tables::{CHAIN, CHAIN_ROWS, CROSS, CROSS_ROWS, Slots, TORN, TORN_ROWS, Table, program};
+use crate::tables::{
+    CHAIN, CHAIN_ROWS, CROSS, CROSS_ROWS, Slots, TORN, TORN_ROWS, Table, over_rows, program,
+};
 use branch_tree::{Advice, Guide, Hinter, search, search_guided, search_to};
 use dual_bound::{Cert, Mult};
 use proof_tree::{Capped, Item, NodeTaker, TakeStop};
-use row_kit::{Area, List, Program};
+use row_kit::{Area, Entry, List, Program, Row};
 use row_relax::Rows;
 use std::alloc::{AllocError, Global};
 use std::test::Fail;
@@ -69,6 +69,41 @@ impl Guide for Liar {
         Ok(Advice {
             cert: Some(cert),
             slot: Some(4_000_000_000),
+        })
+    }
+}
+
+// Leaves each part in which some slot lacks its greatest value, so that the search goes down one deep path.
+#[derive(Drop)]
+struct Diver;
+
+impl Guide for Diver {
+    fn leaves(&mut self, _program: &Program, area: &Area, _depth: u32) -> bool {
+        for slot in 0..area.slot_count() {
+            if area.domain(slot).hi < 255 {
+                return true;
+            }
+        }
+        false
+    }
+
+    fn advise(
+        &mut self,
+        alloc: Global,
+        _program: &Program,
+        _area: &Area,
+        _depth: u32,
+        _best: Option<i128>,
+        _point: &mut [u8],
+    ) -> Result<Advice, AllocError> {
+        let mults = [Mult { row: 0, factor: 1 }];
+        let cert = Cert {
+            scale: 1,
+            mults: List::from_slice(alloc, &mults)?,
+        };
+        Ok(Advice {
+            cert: Some(cert),
+            slot: None,
         })
     }
 }
@@ -182,5 +217,40 @@ fn items_are_put_while_the_search_runs(rt: HostRuntime) -> Result<(), Fail> {
     );
     assert!(rt; ended.is_ok());
     assert!(rt; hinter.asked >= 3);
+    Ok(())
+}
+
+// Slots with all values of a byte, each quantum worth 1.
+const WIDE: Slots = &[(1, 255, 1); 512];
+
+// A row over all these slots, which lacks a quantum of letting each have its greatest value.
+fn long_row(alloc: Global) -> Result<Row, AllocError> {
+    let mut entries = List::new(alloc);
+    for slot in 0..512u32 {
+        entries.push(Entry {
+            slot,
+            fixed: 0,
+            per: 1,
+        })?;
+    }
+    Ok(Row {
+        entries,
+        limit: 130_559,
+    })
+}
+
+#[test]
+fn a_deep_path_fits_the_stack(rt: HostRuntime) -> Result<(), Fail> {
+    let alloc = rt.alloc();
+    let mut list = List::new(alloc);
+    list.push(long_row(alloc)?)?;
+    let rows = Rows {
+        program: over_rows(alloc, WIDE, list)?.ok_or("bounds")?,
+    };
+    let mut hinter = Silent { asked: 0 };
+    let (found, exact) = search_guided(alloc, &rows, 100_000, &mut hinter, &mut Diver)?;
+    assert!(rt; !exact && found.left_open);
+    assert_eq!(rt; found.cap, Capped::AtMost(130_559));
+    assert!(rt; found.spent > 4_000);
     Ok(())
 }

@@ -18,8 +18,17 @@ pub fn program(alloc: Global, slots: Slots, rows: Table) -> Result<Option<Progra
             limit: row.0,
         })?;
     }
+    over_rows(alloc, slots, list)
+}
+
+/// The program of a table of slots and of rows.
+pub fn over_rows(
+    alloc: Global,
+    slots: Slots,
+    rows: List<Row>,
+) -> Result<Option<Program>, AllocError> {
     Ok(Program::checked(
-        list,
+        rows,
         profit(alloc, slots)?,
         0,
         root(alloc, slots)?,
