@@ -1,6 +1,6 @@
 -- Items that were taken one after another.
 use Rattle.std.proofs.Common.{◌≡◌, List, [], ◌++◌, append_assoc, append-nil, sym, subst}
-use Rattle.branch_tree.specs.Searched.{RowItem}
+use Rattle.row_relax.specs.RowProofs.{RowItem}
 use Rattle.branch_tree.specs.laws.Handed.{Grows}
 
 module _ {T O : Type 0} (took after : T → O → List RowItem → T → O → Type 0) where

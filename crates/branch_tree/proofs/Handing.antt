@@ -20,7 +20,8 @@ use Rattle.row_relax.specs.Steps.{row_steps}
 use Rattle.row_relax.specs.View.{Fits}
 use Rattle.branch_tree.specs.declared.reached.Reached.{Reached}
 use Rattle.branch_tree.specs.Justified.{RowNode, IsGroup}
-use Rattle.branch_tree.specs.Searched.{RowItem, IsBest, IsFitItem}
+use Rattle.row_relax.specs.RowProofs.{RowItem}
+use Rattle.branch_tree.specs.Searched.{IsBest, IsFitItem}
 use Rattle.branch_tree.specs.laws.Ends.{EndDone, ItemEnds, NodeDone, NodeEndDone}
 use Rattle.branch_tree.specs.laws.Handed.{Grows, Tail, closing, parting, node_of, head_items, found_items, tail_items, tail_found, opens, TailDone, HeadHanded, LookHanded, TailHanded, PartsHanded, BoxHanded}
 use Rattle.branch_tree.proofs.Best.{IsBest-itself}

@@ -14,8 +14,9 @@ use Rattle.proof_tree.specs.Items.{tree_items, depth}
 use Rattle.proof_tree.specs.Tree.{no_point, dual, one_point, pending, leaf}
 use Rattle.proof_tree.specs.Views.{View}
 use Rattle.row_relax.specs.declared.pick.RowPick.{RowPick}
-use Rattle.branch_tree.specs.Justified.{RowTree, IsGroup}
-use Rattle.branch_tree.specs.Searched.{RowItem, IsFitItem}
+use Rattle.row_relax.specs.RowProofs.{RowItem, RowTree}
+use Rattle.branch_tree.specs.Justified.{IsGroup}
+use Rattle.branch_tree.specs.Searched.{IsFitItem}
 use Rattle.branch_tree.specs.laws.Ends.{ItemEnds, view_splits}
 use Rattle.branch_tree.specs.laws.Handed.{Grows, Tail, closing, parting, node_of, head_items, found_items, tail_items}
 use Rattle.branch_tree.specs.laws.Stops.{Stopped, HeadStopped, LookStopped, TailStopped, PartsStopped, BoxStopped, tail_depth}

@@ -28,7 +28,8 @@ use Rattle.row_relax.specs.View.{Fits, IsIn, domains_of, points_in}
 use Rattle.row_relax.specs.laws.Laws.{rows_sound}
 use Rattle.row_relax.specs.laws.Shown.{domains_there}
 use Rattle.row_relax.proofs.PointCounts.{points-both}
-use Rattle.branch_tree.specs.Justified.{RowNode, RowTree, IsParted, EndIsJustified, NodeIsJustified}
+use Rattle.row_relax.specs.RowProofs.{RowTree}
+use Rattle.branch_tree.specs.Justified.{RowNode, IsParted, EndIsJustified, NodeIsJustified}
 use Rattle.branch_tree.specs.Searched.{HasOpenBox}
 use Rattle.branch_tree.specs.laws.Ends.{ClosedBy, NodeDone, NodeEndDone, view_splits}
 use Rattle.branch_tree.specs.laws.Handed.{opens}

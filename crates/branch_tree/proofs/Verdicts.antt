@@ -28,7 +28,8 @@ use Rattle.row_relax.specs.View.{Fits, IsIn, domains_of}
 use Rattle.row_relax.specs.laws.Laws.{rows_sound}
 use Rattle.row_relax.proofs.Marks.{domains-views}
 use Rattle.branch_tree.specs.Justified.{HasCause, IsGroup, IsParted}
-use Rattle.branch_tree.specs.Searched.{RowItem, IsBest, IsFitItem}
+use Rattle.row_relax.specs.RowProofs.{RowItem}
+use Rattle.branch_tree.specs.Searched.{IsBest, IsFitItem}
 use Rattle.branch_tree.specs.laws.Ends.{ClosedBy, IsVerdict, ItemEnds, Reaches, view_splits}
 use Rattle.branch_tree.specs.laws.Grounds.{IsOwnBest, seen}
 use Rattle.branch_tree.proofs.Best.{above-same, closed-same, not_over-closed, over-above, reached-closed}

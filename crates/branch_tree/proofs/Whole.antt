@@ -29,8 +29,9 @@ use Rattle.row_relax.specs.laws.Laws.{rows_sound}
 use Rattle.row_relax.specs.laws.Shown.{domains_of-view_of, fits_of}
 use Rattle.branch_tree.specs.declared.ended.Ended.{Ended}
 use Rattle.branch_tree.specs.declared.reached.Reached.{Reached}
-use Rattle.branch_tree.specs.Justified.{RowTree, IsGroup}
-use Rattle.branch_tree.specs.Searched.{RowItem, IsBest, IsBrokenOff, IsExact, IsFitItem, IsSearch, IsSearchedTo, IsSettled}
+use Rattle.row_relax.specs.RowProofs.{RowItem, RowTree}
+use Rattle.branch_tree.specs.Justified.{IsGroup}
+use Rattle.branch_tree.specs.Searched.{IsBest, IsBrokenOff, IsExact, IsFitItem, IsSearch, IsSearchedTo, IsSettled}
 use Rattle.branch_tree.specs.laws.Ends.{NodeDone, is_over}
 use Rattle.range_prop.specs.Cuts.{HaveRoomBut}
 use Rattle.branch_tree.specs.declared.reached.Ground.{Ground}

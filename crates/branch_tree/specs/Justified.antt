@@ -20,10 +20,7 @@ use Rattle.proof_tree.specs.Tree.{Tree, pending}
 use Rattle.row_relax.specs.declared.pick.RowPick.{RowPick}
 use Rattle.row_relax.specs.Steps.{kept_at, row_steps}
 use Rattle.row_relax.specs.View.{domains_of, view_of}
-
--- a proof over rows, as a tree
-abbrev pub RowTree : Type 0
-RowTree = Tree RowCut Cert RowPick Found
+use Rattle.row_relax.specs.RowProofs.{RowTree}
 
 -- a node of it where it stands
 abbrev pub RowNode : Type 0

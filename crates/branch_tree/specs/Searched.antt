@@ -27,11 +27,8 @@ use Rattle.row_relax.specs.Steps.{row_steps}
 use Rattle.row_relax.specs.View.{IsIn, view_of}
 use Rattle.branch_tree.specs.declared.ended.Ended.{Ended}
 use Rattle.branch_tree.specs.declared.ended.Searched.{Searched}
-use Rattle.branch_tree.specs.Justified.{RowTree, IsGroup, IsAbove, IsJustified}
-
--- an item of a proof over rows
-abbrev pub RowItem : Type 0
-RowItem = Item Rows Area RowCut Cert RowPick Found
+use Rattle.row_relax.specs.RowProofs.{RowItem, RowTree}
+use Rattle.branch_tree.specs.Justified.{IsGroup, IsAbove, IsJustified}
 
 -- an item that may be written: its rows and slots are there, its certificate is fit, and its found point is lawful and stands with its worth
 abbrev pub IsFitItem : Program → RowItem → Type 0

@@ -4,7 +4,7 @@ ghost use Rattle.proof_tree.specs.Tree.{tree_of};
 ghost use Rattle.proof_tree.specs.Items.{tree_items};
 ghost use Rattle.proof_tree.specs.Built.{HoldsItems};
 ghost use Rattle.branch_tree.specs.Searched.{IsExact, IsSearch, IsSearchedTo, IsBrokenOff, ended_of};
-ghost use Rattle.branch_tree.specs.Justified.{RowTree};
+ghost use Rattle.row_relax.specs.RowProofs.{RowTree};
 ghost use Rattle.branch_tree.specs.laws.Grounds.{IsGround, IsStart, program_of};
 
 use crate::boxes::{search_box, worth_of};

@@ -11,7 +11,8 @@ use Rattle.row_relax.specs.View.{view_of}
 use Rattle.log_lines.specs.TextDefect.{log_text_defect}
 use Rattle.proof_log.specs.declared.claim.Claim.{Claim}
 use Rattle.proof_log.specs.declared.log.Defect.{Defect}
-use Rattle.proof_log.specs.Log.{RowItem, RowTree, log_text}
+use Rattle.row_relax.specs.RowProofs.{RowItem, RowTree}
+use Rattle.proof_log.specs.Log.{log_text}
 use Rattle.proof_log.specs.OneText.{SameLog}
 use Rattle.proof_log.proofs.OneText.{logs_same}
 use Rattle.log_check.specs.declared.verdict.LogVerdict.{LogVerdict}

@@ -20,7 +20,8 @@ use Rattle.proof_tree.specs.Walk.{Opened, Stage, Outcome, going, ended, undefine
 use Rattle.proof_tree.proofs.WalkLaw.{walked-next}
 use Rattle.row_relax.specs.declared.pick.RowPick.{RowPick}
 use Rattle.row_relax.specs.declared.rows.Rows.{Rows}
-use Rattle.proof_log.specs.Log.{RowItem, line_after}
+use Rattle.row_relax.specs.RowProofs.{RowItem}
+use Rattle.proof_log.specs.Log.{line_after}
 use Rattle.proof_log.specs.declared.log.Defect.{Defect}
 use Rattle.log_check.specs.declared.course.Course.{Course}
 use Rattle.log_check.specs.declared.course.Course.TheVariants.{Going, Faulty}

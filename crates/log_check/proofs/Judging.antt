@@ -32,7 +32,8 @@ use Rattle.proof_log.specs.declared.claim.Claim.{Claim}
 use Rattle.proof_log.specs.declared.claim.Claim.TheVariants.{Optimal, Infeasible, Between, Below}
 use Rattle.proof_log.specs.declared.log.Defect.{Defect}
 use Rattle.proof_log.specs.ClaimSays.{NoneAbove}
-use Rattle.proof_log.specs.Log.{RowItem, RowTree, line_after}
+use Rattle.row_relax.specs.RowProofs.{RowItem, RowTree}
+use Rattle.proof_log.specs.Log.{line_after}
 use Rattle.proof_log.specs.LogReading.{IsClean}
 use Rattle.log_check.specs.declared.course.Course.{Course}
 use Rattle.log_check.specs.declared.course.Course.TheVariants.{Going, Ended, Faulty}

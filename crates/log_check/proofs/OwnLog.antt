@@ -5,7 +5,8 @@ use Rattle.proof_tree.specs.Items.{tree_items}
 use Rattle.row_relax.specs.Steps.{row_steps}
 use Rattle.row_relax.specs.View.{view_of}
 use Rattle.proof_log.specs.declared.claim.Claim.{Claim}
-use Rattle.proof_log.specs.Log.{RowTree, log_text}
+use Rattle.row_relax.specs.RowProofs.{RowTree}
+use Rattle.proof_log.specs.Log.{log_text}
 use Rattle.proof_log.specs.OneText.{IsLogOver, SameLog}
 use Rattle.proof_log.proofs.OneText.{logs_same}
 use Rattle.log_lines.specs.TextDefect.{log_text_defect}

@@ -10,7 +10,8 @@ use Rattle.proof_log.specs.declared.claim.Claim.{Claim}
 use Rattle.proof_log.specs.declared.log_reader.LogReader.{LogReader}
 use Rattle.proof_log.specs.declared.log_reader.LogPart.{LogPart}
 use Rattle.proof_log.specs.declared.log_reader.LogPart.TheVariants.{Item as ItemPart, Claim as ClaimPart, End as EndPart}
-use Rattle.proof_log.specs.Log.{RowItem, line_after}
+use Rattle.row_relax.specs.RowProofs.{RowItem}
+use Rattle.proof_log.specs.Log.{line_after}
 use Rattle.proof_log.specs.LogReading.{HasRead, IsPartAfter}
 use Rattle.log_check.specs.declared.checker.Checker.{Checker}
 use Rattle.log_check.specs.declared.course.Course.TheVariants.{Going}

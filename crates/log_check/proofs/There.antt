@@ -14,7 +14,7 @@ use Rattle.proof_tree.proofs.Forms.{going-may, ended-none}
 use Rattle.row_relax.specs.Steps.{row_steps, shown_if, kept_at}
 use Rattle.row_relax.specs.View.{Fits, domains_of}
 use Rattle.proof_log.specs.Gathered.{IsThere}
-use Rattle.proof_log.specs.Log.{RowItem}
+use Rattle.row_relax.specs.RowProofs.{RowItem}
 use Rattle.log_check.specs.declared.course.Course.{Course}
 use Rattle.log_check.specs.declared.course.Course.TheVariants.{Going, Ended, Faulty}
 use Rattle.log_check.specs.Course.{RowWalk, StandsAt, IsNamed, MayTake}

@@ -13,7 +13,7 @@ use Rattle.proof_tree.specs.Views.{View}
 use Rattle.proof_tree.specs.Walk.{going, walked, start, may_come, stage_of, Stands}
 use Rattle.row_relax.specs.declared.pick.RowPick.{RowPick}
 use Rattle.row_relax.specs.declared.rows.Rows.{Rows}
-use Rattle.proof_log.specs.Log.{RowItem}
+use Rattle.row_relax.specs.RowProofs.{RowItem}
 use Rattle.log_check.specs.declared.course.Course.{Course}
 use Rattle.log_check.specs.declared.course.Course.TheVariants.{Going, Ended, Faulty}
 use Rattle.log_check.specs.Meaning.{RowSteps, IsWorth, HaveNone, IsProved, IsItemDefect}

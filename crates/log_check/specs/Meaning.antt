@@ -15,7 +15,8 @@ use Rattle.proof_log.specs.declared.claim.Claim.{Claim}
 use Rattle.proof_log.specs.declared.claim.Claim.TheVariants.{Optimal, Infeasible, Between, Below}
 use Rattle.proof_log.specs.declared.log.Defect.{Defect}
 use Rattle.proof_log.specs.ClaimSays.{HasWorth, ClaimSays}
-use Rattle.proof_log.specs.Log.{RowItem, line_after}
+use Rattle.row_relax.specs.RowProofs.{RowItem}
+use Rattle.proof_log.specs.Log.{line_after}
 
 -- what the calls of rows answer
 abbrev pub RowSteps : Type 0

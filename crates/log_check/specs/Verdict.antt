@@ -9,7 +9,8 @@ use Rattle.row_relax.specs.Steps.{row_steps}
 use Rattle.row_relax.specs.View.{view_of}
 use Rattle.proof_log.specs.declared.claim.Claim.{Claim}
 use Rattle.proof_log.specs.declared.log.Defect.{Defect}
-use Rattle.proof_log.specs.Log.{RowTree, log_text}
+use Rattle.row_relax.specs.RowProofs.{RowTree}
+use Rattle.proof_log.specs.Log.{log_text}
 use Rattle.proof_log.specs.OneText.{IsLogOver}
 use Rattle.log_lines.specs.declared.grammar.Limits.{Limits}
 use Rattle.log_lines.specs.TextDefect.{log_text_defect}

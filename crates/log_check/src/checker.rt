@@ -4,7 +4,8 @@ ghost use Rattle.proof_tree.specs.Views.{View, present};
 ghost use Rattle.row_relax.specs.Steps.{row_steps};
 ghost use Rattle.row_relax.specs.View.{Fits, view_of};
 ghost use Rattle.proof_tree.specs.Walk.{Stands};
-ghost use Rattle.proof_log.specs.Log.{RowItem, line_after};
+ghost use Rattle.row_relax.specs.RowProofs.{RowItem};
+ghost use Rattle.proof_log.specs.Log.{line_after};
 ghost use Rattle.log_check.specs.Meaning.{ItemDefect};
 ghost use Rattle.log_check.specs.Course.{StandsAt, IsReady, MayTake, IsTested, end_kind, course_of};
 

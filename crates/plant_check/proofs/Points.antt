@@ -25,7 +25,7 @@ use Rattle.time_grid.specs.PlanPoint.{HasPoint, plan_point, point_starts}
 use Rattle.time_grid.proofs.OnePlan.{starts-permutation}
 use Rattle.time_grid.proofs.Reordered.{Feasible-permutation, profit-permutation}
 use Rattle.proof_log.proofs.SaidOfOthers.{Stands}
-use Rattle.plant_check.specs.Claims.{plan_of_values}
+use Rattle.row_set.specs.Parts.{plan_of_values}
 
 -- what the plan of a lawful point is
 pub record IsLawfulPlan (plant : Plant) (program : Program) (point : List ℕ) : Type 0 where

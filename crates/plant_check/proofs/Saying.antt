@@ -15,7 +15,8 @@ use Rattle.log_check.specs.declared.verdict.LogVerdict.{LogVerdict}
 use Rattle.log_check.specs.declared.verdict.LogVerdict.TheVariants.{Yes, No}
 use Rattle.log_check.specs.Meaning.{Holds}
 use Rattle.log_check.specs.Verdict.{IsVerdict, YesHolds}
-use Rattle.plant_check.specs.Claims.{plan_of_values, Says, YesSays, IsOfPlant, IsChecked}
+use Rattle.row_set.specs.Parts.{plan_of_values}
+use Rattle.plant_check.specs.Claims.{Says, YesSays, IsOfPlant, IsChecked}
 use Rattle.plant_check.proofs.Points.{lawful-plan, feasible-lawful, feasible-point}
 
 -- a claim that holds of all points holds of all plans

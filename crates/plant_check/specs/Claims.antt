@@ -5,18 +5,14 @@ use Rattle.stn_model.specs.declared.start.Start.{Start}
 use Rattle.stn_model.specs.Feasible.{Feasible}
 use Rattle.stn_model.specs.Profit.{profit}
 use Rattle.time_grid.specs.Slots.{slots}
-use Rattle.time_grid.specs.PlanPoint.{point_starts}
 use Rattle.row_kit.specs.declared.program.Program.{Program}
 use Rattle.row_kit.specs.Point.{IsLawful, worth_of}
+use Rattle.row_set.specs.Parts.{plan_of_values}
 use Rattle.row_set.specs.PlantProgram.{IsMadeOf}
 use Rattle.proof_log.specs.declared.claim.Claim.{Claim}
 use Rattle.proof_log.specs.ClaimSays.{ClaimSays}
 use Rattle.log_check.specs.declared.verdict.LogVerdict.{LogVerdict}
 use Rattle.log_check.specs.Verdict.{IsVerdict, IfYes}
-
--- the plan of a group of values: a start in each slot whose value is not 0
-unfoldable pub plan_of_values : Plant → List ℕ → List Start
-plan_of_values plant point = point_starts plant (slots plant) point
 
 -- what a claim says of all plans of the plant, where `optimal` says that its plan is feasible, has this profit, and is best
 abbrev pub Says : Plant → Claim → Type 0

@@ -8,7 +8,7 @@ use Rattle.stn_model.specs.Feasible.{Feasible}
 use Rattle.stn_model.specs.Profit.{profit}
 use Rattle.stn_model.specs.Best.{Best, NoPlan}
 use Rattle.stn_model.specs.Points.{points, boxes}
-use Rattle.stn_model.specs.Answers.{IsAnswer, IsOutcome}
+use Rattle.stn_model.specs.Answers.{IsAnswerOf, IsOutcome}
 use Rattle.stn_model.specs.Sound.{Sound}
 use Rattle.time_grid.specs.Slots.{slots, slot_choices}
 use Rattle.time_grid.specs.PlanPoint.{point_starts}
@@ -56,7 +56,7 @@ module _ (plant : Plant) (sound : Sound plant) where
   -- where all points were listed, the best of them is a best plan
   best-of_all : (lead : Found) → Leads plant (points plant) lead → Best plant lead.plan
   best-of_all lead leads = record {
-    feasible = leads.feasible;
+    admitted = leads.feasible;
     best = λ other is.
         let at = number-of-feasible plant other sound is in
         let same = profit-permutation plant other (plan_numbered plant at.number) at.same in
@@ -68,7 +68,7 @@ module _ (plant : Plant) (sound : Sound plant) where
   -- a plan that earns as much as the cap is a best one
   best-of_cap : (count : ℕ) (lead : Found) → Leads plant count lead → listing_cap plant ≤ℤ lead.profit → Best plant lead.plan
   best-of_cap count lead leads reaches = record {
-    feasible = leads.feasible;
+    admitted = leads.feasible;
     best = λ other is. let most = capped plant other sound is in let earned = leads.profit_is in omega (arith, ints, most, earned, reaches);
   }
 
@@ -82,7 +82,7 @@ module _ (plant : Plant) (sound : Sound plant) where
 
   module _ (budget count : ℕ) (counted : count ≡ min (points plant) (budget + 1)) where
     answer-none : (used : ℕ) → 0 < used → used ≡ min count budget → IsLead plant used None →
-        IsAnswer plant budget used (listing_answer (listing_cap plant) (leb count budget) None)
+        IsAnswerOf plant (Feasible plant) [] (boxes plant) budget used (listing_answer (listing_cap plant) (leb count budget) None)
     unfolding boxes
     answer-none used some e none =
         elim (cases_Bool (leb count budget)) [
@@ -99,7 +99,7 @@ module _ (plant : Plant) (sound : Sound plant) where
         ]
 
     answer-some : (used : ℕ) (lead : Found) → 0 < used → Reaches (listing_cap plant) (Some lead) ⊎ (used ≡ min count budget) → Leads plant used lead →
-        IsAnswer plant budget used (listing_answer (listing_cap plant) (leb count budget) (Some lead))
+        IsAnswerOf plant (Feasible plant) [] (boxes plant) budget used (listing_answer (listing_cap plant) (leb count budget) (Some lead))
     unfolding boxes
     answer-some used lead some ends leads =
         elim (cases_Bool (leb count budget || int_le (listing_cap plant) lead.profit)) [
@@ -112,7 +112,7 @@ module _ (plant : Plant) (sound : Sound plant) where
               rw t (record {
                 exactly = omega arith;
                 fewer = omega arith;
-                found = record { feasible = leads.feasible; profit_is = leads.profit_is; below = below };
+                found = record { admitted = leads.feasible; profit_is = leads.profit_is; below = below };
                 floor = λ is. empty-below used lead some leads is;
                 capped = λ other is. capped plant other sound is;
               })
@@ -134,7 +134,7 @@ module _ (plant : Plant) (sound : Sound plant) where
             ]
 
     answers : (found : Option Found) (used : ℕ) → 0 < used → Reaches (listing_cap plant) found ⊎ (used ≡ min count budget) → IsLead plant used found →
-        IsAnswer plant budget used (listing_answer (listing_cap plant) (leb count budget) found)
+        IsAnswerOf plant (Feasible plant) [] (boxes plant) budget used (listing_answer (listing_cap plant) (leb count budget) found)
     answers None used some ends lead = elim ends [ inl r ↦ absurd r | inr e ↦ answer-none used some e lead ]
     answers (Some found) used some ends lead = answer-some used found some ends lead
 

@@ -13,7 +13,7 @@ use Rattle.proof_tree.specs.Views.{View}
 use Rattle.proof_tree.specs.Walk.{Opened, may_come, close, close_split, taken, step}
 use Rattle.row_relax.specs.declared.pick.RowPick.{RowPick}
 use Rattle.dual_bound.specs.declared.cert.Mult.{Mult}
-use Rattle.proof_log.specs.Log.{RowItem}
+use Rattle.row_relax.specs.RowProofs.{RowItem}
 use Rattle.log_lines.specs.declared.line.Line.{Line}
 use Rattle.log_lines.specs.declared.line.Line.TheVariants.{Header, Node as NodeLine, Cut as CutLine, Found as FoundLine, Value as ValueLine, Empty as EmptyLine, Point as PointLine, Dual as DualLine, Pending as PendingLine, Split as SplitLine, Mult as MultLine, ClaimOptimal, ClaimInfeasible, ClaimBetween, ClaimBelow, End as EndLine}
 use Rattle.log_lines.specs.declared.grammar.Limits.{Limits}

@@ -30,7 +30,8 @@ use Rattle.proof_log.specs.Agree.{IsBody}
 use Rattle.proof_log.specs.CleanTexts.{IsTextOfLog, CleanTextsAreLogs}
 use Rattle.proof_log.specs.Gathered.{HasGathered, LineComes}
 use Rattle.proof_log.specs.Gathering.{followed}
-use Rattle.proof_log.specs.Log.{RowItem, RowTree, lines_text, log_lines}
+use Rattle.row_relax.specs.RowProofs.{RowItem, RowTree}
+use Rattle.proof_log.specs.Log.{lines_text, log_lines}
 use Rattle.proof_log.specs.LogReading.{IsClean}
 use Rattle.proof_log.specs.OneText.{IsOver}
 use Rattle.proof_log.proofs.Gathers.{BodyComes, made_more, made_item, made_claim, made_edge}

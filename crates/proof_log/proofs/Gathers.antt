@@ -36,7 +36,8 @@ use Rattle.proof_log.specs.declared.group.Grown.TheVariants.{More, Whole}
 use Rattle.proof_log.specs.Agree.{GroupAgrees, ClaimAgrees, FormAgrees, IsBody}
 use Rattle.proof_log.specs.Gathered.{lines_at, IsFresh, HasGathered, LineComes, HasMade}
 use Rattle.proof_log.specs.Gathering.{group_lines, piece_lines, IsPieceOver, followed, MayFollow, HasLines}
-use Rattle.proof_log.specs.Log.{RowItem, item_lines, claim_lines, line_after}
+use Rattle.row_relax.specs.RowProofs.{RowItem}
+use Rattle.proof_log.specs.Log.{item_lines, claim_lines, line_after}
 use Rattle.proof_log.specs.OneText.{IsOver}
 use Rattle.proof_log.proofs.Agreeing.{IsMiddle, ItemAt, ClaimAt, StandsAt, StaysAt, item_step, GrownAgrees, line_follows, taken_agrees}
 use Rattle.proof_log.proofs.Groups.{followed-lines}

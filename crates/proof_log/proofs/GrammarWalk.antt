@@ -26,7 +26,8 @@ use Rattle.log_lines.specs.declared.step.Step.TheVariants.{Begins, At, Opens, En
 use Rattle.log_lines.specs.Grammar.{values_step, mults_step, follows, step_of, Standing, after_part, part_place, after_step, first_kind, next, over, line_defect}
 use Rattle.proof_log.specs.declared.claim.Claim.{Claim}
 use Rattle.proof_log.specs.declared.claim.Claim.TheVariants.{Optimal, Infeasible, Between, Below}
-use Rattle.proof_log.specs.Log.{RowItem, RowTree, started, value_lines, mult_line, item_lines, tree_lines, claim_lines, log_lines}
+use Rattle.row_relax.specs.RowProofs.{RowItem, RowTree}
+use Rattle.proof_log.specs.Log.{started, value_lines, mult_line, item_lines, tree_lines, claim_lines, log_lines}
 use Rattle.proof_log.specs.Accepted.{unless, leads, IsFitItem, IsFitClaim, LogsAreAccepted}
 
 -- all of two lists

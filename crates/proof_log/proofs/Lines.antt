@@ -7,7 +7,8 @@ use Rattle.log_lines.specs.declared.line.Line.{Line}
 use Rattle.log_lines.specs.declared.line.Line.TheVariants.{Header, End}
 use Rattle.log_lines.specs.Line.{line_text}
 use Rattle.proof_log.specs.declared.claim.Claim.{Claim}
-use Rattle.proof_log.specs.Log.{RowItem, item_lines, claim_lines, lines_text, log_lines, log_text, value_line, value_lines}
+use Rattle.row_relax.specs.RowProofs.{RowItem}
+use Rattle.proof_log.specs.Log.{item_lines, claim_lines, lines_text, log_lines, log_text, value_line, value_lines}
 
 -- the text of some lines and then of others
 pub lines_text-append : (a b : List Line) → lines_text (a ++ b) ≡ lines_text a ++ lines_text b

@@ -19,7 +19,8 @@ use Rattle.log_lines.proofs.LineBytes.{HasNoFeed-line_text}
 use Rattle.log_lines.proofs.SaidLines.{one_line}
 use Rattle.proof_log.specs.declared.claim.Claim.{Claim}
 use Rattle.proof_log.specs.declared.claim.Claim.TheVariants.{Optimal, Infeasible, Between, Below}
-use Rattle.proof_log.specs.Log.{RowItem, RowTree, started, value_lines, mult_line, item_lines, claim_lines, log_lines, lines_text, log_text}
+use Rattle.row_relax.specs.RowProofs.{RowItem, RowTree}
+use Rattle.proof_log.specs.Log.{started, value_lines, mult_line, item_lines, claim_lines, log_lines, lines_text, log_text}
 use Rattle.proof_log.specs.OneText.{IsOver, IsClaimOver, IsLogOver, LogsHaveOneText}
 use Rattle.proof_log.proofs.GrammarWalk.{started-zero, started-more, value_lines-zero, value_lines-more}
 use Rattle.proof_tree.proofs.OneTree.{tree_same}

@@ -25,7 +25,8 @@ use Rattle.proof_log.specs.declared.log_reader.LogPart.{LogPart}
 use Rattle.proof_log.specs.declared.log_reader.LogPart.TheVariants.{Item as ItemPart, Claim as ClaimPart, End as EndPart, Bad as BadPart}
 use Rattle.proof_log.specs.Agree.{ClaimAgrees, FormAgrees, PlaceExpects}
 use Rattle.proof_log.specs.Gathered.{HasGathered, IsThere, lines_at}
-use Rattle.proof_log.specs.Log.{RowItem, lines_text, log_lines, log_text}
+use Rattle.row_relax.specs.RowProofs.{RowItem}
+use Rattle.proof_log.specs.Log.{lines_text, log_lines, log_text}
 use Rattle.proof_log.specs.LogReading.{HasRead, IsReadTo, IsLeft, IsClean, IsPartAfter}
 use Rattle.proof_log.specs.OneText.{IsOver, IsClaimOver}
 use Rattle.proof_log.specs.Step.{IsStepped, HasStepped}

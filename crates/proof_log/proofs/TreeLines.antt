@@ -12,7 +12,8 @@ use Rattle.row_relax.specs.declared.RowPick.{RowPick}
 use Rattle.log_lines.specs.declared.line.Line.{Line}
 use Rattle.log_lines.specs.declared.line.Line.TheVariants.{Node as NodeLine}
 use Rattle.log_lines.specs.Line.{line_text}
-use Rattle.proof_log.specs.Log.{RowItem, item_lines, lines_text, tree_lines, end_lines}
+use Rattle.row_relax.specs.RowProofs.{RowItem}
+use Rattle.proof_log.specs.Log.{item_lines, lines_text, tree_lines, end_lines}
 use Rattle.proof_log.proofs.Lines.{lines_text-one, text_more}
 
 -- the lines of cuts and of a found point

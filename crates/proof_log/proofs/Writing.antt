@@ -9,7 +9,8 @@ use Rattle.stn_edge.proofs.FileLemmas.{file_of-cleared, file_of-appended, get-ap
 use Rattle.log_lines.specs.declared.line.Line.{Line}
 use Rattle.log_lines.specs.declared.line.Line.TheVariants.{Header, End}
 use Rattle.proof_log.specs.declared.claim.Claim.{Claim}
-use Rattle.proof_log.specs.Log.{RowItem, item_lines, claim_lines, lines_text, log_text}
+use Rattle.row_relax.specs.RowProofs.{RowItem}
+use Rattle.proof_log.specs.Log.{item_lines, claim_lines, lines_text, log_text}
 use Rattle.proof_log.specs.Writer.{Writing, whole, IsWhole, Keeps, Took, Broke}
 use Rattle.proof_log.proofs.Lines.{lines_text-append, log_text-parts}
 

@@ -14,7 +14,8 @@ use Rattle.log_lines.specs.declared.grammar.Limits.{Limits}
 use Rattle.log_lines.specs.Line.{IsLine, IsShort}
 use Rattle.proof_log.specs.declared.claim.Claim.{Claim}
 use Rattle.proof_log.specs.declared.claim.Claim.TheVariants.{Optimal, Infeasible, Between, Below}
-use Rattle.proof_log.specs.Log.{RowItem, started, value_lines, mult_line, item_lines, claim_lines, log_lines}
+use Rattle.row_relax.specs.RowProofs.{RowItem}
+use Rattle.proof_log.specs.Log.{started, value_lines, mult_line, item_lines, claim_lines, log_lines}
 use Rattle.proof_log.specs.Accepted.{IsFitItem, IsFitClaim, AreBytes, IsShortItem, IsShortClaim, LogsMayBeWritten}
 use Rattle.proof_log.proofs.GrammarWalk.{value_lines-zero, value_lines-more}
 use Rattle.std.proofs.lemmas.List.Sums.{count_by-le-length}

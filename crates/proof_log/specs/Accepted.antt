@@ -12,7 +12,8 @@ use Rattle.log_lines.specs.Line.{IsLine, IsShort}
 use Rattle.log_lines.specs.TextDefect.{log_text_defect}
 use Rattle.proof_log.specs.declared.claim.Claim.{Claim}
 use Rattle.proof_log.specs.declared.claim.Claim.TheVariants.{Optimal, Infeasible, Between, Below}
-use Rattle.proof_log.specs.Log.{RowItem, RowTree, log_lines, log_text}
+use Rattle.row_relax.specs.RowProofs.{RowItem, RowTree}
+use Rattle.proof_log.specs.Log.{log_lines, log_text}
 
 -- what is there, unless there is a defect
 abbrev pub unless : Option ℕ → Option Standing → Option Standing

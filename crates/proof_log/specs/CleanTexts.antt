@@ -7,7 +7,8 @@ use Rattle.log_lines.specs.Grammar.{new_standing}
 use Rattle.log_lines.specs.TextDefect.{log_text_defect}
 use Rattle.proof_log.specs.declared.claim.Claim.{Claim}
 use Rattle.proof_log.specs.Accepted.{leads}
-use Rattle.proof_log.specs.Log.{RowTree, log_lines, log_text}
+use Rattle.row_relax.specs.RowProofs.{RowTree}
+use Rattle.proof_log.specs.Log.{log_lines, log_text}
 use Rattle.proof_log.specs.OneText.{IsLogOver}
 
 -- the bytes are the text of a log: its points have a value for each slot, its lines may be written, and the grammar takes them under

@@ -17,7 +17,8 @@ use Rattle.proof_log.specs.declared.gatherer.Gathered.{Gathered}
 use Rattle.proof_log.specs.declared.gatherer.Gathered.TheVariants.{On, Bad, Item as ItemGathered, Claim as ClaimGathered}
 use Rattle.proof_log.specs.Agree.{GroupAgrees, ClaimAgrees, FormAgrees}
 use Rattle.proof_log.specs.Gathering.{group_lines}
-use Rattle.proof_log.specs.Log.{RowItem, item_lines, claim_lines, line_after}
+use Rattle.row_relax.specs.RowProofs.{RowItem}
+use Rattle.proof_log.specs.Log.{item_lines, claim_lines, line_after}
 use Rattle.proof_log.specs.OneText.{IsOver, IsClaimOver}
 
 -- the end line, where it has come

@@ -18,14 +18,7 @@ use Rattle.log_lines.specs.declared.line.Line.TheVariants.{Header, Node as NodeL
 use Rattle.log_lines.specs.Line.{line_text}
 use Rattle.proof_log.specs.declared.claim.Claim.{Claim}
 use Rattle.proof_log.specs.declared.claim.Claim.TheVariants.{Optimal, Infeasible, Between, Below}
-
--- an item of a proof over rows
-abbrev pub RowItem : Type 0
-RowItem = Item Rows Area RowCut Cert RowPick Found
-
--- a proof over rows, as a tree
-abbrev pub RowTree : Type 0
-RowTree = Tree RowCut Cert RowPick Found
+use Rattle.row_relax.specs.RowProofs.{RowItem, RowTree}
 
 -- how many slots of a point have a start: their value is not 0
 abbrev pub started : List ℕ → ℕ

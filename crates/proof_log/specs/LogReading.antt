@@ -17,7 +17,8 @@ use Rattle.proof_log.specs.declared.log_reader.LogReader.{LogReader}
 use Rattle.proof_log.specs.declared.log_reader.LogPart.{LogPart}
 use Rattle.proof_log.specs.declared.log_reader.LogPart.TheVariants.{Item as ItemPart, Claim as ClaimPart, End as EndPart, Bad as BadPart}
 use Rattle.proof_log.specs.Gathered.{HasGathered, IsThere}
-use Rattle.proof_log.specs.Log.{RowItem, log_lines, log_text, line_after, lines_text}
+use Rattle.row_relax.specs.RowProofs.{RowItem}
+use Rattle.proof_log.specs.Log.{log_lines, log_text, line_after, lines_text}
 use Rattle.proof_log.specs.OneText.{IsOver, IsClaimOver, IsLogOver}
 use Rattle.proof_log.specs.Text.{rest_defect}
 

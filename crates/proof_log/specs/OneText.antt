@@ -6,7 +6,8 @@ use Rattle.proof_tree.specs.Items.{tree_items}
 use Rattle.log_lines.specs.Line.{IsLine}
 use Rattle.proof_log.specs.declared.claim.Claim.{Claim}
 use Rattle.proof_log.specs.declared.claim.Claim.TheVariants.{Optimal, Infeasible, Between, Below}
-use Rattle.proof_log.specs.Log.{RowItem, RowTree, log_lines, log_text}
+use Rattle.row_relax.specs.RowProofs.{RowItem, RowTree}
+use Rattle.proof_log.specs.Log.{log_lines, log_text}
 
 -- the point of an item has a value for each of this many slots
 abbrev pub IsOver : ℕ → RowItem → Type 0

@@ -6,7 +6,7 @@ use Rattle.log_lines.specs.declared.grammar.Limits.{Limits}
 use Rattle.proof_log.specs.declared.log_reader.LogReader.{LogReader}
 use Rattle.proof_log.specs.declared.read.Reached.{Reached}
 use Rattle.proof_log.specs.declared.read.Reached.TheVariants.{Part, Log as LogReached}
-use Rattle.proof_log.specs.Log.{RowItem}
+use Rattle.row_relax.specs.RowProofs.{RowItem}
 use Rattle.proof_log.specs.LogReading.{HasRead, IsRead}
 
 -- what a reader has read was built of its items, with its claim; or the whole log was read

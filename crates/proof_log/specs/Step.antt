@@ -15,7 +15,7 @@ use Rattle.proof_log.specs.declared.gatherer.Gathered.TheVariants.{On, Item as I
 use Rattle.proof_log.specs.declared.log_reader.LogPart.{LogPart}
 use Rattle.proof_log.specs.declared.log_reader.LogPart.TheVariants.{Item as ItemPart, Claim as ClaimPart, End as EndPart, Bad as BadPart}
 use Rattle.proof_log.specs.Gathered.{HasGathered, HasMade}
-use Rattle.proof_log.specs.Log.{RowItem}
+use Rattle.row_relax.specs.RowProofs.{RowItem}
 use Rattle.proof_log.specs.Text.{rest_defect, EndsAs}
 
 -- the bytes of a line as a reader gives them

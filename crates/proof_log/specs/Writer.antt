@@ -1,10 +1,9 @@
 -- What a writer of a log holds back and what it has written.
-use Rattle.std.specs.Prelude.{◌≡◌, ◌≢◌, ℕ, Bool, List, [], ◌++◌, Option, None, Some, IfSome, flat_map, string_bytes, refl}
+use Rattle.std.specs.Prelude.{◌≡◌, ℕ, Bool, List, [], ◌++◌, Option, None, Some, IfSome, flat_map, string_bytes, refl}
 use Rattle.std.proofs.Common.{sym, ap}
 use Rattle.std.proofs.lemmas.List.{append-nil}
 use Rattle.std.specs.Option.{option_map}
-use Rattle.std.specs.FinMap.{get}
-use Rattle.stn_edge.specs.Files.{FileMap, file_of}
+use Rattle.stn_edge.specs.Files.{FileMap, OthersStay, file_of}
 use Rattle.proof_log.specs.Log.{item_lines, lines_text}
 use Rattle.proof_log.specs.declared.writer.LogWriter.{LogWriter}
 
@@ -44,7 +43,7 @@ IsWhole at text = IfSome (whole at) (λ all. all ≡ text)
 -- the name of the file, all other files, the count of read faults and the names that may be read and written stay
 pub record Keeps (old new : Writing) : Type 0 where
   pub name : new.name ≡ old.name
-  pub others : (other : List ℕ) → other ≢ old.name → option_map (λ files. get files other) new.files ≡ option_map (λ files. get files other) old.files
+  pub others : OthersStay old.name old.files new.files
   pub reads : new.reads ≡ old.reads
   pub may_read : new.may_read ≡ old.may_read
   pub may_write : new.may_write ≡ old.may_write

@@ -2,7 +2,8 @@
 
 ghost use Rattle.std.specs.Prelude.{◌≡◌, ℕ, ◌++◌, ◌∷◌, [], List, flat_map, OnOk, OnErr};
 ghost use Rattle.log_lines.specs.declared.line.Line.{Line};
-ghost use Rattle.proof_log.specs.Log.{RowItem, item_lines, claim_lines, lines_text, log_text, started, value_lines};
+ghost use Rattle.row_relax.specs.RowProofs.{RowItem};
+ghost use Rattle.proof_log.specs.Log.{item_lines, claim_lines, lines_text, log_text, started, value_lines};
 
 use crate::claim::Claim;
 use crate::parts::{put_values, started};

@@ -7,7 +7,7 @@ ghost use Rattle.proof_log.specs.Agree.{IsBody};
 ghost use Rattle.proof_log.specs.declared.group.Group.TheVariants as Group;
 ghost use Rattle.proof_log.specs.Gathered.{HasGathered, HasMade, IsGood, LineComes, MovesAs};
 ghost use Rattle.proof_log.specs.Gathering.{followed, MayFollow};
-ghost use Rattle.proof_log.specs.Log.{RowItem};
+ghost use Rattle.row_relax.specs.RowProofs.{RowItem};
 
 use crate::claim::Claim;
 use crate::gathering::follow;

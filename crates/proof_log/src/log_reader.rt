@@ -6,7 +6,7 @@ ghost use Rattle.log_lines.specs.declared.line.Line.{Line};
 ghost use Rattle.log_lines.specs.declared.grammar.Place.TheVariants.{Done};
 ghost use Rattle.log_lines.specs.declared.reader.LineEnd.TheVariants.{Whole};
 ghost use Rattle.proof_log.specs.Gathered.{HasGathered};
-ghost use Rattle.proof_log.specs.Log.{RowItem};
+ghost use Rattle.row_relax.specs.RowProofs.{RowItem};
 ghost use Rattle.proof_log.specs.LogReading.{HasRead, IsPartAfter};
 ghost use Rattle.proof_log.specs.Step.{IsPartOf, IsStepped, HasStepped};
 

@@ -7,7 +7,7 @@ ghost use Rattle.proof_tree.specs.Items.{tree_items};
 ghost use Rattle.proof_tree.specs.Tree.{tree_of};
 ghost use Rattle.log_lines.specs.TextDefect.{log_text_defect};
 ghost use Rattle.proof_log.specs.declared.read.LogStop.TheVariants.{Memory as StopMemory};
-ghost use Rattle.proof_log.specs.Log.{RowItem};
+ghost use Rattle.row_relax.specs.RowProofs.{RowItem};
 ghost use Rattle.proof_log.specs.LogReading.{IsPartAfter, IsRead};
 ghost use Rattle.proof_log.specs.Reached.{HasReached};
 

@@ -5,7 +5,8 @@ ghost use Rattle.std.specs.Option.{option_map};
 ghost use Rattle.stn_edge.specs.Count.{Rose};
 ghost use Rattle.stn_edge.specs.Files.{file_of, cleared, MayClear};
 ghost use Rattle.log_lines.specs.declared.line.Line.{Line};
-ghost use Rattle.proof_log.specs.Log.{RowItem, item_lines, claim_lines, lines_text, log_text};
+ghost use Rattle.row_relax.specs.RowProofs.{RowItem};
+ghost use Rattle.proof_log.specs.Log.{item_lines, claim_lines, lines_text, log_text};
 ghost use Rattle.proof_log.specs.Writer.{writing, written, IsWhole, Took, Broke, took-none};
 
 use crate::claim::Claim;

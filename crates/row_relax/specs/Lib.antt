@@ -1,3 +1,4 @@
+pub mod RowProofs
 pub mod Settle
 pub mod Steps
 pub mod View

@@ -1,2 +1,3 @@
-pub mod ProfitParts
+pub mod Parts
 pub mod PlantProgram
+pub mod ProfitParts

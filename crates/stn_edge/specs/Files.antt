@@ -1,5 +1,5 @@
 -- Files by name, as contracts see them, and what the calls of a shelf do to them.
-use Rattle.std.specs.Prelude.{◌≡◌, ◌⊎◌, ◌↔◌, ℕ, ◌-◌, ◌<◌, ◌≤◌, List, [], ◌++◌, length, take, drop, Option, unwrap_or}
+use Rattle.std.specs.Prelude.{◌≡◌, ◌≢◌, ◌⊎◌, ◌↔◌, ℕ, ◌-◌, ◌<◌, ◌≤◌, List, [], ◌++◌, length, take, drop, Option, unwrap_or}
 use Rattle.std.specs.Option.{option_map}
 use Rattle.std.specs.Ordering.{nat_cmp}
 use Rattle.std.specs.Cmp.Lexicographic.{slice_cmp}
@@ -20,6 +20,11 @@ cleared name files = insert files name []
 -- the files when these bytes follow those of the file of this name, and every other is as it was
 unfoldable pub appended : List ℕ → List ℕ → FileMap → FileMap
 appended name bytes files = insert files name (file_of files name ++ bytes)
+
+-- every file but the one of this name is as it was
+abbrev pub OthersStay : List ℕ → Option FileMap → Option FileMap → Type 0
+OthersStay name old new =
+    (other : List ℕ) → other ≢ name → option_map (λ files. get files other) new ≡ option_map (λ files. get files other) old
 
 -- the files are as they were, or the file of this name is there and empty
 abbrev pub MayClear : List ℕ → Option FileMap → Option FileMap → Type 0

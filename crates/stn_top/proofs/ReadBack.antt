@@ -17,7 +17,8 @@ use Rattle.stn_model.specs.Sound.{Sound}
 use Rattle.stn_model.specs.Fits.{Fits}
 use Rattle.stn_model.specs.Feasible.{Feasible}
 use Rattle.stn_model.specs.declared.answer.Outcome.{Outcome}
-use Rattle.stn_model.specs.Answers.{IsAnswer, IsOutcome}
+use Rattle.stn_model.specs.Answers.{IsAnswerOf, IsOutcome}
+use Rattle.stn_model.specs.Points.{boxes}
 use Rattle.stn_top.specs.declared.reply.Reply.{Reply}
 use Rattle.stn_top.specs.Solving.{Solved}
 use Rattle.std.specs.Prelude.{Result, Err, IfOk}
@@ -215,16 +216,18 @@ reads-nothing : (plant : Plant) (lines : List (List ℕ)) → Sound plant → Ar
 reads-nothing plant lines sound are = reads-lines plant [] lines sound (omega arith) (λ k d within. absurd (omega arith)) are
 
 -- what the comments and lines of a right answer say
-reads-answer : (plant : Plant) (budget used : ℕ) (answer : Answer) (lines : List (List ℕ)) → Sound plant → IsAnswer plant budget used answer → AreRemarks lines → plan_of_text plant (comment_lines lines ++ plan_lines plant (printed_plan answer)) ≡ Ok (printed_plan answer)
-reads-answer plant budget used (Optimal plan earned) lines sound right are = reads-feasible plant plan lines sound right.0.feasible are
-reads-answer plant budget used Infeasible lines sound right are = reads-nothing plant lines sound are
-reads-answer plant budget used (BudgetSpent None earned bound) lines sound right are = reads-nothing plant lines sound are
-reads-answer plant budget used (BudgetSpent (Some plan) earned bound) lines sound right are = reads-feasible plant plan lines sound right.found.feasible are
+reads-answer : (plant : Plant) (admits : List Start → Type 0) (least : List Start) (count budget used : ℕ) (answer : Answer) (lines : List (List ℕ)) → Sound plant → ((plan : List Start) → admits plan → Feasible plant plan)
+    → IsAnswerOf plant admits least count budget used answer → AreRemarks lines → plan_of_text plant (comment_lines lines ++ plan_lines plant (printed_plan answer)) ≡ Ok (printed_plan answer)
+reads-answer plant admits least count budget used (Optimal plan earned) lines sound some right are = reads-feasible plant plan lines sound (some plan right.0.admitted) are
+reads-answer plant admits least count budget used Infeasible lines sound some right are = reads-nothing plant lines sound are
+reads-answer plant admits least count budget used (BudgetSpent None earned bound) lines sound some right are = reads-nothing plant lines sound are
+reads-answer plant admits least count budget used (BudgetSpent (Some plan) earned bound) lines sound some right are = reads-feasible plant plan lines sound (some plan right.found.admitted) are
 
 -- the text of a right answer says its plan
-pub reads-back : (plant : Plant) (budget used : ℕ) (answer : Answer) → Sound plant → IsAnswer plant budget used answer → IsInMoney answer → used ≤ 100000 → plan_of_text plant (answer_text plant used answer) ≡ Ok (printed_plan answer)
-reads-back plant budget used answer sound right small few =
-    ap (plan_of_text plant) (answer-lines plant used answer) ∙ reads-answer plant budget used answer (remarks answer used) sound right (are_remarks answer used small few)
+pub reads-back : (plant : Plant) (admits : List Start → Type 0) (least : List Start) (count budget used : ℕ) (answer : Answer) → Sound plant → ((plan : List Start) → admits plan → Feasible plant plan)
+    → IsAnswerOf plant admits least count budget used answer → IsInMoney answer → used ≤ 100000 → plan_of_text plant (answer_text plant used answer) ≡ Ok (printed_plan answer)
+reads-back plant admits least count budget used answer sound some right small few =
+    ap (plan_of_text plant) (answer-lines plant used answer) ∙ reads-answer plant admits least count budget used answer (remarks answer used) sound some right (are_remarks answer used small few)
 
 -- an outcome that is right and its text are an answer of `solve`
 pub solved : {E : Type 0} (plant : Plant) (budget : ℕ) (outcome : Outcome) (r : Result Reply E) → Sound plant → budget ≤ 100000 → IsOutcome plant budget outcome
@@ -235,6 +238,6 @@ solved plant budget outcome (Ok reply) sound most right is money = record {
   right = right;
   status_is = is.0;
   text_is = is.1;
-  reads_back = ap (plan_of_text plant) is.1 ∙ reads-back plant budget outcome.boxes outcome.answer sound right.answer money (omega (arith, right.within, most));
+  reads_back = ap (plan_of_text plant) is.1 ∙ reads-back plant (Feasible plant) [] (boxes plant) budget outcome.boxes outcome.answer sound (λ plan is. is) right.answer money (omega (arith, right.within, most));
 }
 solved plant budget outcome (Err e) sound most right is money = tt

@@ -18,7 +18,7 @@ use Rattle.row_relax.specs.declared.pick.RowPick.{RowPick}
 use Rattle.row_relax.specs.Steps.{row_steps}
 use Rattle.row_relax.specs.View.{Fits, domains_of}
 use Rattle.branch_tree.specs.Justified.{RowNode, IsGroup, IsPolished, IsParted, HasCause, IsLeftOpen, found_up_to}
-use Rattle.branch_tree.specs.Searched.{RowItem}
+use Rattle.row_relax.specs.RowProofs.{RowItem}
 
 -- a cap that leaves nothing above these found points: one of them is worth as much, or there is no point
 abbrev pub ClosedBy : Capped → List Found → Type 0

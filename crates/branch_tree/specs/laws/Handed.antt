@@ -16,8 +16,9 @@ use Rattle.proof_tree.specs.Views.{View}
 use Rattle.row_relax.specs.declared.pick.RowPick.{RowPick}
 use Rattle.row_relax.specs.Steps.{row_steps}
 use Rattle.branch_tree.specs.declared.reached.Reached.{Reached}
-use Rattle.branch_tree.specs.Justified.{RowTree, IsGroup}
-use Rattle.branch_tree.specs.Searched.{RowItem, IsBest, IsFitItem}
+use Rattle.row_relax.specs.RowProofs.{RowItem, RowTree}
+use Rattle.branch_tree.specs.Justified.{IsGroup}
+use Rattle.branch_tree.specs.Searched.{IsBest, IsFitItem}
 use Rattle.branch_tree.specs.laws.Ends.{EndDone, ItemEnds, NodeDone}
 
 -- whatever items were taken up to the first state, those and these are taken at the second

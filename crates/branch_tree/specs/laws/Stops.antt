@@ -6,8 +6,8 @@ use Rattle.row_kit.specs.declared.program.Program.{Program}
 use Rattle.range_prop.specs.declared.row_cut.RowCut.{RowCut}
 use Rattle.proof_tree.specs.Items.{tree_items, depth}
 use Rattle.proof_tree.specs.Views.{View}
-use Rattle.branch_tree.specs.Justified.{RowTree}
-use Rattle.branch_tree.specs.Searched.{RowItem, IsFitItem}
+use Rattle.row_relax.specs.RowProofs.{RowItem, RowTree}
+use Rattle.branch_tree.specs.Searched.{IsFitItem}
 use Rattle.branch_tree.specs.laws.Ends.{view_splits}
 use Rattle.branch_tree.specs.laws.Handed.{Grows, Tail, closing, parting, head_items, found_items, tail_items}
 

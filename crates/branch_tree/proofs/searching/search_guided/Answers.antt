@@ -1,6 +1,6 @@
 -- The taker that took all items of a proof has the proof.
 use Rattle.std.proofs.Common.{[], sym, subst}
-use Rattle.branch_tree.specs.Justified.{RowTree}
+use Rattle.row_relax.specs.RowProofs.{RowTree}
 use Rattle.branch_tree.specs.Searched.{IsSearch, ended_of}
 use Rattle.branch_tree.specs.declared.ended.Ended.{Ended}
 use Rattle.branch_tree.proofs.searching.search_guided.Goals as goal

@@ -1,7 +1,7 @@
 -- The items that were read were built, and the claim is the one that was read.
 use Rattle.std.proofs.Common.{◌≡◌, List, Some, codes}
 use Rattle.proof_tree.specs.Built.{IsBuilt}
-use Rattle.proof_log.specs.Log.{RowItem}
+use Rattle.row_relax.specs.RowProofs.{RowItem}
 use Rattle.proof_log.specs.LogReading.{HasRead}
 use Rattle.proof_log.proofs.read.read_parts.Given as goal
 

@@ -2,7 +2,7 @@
 use Rattle.std.proofs.Common.{◌≡◌, ◌≤◌, List, Option}
 use Rattle.log_lines.specs.declared.grammar.Limits.{Limits}
 use Rattle.proof_log.specs.declared.claim.Claim.{Claim}
-use Rattle.proof_log.specs.Log.{RowItem}
+use Rattle.row_relax.specs.RowProofs.{RowItem}
 use Rattle.proof_log.specs.LogReading.{HasRead}
 use Rattle.proof_log.proofs.log_reader.LogReader.next.Given as goal
 

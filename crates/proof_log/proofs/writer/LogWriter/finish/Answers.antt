@@ -1,7 +1,8 @@
 use Rattle.std.proofs.Common.{◌≡◌, List, [], ◌∷◌, ◌++◌, string_bytes}
 use Rattle.std.proofs.lemmas.Result.{on_err_weaker, on_ok_weaker}
 use Rattle.log_lines.specs.declared.line.Line.TheVariants.{End}
-use Rattle.proof_log.specs.Log.{RowItem, claim_lines, lines_text}
+use Rattle.row_relax.specs.RowProofs.{RowItem}
+use Rattle.proof_log.specs.Log.{claim_lines, lines_text}
 use Rattle.proof_log.specs.Writer.{Took, Broke}
 use Rattle.proof_log.proofs.Writing.{rest_of, at, Took-held, Took-after, Took-renamed, Broke-held, Broke-after, Broke-renamed, OnErr-holds, OnOk-both, log_written}
 use Rattle.proof_log.proofs.writer.LogWriter.finish.Goals as goal

@@ -1,0 +1,13 @@
+//! Plant to answer: branch and bound over the program of a plant, with the proof of its answer.
+//!
+//! It promises a plan that no admitted plan out-earns, or that no plan is admitted, or, where the budget is spent, the best plan
+//! that was found and a cap; and a justified proof of it, whose log is valid.
+#![tactic(auto)]
+
+mod part;
+mod plant;
+mod solved;
+
+pub use part::{plan_rows, solve_rows, solve_rows_to};
+pub use plant::{plan, solve, solve_to};
+pub use solved::Solved;

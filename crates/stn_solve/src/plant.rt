@@ -1,0 +1,59 @@
+//! Planning a plant: the part of its choices is the whole.
+ghost use Rattle.std.specs.Prelude.{◌≡◌, ◌≤◌, ◌⊎◌, None, Err, IsTrue, IfOk, OnErr};
+ghost use Rattle.stn_edge.specs.Count.{Rose};
+ghost use Rattle.stn_edge.specs.Files.{OthersStay};
+ghost use Rattle.stn_model.specs.Sound.{Sound};
+ghost use Rattle.stn_model.specs.Answers.{IsOutcome};
+ghost use Rattle.proof_tree.specs.Tree.{tree_of};
+ghost use Rattle.stn_solve.specs.Proofs.{HasPlantProof, IsLeftOf, IsPlantProof, bytes_in, claim_of};
+
+use crate::solved::Solved;
+use std::alloc::{AllocError, Global};
+use stn_edge::{Shelf, Stop};
+use stn_model::{Outcome, Plant};
+
+/// Plans a plant with at most so many boxes. There is a proof of the outcome, which is not kept.
+pub fn plan(alloc: Global, plant: &Plant, budget: u32) -> Result<Outcome, AllocError>
+    requires sound { Sound plant.now }
+    requires budget { (1 ≤ budget) × (budget ≤ 100000) }
+    ensures outcome { IfOk result (IsOutcome plant.now budget) }
+    ensures proof { IfOk result (HasPlantProof plant.now None) }
+{
+    Err(AllocError)
+}
+
+/// Plans a plant with at most so many boxes, and keeps the proof.
+pub fn solve(alloc: Global, plant: &Plant, budget: u32) -> Result<Solved, AllocError>
+    requires sound { Sound plant.now }
+    requires budget { (1 ≤ budget) × (budget ≤ 100000) }
+    ensures outcome { IfOk result (λ solved. IsOutcome plant.now budget solved.outcome) }
+    ensures proof { IfOk result (λ solved. IsPlantProof plant.now solved.outcome (tree_of solved.tree)) }
+    ensures claim { IfOk result (λ solved. solved.claim ≡ claim_of plant.now solved.outcome.answer) }
+{
+    Err(AllocError)
+}
+
+/// Plans a plant with at most so many boxes, and writes the log of the proof to a file while it searches. After an error the
+/// file is as before, or holds a first part of a log. `Failed` comes only where the store counted a fault of writing.
+pub fn solve_to<F: Shelf>(
+    alloc: Global,
+    plant: &Plant,
+    budget: u32,
+    files: &mut F,
+    name: &str,
+) -> Result<Outcome, Stop>
+    requires sound { Sound plant.now }
+    requires budget { (1 ≤ budget) × (budget ≤ 100000) }
+    requires allowed { IsTrue (F.may_write files.old name.now) }
+    ensures outcome { IfOk result (IsOutcome plant.now budget) }
+    ensures proof { IfOk result (HasPlantProof plant.now (bytes_in name.now (F.files files.new))) }
+    ensures err { OnErr result (IsLeftOf plant.now name.now (F.files files.old) (F.files files.new)) }
+    ensures others { OthersStay name.now (F.files files.old) (F.files files.new) }
+    ensures readable { F.may_read files.new ≡ F.may_read files.old }
+    ensures writable { F.may_write files.new ≡ F.may_write files.old }
+    ensures no_read { F.read_faults files.new ≡ F.read_faults files.old }
+    ensures later { F.write_faults files.old ≤ F.write_faults files.new }
+    ensures failed { result ≡ Err Stop.Failed → Rose (F.write_faults files.old) (F.write_faults files.new) }
+{
+    Err(Stop::Memory)
+}
