@@ -1,6 +1,6 @@
 //! The words of a command.
 ghost use Rattle.std.specs.Prelude.{◌≡◌, ℕ, List, MatchOption};
-ghost use Rattle.stn_top.specs.Words.{Says, HasNoForm, IsBudget, Solving, Simulating, Checking, Upgrading, texts, meaning, use_word};
+ghost use Rattle.stn_top.specs.Words.{Says, HasNoForm, IsBudget, Solving, Logging, Simulating, Checking, Upgrading, texts, meaning, use_word};
 
 use crate::budget::{Budget, MAX_BUDGET};
 use text_words::read_number;
@@ -21,6 +21,12 @@ pub enum Command<'a> {
     Solve {
         plant: &'a str,
         budget: Budget,
+    },
+    /// `solve PLANT BUDGET LOG`: plan, and write the log of the proof.
+    Log {
+        plant: &'a str,
+        budget: Budget,
+        log: &'a str,
     },
     /// `simulate PLANT PLAN` and `report PLANT PLAN`: simulate a plan.
     Simulate {
@@ -47,6 +53,9 @@ pub fn command_of<'a>(words: &[&'a str]) -> Option<Command<'a>>
     if let Some(command) = solve_of(words) {
         return Some(command);
     }
+    if let Some(command) = log_of(words) {
+        return Some(command);
+    }
     if let Some(command) = simulate_of(words, "simulate", PlanUse::Simulate) {
         return Some(command);
     }
@@ -68,6 +77,24 @@ fn solve_of<'a>(words: &[&'a str]) -> Option<Command<'a>>
         [first, plant, budget] if *first == "solve" && !plant.is_empty() => {
             match budget_of(budget) {
                 Some(budget) => Some(Command::Solve { plant, budget }),
+                None => None,
+            }
+        }
+        _ => None,
+    }
+}
+
+fn log_of<'a>(words: &[&'a str]) -> Option<Command<'a>>
+    ensures { MatchOption result ((plant log : List ℕ) (budget : ℕ)
+        → ¬ Says (texts words.now) (Logging plant budget log))
+        (λ command. Says (texts words.now) (meaning command)) }
+{
+    match words {
+        [first, plant, budget, log]
+            if *first == "solve" && !plant.is_empty() && !log.is_empty() && *log != *plant =>
+        {
+            match budget_of(budget) {
+                Some(budget) => Some(Command::Log { plant, budget, log }),
                 None => None,
             }
         }

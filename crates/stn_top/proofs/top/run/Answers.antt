@@ -4,7 +4,7 @@ use Rattle.stn_top.proofs.top.run.Goals as goal
 
 pub returns-in-Some-clause-part : goal.returns-in-Some-clause-part
 returns-in-Some-clause-part g c = λ more.
-    cut_off (texts c.args.words.now) (g.F.Shelf.files c.args.files.now) (meaning c.in-Some.command) (g.K.Sink.written c.args.out.now) (g.K.Sink.written c.answer.new.out)
+    cut_off (texts c.args.words.now) (g.F.Shelf.files c.args.files.now) (g.F.Shelf.files c.answer.new.files) (meaning c.in-Some.command) (g.K.Sink.written c.args.out.now) (g.K.Sink.written c.answer.new.out)
     c.in-Some.ensures (c.answer.ensures.part more)
 
 pub returns-in-None-clause-part : goal.returns-in-None-clause-part
