@@ -13,6 +13,8 @@ mod checks;
 #[cfg(test)]
 mod cuts;
 #[cfg(test)]
+mod demos;
+#[cfg(test)]
 mod edges;
 #[cfg(test)]
 mod fractions;
@@ -20,6 +22,8 @@ mod fractions;
 mod lines;
 #[cfg(test)]
 mod logs;
+#[cfg(test)]
+mod logs_written;
 #[cfg(test)]
 mod made_plants;
 #[cfg(test)]

@@ -13,7 +13,7 @@ use Rattle.stn_top.specs.declared.reply.Reply.{Reply}
 use Rattle.stn_top.specs.declared.stopped.Stopped.{Stopped}
 use Rattle.stn_top.specs.declared.stopped.Stopped.TheVariants.{Refused, ReadFault, WriteFault, Memory}
 use Rattle.stn_top.specs.declared.command.PlanUse.{PlanUse}
-use Rattle.stn_top.specs.Words.{Request, Solving, Logging, Simulating, Checking, Upgrading, Says, HasNoForm}
+use Rattle.stn_top.specs.Words.{Request, Solving, Logging, Simulating, Checking, Upgrading, Showing, Says, HasNoForm}
 use Rattle.plant_text.specs.declared.fault.PlantFault.{PlantFault}
 use Rattle.stn_model.specs.declared.answer.Answer.{Answer}
 use Rattle.stn_model.specs.declared.answer.Answer.TheVariants.{Optimal, Infeasible, BudgetSpent}
@@ -48,16 +48,17 @@ told_both (Some m) name bytes name2 bytes2 told told2 =
 
 -- ---- refused inputs
 
--- the name of a request's plant file
-abbrev plant_name : Request → List ℕ
-plant_name (Solving plant budget) = plant
-plant_name (Logging plant budget log) = plant
-plant_name (Simulating usage plant plan) = plant
-plant_name (Checking plant log) = plant
-plant_name (Upgrading plant) = plant
+-- the reply is the refusal of a request's plant file; a request without one has none
+abbrev RefusesPlant : Option FileMap → Request → Reply → Type 0
+RefusesPlant files (Solving plant budget) reply = Refuses reading IsPlantRefusal files plant reply
+RefusesPlant files (Logging plant budget log) reply = Refuses reading IsPlantRefusal files plant reply
+RefusesPlant files (Simulating usage plant plan) reply = Refuses reading IsPlantRefusal files plant reply
+RefusesPlant files (Checking plant log) reply = Refuses reading IsPlantRefusal files plant reply
+RefusesPlant files (Upgrading plant) reply = Refuses reading IsPlantRefusal files plant reply
+RefusesPlant files (Showing seed) reply = ⊥
 
 -- the refusal of the plant is an answer to every request, where the files are as before
-refused-plant : (old new : Option FileMap) (request : Request) (reply : Reply) → new ≡ old → Refuses reading IsPlantRefusal old (plant_name request) reply
+refused-plant : (old new : Option FileMap) (request : Request) (reply : Reply) → new ≡ old → RefusesPlant old request reply
     → IsAnswer old new request reply.status reply.text.items
 refused-plant old new (Solving plant budget) reply same is = record {
   contents = is.read.bytes ∷ [];
@@ -89,6 +90,7 @@ refused-plant old new (Upgrading plant) reply same is = record {
   answers = rw is.read.is is.refusal;
   kept = λ _. same;
 }
+refused-plant old new (Showing seed) reply same is = absurd is
 
 -- a fact of a refusal's reply from another
 IfRefusal-weaker : (stopped : Stopped) (P Q : Reply → Type 0) → ((reply : Reply) → P reply → Q reply) → IfRefusal stopped P → IfRefusal stopped Q
@@ -98,10 +100,10 @@ IfRefusal-weaker WriteFault P Q step is = tt
 IfRefusal-weaker Memory P Q step is = tt
 
 -- the plant was refused
-pub plant_refused : (old new : Option FileMap) (request : Request) (stopped : Stopped) → new ≡ old → IfRefusal stopped (Refuses reading IsPlantRefusal old (plant_name request))
+pub plant_refused : (old new : Option FileMap) (request : Request) (stopped : Stopped) → new ≡ old → IfRefusal stopped (RefusesPlant old request)
     → IfRefusal stopped (λ reply. IsAnswer old new request reply.status reply.text.items)
 plant_refused old new request stopped same is =
-    IfRefusal-weaker stopped (Refuses reading IsPlantRefusal old (plant_name request)) (λ reply. IsAnswer old new request reply.status reply.text.items) (refused-plant old new request same) is
+    IfRefusal-weaker stopped (RefusesPlant old request) (λ reply. IsAnswer old new request reply.status reply.text.items) (refused-plant old new request same) is
 
 -- the refusal of the plan is an answer to a request that reads a plan
 refused-plan : (old new : Option FileMap) (usage : PlanUse) (plant plan : List ℕ) (p : Plant) → new ≡ old → IsReadOf reading old plant (Ok p) → (reply : Reply) → Refuses (plan_of_text p) IsPlanRefusal old plan reply

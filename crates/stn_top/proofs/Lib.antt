@@ -4,3 +4,4 @@ pub mod Named
 pub mod ReadFiles
 pub mod AnswerLemmas
 pub mod ReadBack
+pub mod DemoLemmas

@@ -6,7 +6,7 @@ use Rattle.std.proofs.Common.{◌≡◌, true, false, ◌∙◌, ap, ℕ, ◌<�
 use Rattle.std.specs.Prelude.{Option, Some, None, MatchOption}
 use Rattle.stn_top.specs.declared.command.Command.{Command}
 use Rattle.stn_top.specs.declared.command.PlanUse.TheVariants.{Simulate, Report}
-use Rattle.stn_top.specs.Words.{texts, Request, Says, HasNoForm, Solving, Logging, Simulating, Checking, Upgrading, meaning}
+use Rattle.stn_top.specs.Words.{texts, Request, Says, HasNoForm, Solving, Logging, Simulating, Checking, Upgrading, Showing, meaning}
 
 -- three words are the list of their texts
 pub three_texts : (words : List (Bor (List ℕ))) (d : Bor (List ℕ)) → 3 ≤ length words → length words < 4 → texts words ≡ (get_or words 0 d).now ∷ (get_or words 1 d).now ∷ (get_or words 2 d).now ∷ []
@@ -41,6 +41,10 @@ two_words words d first least most same =
 pub not_empty : (text : List ℕ) → false ≡ (length text == 0) → text ≡ [] → ⊥
 not_empty text some none = (let short = ap length none in grind arith)
 
+-- texts that a test says differ
+pub not_same : (a b : List ℕ) → true ≡ not (pointwise nat_eq a b) → a ≢ b
+not_same a b differ same = ?
+
 -- three words, of which the first is known
 pub three_words : (words : List (Bor (List ℕ))) (d : Bor (List ℕ)) (first : List ℕ) → 3 ≤ length words → length words < 4 → true ≡ pointwise nat_eq (get_or words 0 d).now first → texts words ≡ first ∷ (get_or words 1 d).now ∷ (get_or words 2 d).now ∷ []
 three_words words d first least most same =
@@ -59,16 +63,22 @@ NoFiles words request = (first second : List ℕ) → ¬ Says words (request fir
 abbrev NoPlanning : List (List ℕ) → Type 0
 NoPlanning words = ((plant : List ℕ) (budget : ℕ) → ¬ Says words (Solving plant budget)) × ((plant log : List ℕ) (budget : ℕ) → ¬ Says words (Logging plant budget log))
 
+-- the words say nothing of a plant alone, and no seed
+abbrev NoOther : List (List ℕ) → Type 0
+NoOther words = ((plant : List ℕ) → ¬ Says words (Upgrading plant)) × ((seed : ℕ) → ¬ Says words (Showing seed))
+
 -- words that have none of the forms
-pub has_no_form : (words : List (List ℕ)) → NoPlanning words → NoFiles words (Simulating Simulate) → NoFiles words (Simulating Report) → NoFiles words Checking → ((plant : List ℕ) → ¬ Says words (Upgrading plant)) → HasNoForm words
-has_no_form words solve simulate report check upgrade (Solving plant budget) = solve.0 plant budget
-has_no_form words solve simulate report check upgrade (Logging plant budget log) = solve.1 plant log budget
-has_no_form words solve simulate report check upgrade (Simulating Simulate plant plan) = simulate plant plan
-has_no_form words solve simulate report check upgrade (Simulating Report plant plan) = report plant plan
-has_no_form words solve simulate report check upgrade (Checking plant log) = check plant log
-has_no_form words solve simulate report check upgrade (Upgrading plant) = upgrade plant
+pub has_no_form : (words : List (List ℕ)) → NoPlanning words → NoFiles words (Simulating Simulate) → NoFiles words (Simulating Report) → NoFiles words Checking → NoOther words → HasNoForm words
+has_no_form words solve simulate report check other (Solving plant budget) = solve.0 plant budget
+has_no_form words solve simulate report check other (Logging plant budget log) = solve.1 plant log budget
+has_no_form words solve simulate report check other (Simulating Simulate plant plan) = simulate plant plan
+has_no_form words solve simulate report check other (Simulating Report plant plan) = report plant plan
+has_no_form words solve simulate report check other (Checking plant log) = check plant log
+has_no_form words solve simulate report check other (Upgrading plant) = other.0 plant
+has_no_form words solve simulate report check other (Showing seed) = other.1 seed
 
 -- the last form decides
-pub last_form : (words : List (List ℕ)) (command : Option Command) → NoPlanning words → NoFiles words (Simulating Simulate) → NoFiles words (Simulating Report) → NoFiles words Checking → MatchOption command ((plant : List ℕ) → ¬ Says words (Upgrading plant)) (λ c. Says words (meaning c)) → MatchOption command (HasNoForm words) (λ c. Says words (meaning c))
-last_form words None solve simulate report check upgrade = has_no_form words solve simulate report check upgrade
-last_form words (Some command) solve simulate report check upgrade = upgrade
+pub last_form : (words : List (List ℕ)) (command : Option Command) → NoPlanning words → NoFiles words (Simulating Simulate) → NoFiles words (Simulating Report) → NoFiles words Checking → ((plant : List ℕ) → ¬ Says words (Upgrading plant))
+    → MatchOption command ((seed : ℕ) → ¬ Says words (Showing seed)) (λ c. Says words (meaning c)) → MatchOption command (HasNoForm words) (λ c. Says words (meaning c))
+last_form words None solve simulate report check upgrade show = has_no_form words solve simulate report check (upgrade, show)
+last_form words (Some command) solve simulate report check upgrade show = show

@@ -8,12 +8,13 @@ use Rattle.stn_model.specs.declared.answer.Outcome.{Outcome}
 use Rattle.plant_text.specs.Reading.{reading}
 use Rattle.plan_text.specs.PlanText.{plan_of_text}
 use Rattle.stn_solve.specs.Proofs.{HasPlantProof, IsLeftOf, bytes_in}
-use Rattle.stn_top.specs.Words.{Request, Solving, Logging, Simulating, Checking, Upgrading}
+use Rattle.stn_top.specs.Words.{Request, Solving, Logging, Simulating, Checking, Upgrading, Showing}
 use Rattle.stn_top.specs.Sources.{IsReadOf, OnPlant, OnPlan}
 use Rattle.stn_top.specs.Solving.{Solved}
 use Rattle.stn_top.specs.Simulation.{Simulated}
 use Rattle.stn_top.specs.Checking.{Checked}
 use Rattle.stn_top.specs.Upgrading.{Upgraded}
+use Rattle.stn_top.specs.Demo.{Shown}
 
 -- the names of the files that a request reads, in the order of its words: the plant, then the plan, or the log to check
 abbrev pub read_names : Request → List (List ℕ)
@@ -22,6 +23,7 @@ read_names (Logging plant budget log) = plant ∷ []
 read_names (Simulating usage plant plan) = plant ∷ plan ∷ []
 read_names (Checking plant log) = plant ∷ log ∷ []
 read_names (Upgrading plant) = plant ∷ []
+read_names (Showing seed) = []
 
 -- the names of the files that a request writes: the log of a planning
 abbrev pub written_names : Request → List (List ℕ)
@@ -30,6 +32,7 @@ written_names (Logging plant budget log) = log ∷ []
 written_names (Simulating usage plant plan) = []
 written_names (Checking plant log) = []
 written_names (Upgrading plant) = []
+written_names (Showing seed) = []
 
 -- the files that a request reads may be read
 abbrev pub MayRead : (List ℕ → Bool) → Request → Type 0
@@ -57,6 +60,7 @@ AnswersTo old new contents (Simulating usage plant plan) status text =
     OnPlant (reading (content contents 0)) (λ p. OnPlan (plan_of_text p (content contents 1)) (Simulated usage p)) status text
 AnswersTo old new contents (Checking plant log) status text = OnPlant (reading (content contents 0)) (Checked (bytes_in log old)) status text
 AnswersTo old new contents (Upgrading plant) status text = OnPlant (reading (content contents 0)) Upgraded status text
+AnswersTo old new contents (Showing seed) status text = Shown seed status text
 
 -- The answer to a request, with the files before and after: there are contents of the files that it reads, which are those of
 -- the files before where the store tells them, and it is the answer over these contents. A refusal of the plant leaves every
@@ -80,6 +84,7 @@ IsLeft (Logging plant budget log) old new = (new ≡ old) ⊎ HoldsLog old new p
 IsLeft (Simulating usage plant plan) old new = new ≡ old
 IsLeft (Checking plant log) old new = new ≡ old
 IsLeft (Upgrading plant) old new = new ≡ old
+IsLeft (Showing seed) old new = new ≡ old
 
 -- a request gets to writing a file: it names a log, and its plant was read
 abbrev pub GetsToWriting : Option FileMap → Request → Type 0
@@ -88,3 +93,4 @@ GetsToWriting files (Logging plant budget log) = (p : Plant) × IsReadOf reading
 GetsToWriting files (Simulating usage plant plan) = ⊥
 GetsToWriting files (Checking plant log) = ⊥
 GetsToWriting files (Upgrading plant) = ⊥
+GetsToWriting files (Showing seed) = ⊥

@@ -1,6 +1,6 @@
 //! The words of a command.
 ghost use Rattle.std.specs.Prelude.{◌≡◌, ℕ, List, MatchOption};
-ghost use Rattle.stn_top.specs.Words.{Says, HasNoForm, IsBudget, Solving, Logging, Simulating, Checking, Upgrading, texts, meaning, use_word};
+ghost use Rattle.stn_top.specs.Words.{Says, HasNoForm, IsBudget, IsSeed, Solving, Logging, Simulating, Checking, Upgrading, Showing, texts, meaning, use_word};
 
 use crate::budget::{Budget, MAX_BUDGET};
 use text_words::read_number;
@@ -43,6 +43,10 @@ pub enum Command<'a> {
     Upgrade {
         plant: &'a str,
     },
+    /// `demo SEED`: make a plant of the seed, plan it and check the log.
+    Demo {
+        seed: u32,
+    },
 }
 
 /// The command that the words say, if they have the form of one. It takes no memory.
@@ -65,7 +69,10 @@ pub fn command_of<'a>(words: &[&'a str]) -> Option<Command<'a>>
     if let Some(command) = check_of(words) {
         return Some(command);
     }
-    upgrade_of(words)
+    if let Some(command) = upgrade_of(words) {
+        return Some(command);
+    }
+    demo_of(words)
 }
 
 fn solve_of<'a>(words: &[&'a str]) -> Option<Command<'a>>
@@ -139,6 +146,29 @@ fn upgrade_of<'a>(words: &[&'a str]) -> Option<Command<'a>>
             Some(Command::Upgrade { plant })
         }
         _ => None,
+    }
+}
+
+fn demo_of<'a>(words: &[&'a str]) -> Option<Command<'a>>
+    ensures { MatchOption result ((seed : ℕ) → ¬ Says (texts words.now) (Showing seed))
+        (λ command. Says (texts words.now) (meaning command)) }
+{
+    match words {
+        [first, seed] if *first == "demo" => match seed_of(seed) {
+            Some(seed) => Some(Command::Demo { seed }),
+            None => None,
+        },
+        _ => None,
+    }
+}
+
+fn seed_of(word: &str) -> Option<u32>
+    ensures { MatchOption result ((n : ℕ)
+        → ¬ IsSeed word.now n) (λ seed. IsSeed word.now seed) }
+{
+    match read_number(word.as_bytes(), 1 << 32) {
+        Some(number) => Some(number as u32),
+        None => None,
     }
 }
 

@@ -10,6 +10,7 @@ ghost use Rattle.stn_top.specs.Replies.{IsReply, Answered, IsCutOff, MayReadAll,
 
 use crate::checking::check_file;
 use crate::command::{Command, command_of};
+use crate::demo::show;
 use crate::reply::Reply;
 use crate::simulation::simulate_file;
 use crate::solving::{log_file, solve_file};
@@ -28,6 +29,7 @@ use stn_edge::{Shelf, Sink, Stop};
 /// | `report PLANT PLAN` | simulates the plan, and shows it or says what it breaks first |
 /// | `check PLANT LOG` | checks a proof log, and says its claim or its first defect |
 /// | `upgrade PLANT` | prints the plant as a plant file of version 2 |
+/// | `demo SEED` | makes a plant of the seed, plans it with 500 boxes, and checks the log; no file is touched |
 ///
 /// Statuses: 0 optimal, feasible, reported, upgraded or valid; 1 no plan is feasible, the plan is not, or the log is not valid; 2 the words have no
 /// form; 3 the plant file has a fault; 4 the plan file has one; 6 the budget was spent; 7 a file could not be read; 8 the log could not be written or
@@ -149,5 +151,6 @@ fn reply_to<F: Shelf>(alloc: Global, command: Command, files: &mut F) -> Result<
         Command::Simulate { usage, plant, plan } => simulate_file(alloc, files, usage, plant, plan),
         Command::Check { plant, log } => check_file(alloc, files, plant, log),
         Command::Upgrade { plant } => upgrade_file(alloc, files, plant),
+        Command::Demo { seed } => Ok(show(alloc, seed)?),
     }
 }
