@@ -5,3 +5,4 @@ pub mod ReadFiles
 pub mod AnswerLemmas
 pub mod ReadBack
 pub mod DemoLemmas
+pub mod FileLemmas
