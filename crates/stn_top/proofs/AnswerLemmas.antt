@@ -103,7 +103,7 @@ IfRefusal-weaker Memory P Q step is = tt
 pub plant_refused : (old new : Option FileMap) (request : Request) (stopped : Stopped) → new ≡ old → IfRefusal stopped (RefusesPlant old request)
     → IfRefusal stopped (λ reply. IsAnswer old new request reply.status reply.text.items)
 plant_refused old new request stopped same is =
-    IfRefusal-weaker stopped (RefusesPlant old request) (λ reply. IsAnswer old new request reply.status reply.text.items) (refused-plant old new request same) is
+    IfRefusal-weaker stopped (RefusesPlant old request) (λ reply. IsAnswer old new request reply.status reply.text.items) (λ reply. refused-plant old new request reply same) is
 
 -- the refusal of the plan is an answer to a request that reads a plan
 refused-plan : (old new : Option FileMap) (usage : PlanUse) (plant plan : List ℕ) (p : Plant) → new ≡ old → IsReadOf reading old plant (Ok p) → (reply : Reply) → Refuses (plan_of_text p) IsPlanRefusal old plan reply
@@ -133,11 +133,18 @@ solving_answer old new plant budget p status text same read is = record {
   kept = λ _. same;
 }
 
+-- a status that is none of these
+written : (status : ℕ) → status ≢ 2 → status ≢ 3 → status ≢ 4 → status ≢ 7 → IsUnwritten status → ⊥
+written status two three four seven (inl is) = two is
+written status two three four seven (inr (inl is)) = three is
+written status two three four seven (inr (inr (inl is))) = four is
+written status two three four seven (inr (inr (inr is))) = seven is
+
 -- the status of an answer of planning is that of no refusal
 solved-status : (answer : Answer) (status : ℕ) → status ≡ status_of answer → IsUnwritten status → ⊥
-solved-status (Optimal plan earned) status is none = omega (arith, none)
-solved-status Infeasible status is none = omega (arith, none)
-solved-status (BudgetSpent plan earned cap) status is none = omega (arith, none)
+solved-status (Optimal plan earned) status is none = written status (λ s. omega (arith, is, s)) (λ s. omega (arith, is, s)) (λ s. omega (arith, is, s)) (λ s. omega (arith, is, s)) none
+solved-status Infeasible status is none = written status (λ s. omega (arith, is, s)) (λ s. omega (arith, is, s)) (λ s. omega (arith, is, s)) (λ s. omega (arith, is, s)) none
+solved-status (BudgetSpent plan earned cap) status is none = written status (λ s. omega (arith, is, s)) (λ s. omega (arith, is, s)) (λ s. omega (arith, is, s)) (λ s. omega (arith, is, s)) none
 
 -- of planning with a log
 logging_answer : (old new : Option FileMap) (plant : List ℕ) (budget : ℕ) (log : List ℕ) (p : Plant) (status : ℕ) (text : List ℕ) → IsReadOf reading old plant (Ok p) → Solved budget p (bytes_in log new) status text

@@ -1,5 +1,5 @@
 -- A demonstration: doing nothing is feasible, and a check says yes to the log of an outcome.
-use Rattle.std.proofs.Common.{◌≡◌, ◌≢◌, ℕ, ℤ, pos, zero, suc, ◌+◌, ◌-◌, nat_le, ap₂, ◌<◌, ◌≤◌, true, List, [], ◌∷◌, ◌++◌, map, length, Option, Some, None, Ok, Err, inl, inr, refl, sym, ap, ◌∙◌, subst, arith}
+use Rattle.std.proofs.Common.{◌≡◌, ◌≢◌, ℕ, ℤ, pos, zero, suc, ◌+◌, ◌-◌, nat_le, ap₂, ◌<◌, ◌≤◌, true, List, [], ◌∷◌, ◌++◌, map, length, get_or, Option, Some, None, Ok, Err, inl, inr, refl, sym, ap, ◌∙◌, subst, arith}
 use Rattle.std.specs.Prelude.{◌⊎◌, All, AllPairs, IfSome, Result, slice_get, sum_by, ◌≤ℤ◌}
 use Rattle.std.proofs.lemmas.List.Elements.{All-append, All-cons, All-head, All-tail}
 use Rattle.std.proofs.lemmas.Bool.{le-leb}
@@ -23,6 +23,12 @@ use Rattle.stn_top.specs.Solving.{status_of}
 use Rattle.stn_top.specs.Checking.{checked_text, claim_text}
 use Rattle.stn_top.specs.Demo.{shown_plant, demo_head, demo_text, answer_line, Shown}
 use Rattle.row_kit.specs.declared.program.Program.{Program}
+use Rattle.std.proofs.lemmas.List.Sums.{sum_by-cons}
+use Rattle.row_kit.specs.Domain.{IsNormal, IsOpen}
+use Rattle.row_kit.specs.Bounds.{AreBounded, IsBoundedRow, IsBoundedChange}
+use mathlib.Core.HLevel.{is_prop→PathP}
+use Rattle.std.proofs.Props.{props}
+use Rattle.std.specs.Prelude.{unsigned_abs}
 use Rattle.row_set.specs.PlantProgram.{IsMadeOf, slot_domain}
 use Rattle.branch_tree.specs.Searched.{spared}
 use Rattle.log_check.specs.declared.verdict.LogVerdict.{LogVerdict}
@@ -46,7 +52,11 @@ IsEasy state = (state.limits ≡ []) ⊎ (state.initial ≡ 0)
 
 easy-states : (seed chain : ℕ) → All IsEasy (states_of seed chain)
 unfolding states_of
-easy-states seed chain = All-cons IsEasy _ _ (inl refl) (All-cons IsEasy _ _ (inr refl) (All-cons IsEasy _ [] (inl refl) (λ k d within. absurd (omega arith))))
+easy-states seed chain =
+    let feed = get_or (states_of seed chain) 0 no_state in
+    let between = get_or (states_of seed chain) 1 no_state in
+    let product = get_or (states_of seed chain) 2 no_state in
+    All-cons IsEasy feed (between ∷ product ∷ []) (inl refl) (All-cons IsEasy between (product ∷ []) (inr refl) (All-cons IsEasy product [] (inl refl) (λ k d within. absurd (omega arith))))
 
 easy-made : (seed : ℕ) → All IsEasy (shown_plant seed).states
 unfolding plant_made
@@ -96,7 +106,30 @@ found-status seed budget outcome right = found_answer seed (boxes (shown_plant s
 
 -- the program of a plant is one
 same_program : (plant : Plant) (a b : Program) → IsMadeOf plant a → IsMadeOf plant b → a ≡ b
-same_program plant a b made made2 = cc
+same_program plant a b made made2 =
+    let rows : a.rows ≡ b.rows = made.rows_are ∙ sym made2.rows_are in
+    let profit : a.profit ≡ b.profit = made.profit_is ∙ sym made2.profit_is in
+    let base : a.base ≡ b.base = made.base_is ∙ sym made2.base_is in
+    let root : a.root ≡ b.root = made.root_is ∙ sym made2.root_is in
+    let tags : a.tags ≡ b.tags = made.tags_are ∙ sym made2.tags_are in
+    let changes : a.changes ≡ b.changes = made.changes_are ∙ sym made2.changes_are in
+    λ i. record {
+      rows = rows i;
+      profit = profit i;
+      base = base i;
+      root = root i;
+      tags = tags i;
+      changes = changes i;
+      few_slots = is_prop→PathP (λ j. length (root j) ≤ 512) (λ j. hlevel props) a.few_slots b.few_slots i;
+      root_normal = is_prop→PathP (λ j. All IsNormal (root j)) (λ j. hlevel props) a.root_normal b.root_normal i;
+      root_open = is_prop→PathP (λ j. All IsOpen (root j)) (λ j. hlevel props) a.root_open b.root_open i;
+      few_rows = is_prop→PathP (λ j. length (rows j) ≤ 45904) (λ j. hlevel props) a.few_rows b.few_rows i;
+      rows_bounded = is_prop→PathP (λ j. All (IsBoundedRow (length (root j))) (rows j)) (λ j. hlevel props) a.rows_bounded b.rows_bounded i;
+      profit_bounded = is_prop→PathP (λ j. AreBounded (length (root j)) 2000000000000000 (profit j)) (λ j. hlevel props) a.profit_bounded b.profit_bounded i;
+      base_bounded = is_prop→PathP (λ j. unsigned_abs (base j) ≤ 10000000000000000000000) (λ j. hlevel props) a.base_bounded b.base_bounded i;
+      one_tag = is_prop→PathP (λ j. length (tags j) ≡ length (root j)) (λ j. hlevel props) a.one_tag b.one_tag i;
+      costs_bounded = is_prop→PathP (λ j. All IsBoundedChange (changes j)) (λ j. hlevel props) a.costs_bounded b.costs_bounded i;
+    }
 
 -- each slot may be without a start
 spared-slot : (plant : Plant) (slot : ℕ × ℕ) → Sound plant → IsSlotOf plant slot → spared (slot_domain plant slot) ≡ 0
@@ -110,7 +143,8 @@ spared-slots plant [] sound are = refl
 spared-slots plant (slot ∷ grid) sound are =
     let first = spared-slot plant slot sound (All-head (IsSlotOf plant) slot grid are) in
     let rest = spared-slots plant grid sound (All-tail (IsSlotOf plant) slot grid are) in
-    ap₂ (λ m n. m + n) first rest
+    let both = sum_by-cons spared (slot_domain plant slot) (map (slot_domain plant) grid) in
+    omega (arith, both, first, rest)
 
 -- as many splits may be open over a plant as over any program
 depth-plant : (plant : Plant) (program : Program) → Sound plant → IsMadeOf plant program → depth_over program.root ≡ 4608

@@ -54,18 +54,14 @@ record Leaves (request : Request) (old new : Option FileMap) : Type 0 where
 leaves_same : (request : Request) (old new : Option FileMap) → new ≡ old → Leaves request old new
 leaves_same request old new same = record { kept = kept_same request old new same; left = left_same request old new same }
 
--- lists of different lengths are no list
-too_few : (words few many : List (List ℕ)) → length few ≢ length many → words ≡ few → words ≡ many → ⊥
-too_few words few many differ is also = differ (ap length (sym is ∙ also))
-
 -- the words of a planning with a log say no other request
 leaves_log : (words : List (List ℕ)) (plant : List ℕ) (budget : ℕ) (log : List ℕ) (other : Request) (old new : Option FileMap) → Says words (Logging plant budget log) → Says words other
     → Leaves (Logging plant budget log) old new → Leaves other old new
-leaves_log words plant budget log (Solving plant2 budget2) old new says also is = absurd (too_few words _ _ (λ same. omega (arith, same)) says.1.0 also.1.0)
-leaves_log words plant budget log (Simulating usage plant2 plan2) old new says also is = absurd (too_few words _ _ (λ same. omega (arith, same)) says.1.0 also.0)
-leaves_log words plant budget log (Checking plant2 log2) old new says also is = absurd (too_few words _ _ (λ same. omega (arith, same)) says.1.0 also.0)
-leaves_log words plant budget log (Upgrading plant2) old new says also is = absurd (too_few words _ _ (λ same. omega (arith, same)) says.1.0 also.0)
-leaves_log words plant budget log (Showing seed) old new says also is = absurd (too_few words _ _ (λ same. omega (arith, same)) says.1.0 also.1.0)
+leaves_log words plant budget log (Solving plant2 budget2) old new says also is = (let same = ap length (sym says.1.0 ∙ also.1.0) in absurd (omega (arith, same)))
+leaves_log words plant budget log (Simulating usage plant2 plan2) old new says also is = (let same = ap length (sym says.1.0 ∙ also.0) in absurd (omega (arith, same)))
+leaves_log words plant budget log (Checking plant2 log2) old new says also is = (let same = ap length (sym says.1.0 ∙ also.0) in absurd (omega (arith, same)))
+leaves_log words plant budget log (Upgrading plant2) old new says also is = (let same = ap length (sym says.1.0 ∙ also.0) in absurd (omega (arith, same)))
+leaves_log words plant budget log (Showing seed) old new says also is = (let same = ap length (sym says.1.0 ∙ also.1.0) in absurd (omega (arith, same)))
 leaves_log words plant budget log (Logging plant2 budget2 log2) old new says also is =
     let same : codes "solve" ∷ plant ∷ says.0 ∷ log ∷ [] ≡ codes "solve" ∷ plant2 ∷ also.0 ∷ log2 ∷ [] = sym says.1.0 ∙ also.1.0 in
     let same_plant : plant ≡ plant2 = ap (λ (ws : List (List ℕ)). get_or ws 1 []) same in

@@ -243,3 +243,8 @@ solved plant budget log outcome (Ok reply) sound most right proof is money = rec
   reads_back = ap (plan_of_text plant) is.1 ∙ reads-back plant (Feasible plant) [] (boxes plant) budget outcome.boxes outcome.answer sound (λ plan is. is) right.answer money (omega (arith, right.within, most));
 }
 solved plant budget log outcome (Err e) sound most right proof is money = tt
+
+-- the same of a reply
+pub solved_is : (plant : Plant) (budget : ℕ) (log : Option (List ℕ)) (outcome : Outcome) (reply : Reply) → Sound plant → budget ≤ 100000 → IsOutcome plant budget outcome → HasPlantProof plant log outcome
+    → (reply.status ≡ status_of outcome.answer) × (reply.text.items ≡ answer_text plant outcome.boxes outcome.answer) → IsInMoney outcome.answer → Solved budget plant log reply.status reply.text.items
+solved_is plant budget log outcome reply sound most right proof is money = solved {E = ℕ} plant budget log outcome (Ok reply) sound most right proof is money

@@ -2,7 +2,7 @@
 use Rattle.std.specs.Cmp.Lexicographic.{same_text}
 use Rattle.std.specs.Prelude.{◌==◌, nat_eq}
 use lib.Pointwise.{pointwise}
-use Rattle.std.proofs.Common.{◌≡◌, true, false, ◌∙◌, ap, ℕ, ◌<◌, ◌≤◌, List, [], ◌∷◌, length, get_or, refl, arith, Bor}
+use Rattle.std.proofs.Common.{◌≡◌, ◌≢◌, not, true, false, ◌∙◌, ap, ℕ, ◌<◌, ◌≤◌, List, [], ◌∷◌, length, get_or, refl, arith, Bor}
 use Rattle.std.specs.Prelude.{Option, Some, None, MatchOption}
 use Rattle.stn_top.specs.declared.command.Command.{Command}
 use Rattle.stn_top.specs.declared.command.PlanUse.TheVariants.{Simulate, Report}
@@ -40,10 +40,6 @@ two_words words d first least most same =
 -- a text that is not empty is not the empty text
 pub not_empty : (text : List ℕ) → false ≡ (length text == 0) → text ≡ [] → ⊥
 not_empty text some none = (let short = ap length none in grind arith)
-
--- texts that a test says differ
-pub not_same : (a b : List ℕ) → true ≡ not (pointwise nat_eq a b) → a ≢ b
-not_same a b differ same = ?
 
 -- three words, of which the first is known
 pub three_words : (words : List (Bor (List ℕ))) (d : Bor (List ℕ)) (first : List ℕ) → 3 ≤ length words → length words < 4 → true ≡ pointwise nat_eq (get_or words 0 d).now first → texts words ≡ first ∷ (get_or words 1 d).now ∷ (get_or words 2 d).now ∷ []

@@ -1,5 +1,5 @@
 //! The words of a command.
-ghost use Rattle.std.specs.Prelude.{◌≡◌, ℕ, List, MatchOption};
+ghost use Rattle.std.specs.Prelude.{◌≡◌, ◌≢◌, ◌↔◌, true, ℕ, List, MatchOption};
 ghost use Rattle.stn_top.specs.Words.{Says, HasNoForm, IsBudget, IsSeed, Solving, Logging, Simulating, Checking, Upgrading, Showing, texts, meaning, use_word};
 
 use crate::budget::{Budget, MAX_BUDGET};
@@ -98,7 +98,7 @@ fn log_of<'a>(words: &[&'a str]) -> Option<Command<'a>>
 {
     match words {
         [first, plant, budget, log]
-            if *first == "solve" && !plant.is_empty() && !log.is_empty() && *log != *plant =>
+            if *first == "solve" && !plant.is_empty() && !log.is_empty() && differ(log, plant) =>
         {
             match budget_of(budget) {
                 Some(budget) => Some(Command::Log { plant, budget, log }),
@@ -107,6 +107,13 @@ fn log_of<'a>(words: &[&'a str]) -> Option<Command<'a>>
         }
         _ => None,
     }
+}
+
+// The words are not the same.
+fn differ(first: &str, second: &str) -> bool
+    ensures { (result ≡ true) ↔ (first.now ≢ second.now) }
+{
+    first != second
 }
 
 // The command on a plan whose first word is this use's.
