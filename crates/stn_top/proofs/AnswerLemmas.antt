@@ -1,6 +1,6 @@
 -- The answers of commands over the contents of their files.
-use Rattle.std.proofs.Common.{◌≡◌, ◌≢◌, ℕ, ◌<◌, List, [], ◌∷◌, map, Option, Some, None, Ok, Err, ap, take, ◌∙◌, inl, inr, refl, arith}
-use Rattle.std.specs.Prelude.{IfSome, IfOk, Result, ◌↔◌, ◌⊎◌}
+use Rattle.std.proofs.Common.{◌≡◌, ◌≢◌, ℕ, List, [], ◌∷◌, map, Option, Some, None, Ok, Err, ap, take, ◌∙◌, inl, inr, refl, arith}
+use Rattle.std.specs.Prelude.{IfSome, IfOk, Result}
 use Rattle.std.specs.Option.{option_map}
 use Rattle.stn_edge.specs.Files.{FileMap, file_of}
 use Rattle.stn_edge.specs.Text.{extended}
@@ -24,7 +24,7 @@ use Rattle.stn_top.specs.Simulation.{Simulated}
 use Rattle.stn_top.specs.Checking.{Checked}
 use Rattle.stn_top.specs.Upgrading.{Upgraded}
 use Rattle.stn_top.specs.Requests.{IsAnswer, content}
-use Rattle.stn_top.specs.Replies.{IsReply, Answered, PartlyAnswered, IsCutOff, IsUnwritten}
+use Rattle.stn_top.specs.Replies.{IsReply, IsCutOff, IsUnwritten}
 
 -- ---- contents
 

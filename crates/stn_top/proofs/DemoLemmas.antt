@@ -1,6 +1,6 @@
 -- A demonstration: doing nothing is feasible, and a check says yes to the log of an outcome.
-use Rattle.std.proofs.Common.{◌≡◌, ◌≢◌, ℕ, ℤ, pos, zero, suc, ◌+◌, ◌-◌, nat_le, ap₂, ◌<◌, ◌≤◌, true, List, [], ◌∷◌, ◌++◌, map, length, get_or, Option, Some, None, Ok, Err, inl, inr, refl, sym, ap, ◌∙◌, subst, arith}
-use Rattle.std.specs.Prelude.{◌⊎◌, All, AllPairs, IfSome, Result, slice_get, sum_by, ◌≤ℤ◌}
+use Rattle.std.proofs.Common.{◌≡◌, ◌≢◌, ℕ, pos, zero, suc, ◌-◌, nat_le, ◌<◌, ◌≤◌, true, List, [], ◌∷◌, ◌++◌, map, length, get_or, Option, Some, None, inl, inr, refl, sym, ap, ◌∙◌, subst, arith}
+use Rattle.std.specs.Prelude.{◌⊎◌, All, IfSome, slice_get, sum_by, ◌≤ℤ◌}
 use Rattle.std.proofs.lemmas.List.Elements.{All-append, All-cons, All-head, All-tail}
 use Rattle.std.proofs.lemmas.Bool.{le-leb}
 use Rattle.std.proofs.lemmas.Int.{ints}
@@ -180,9 +180,9 @@ pub shown : (seed : ℕ) (plant : Plant) (outcome : Outcome) (status : ℕ) (tex
     → line ≡ claim_text (claim_of plant outcome.answer) → text ≡ demo_head seed plant ++ (answer_line outcome.answer ++ line) → Shown seed status text
 shown seed plant outcome status text line same right is_status is_line is_text =
     let right_of = subst (λ (p : Plant). IsOutcome p 500 outcome) same right in record {
-  outcome = outcome;
-  right = right_of;
-  status_is = is_status;
-  found = λ one. found-status seed 500 outcome right_of (sym is_status ∙ one);
-  text_is = is_text ∙ (ap (λ (l : List ℕ). demo_head seed plant ++ (answer_line outcome.answer ++ l)) is_line ∙ ap (λ (p : Plant). demo_text seed p outcome.answer) same);
-}
+      outcome = outcome;
+      right = right_of;
+      status_is = is_status;
+      found = λ one. found-status seed 500 outcome right_of (sym is_status ∙ one);
+      text_is = is_text ∙ (ap (λ (l : List ℕ). demo_head seed plant ++ (answer_line outcome.answer ++ l)) is_line ∙ ap (λ (p : Plant). demo_text seed p outcome.answer) same);
+    }

@@ -1,16 +1,15 @@
 -- What a run leaves in its files, for whatever request its words say.
-use Rattle.std.proofs.Common.{◌≡◌, ◌≢◌, ℕ, ◌<◌, List, [], ◌∷◌, length, get_or, Option, Ok, Err, inl, inr, refl, sym, ap, ◌∙◌, subst, arith}
-use Rattle.std.specs.Prelude.{All, IfSome, Result, codes, ◌⊎◌}
+use Rattle.std.proofs.Common.{◌≡◌, ℕ, List, [], ◌∷◌, length, get_or, Option, Ok, Err, inl, sym, ap, ◌∙◌, subst, arith}
+use Rattle.std.specs.Prelude.{Result, codes}
 use Rattle.std.specs.Option.{option_map}
 use Rattle.std.specs.FinMap.{get}
 use Rattle.stn_edge.specs.Files.{FileMap, OthersStay}
 use Rattle.stn_top.specs.declared.reply.Reply.{Reply}
 use Rattle.stn_top.specs.declared.stopped.Stopped.{Stopped}
 use Rattle.stn_top.specs.declared.stopped.Stopped.TheVariants.{Refused, ReadFault, WriteFault, Memory}
-use Rattle.stn_top.specs.declared.command.PlanUse.TheVariants.{Simulate, Report}
 use Rattle.stn_top.specs.Words.{Request, Solving, Logging, Simulating, Checking, Upgrading, Showing, Says}
 use Rattle.stn_top.specs.Sources.{IfReplied}
-use Rattle.stn_top.specs.Requests.{IsLeft, HoldsLog, OthersKept}
+use Rattle.stn_top.specs.Requests.{IsLeft, OthersKept}
 
 -- ---- files that are as before
 

@@ -9,7 +9,6 @@ use Rattle.stn_model.specs.declared.plant.Plant.{Plant}
 use Rattle.plan_text.specs.PlanText.{plan_of_text}
 use Rattle.plan_text.specs.declared.fault.PlanFault.{PlanFault}
 use Rattle.plant_text.specs.declared.fault.PlantFault.{PlantFault}
-use Rattle.stn_top.specs.declared.reply.Reply.{Reply}
 use Rattle.stn_top.specs.declared.stopped.Stopped.{Stopped}
 use Rattle.stn_top.specs.declared.stopped.Stopped.TheVariants.{Refused, ReadFault, WriteFault, Memory}
 use Rattle.stn_top.specs.Sources.{IsReadOf, IsRefusedAs, Refuses, IfRefusal, IfRefused, plan_too_long}

@@ -2,7 +2,7 @@
 use Rattle.std.specs.Cmp.Lexicographic.{same_text}
 use Rattle.std.specs.Prelude.{◌==◌, nat_eq}
 use lib.Pointwise.{pointwise}
-use Rattle.std.proofs.Common.{◌≡◌, ◌≢◌, not, true, false, ◌∙◌, ap, ℕ, ◌<◌, ◌≤◌, List, [], ◌∷◌, length, get_or, refl, arith, Bor}
+use Rattle.std.proofs.Common.{◌≡◌, true, false, ◌∙◌, ap, ℕ, ◌<◌, ◌≤◌, List, [], ◌∷◌, length, get_or, refl, arith, Bor}
 use Rattle.std.specs.Prelude.{Option, Some, None, MatchOption}
 use Rattle.stn_top.specs.declared.command.Command.{Command}
 use Rattle.stn_top.specs.declared.command.PlanUse.TheVariants.{Simulate, Report}

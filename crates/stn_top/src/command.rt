@@ -98,8 +98,7 @@ fn log_of<'a>(words: &[&'a str]) -> Option<Command<'a>>
 {
     match words {
         [first, plant, budget, log]
-            if *first == "solve" && !plant.is_empty() && !log.is_empty() && differ(log, plant) =>
-        {
+            if *first == "solve" && !plant.is_empty() && !log.is_empty() && differ(log, plant) => {
             match budget_of(budget) {
                 Some(budget) => Some(Command::Log { plant, budget, log }),
                 None => None,

@@ -1,4 +1,3 @@
-use Rattle.std.proofs.Common.{ap, ◌∙◌}
 use Rattle.stn_edge.specs.Files.{file_of}
 use Rattle.stn_top.proofs.DemoLemmas.{checked_line}
 use Rattle.stn_top.proofs.demo.check_line.Goals as goal
