@@ -57,3 +57,18 @@ pub logged-broke : (part : Program) (budget : ℕ) (name : List ℕ) (ended : En
 logged-broke part budget name ended at new claim is broke =
     let begun = begun-finish part is.first at new is.tree claim is.header is.search.writable is.took broke in
     subst (λ (own : List ℕ). IfSome (bytes_in own new.files) (IsLogBegun part)) (sym is.took.keeps.name ∙ is.named) begun
+
+-- what was taken or not wholly taken keeps the rest
+pub handed-keeps : (old new : Writing) (text : List ℕ) → Took old new text ⊎ Broke old new text → Keeps old new
+handed-keeps old new text (inl took) = took.keeps
+handed-keeps old new text (inr broke) = broke.keeps
+
+-- what a writer for the file of this name keeps
+pub keeps-named : (name : List ℕ) (old new : Writing) → old.name ≡ name → Keeps old new → Keeps (record old { name = name; held = [] }) (record new { name = name; held = [] })
+keeps-named name old new named keeps = record {
+  name = refl;
+  others = λ other apart. keeps.others other (λ is. apart (is ∙ named));
+  reads = keeps.reads;
+  may_read = keeps.may_read;
+  may_write = keeps.may_write;
+}
