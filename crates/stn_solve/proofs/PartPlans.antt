@@ -8,16 +8,16 @@ use Rattle.stn_model.specs.Sound.{Sound}
 use Rattle.stn_model.specs.Feasible.{Feasible}
 use Rattle.stn_model.specs.Profit.{profit}
 use Rattle.time_grid.specs.Slots.{slots}
-use Rattle.time_grid.specs.PlanPoint.{HasPoint, IsPlanOf, plan_point, point_starts}
+use Rattle.time_grid.specs.PlanPoint.{HasPoint, IsPlanOf, plan_point}
 use Rattle.time_grid.proofs.PointPlan.{starts-of_point}
 use Rattle.row_kit.specs.declared.domain.Domain.{Domain}
 use Rattle.row_kit.specs.declared.program.Program.{Program}
 use Rattle.row_kit.specs.declared.row.Row.{Row}
-use Rattle.row_kit.specs.Domain.{Holds, domain_at, no_values}
+use Rattle.row_kit.specs.Domain.{Holds, domain_at}
 use Rattle.row_kit.specs.Point.{IsLawful, LiesIn, worth_of}
 use Rattle.row_kit.specs.Row.{IsKept}
 use Rattle.row_relax.specs.Settle.{only_point}
-use Rattle.row_set.specs.Parts.{IsAdmitted, IsButRoot, IsPartOf, IsWithin, plan_of_values}
+use Rattle.row_set.specs.Parts.{IsAdmitted, IsPartOf, IsWithin, plan_of_values}
 use Rattle.row_set.specs.PlantProgram.{slot_domain}
 use Rattle.row_set.proofs.Roots.{point-of_root}
 use Rattle.branch_tree.proofs.Trees.{least_lies}

@@ -1,5 +1,5 @@
 -- The whole of a plant's choices is a part of them, and its outcomes are those of the plant.
-use Rattle.std.proofs.Common.{◌≡◌, ℕ, ◌+◌, ◌-◌, ◌*◌, ◌<◌, ◌≤◌, List, [], ◌∷◌, map, Option, Some, None, ℤ, refl, sym, ap, ap₂, ◌∙◌, subst, arith}
+use Rattle.std.proofs.Common.{◌≡◌, ℕ, ◌-◌, ◌*◌, List, [], ◌∷◌, map, Option, Some, None, ℤ, refl, ap, ap₂, ◌∙◌, subst, arith}
 use Rattle.std.specs.Prelude.{MatchOption}
 use Rattle.std.specs.List.{All, AllZip}
 use Rattle.std.proofs.lemmas.List.Elements.{All-head, All-tail}
@@ -11,17 +11,15 @@ use Rattle.stn_model.specs.declared.answer.Outcome.{Outcome}
 use Rattle.stn_model.specs.Answers.{IsAnswerOf, IsOutcome, IsOutcomeOf, NoneFound, EarnsBelow}
 use Rattle.stn_model.specs.Feasible.{Feasible}
 use Rattle.stn_model.specs.Plant.{no_run, run_at}
-use Rattle.stn_model.specs.Points.{boxes, points}
+use Rattle.stn_model.specs.Points.{boxes}
 use Rattle.stn_model.specs.Sound.{Sound, SoundRun}
 use Rattle.stn_model.specs.Sums.{product_by}
-use Rattle.time_grid.specs.PlanPoint.{HasPoint, plan_point, point_starts}
+use Rattle.time_grid.specs.PlanPoint.{point_starts}
 use Rattle.time_grid.specs.Slots.{IsSlotOf, slot_choices, slots}
-use Rattle.time_grid.proofs.PointPlan.{plan_point-is}
 use Rattle.time_grid.proofs.SlotList.{product-slots, slots-are}
 use Rattle.row_kit.specs.declared.domain.Domain.{Domain}
 use Rattle.row_kit.specs.declared.program.Program.{Program}
 use Rattle.row_kit.specs.Domain.{count_of}
-use Rattle.row_kit.specs.Point.{LiesIn}
 use Rattle.row_kit.specs.Points.{points_of}
 use Rattle.row_relax.specs.Settle.{only_point}
 use Rattle.row_set.specs.Parts.{IsAdmitted, IsPartOf, IsWithin, plan_of_values}
