@@ -92,11 +92,11 @@ some_same v w is = cc
 -- what cuts lead to fits
 cuts_fit : (program : Program) (cuts : List RowCut) (v w : View) → Fits program v → after_cuts (row_steps program) v cuts ≡ Some w → Fits program w
 cuts_fit program [] v w fit is = subst (Fits program) (some_same v w is) fit
-cuts_fit program (u ∷ us) v w fit is = first ((row_steps program).cut v u) refl is
+cuts_fit program (u ∷ us) v w fit is = first (λ x there led. cuts_fit program us x w there led) ((row_steps program).cut v u) refl is
   where
-    first : (next : Option View) → (row_steps program).cut v u ≡ next → option_and_then (λ x. after_cuts (row_steps program) x us) next ≡ Some w → Fits program w
-    first None to led = absurd (cc)
-    first (Some x) to led = cuts_fit program us x w ((rows_sound program).cut_fits v x u fit to) led
+    first : ((x : View) → Fits program x → after_cuts (row_steps program) x us ≡ Some w → Fits program w) → (next : Option View) → (row_steps program).cut v u ≡ next → option_and_then (λ x. after_cuts (row_steps program) x us) next ≡ Some w → Fits program w
+    first rest None to led = absurd (cc)
+    first rest (Some x) to led = rest x ((rows_sound program).cut_fits v x u fit to) led
 
 -- the cap of a tree
 tree_short : (program : Program) (tree : RowTree) (v : View) → Fits program v → IsBelow (10 ^ 30) (tree_cap (row_steps program) v tree)

@@ -112,14 +112,18 @@ real_outcome Bad real = absurd (real refl)
 real_outcome NoPoint real = refl
 real_outcome (AtMost n) real = refl
 
+-- the items of the proof of a search lead to its cap
+search_led : (program : Program) (budget : ℕ) (tree : RowTree) (over : Ended) → IsSearch program budget tree over → walked {R = Rows} {A = Area} {F = Found} (row_steps program) (start (view_of program.root)) (tree_items tree) ≡ ended over.cap
+search_led program budget tree over made =
+    walked-whole Rows Area Found (row_steps program) tree (view_of program.root)
+    ∙ (ap outcome_of (sym made.cap) ∙ real_outcome over.cap made.defined)
+
 -- the proof of a search has no defect, and leads to its cap
 pub search_proved : (program : Program) (budget : ℕ) (tree : RowTree) (over : Ended) → IsSearch program budget tree over → IsProved (row_steps program) program (view_of program.root) (tree_items tree) over.cap
-search_proved program budget tree over search = record { sound = items_sound program (start (view_of program.root)) (tree_items tree) over.cap search.writable.fit led; led = led }
-  where
-    led : walked (row_steps program) (start (view_of program.root)) (tree_items tree) ≡ ended over.cap
-    led =
-        walked-whole Rows Area Found (row_steps program) tree (view_of program.root)
-        ∙ (ap outcome_of (sym search.cap) ∙ real_outcome over.cap search.defined)
+search_proved program budget tree over made = record {
+  sound = items_sound program (start (view_of program.root)) (tree_items tree) over.cap made.writable.fit (search_led program budget tree over made);
+  led = search_led program budget tree over made;
+}
 
 no_capped : (program : Program) (proof_cap : Capped) (value most : ℤ) (point : List ℕ) → IsWorth program value point × (¬ IsAbove proof_cap most) → (kind : ℕ) → ¬ CappedDefect program proof_cap value most point kind
 no_capped program proof_cap value most point sound kind = ⊎_elim (worth-sound program value point sound.0 kind) (λ x. sound.1 x.2)

@@ -50,22 +50,15 @@ entries_small (e ∷ es) point bytes f p =
     omega (arith, ints, one, rest)
 
 -- no changeover costs more than 1,000,000
+one_listed : (change : Change) (rest : ℕ) (listed : Bool) → IsBoundedChange change → rest ≤ 1000000 → cond listed (max (unsigned_abs change.cost) rest) rest ≤ 1000000
+one_listed change rest true bounded low = let one : unsigned_abs change.cost ≤ 1000000 = omega (arith, ints, bounded.least, bounded.most) in omega (arith, one, low)
+one_listed change rest false bounded low = low
+
 listed_small : (changes : List Change) (lane from to : ℕ) → All IsBoundedChange changes → listed_cost changes lane from to ≤ 1000000
 listed_small [] lane from to bounded = omega arith
-listed_small (change ∷ changes) lane from to bounded = by_listed (is_listed lane from to change)
-  where
-    first : IsBoundedChange change
-    first = All-head IsBoundedChange change changes bounded
-
-    one : unsigned_abs change.cost ≤ 1000000
-    one = omega (arith, ints, first.least, first.most)
-
-    rest : listed_cost changes lane from to ≤ 1000000
-    rest = listed_small changes lane from to (All-tail IsBoundedChange change changes bounded)
-
-    by_listed : (listed : Bool) → cond listed (max (unsigned_abs change.cost) (listed_cost changes lane from to)) (listed_cost changes lane from to) ≤ 1000000
-    by_listed true = omega (arith, one, rest)
-    by_listed false = rest
+listed_small (change ∷ changes) lane from to bounded =
+    one_listed change (listed_cost changes lane from to) (is_listed lane from to change) (All-head IsBoundedChange change changes bounded)
+    (listed_small changes lane from to (All-tail IsBoundedChange change changes bounded))
 
 pair_small : (changes : List Change) (starts : List Tag) (a b : Tag) → All IsBoundedChange changes → pair_cost changes starts a b ≤ 1000000
 pair_small changes starts a b bounded = by_next (comes_next starts a b)
@@ -79,7 +72,7 @@ few_started : (tags : List Tag) (point : List ℕ) → length (started tags poin
 few_started [] point = omega arith
 few_started (tag ∷ tags) [] = omega arith
 few_started (tag ∷ tags) (zero ∷ values) = omega (arith, few_started tags values)
-few_started (tag ∷ tags) (suc value ∷ values) = omega (arith, few_started tags values)
+few_started (tag ∷ tags) (suc value ∷ values) = grind (arith, few_started tags values)
 
 -- what the changeovers of a point cost
 changeovers_small : (changes : List Change) (tags : List Tag) (point : List ℕ) → length tags ≤ 512 → All IsBoundedChange changes → changeovers changes tags point ≤ 512 * 512000000
