@@ -15,6 +15,7 @@ use Rattle.stn_model.specs.Profit.{profit}
 use Rattle.stn_model.specs.Answers.{EarnsBelow, IsAnswerOf, IsOutcomeOf, IsSpent, NoneFound}
 use Rattle.time_grid.specs.Slots.{slots}
 use Rattle.time_grid.specs.PlanPoint.{IsPlanOf, plan_point}
+use Rattle.row_kit.specs.declared.area.Area.{Area}
 use Rattle.row_kit.specs.declared.found.Found.{Found}
 use Rattle.row_kit.specs.declared.program.Program.{Program}
 use Rattle.row_kit.specs.Point.{IsLawful, LiesIn, worth_of}
@@ -27,6 +28,7 @@ use Rattle.proof_tree.specs.Items.{found_in, tree_items}
 use Rattle.proof_tree.specs.Nodes.{counted, found_points}
 use Rattle.proof_tree.specs.Tree.{leaf, split, no_point, dual, one_point, pending, after_cuts}
 use Rattle.proof_tree.proofs.Folds.{found_in-tree}
+use Rattle.row_relax.specs.declared.Rows.{Rows}
 use Rattle.row_relax.specs.RowProofs.{RowTree}
 use Rattle.row_relax.specs.Settle.{only_point}
 use Rattle.row_relax.specs.Steps.{row_steps}
@@ -48,11 +50,12 @@ use Rattle.stn_solve.specs.laws.Ended.{IsSearchOf}
 use Rattle.stn_solve.specs.laws.Telling.{IsTold, number_of, open_cap, told_bare, told_plan}
 use Rattle.stn_solve.specs.declared.telling.Told.{Told}
 use Rattle.stn_solve.proofs.PartPlans.{IsPointPlan, admitted-earns, admitted-lawful, lawful-places, lawful-plan, least-point}
-use Rattle.stn_solve.proofs.ValidLog.{IsSmallClaim, search-cap_short, valid-search}
+use Rattle.stn_solve.proofs.SmallClaim.{IsSmallClaim}
+use Rattle.stn_solve.proofs.ValidLog.{search-cap_short, valid-search}
 
 -- the found points of a search are lawful, and stand with their worth
 pub groups_of : (program : Program) (budget : ℕ) (tree : RowTree) (ended : Ended) → IsSearch program budget tree ended → All (IsGroup program) (found_points tree)
-groups_of program budget tree ended search = subst (All (IsGroup program)) (found_in-tree tree) (fit-groups program (tree_items tree) search.writable.fit)
+groups_of program budget tree ended made = subst (All (IsGroup program)) (found_in-tree Rows Area tree) (fit-groups program (tree_items tree) made.writable.fit)
 
 best_group : (program : Program) (best : Option Found) (fs : List Found) → IsBest best fs → All (IsGroup program) fs → IfSome best (IsGroup program)
 best_group program None fs best groups = tt
@@ -60,7 +63,7 @@ best_group program (Some found) fs best groups = All-contains (IsGroup program) 
 
 -- the best found point of a search is lawful, and stands with its worth
 pub best-group : (program : Program) (budget : ℕ) (tree : RowTree) (ended : Ended) → IsSearch program budget tree ended → IfSome ended.best (IsGroup program)
-best-group program budget tree ended search = best_group program ended.best (found_points tree) search.best (groups_of program budget tree ended search)
+best-group program budget tree ended made = best_group program ended.best (found_points tree) made.best (groups_of program budget tree ended made)
 
 -- a proof that is justified counts a box: its root was not left open, since no certificate is held above it
 pub counted-some : (program : Program) (tree : RowTree) → IsJustified program tree → 0 < counted tree

@@ -7,13 +7,13 @@ told_of-requires-clause-places c =
     let s = c.in-Ok.ensures in
     best-places c.args.plant.now c.args.rows.now.program c.requires.sound c.requires.part c.args.budget s.tree c.in-Ok.ended s.of.search
 
-pub returns-in-Ok-clause-outcome : goal.returns-in-Ok-clause-outcome
-returns-in-Ok-clause-outcome c =
+pub returns-in_ok-told-in-Ok-clause-outcome : goal.returns-in_ok-told-in-Ok-clause-outcome
+returns-in_ok-told-in-Ok-clause-outcome c =
     let s = c.in-Ok.ensures in
     (told-right c.args.plant.now c.args.rows.now.program c.requires.sound c.requires.part c.args.budget s.tree c.in-Ok.ended s.of c.in_ok-told.told c.in_ok-told.ensures).outcome
 
-pub returns-in-Ok-clause-proof : goal.returns-in-Ok-clause-proof
-returns-in-Ok-clause-proof c =
+pub returns-in_ok-told-in-Ok-clause-proof : goal.returns-in_ok-told-in-Ok-clause-proof
+returns-in_ok-told-in-Ok-clause-proof c =
     let s = c.in-Ok.ensures in
     let right = told-right c.args.plant.now c.args.rows.now.program c.requires.sound c.requires.part c.args.budget s.tree c.in-Ok.ended s.of c.in_ok-told.told c.in_ok-told.ensures in
     record { tree = s.tree; proof = right.proof; text = tt }
