@@ -1,10 +1,10 @@
 -- What the steps of writing a log leave of the files.
-use Rattle.std.proofs.Common.{◌≡◌, ◌≢◌, ℕ, Bool, List, [], ◌∷◌, ◌++◌, flat_map, Option, None, Some, IfSome, refl, sym, ap, ◌∙◌, subst, inl, inr}
+use Rattle.std.proofs.Common.{◌≡◌, ◌≢◌, ℕ, Bool, List, [], ◌∷◌, ◌++◌, flat_map, string_bytes, Option, None, Some, IfSome, refl, sym, ap, ◌∙◌, subst, inl, inr}
 use Rattle.std.specs.Prelude.{◌⊎◌}
 use Rattle.std.specs.Option.{option_map}
 use Rattle.std.specs.FinMap.{get}
 use Rattle.std.proofs.lemmas.List.{append-nil}
-use Rattle.stn_edge.specs.Files.{FileMap, MayClear, OthersStay, cleared}
+use Rattle.stn_edge.specs.Files.{FileMap, MayClear, OthersStay, cleared, file_of}
 use Rattle.stn_edge.proofs.FileLemmas.{get-cleared_other}
 use Rattle.row_kit.specs.declared.program.Program.{Program}
 use Rattle.proof_tree.specs.Items.{tree_items}
@@ -13,20 +13,13 @@ use Rattle.branch_tree.specs.declared.ended.Ended.{Ended}
 use Rattle.log_lines.specs.declared.line.Line.TheVariants.{Header, End}
 use Rattle.proof_log.specs.declared.claim.Claim.{Claim}
 use Rattle.proof_log.specs.Log.{claim_lines, item_lines, lines_text}
-use Rattle.proof_log.specs.Writer.{Broke, IsWhole, Keeps, Took, Writing}
+use Rattle.proof_log.specs.declared.writer.LogWriter.{LogWriter}
+use Rattle.proof_log.specs.Writer.{Broke, IsWhole, Keeps, Took, Writing, writing}
+use Rattle.proof_log.proofs.Lines.{lines_text-append}
+use Rattle.proof_log.proofs.Writing.{IsWhole-took}
 use Rattle.stn_solve.specs.Proofs.{IsLeft, IsLogBegun, bytes_in}
-use Rattle.stn_solve.specs.laws.Logging.{IsLogged}
+use Rattle.stn_solve.specs.laws.Logging.{IsLogged, stored}
 use Rattle.stn_solve.proofs.BegunLog.{begun-clear, begun-finish, begun-took}
-
--- to keep twice is to keep
-pub keeps-then : (a b c : Writing) → Keeps a b → Keeps b c → Keeps a c
-keeps-then a b c first second = record {
-  name = second.name ∙ first.name;
-  others = λ other apart. second.others other (λ is. apart (is ∙ first.name)) ∙ first.others other apart;
-  reads = second.reads ∙ first.reads;
-  may_read = second.may_read ∙ first.may_read;
-  may_write = second.may_write ∙ first.may_write;
-}
 
 others_cleared : (name other : List ℕ) (files : Option FileMap) → other ≢ name → option_map (λ (m : FileMap). get m other) (option_map (cleared name) files) ≡ option_map (λ (m : FileMap). get m other) files
 others_cleared name other None apart = refl
@@ -63,12 +56,27 @@ pub handed-keeps : (old new : Writing) (text : List ℕ) → Took old new text �
 handed-keeps old new text (inl took) = took.keeps
 handed-keeps old new text (inr broke) = broke.keeps
 
--- what a writer for the file of this name keeps
-pub keeps-named : (name : List ℕ) (old new : Writing) → old.name ≡ name → Keeps old new → Keeps (record old { name = name; held = [] }) (record new { name = name; held = [] })
-keeps-named name old new named keeps = record {
+-- what a log is begun in and what takes its items leave of a store
+pub kept-handed : {S : Type 0} (files : S → Option FileMap) (reads : S → ℕ) (may_read may_write : S → List ℕ → Bool) (name : List ℕ) (writer writer_after : LogWriter) (before store store_after : S)
+    → string_bytes writer.name ≡ name → OthersStay name (files before) (files store) → reads store ≡ reads before → may_read store ≡ may_read before → may_write store ≡ may_write before
+    → Keeps (writing files reads may_read may_write writer store) (writing files reads may_read may_write writer_after store_after)
+    → Keeps (stored files reads may_read may_write name before) (stored files reads may_read may_write name store_after)
+kept-handed files reads may_read may_write name writer writer_after before store store_after named others no_read readable writable keeps = record {
   name = refl;
-  others = λ other apart. keeps.others other (λ is. apart (is ∙ named));
-  reads = keeps.reads;
-  may_read = keeps.may_read;
-  may_write = keeps.may_write;
+  others = λ other apart. keeps.others other (λ is. apart (is ∙ named)) ∙ others other apart;
+  reads = keeps.reads ∙ no_read;
+  may_read = keeps.may_read ∙ readable;
+  may_write = keeps.may_write ∙ writable;
 }
+
+-- all items of the proof stand in the log that lacks its claim
+pub logged-whole : (part : Program) (budget : ℕ) (name : List ℕ) (ended : Ended) (at : Writing) → (is : IsLogged part budget name ended at)
+    → IsWhole at (lines_text (Header 2 ∷ flat_map item_lines (tree_items is.tree)))
+logged-whole part budget name ended at is =
+    subst (IsWhole at) (sym (lines_text-append (Header 2 ∷ []) (flat_map item_lines (tree_items is.tree))))
+    (IsWhole-took is.first at (lines_text (Header 2 ∷ [])) (lines_text (flat_map item_lines (tree_items is.tree))) is.header is.took)
+
+-- the bytes of a file that is told are a text
+pub told-bytes : (name own : List ℕ) (files : Option FileMap) (text whole_text : List ℕ) → own ≡ name → text ≡ whole_text → IfSome files (λ m. file_of m own ≡ text) → IfSome (bytes_in name files) (λ bytes. bytes ≡ whole_text)
+told-bytes name own None text whole_text named same is = tt
+told-bytes name own (Some m) text whole_text named same is = ap (file_of m) (sym named) ∙ is ∙ same

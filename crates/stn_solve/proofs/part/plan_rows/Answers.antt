@@ -10,10 +10,10 @@ told_of-requires-clause-places c =
 pub returns-in_ok-told-in-Ok-clause-outcome : goal.returns-in_ok-told-in-Ok-clause-outcome
 returns-in_ok-told-in-Ok-clause-outcome c =
     let s = c.in-Ok.ensures in
-    (told-right c.args.plant.now c.args.rows.now.program c.requires.sound c.requires.part c.args.budget s.tree c.in-Ok.ended s.of c.in_ok-told.told c.in_ok-told.ensures).outcome
+    (told-right c.args.plant.now c.args.rows.now.program c.requires.sound c.requires.part c.args.budget s.tree c.in-Ok.ended s.of c.in_ok-told-in-Ok.told c.in_ok-told-in-Ok.ensures).outcome
 
 pub returns-in_ok-told-in-Ok-clause-proof : goal.returns-in_ok-told-in-Ok-clause-proof
 returns-in_ok-told-in-Ok-clause-proof c =
     let s = c.in-Ok.ensures in
-    let right = told-right c.args.plant.now c.args.rows.now.program c.requires.sound c.requires.part c.args.budget s.tree c.in-Ok.ended s.of c.in_ok-told.told c.in_ok-told.ensures in
+    let right = told-right c.args.plant.now c.args.rows.now.program c.requires.sound c.requires.part c.args.budget s.tree c.in-Ok.ended s.of c.in_ok-told-in-Ok.told c.in_ok-told-in-Ok.ensures in
     record { tree = s.tree; proof = right.proof; text = tt }
