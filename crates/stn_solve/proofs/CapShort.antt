@@ -1,5 +1,5 @@
 -- The cap of the proof of a search has at most 30 digits.
-use Rattle.std.proofs.Common.{◌≡◌, ℕ, ◌<◌, ◌^◌, leb, ltb, Bool, true, false, ◌&&◌, cond, List, [], ◌∷◌, length, Option, Some, None, option_and_then, if◌then◌else◌, refl, sym, subst, arith, ℤ, unsigned_abs}
+use Rattle.std.proofs.Common.{◌≡◌, ℕ, ◌<◌, ◌^◌, leb, ltb, Bool, true, false, ◌&&◌, cond, List, [], ◌∷◌, length, Option, Some, None, option_and_then, if◌then◌else◌, refl, subst, arith, ℤ, unsigned_abs}
 use Rattle.std.specs.Int.{int_max}
 use Rattle.std.specs.List.{All, list_all, list_any}
 use Rattle.std.proofs.lemmas.Bool.{and_parts, leb-true}

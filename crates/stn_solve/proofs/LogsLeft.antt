@@ -8,7 +8,6 @@ use Rattle.stn_edge.specs.Files.{FileMap, MayClear, OthersStay, cleared, file_of
 use Rattle.stn_edge.proofs.FileLemmas.{get-cleared_other}
 use Rattle.row_kit.specs.declared.program.Program.{Program}
 use Rattle.proof_tree.specs.Items.{tree_items}
-use Rattle.row_relax.specs.RowProofs.{RowItem, RowTree}
 use Rattle.branch_tree.specs.declared.ended.Ended.{Ended}
 use Rattle.log_lines.specs.declared.line.Line.TheVariants.{Header, End}
 use Rattle.proof_log.specs.declared.claim.Claim.{Claim}
@@ -19,7 +18,7 @@ use Rattle.proof_log.proofs.Lines.{lines_text-append}
 use Rattle.proof_log.proofs.Writing.{IsWhole-took}
 use Rattle.stn_solve.specs.Proofs.{IsLeft, IsLogBegun, bytes_in}
 use Rattle.stn_solve.specs.laws.Logging.{IsLogged, stored}
-use Rattle.stn_solve.proofs.BegunLog.{begun-clear, begun-finish, begun-took}
+use Rattle.stn_solve.proofs.BegunLog.{begun-finish, begun-took}
 
 others_cleared : (name other : List ℕ) (files : Option FileMap) → other ≢ name → option_map (λ (m : FileMap). get m other) (option_map (cleared name) files) ≡ option_map (λ (m : FileMap). get m other) files
 others_cleared name other None apart = refl

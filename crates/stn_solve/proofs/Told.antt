@@ -1,8 +1,7 @@
 -- What is told of a search that ended is right: the outcome, its proof, and its claim.
-use Rattle.std.proofs.Common.{◌≡◌, ℕ, zero, suc, ◌+◌, ◌-◌, ◌*◌, ◌<◌, ◌≤◌, Bool, true, false, List, length, Option, Some, None, ℤ, pos, ◌≤ℤ◌, ◌<ℤ◌, refl, sym, ap, ◌∙◌, subst, arith}
-use Rattle.std.specs.Prelude.{⊤, IfSome, MatchOption}
-use Rattle.std.specs.List.{All, Contains}
-use Rattle.std.specs.Option.{IsSomeAnd}
+use Rattle.std.proofs.Common.{◌≡◌, ℕ, ◌+◌, ◌*◌, ◌<◌, ◌≤◌, Bool, true, false, List, length, Option, Some, None, ℤ, pos, ◌≤ℤ◌, ◌<ℤ◌, refl, sym, ap, ◌∙◌, subst, arith}
+use Rattle.std.specs.Prelude.{IfSome}
+use Rattle.std.specs.List.{All}
 use Rattle.std.proofs.lemmas.Int.{ints}
 use Rattle.std.proofs.lemmas.List.Elements.{All-contains}
 use Rattle.stn_model.specs.declared.plant.Plant.{Plant}
@@ -12,7 +11,7 @@ use Rattle.stn_model.specs.declared.answer.Answer.TheVariants as answer
 use Rattle.stn_model.specs.Sound.{Sound}
 use Rattle.stn_model.specs.Best.{BestOf, NoneOf}
 use Rattle.stn_model.specs.Profit.{profit}
-use Rattle.stn_model.specs.Answers.{EarnsBelow, IsAnswerOf, IsOutcomeOf, IsSpent, NoneFound}
+use Rattle.stn_model.specs.Answers.{IsAnswerOf, IsSpent}
 use Rattle.time_grid.specs.Slots.{slots}
 use Rattle.time_grid.specs.PlanPoint.{IsPlanOf, plan_point}
 use Rattle.row_kit.specs.declared.area.Area.{Area}
@@ -24,7 +23,7 @@ use Rattle.row_set.specs.Parts.{IsAdmitted, IsPartOf}
 use Rattle.proof_tree.specs.declared.capped.Capped.{Capped}
 use Rattle.proof_tree.specs.declared.capped.Capped.TheVariants.{AtMost, NoPoint, Bad}
 use Rattle.proof_tree.specs.Cap.{Bounds}
-use Rattle.proof_tree.specs.Items.{found_in, tree_items}
+use Rattle.proof_tree.specs.Items.{tree_items}
 use Rattle.proof_tree.specs.Nodes.{counted, found_points}
 use Rattle.proof_tree.specs.Tree.{leaf, split, no_point, dual, one_point, pending, after_cuts}
 use Rattle.proof_tree.proofs.Folds.{found_in-tree}
@@ -33,23 +32,19 @@ use Rattle.row_relax.specs.RowProofs.{RowTree}
 use Rattle.row_relax.specs.Settle.{only_point}
 use Rattle.row_relax.specs.Steps.{row_steps}
 use Rattle.row_relax.specs.View.{view_of}
-use Rattle.dual_bound.specs.Cap.{IsBelow}
 use Rattle.branch_tree.specs.declared.ended.Ended.{Ended}
-use Rattle.branch_tree.specs.Justified.{IsAbove, IsGroup, IsJustified}
-use Rattle.branch_tree.specs.Searched.{HasOpenBox, IsBest, IsSearch, IsSettled}
+use Rattle.branch_tree.specs.Justified.{IsGroup, IsJustified}
+use Rattle.branch_tree.specs.Searched.{HasOpenBox, IsBest, IsSearch}
 use Rattle.branch_tree.proofs.Trees.{fact_of}
 use Rattle.branch_tree.proofs.Whole.{fit-groups}
-use Rattle.proof_log.specs.declared.claim.Claim.{Claim}
 use Rattle.proof_log.specs.declared.claim.Claim.TheVariants as claim
 use Rattle.log_check.specs.Meaning.{IsSoundClaim}
-use Rattle.log_check.specs.Verdict.{IsVerdict}
-use Rattle.log_check.specs.declared.verdict.LogVerdict.TheVariants.{Yes}
 use Rattle.stn_solve.specs.Outcomes.{IsPartOutcome, least_plan, whole_count}
-use Rattle.stn_solve.specs.Proofs.{IfSpent, IsProofOf, claim_of, depth_over, proof_text}
+use Rattle.stn_solve.specs.Proofs.{IfSpent, IsProofOf, claim_of}
 use Rattle.stn_solve.specs.laws.Ended.{IsSearchOf}
-use Rattle.stn_solve.specs.laws.Telling.{IsTold, number_of, open_cap, told_bare, told_plan}
+use Rattle.stn_solve.specs.laws.Telling.{IsTold, told_bare, told_plan}
 use Rattle.stn_solve.specs.declared.telling.Told.{Told}
-use Rattle.stn_solve.proofs.PartPlans.{IsPointPlan, admitted-earns, admitted-lawful, lawful-places, lawful-plan, least-point}
+use Rattle.stn_solve.proofs.PartPlans.{admitted-earns, admitted-lawful, lawful-places, lawful-plan, least-point}
 use Rattle.stn_solve.proofs.SmallClaim.{IsSmallClaim}
 use Rattle.stn_solve.proofs.ValidLog.{search-cap_short, valid-search}
 

@@ -1,5 +1,5 @@
 -- A log is begun, and takes the items of the proof of a search.
-use Rattle.std.proofs.Common.{◌∙◌, refl, inl, inr, subst, List, ℕ, IfSome}
+use Rattle.std.proofs.Common.{◌∙◌, refl, inr, subst, List, ℕ, IfSome}
 use Rattle.branch_tree.proofs.Stopping.{at_err}
 use Rattle.proof_log.specs.Writer.{writing}
 use Rattle.stn_solve.specs.Proofs.{IsLogBegun, bytes_in}

@@ -1,5 +1,5 @@
 -- What is told of a search is right, and its log is the text of the proof with the claim.
-use Rattle.std.proofs.Common.{◌∙◌, ap, inr}
+use Rattle.std.proofs.Common.{ap, inr}
 use Rattle.branch_tree.proofs.Stopping.{at_err}
 use Rattle.proof_tree.specs.Items.{tree_items}
 use Rattle.proof_log.specs.Log.{log_text}

@@ -1,5 +1,5 @@
 -- The program of a plant is a part of its choices, and its outcomes are those of the plant.
-use Rattle.std.proofs.Common.{refl, inl, inr}
+use Rattle.std.proofs.Common.{inr}
 use Rattle.std.proofs.lemmas.Result.{IfOk-weaker, on_err_weaker}
 use Rattle.stn_model.specs.declared.answer.Outcome.{Outcome}
 use Rattle.stn_solve.specs.Proofs.{HasProof, IsLeft, bytes_in}
