@@ -154,8 +154,8 @@ begun-finish part old between new tree claim header writable took broke =
 pub begun-broken : {S : Type 0} (files : S → Option FileMap) (reads : S → ℕ) (may_read may_write : S → List ℕ → Bool) (part : Program) (writer writer_after : LogWriter) (store store_after : S)
     → IsWhole (writing files reads may_read may_write writer store) (lines_text (Header 2 ∷ []))
     → IsBrokenOff (λ (a : LogWriter) (s : S) (items : List RowItem) (b : LogWriter) (t : S). Took (writing files reads may_read may_write a s) (writing files reads may_read may_write b t) (lines_text (flat_map item_lines items)))
-        (λ (a : LogWriter) (s : S) (items : List RowItem) (b : LogWriter) (t : S). Broke (writing files reads may_read may_write a s) (writing files reads may_read may_write b t) (lines_text (flat_map item_lines items)))
-        part writer store writer_after store_after
+    (λ (a : LogWriter) (s : S) (items : List RowItem) (b : LogWriter) (t : S). Broke (writing files reads may_read may_write a s) (writing files reads may_read may_write b t) (lines_text (flat_map item_lines items)))
+    part writer store writer_after store_after
     → IfSome (bytes_in (string_bytes writer.name) (files store_after)) (IsLogBegun part)
 begun-broken files reads may_read may_write part writer writer_after store store_after header broke =
     let old = writing files reads may_read may_write writer store in
