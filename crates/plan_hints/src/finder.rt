@@ -1,0 +1,167 @@
+use crate::areas::{back_to, domain_of, keep, keep_value};
+use crate::cutter::Cutter;
+use crate::hoods::list_ends;
+use crate::kept::Kept;
+use crate::plan::Plan;
+use crate::tables::Tables;
+use dual_simplex::{Amount, Basis, Outcome, Workspace};
+use row_kit::{Area, Program};
+use std::alloc::{AllocError, Global};
+
+/// A split whose lesser part is still to be searched.
+#[derive(Clone, Copy)]
+pub struct Frame {
+    pub slot: u32,
+    pub max: u8,
+    pub mark: u32,
+}
+
+/// What looks for plans, in memory that it is made with: an area of its own, the bound of it, what the slots come to there, the
+/// plan that is worked on and the best one.
+#[derive(Drop)]
+pub struct Finder {
+    pub tables: Tables,
+    pub area: Area,
+    pub cutter: Cutter,
+    pub workspace: Workspace,
+    pub start: Basis,
+    pub bases: Vec<Basis>,
+    pub frames: Vec<Frame>,
+    pub amounts: Vec<Amount>,
+    pub order: Vec<(i64, u32)>,
+    pub ends: Vec<u32>,
+    pub point: Vec<u8>,
+    pub plan: Plan,
+    pub kept: Kept,
+    pub work: u64,
+}
+
+// The most splits on the way to a box of a small search.
+const MOST_DEPTH: usize = 48;
+
+// The most steps of a bound.
+const MOST_STEPS: u32 = 600;
+
+// A slot that is not started.
+const NONE: Amount = Amount {
+    started: 0,
+    quanta: 0,
+};
+
+impl Finder {
+    /// A finder for a program. No plan is known.
+    pub fn new(alloc: Global, program: &Program) -> Result<Finder, AllocError> {
+        let slots = program.root.len();
+        let mut bases = Vec::with_capacity(alloc, MOST_DEPTH)?;
+        for _ in 0..MOST_DEPTH {
+            bases.push(Basis::new(alloc, program)?)?;
+        }
+        Ok(Finder {
+            tables: Tables::new(alloc, program)?,
+            area: Area::new(alloc, program)?,
+            cutter: Cutter::new(alloc, program)?,
+            workspace: Workspace::new(alloc, program)?,
+            start: Basis::new(alloc, program)?,
+            bases,
+            frames: Vec::with_capacity(alloc, MOST_DEPTH)?,
+            amounts: vec![in alloc; NONE; slots]?,
+            order: Vec::with_capacity(alloc, slots)?,
+            ends: list_ends(alloc, program)?,
+            point: vec![in alloc; 0u8; slots]?,
+            plan: Plan::new(alloc, program)?,
+            kept: Kept::new(alloc, program)?,
+            work: 0,
+        })
+    }
+
+    /// Makes its area a copy of another, which has been cut.
+    pub fn enter(&mut self, other: &Area) {
+        back_to(&mut self.area, 0);
+        for slot in 0..other.slot_count() {
+            keep(&mut self.area, slot, other.domain(slot));
+        }
+    }
+
+    /// What a slot comes to by the last bound.
+    pub fn amount(&self, slot: u32) -> Amount {
+        match self.amounts.get(slot as usize) {
+            None => NONE,
+            Some(amount) => *amount,
+        }
+    }
+
+    /// Bounds its area from a basis, and notes what the slots come to. False says that it has no better plan.
+    pub fn bound(&mut self, program: &Program, from: Option<usize>) -> bool {
+        let aim = self.kept.worth;
+        let start = match from {
+            Some(place) if place < self.bases.len() => &self.bases[place],
+            _ => &self.start,
+        };
+        let outcome = self.workspace.bound(program, &self.area, start, aim, MOST_STEPS);
+        self.count_bound();
+        match outcome {
+            Outcome::NoPoint | Outcome::Reached => false,
+            _ => {
+                self.note_amounts();
+                true
+            }
+        }
+    }
+
+    // Counts the work of the last bound: for each pivot the lines times the columns, by the slots that are free.
+    fn count_bound(&mut self) {
+        let mut free = 0u64;
+        for slot in 0..self.area.slot_count() {
+            if !crate::areas::is_single(self.area.domain(slot)) {
+                free = free.wrapping_add(1);
+            }
+        }
+        let pivots = u64::from(self.workspace.pivots()).wrapping_add(free / 4).wrapping_add(2);
+        self.work = self.work.wrapping_add(pivots.wrapping_mul(free.wrapping_mul(free)).wrapping_mul(2));
+    }
+
+    // Notes what the slots come to.
+    fn note_amounts(&mut self) {
+        for slot in 0..self.amounts.len() {
+            self.amounts[slot] = self.workspace.amount(slot as u32);
+        }
+    }
+
+    /// Improves a point that is kept by all rows, and takes it where it is worth more than the best plan.
+    pub fn take_point(&mut self, program: &Program) {
+        self.plan.read(&self.tables, self.point.as_slice());
+        if self.plan.repair(&self.tables, program) {
+            self.plan.improve(&self.tables, program.root.as_slice());
+            let _ = self.kept.take(program, self.plan.values.as_slice());
+        }
+    }
+
+    /// Takes the only point of its area.
+    pub fn take_only(&mut self, program: &Program) {
+        for slot in 0..self.point.len() {
+            let domain = domain_of(&self.area, slot as u32);
+            self.point[slot] = if domain.zero { 0 } else { domain.lo };
+        }
+        self.take_point(program);
+    }
+
+    /// Takes the rounded solution of the last bound.
+    pub fn take_rounded(&mut self, program: &Program) {
+        if self.point.len() == self.area.slot_count() as usize && !self.area.has_empty() {
+            self.workspace.round(&self.area, self.point.as_mut_slice());
+            self.take_point(program);
+        }
+    }
+
+    /// Gives a slot one value and cuts; where that leaves no point, all is as before, and the answer false.
+    pub fn try_value(&mut self, program: &Program, slot: u32, value: u8) -> bool {
+        let mark = self.area.mark();
+        keep_value(&mut self.area, slot, value);
+        self.cutter.wake_slot(&self.tables, slot);
+        let lives = self.cutter.cut(program, &self.tables, &mut self.area);
+        if !lives {
+            back_to(&mut self.area, mark);
+        }
+        lives
+    }
+}

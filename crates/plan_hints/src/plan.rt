@@ -1,0 +1,204 @@
+use crate::cutter::range_within;
+use crate::reserved::copy;
+use crate::tables::{Part, Tables};
+use row_kit::{Domain, Program};
+use std::alloc::{AllocError, Global};
+
+/// A value for each slot, with what they sum to in each row.
+#[derive(Drop)]
+pub struct Plan {
+    pub values: Vec<u8>,
+    used: Vec<i64>,
+}
+
+// The most rounds of improvement.
+const MOST_ROUNDS: usize = 20;
+
+impl Plan {
+    /// The plan without starts.
+    pub fn new(alloc: Global, program: &Program) -> Result<Plan, AllocError> {
+        Ok(Plan {
+            values: vec![in alloc; 0u8; program.root.len()]?,
+            used: vec![in alloc; 0i64; program.rows.len()]?,
+        })
+    }
+
+    /// The value of a slot.
+    pub fn value(&self, slot: u32) -> u8 {
+        match self.values.get(slot as usize) {
+            None => 0,
+            Some(value) => *value,
+        }
+    }
+
+    /// Gives a slot a value.
+    pub fn set(&mut self, tables: &Tables, slot: u32, value: u8) {
+        let before = self.value(slot);
+        if (slot as usize) < self.values.len() {
+            self.values[slot as usize] = value;
+        }
+        for part in tables.parts_of(slot) {
+            let change = part.counted(value).wrapping_sub(part.counted(before));
+            self.add(part, change);
+        }
+    }
+
+    // Adds to what is used of a row.
+    fn add(&mut self, part: &Part, change: i64) {
+        let row = part.row as usize;
+        if row < self.used.len() {
+            self.used[row] = self.used[row].wrapping_add(change);
+        }
+    }
+
+    /// Takes the values of a point.
+    pub fn read(&mut self, tables: &Tables, point: &[u8]) {
+        copy(self.values.as_mut_slice(), point);
+        for used in self.used.iter_mut() {
+            *used = 0;
+        }
+        for slot in 0..self.values.len() as u32 {
+            let value = self.value(slot);
+            if value != 0 {
+                for part in tables.parts_of(slot) {
+                    self.add(part, part.counted(value));
+                }
+            }
+        }
+    }
+
+    // What is left of a row.
+    fn room(&self, tables: &Tables, row: u32) -> i64 {
+        match self.used.get(row as usize) {
+            None => 0,
+            Some(used) => tables.limit(row).wrapping_sub(*used),
+        }
+    }
+
+    /// Whether it keeps all rows.
+    pub fn is_kept(&self, tables: &Tables) -> bool {
+        for row in 0..self.used.len() as u32 {
+            if self.room(tables, row) < 0 {
+                return false;
+            }
+        }
+        true
+    }
+
+    // The values of a domain at which all rows of the slot are kept, the other slots as they are.
+    fn choices(&self, tables: &Tables, slot: u32, domain: Domain) -> Domain {
+        let value = self.value(slot);
+        let mut zero = domain.zero;
+        let mut range = (domain.lo, domain.hi);
+        for part in tables.parts_of(slot) {
+            let room = self.room(tables, part.row).wrapping_add(part.counted(value));
+            zero = zero && room >= 0;
+            if range.0 <= range.1 {
+                range = range_within(part.fixed, part.per, room, range);
+            }
+        }
+        Domain {
+            zero,
+            lo: range.0,
+            hi: range.1,
+        }
+    }
+
+    // Gives a slot of a plan that keeps all rows the value that earns most; whether that earns more.
+    fn raise(&mut self, tables: &Tables, slot: u32, domain: Domain) -> bool {
+        let choices = self.choices(tables, slot, domain);
+        let value = self.value(slot);
+        let mut best = (tables.earned(slot, value), value);
+        if choices.zero {
+            best = better(best, (0, 0));
+        }
+        if choices.lo <= choices.hi {
+            best = better(best, (tables.earned(slot, choices.hi), choices.hi));
+            best = better(best, (tables.earned(slot, choices.lo), choices.lo));
+        }
+        if best.1 == value {
+            return false;
+        }
+        self.set(tables, slot, best.1);
+        true
+    }
+
+    /// Raises and lowers single slots of a plan that keeps all rows, until none earns more.
+    pub fn improve(&mut self, tables: &Tables, root: &[Domain]) {
+        for _ in 0..MOST_ROUNDS {
+            let mut changed = false;
+            for slot in 0..root.len() {
+                if self.raise(tables, slot as u32, root[slot]) {
+                    changed = true;
+                }
+            }
+            if !changed {
+                return;
+            }
+        }
+    }
+
+    /// Takes starts out that count in broken rows, one after the other, the greatest in the row that is broken most; whether all
+    /// rows are kept then.
+    pub fn repair(&mut self, tables: &Tables, program: &Program) -> bool {
+        for _ in 0..self.values.len() {
+            match self.most_broken(tables) {
+                None => return true,
+                Some(row) => {
+                    if !self.relieve(tables, program, row) {
+                        return false;
+                    }
+                }
+            }
+        }
+        self.is_kept(tables)
+    }
+
+    // The row that is broken most.
+    fn most_broken(&self, tables: &Tables) -> Option<u32> {
+        let mut found = None;
+        let mut least = 0i64;
+        for row in 0..self.used.len() as u32 {
+            let room = self.room(tables, row);
+            if room < least {
+                least = room;
+                found = Some(row);
+            }
+        }
+        found
+    }
+
+    // Takes the start out that counts most in a row; false where none counts.
+    fn relieve(&mut self, tables: &Tables, program: &Program, row: u32) -> bool {
+        if row as usize >= program.rows.len() {
+            return false;
+        }
+        let mut most = 0i64;
+        let mut found = None;
+        for entry in program.rows.get(row as usize).entries.as_slice() {
+            let value = self.value(entry.slot);
+            let part = Part {
+                row,
+                fixed: entry.fixed,
+                per: entry.per,
+            };
+            let counted = part.counted(value);
+            if counted > most {
+                most = counted;
+                found = Some(entry.slot);
+            }
+        }
+        match found {
+            None => false,
+            Some(slot) => {
+                self.set(tables, slot, 0);
+                true
+            }
+        }
+    }
+}
+
+// The one that earns more of two values with what they earn.
+fn better(one: (i64, u8), other: (i64, u8)) -> (i64, u8) {
+    if other.0 > one.0 { other } else { one }
+}

@@ -1,0 +1,15 @@
+/// Puts an item at the end where there is room, and else drops it. It takes no memory.
+pub fn put_last<T: Drop>(list: &mut Vec<T>, item: T) {
+    if list.len() < list.capacity() {
+        list.push_reserved(item);
+    }
+}
+
+/// Copies items into the places of as many others as there are of both.
+pub fn copy<T: Copy>(items: &mut [T], others: &[T]) {
+    for place in 0..items.len() {
+        if place < others.len() {
+            items[place] = others[place];
+        }
+    }
+}

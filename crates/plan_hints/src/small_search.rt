@@ -1,0 +1,206 @@
+use crate::areas::{back_to, domain_of, is_single, keep_side};
+use crate::diving::Dive;
+use crate::finder::{Finder, Frame};
+use crate::reserved::put_last;
+use dual_simplex::{Amount, Side, Trial};
+use row_kit::{Domain, Program};
+
+/// How a small search picks the slot to split.
+#[derive(Clone, Copy, PartialEq, Eq, Debug)]
+pub enum Picking {
+    /// The one that is started furthest.
+    Furthest,
+    /// The one whose split costs most on both sides, by trials.
+    Tried,
+}
+
+// The number 1 of amounts.
+const ONE: i64 = 1_073_741_824;
+
+// What is that near to a whole number counts as whole: 2 to the power -14.
+const NEAR: i64 = 65_536;
+
+// The slots that are tried, and the steps of each trial.
+const MOST_TRIED: usize = 8;
+const MOST_STEPS: u32 = 15;
+
+impl Finder {
+    /// Searches its area depth first, from the start's basis, for a plan that is worth more than the best: at most so many boxes, and so much work.
+    pub fn search(&mut self, program: &Program, picking: Picking, most: u32, limit: u64) {
+        self.frames.clear();
+        let mut boxes = 0u32;
+        let mut entered = true;
+        let mut from = None;
+        for _ in 0..most.saturating_mul(2) {
+            if entered {
+                if boxes >= most || self.work >= limit {
+                    return;
+                }
+                boxes = boxes.saturating_add(1);
+                entered = self.look(program, picking, from, boxes);
+                from = self.frames.len().checked_sub(1);
+            } else {
+                if !self.turn() {
+                    return;
+                }
+                from = Some(self.frames.len());
+                entered = true;
+            }
+        }
+    }
+
+    // Goes to the lesser part of the last split; false where none is left.
+    fn turn(&mut self) -> bool {
+        match self.frames.pop() {
+            None => false,
+            Some(frame) => {
+                back_to(&mut self.area, frame.mark);
+                keep_side(&mut self.area, frame.slot, frame.max, false);
+                self.cutter.wake_slot(&self.tables, frame.slot);
+                true
+            }
+        }
+    }
+
+    // Looks at a box; whether it is split and its greater part entered.
+    fn look(&mut self, program: &Program, picking: Picking, from: Option<usize>, boxes: u32) -> bool {
+        if !self.cutter.cut(program, &self.tables, &mut self.area) {
+            return false;
+        }
+        if self.area.is_point() {
+            self.take_only(program);
+            return false;
+        }
+        if !self.bound(program, from) {
+            return false;
+        }
+        self.take_rounded(program);
+        if boxes % 20 == 1 {
+            self.dive(program, Dive::Amounts(ONE / 20));
+        }
+        let picked = match picking {
+            Picking::Furthest => self.furthest(program),
+            Picking::Tried => self.tried(program),
+        };
+        match picked {
+            None => false,
+            Some((slot, max)) => self.split(program, slot, max),
+        }
+    }
+
+    // Splits a slot, and enters the greater part; false where the way is too long.
+    fn split(&mut self, program: &Program, slot: u32, max: u8) -> bool {
+        let depth = self.frames.len();
+        if depth >= self.bases.len() {
+            return false;
+        }
+        self.workspace.save(program, &mut self.bases[depth]);
+        let mark = self.area.mark();
+        put_last(&mut self.frames, Frame { slot, max, mark });
+        keep_side(&mut self.area, slot, max, true);
+        self.cutter.wake_slot(&self.tables, slot);
+        true
+    }
+
+    // The slot that is started furthest of those that are not wholly started, with the value to split at; else one whose quanta are no whole number; else any.
+    fn furthest(&self, program: &Program) -> Option<(u32, u8)> {
+        let mut found = None;
+        let mut most = (0i64, 0i64);
+        for slot in 0..program.tags.len() {
+            let domain = domain_of(&self.area, slot as u32);
+            if !is_single(domain) {
+                let place = i64::from(program.tags.get(slot).place);
+                let rank = (urgency(domain, self.amount(slot as u32)), 0i64.saturating_sub(place));
+                if found.is_none() || rank > most {
+                    most = rank;
+                    found = Some((slot as u32, middle(domain)));
+                }
+            }
+        }
+        found
+    }
+
+    // The slot whose split costs most on both sides, by trials of those that one step ranks highest.
+    fn tried(&mut self, program: &Program) -> Option<(u32, u8)> {
+        self.rank_prices();
+        if self.order.is_empty() {
+            return self.furthest(program);
+        }
+        let mut found = None;
+        let mut most = -1i128;
+        for place in 0..self.order.len().min(MOST_TRIED) {
+            let slot = self.order[place].1;
+            let max = middle(domain_of(&self.area, slot));
+            let score = self.try_split(program, slot, max);
+            if score > most {
+                most = score;
+                found = Some((slot, max));
+            }
+        }
+        found
+    }
+
+    // Orders the slots that lie between their ends by what their splits cost.
+    fn rank_prices(&mut self) {
+        self.order.clear();
+        for slot in 0..self.area.slot_count() {
+            let domain = self.area.domain(slot);
+            if !is_single(domain) && urgency(domain, self.amount(slot)) > 1 {
+                if let Some(prices) = self.workspace.prices(slot, middle(domain)) {
+                    let score = product(prices.at_most, prices.above) >> 60;
+                    let rank = match i64::try_from(score) {
+                        Ok(score) => 0i64.saturating_sub(score),
+                        Err(_) => i64::MIN,
+                    };
+                    put_last(&mut self.order, (rank, slot));
+                }
+            }
+        }
+        self.order.sort_unstable();
+    }
+
+    // What a split costs on both sides.
+    fn try_split(&mut self, program: &Program, slot: u32, max: u8) -> i128 {
+        let low = self.workspace.trial(program, slot, max, Side::AtMost, MOST_STEPS);
+        let high = self.workspace.trial(program, slot, max, Side::Above, MOST_STEPS);
+        product(fall_of(low), fall_of(high))
+    }
+}
+
+// By how much the profit falls on a side.
+fn fall_of(trial: Option<Trial>) -> i64 {
+    match trial {
+        None => 0,
+        Some(Trial::Falls(fall)) => fall,
+        Some(Trial::Closes) => 1_152_921_504_606_846_976,
+    }
+}
+
+// The product of two costs, each at least a little.
+fn product(one: i64, other: i64) -> i128 {
+    i128::from(one.max(16_384)).saturating_mul(i128::from(other.max(16_384)))
+}
+
+// How far a slot is started where that is between its ends, above 1; 1 where only its quanta are no whole number, 0 where they are.
+fn urgency(domain: Domain, amount: Amount) -> i64 {
+    if domain.zero && amount.started > NEAR && amount.started < ONE - NEAR {
+        return amount.started;
+    }
+    let part = amount.quanta.wrapping_add(NEAR) & (ONE - 1);
+    if part <= 2 * NEAR {
+        0
+    } else if domain.zero {
+        1
+    } else {
+        2
+    }
+}
+
+// The value that a slot is split at: 0 where it is held, else the middle.
+fn middle(domain: Domain) -> u8 {
+    if domain.zero || domain.lo > domain.hi {
+        0
+    } else {
+        domain.lo + (domain.hi - domain.lo) / 2
+    }
+}
