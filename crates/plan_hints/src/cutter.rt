@@ -1,5 +1,5 @@
 use crate::areas::{domain_of, keep};
-use crate::tables::{Tables, least};
+use crate::tables::{Tables, ends, least};
 use row_kit::{Area, Domain, Entry, Program};
 use std::alloc::{AllocError, Global};
 
@@ -111,35 +111,52 @@ impl Cutter {
             return true;
         }
         let entries = program.rows.get(row as usize).entries.as_slice();
-        let mut spare = tables.limit(row).wrapping_sub(least_of(entries, area));
+        let (sum, widest) = least_and_widest(entries, area);
+        let mut spare = tables.limit(row).wrapping_sub(sum);
         self.work = self.work.wrapping_add(entries.len() as u64);
         if spare < 0 {
             return false;
         }
+        if widest <= spare {
+            return true;
+        }
         for entry in entries {
-            let before = domain_of(area, entry.slot);
-            let after = cut_domain(entry, before, spare);
-            if after != before {
-                spare = spare.wrapping_add(least(entry, before));
-                keep(area, entry.slot, after);
-                self.wake_slot(tables, entry.slot);
-                if !after.zero && after.lo > after.hi {
-                    return false;
-                }
-                spare = spare.wrapping_sub(least(entry, after));
+            match self.cut_entry(tables, area, entry, spare) {
+                None => return false,
+                Some(left) => spare = left,
             }
         }
         true
     }
+
+    // Cuts the domain of an entry; what is then left of the limit, and None where no value is.
+    fn cut_entry(&mut self, tables: &Tables, area: &mut Area, entry: &Entry, spare: i64) -> Option<i64> {
+        let before = domain_of(area, entry.slot);
+        let after = cut_domain(entry, before, spare);
+        if after == before {
+            return Some(spare);
+        }
+        keep(area, entry.slot, after);
+        self.wake_slot(tables, entry.slot);
+        if !after.zero && after.lo > after.hi {
+            return None;
+        }
+        let change = least(entry, before).wrapping_sub(least(entry, after));
+        Some(spare.wrapping_add(change))
+    }
 }
 
-// The least that entries count over an area.
-fn least_of(entries: &[Entry], area: &Area) -> i64 {
+// The least that entries count over an area, and the most by which one may count more.
+fn least_and_widest(entries: &[Entry], area: &Area) -> (i64, i64) {
     let mut sum = 0i64;
+    let mut widest = 0i64;
     for entry in entries {
-        sum = sum.wrapping_add(least(entry, domain_of(area, entry.slot)));
+        let domain = domain_of(area, entry.slot);
+        let (low, high) = ends(entry, domain);
+        sum = sum.wrapping_add(low);
+        widest = widest.max(high.wrapping_sub(low));
     }
-    sum
+    (sum, widest)
 }
 
 // The values of a domain for which a row has room, where so much is left of its limit at the least of all its entries.

@@ -42,6 +42,9 @@ const MOST_DEPTH: usize = 48;
 // The most steps of a bound.
 const MOST_STEPS: u32 = 600;
 
+// The work of a look at an entry of a row.
+const CUT_WORK: u64 = 4;
+
 // A slot that is not started.
 const NONE: Amount = Amount {
     started: 0,
@@ -88,6 +91,15 @@ impl Finder {
             None => NONE,
             Some(amount) => *amount,
         }
+    }
+
+    /// Cuts its area by the rows that wait, and counts the work; false where there is no point.
+    pub fn cut(&mut self, program: &Program) -> bool {
+        let before = self.cutter.work;
+        let lives = self.cutter.cut(program, &self.tables, &mut self.area);
+        let done = self.cutter.work.wrapping_sub(before);
+        self.work = self.work.wrapping_add(done.wrapping_mul(CUT_WORK));
+        lives
     }
 
     /// Bounds its area from a basis, and notes what the slots come to. False says that it has no better plan.
@@ -158,7 +170,7 @@ impl Finder {
         let mark = self.area.mark();
         keep_value(&mut self.area, slot, value);
         self.cutter.wake_slot(&self.tables, slot);
-        let lives = self.cutter.cut(program, &self.tables, &mut self.area);
+        let lives = self.cut(program);
         if !lives {
             back_to(&mut self.area, mark);
         }

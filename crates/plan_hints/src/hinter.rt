@@ -1,7 +1,7 @@
 use crate::areas::domain_of;
 use crate::diving::Dive;
 use crate::finder::Finder;
-use crate::hoods::{Hood, list_hoods};
+use crate::hoods::{Hood, LEVELS, Leveled, list_hoods};
 use crate::reserved::copy;
 use crate::small_search::Picking;
 use branch_tree::Hinter;
@@ -14,7 +14,7 @@ use std::alloc::{AllocError, Global};
 #[derive(Drop)]
 pub struct PlanHinter {
     finder: Finder,
-    hoods: Vec<Hood>,
+    hoods: Vec<Leveled>,
     seen: Vec<Amount>,
     boxes: u32,
     searched: Option<i128>,
@@ -31,9 +31,10 @@ const MOST_BOXES: u32 = 400;
 const MOST_SMALL: u32 = 20;
 const MOST_WORK: u64 = 40_000_000;
 
-// The rounds, and those of them without gain.
-const MOST_ROUNDS: u32 = 12;
-const MOST_STILL: u32 = 3;
+// The levels that are searched at a box, the stages without gain, and the work.
+const MOST_TURNS: u32 = 100;
+const MOST_STAGES: u32 = 16;
+const MOST_TOTAL: u64 = 2_000_000_000;
 
 impl PlanHinter {
     /// A hinter for a program.
@@ -90,34 +91,40 @@ impl PlanHinter {
         }
     }
 
-    // Searches the neighbourhoods of the best plan, until three rounds find none that is better.
+    // Searches the neighbourhoods of the best plan, level by level, the cheapest first, each with both ways of picking, and from the
+    // cheapest again after each gain.
     fn search_hoods(&mut self, program: &Program) {
         self.find_first(program);
-        let mut still = 0u32;
-        for round in 0..MOST_ROUNDS {
-            if self.finder.kept.worth.is_none() || still >= MOST_STILL {
+        let end = self.finder.work.saturating_add(MOST_TOTAL);
+        let mut stage = 0u32;
+        for turn in 0..MOST_TURNS {
+            let ended = stage >= MOST_STAGES || self.finder.work >= end;
+            if self.finder.kept.worth.is_none() || ended {
                 return;
             }
-            let picking = if round % 2 == 1 { Picking::Furthest } else { Picking::Tried };
-            let chances = still > 0 || round > 3;
-            if self.search_round(program, picking, round, chances) {
-                still = 0;
+            stage = if self.search_stage(program, stage, turn) {
+                0
             } else {
-                still = still.saturating_add(1);
-            }
+                stage.saturating_add(1)
+            };
         }
     }
 
-    // Searches each neighbourhood; whether a better plan is found.
-    fn search_round(&mut self, program: &Program, picking: Picking, round: u32, chances: bool) -> bool {
+    // Searches the neighbourhoods of a level; whether a better plan is found.
+    fn search_stage(&mut self, program: &Program, stage: u32, turn: u32) -> bool {
         let before = self.finder.kept.worth;
-        for place in 0..self.hoods.len() {
-            self.search_hood(program, self.hoods[place], picking);
-        }
-        if chances {
+        let picking = if stage % 2 == 1 { Picking::Furthest } else { Picking::Tried };
+        let level = stage / 2;
+        if level >= LEVELS {
             for number in 0..24 {
-                let seed = round.saturating_mul(32).saturating_add(number);
+                let seed = turn.saturating_mul(32).saturating_add(number);
                 self.search_hood(program, Hood::Chance(seed), picking);
+            }
+        }
+        for place in 0..self.hoods.len() {
+            let leveled = self.hoods[place];
+            if leveled.level == level {
+                self.search_hood(program, leveled.hood, picking);
             }
         }
         self.finder.kept.worth != before

@@ -16,8 +16,23 @@ pub enum Hood {
     Chance(u32),
 }
 
+/// A neighbourhood with the level at which it is searched, the cheapest first.
+#[derive(Clone, Copy, PartialEq, Eq, Debug)]
+pub struct Leveled {
+    pub level: u32,
+    pub hood: Hood,
+}
+
+/// The number of levels, without that of chance.
+pub const LEVELS: u32 = 6;
+
+// The most hoods of each sort.
+const MOST_KINDS: u32 = 64;
+const MOST_PLACES: u32 = 64;
+const MOST_LANES: u32 = 32;
+
 /// The neighbourhoods of a program's plans.
-pub fn list_hoods(alloc: Global, program: &Program) -> Result<Vec<Hood>, AllocError> {
+pub fn list_hoods(alloc: Global, program: &Program) -> Result<Vec<Leveled>, AllocError> {
     let mut places = 0u32;
     let mut lanes = 0u32;
     let mut kinds = 0u32;
@@ -27,30 +42,32 @@ pub fn list_hoods(alloc: Global, program: &Program) -> Result<Vec<Hood>, AllocEr
         kinds = kinds.max(tag.kind.saturating_add(1));
     }
     let mut hoods = Vec::new(alloc);
-    hoods.push(Hood::Bound)?;
-    list_places(&mut hoods, places, places.saturating_add(3) / 4)?;
-    list_places(&mut hoods, places, places.saturating_add(1) / 2)?;
+    list_places(&mut hoods, 0, places, places.saturating_add(7) / 8)?;
+    list_places(&mut hoods, 1, places, places.saturating_add(3) / 4)?;
+    list_places(&mut hoods, 2, places, places.saturating_add(1) / 2)?;
+    hoods.push(Leveled { level: 3, hood: Hood::Bound })?;
     list_lanes(&mut hoods, lanes)?;
-    if kinds > 2 {
-        for kind in 0..kinds.min(MOST_KINDS) {
-            hoods.push(Hood::Kinds(kind, kinds))?;
-        }
-    }
+    list_kinds(&mut hoods, kinds)?;
     Ok(hoods)
 }
 
-// The most hoods of each sort.
-const MOST_KINDS: u32 = 64;
-const MOST_PLACES: u32 = 64;
-const MOST_LANES: u32 = 32;
+// Puts the kinds, three at a time, where there are more.
+fn list_kinds(hoods: &mut Vec<Leveled>, kinds: u32) -> Result<(), AllocError> {
+    if kinds > 2 {
+        for kind in 0..kinds.min(MOST_KINDS) {
+            hoods.push(Leveled { level: 5, hood: Hood::Kinds(kind, kinds) })?;
+        }
+    }
+    Ok(())
+}
 
 // Puts the windows of a width, each half a width after the one before.
-fn list_places(hoods: &mut Vec<Hood>, places: u32, width: u32) -> Result<(), AllocError> {
+fn list_places(hoods: &mut Vec<Leveled>, level: u32, places: u32, width: u32) -> Result<(), AllocError> {
     let step = (width.saturating_add(1) / 2).max(1);
     for number in 0..MOST_PLACES {
         let from = number.saturating_mul(step);
         let to = from.saturating_add(width);
-        hoods.push(Hood::Places(from, to))?;
+        hoods.push(Leveled { level, hood: Hood::Places(from, to) })?;
         if to >= places {
             return Ok(());
         }
@@ -59,11 +76,11 @@ fn list_places(hoods: &mut Vec<Hood>, places: u32, width: u32) -> Result<(), All
 }
 
 // Puts the pairs of lanes: all where they are few, else neighbours.
-fn list_lanes(hoods: &mut Vec<Hood>, lanes: u32) -> Result<(), AllocError> {
+fn list_lanes(hoods: &mut Vec<Leveled>, lanes: u32) -> Result<(), AllocError> {
     for one in 0..lanes.min(MOST_LANES) {
         for other in one.saturating_add(1)..lanes.min(MOST_LANES) {
             if lanes <= 5 || other == one.saturating_add(1) {
-                hoods.push(Hood::Lanes(one, other))?;
+                hoods.push(Leveled { level: 4, hood: Hood::Lanes(one, other) })?;
             }
         }
     }

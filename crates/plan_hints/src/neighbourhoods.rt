@@ -23,7 +23,7 @@ impl Finder {
         let before = self.kept.worth;
         let mark = self.area.mark();
         self.agree(program, hood, seen);
-        if self.cutter.cut(program, &self.tables, &mut self.area) {
+        if self.cut(program) {
             self.search(program, picking, most, limit);
             self.cutter.forget();
         }

@@ -64,7 +64,7 @@ impl Finder {
 
     // Looks at a box; whether it is split and its greater part entered.
     fn look(&mut self, program: &Program, picking: Picking, from: Option<usize>, boxes: u32) -> bool {
-        if !self.cutter.cut(program, &self.tables, &mut self.area) {
+        if !self.cut(program) {
             return false;
         }
         if self.area.is_point() {
@@ -75,8 +75,10 @@ impl Finder {
             return false;
         }
         self.take_rounded(program);
-        if boxes % 20 == 1 {
+        if boxes % 4 == 1 {
             self.dive(program, Dive::Amounts(ONE / 20));
+        } else if boxes % 4 == 3 {
+            self.dive(program, Dive::Amounts(ONE / 2));
         }
         let picked = match picking {
             Picking::Furthest => self.furthest(program),
