@@ -3,6 +3,11 @@
 //! It promises to be safe and to end, and nothing else: `branch_tree` tests each piece of advice before it is used.
 #![tactic(auto)]
 
+mod bounding;
+mod candidates;
 mod guide;
+mod path;
+mod ranking;
+mod trying;
 
 pub use guide::PlanGuide;
