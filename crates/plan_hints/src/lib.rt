@@ -4,6 +4,8 @@
 #![tactic(auto)]
 
 mod areas;
+mod bounding;
+mod candidates;
 mod cutter;
 mod diving;
 mod finder;
@@ -12,10 +14,13 @@ mod hinter;
 mod hoods;
 mod kept;
 mod neighbourhoods;
+mod path;
 mod plan;
+mod ranking;
 mod reserved;
 mod small_search;
 mod tables;
+mod trying;
 
 pub use guide::PlanGuide;
 pub use hinter::PlanHinter;
