@@ -23,6 +23,12 @@ pub fn is_single(domain: Domain) -> bool {
     }
 }
 
+/// The least value of a slot; 0 where there is no such slot.
+pub fn only_value(area: &Area, slot: u32) -> u8 {
+    let domain = domain_of(area, slot);
+    if domain.zero { 0 } else { domain.lo }
+}
+
 /// Keeps the values of a domain.
 pub fn keep(area: &mut Area, slot: u32, domain: Domain) {
     if slot < area.slot_count() && domain.lo >= 1 {

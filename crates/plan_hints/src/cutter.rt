@@ -1,4 +1,5 @@
 use crate::areas::{domain_of, keep};
+use crate::reserved::numbered;
 use crate::tables::{Tables, ends, least};
 use row_kit::{Area, Domain, Entry, Program};
 use std::alloc::{AllocError, Global};
@@ -33,9 +34,7 @@ impl Cutter {
     /// Lets each row wait.
     pub fn wake_all(&mut self) {
         for row in 0..self.waits.len() {
-            if let Ok(row) = u32::try_from(row) {
-                self.wake(row);
-            }
+            self.wake(numbered(row));
         }
     }
 

@@ -1,8 +1,8 @@
 use crate::areas::{back_to, domain_of, is_single};
 use crate::finder::Finder;
-use crate::reserved::put_last;
+use crate::reserved::{numbered, put_last};
 use dual_simplex::Amount;
-use row_kit::{Domain, Program};
+use row_kit::{Domain, Program, Tag};
 
 /// In which order a dive fixes slots, and what it wishes for them.
 #[derive(Clone, Copy, PartialEq, Eq, Debug)]
@@ -17,8 +17,8 @@ pub enum Dive {
     GreatestBack,
 }
 
-// The number 1 of amounts.
-const ONE: i64 = 1_073_741_824;
+/// The number 1 of amounts.
+pub const ONE: i64 = 1_073_741_824;
 
 // The most values that a dive tries in vain.
 const MOST_FAILS: u32 = 200;
@@ -38,17 +38,9 @@ impl Finder {
     fn rank(&mut self, program: &Program, dive: Dive) {
         self.order.clear();
         for slot in 0..program.tags.len() {
-            let tag = program.tags.get(slot);
-            let place = i64::from(tag.place);
-            let kind = i64::from(tag.kind);
-            let rest = ONE.saturating_sub(self.amount(slot as u32).started).max(0) >> 20;
-            let rank = match dive {
-                Dive::Amounts(_) => pair(rest, place),
-                Dive::Places(_) => pair(place, rest),
-                Dive::Greatest => pair(place, kind),
-                Dive::GreatestBack => pair(place, 0i64.saturating_sub(kind)),
-            };
-            put_last(&mut self.order, (rank, slot as u32));
+            let slot_number = numbered(slot);
+            let rank = ranked(program.tags.get(slot), self.amount(slot_number), dive);
+            put_last(&mut self.order, (rank, slot_number));
         }
         self.order.sort_unstable();
     }
@@ -91,8 +83,21 @@ impl Finder {
     }
 }
 
-// Two numbers as one that orders by the first, then by the second.
-fn pair(first: i64, second: i64) -> i64 {
+// The rank of a slot in a dive.
+fn ranked(tag: &Tag, amount: Amount, dive: Dive) -> i64 {
+    let place = i64::from(tag.place);
+    let kind = i64::from(tag.kind);
+    let rest = ONE.saturating_sub(amount.started).max(0) >> 20;
+    match dive {
+        Dive::Amounts(_) => pair(rest, place),
+        Dive::Places(_) => pair(place, rest),
+        Dive::Greatest => pair(place, kind),
+        Dive::GreatestBack => pair(place, 0i64.saturating_sub(kind)),
+    }
+}
+
+/// Two numbers as one that orders by the first, then by the second.
+pub fn pair(first: i64, second: i64) -> i64 {
     first.wrapping_mul(0x1_0000_0000).wrapping_add(second)
 }
 
@@ -100,17 +105,19 @@ fn pair(first: i64, second: i64) -> i64 {
 fn wish(amount: Amount, dive: Dive) -> u8 {
     match dive {
         Dive::Greatest | Dive::GreatestBack => u8::MAX,
-        Dive::Amounts(least) | Dive::Places(least) => {
-            if amount.started >= least && amount.started > 0 {
-                let quanta = amount.quanta.saturating_add(amount.started / 2) / amount.started;
-                match u8::try_from(quanta.max(1)) {
-                    Ok(quanta) => quanta,
-                    Err(_) => u8::MAX,
-                }
-            } else {
-                0
-            }
-        }
+        Dive::Amounts(least) | Dive::Places(least) => wish_by(amount, least),
+    }
+}
+
+// The quanta of one start, where a slot is started by at least so much; else 0.
+fn wish_by(amount: Amount, least: i64) -> u8 {
+    if amount.started < least || amount.started <= 0 {
+        return 0;
+    }
+    let quanta = amount.quanta.saturating_add(amount.started / 2) / amount.started;
+    match u8::try_from(quanta.max(1)) {
+        Ok(quanta) => quanta,
+        Err(_) => u8::MAX,
     }
 }
 

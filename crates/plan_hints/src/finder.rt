@@ -1,11 +1,13 @@
-use crate::areas::{back_to, domain_of, keep, keep_value};
+use crate::areas::{back_to, domain_of, is_single, keep, keep_value, only_value};
 use crate::cutter::Cutter;
+use crate::diving::ONE;
 use crate::hoods::list_ends;
 use crate::kept::Kept;
 use crate::plan::Plan;
+use crate::reserved::numbered;
 use crate::tables::Tables;
 use dual_simplex::{Amount, Basis, Outcome, Workspace};
-use row_kit::{Area, Program};
+use row_kit::{Area, Domain, Program};
 use std::alloc::{AllocError, Global};
 
 /// A split whose lesser part is still to be searched.
@@ -45,8 +47,8 @@ const MOST_STEPS: u32 = 600;
 // The work of a look at an entry of a row.
 const CUT_WORK: u64 = 4;
 
-// A slot that is not started.
-const NONE: Amount = Amount {
+/// A slot that is not started.
+pub const NONE: Amount = Amount {
     started: 0,
     quanta: 0,
 };
@@ -85,6 +87,13 @@ impl Finder {
         }
     }
 
+    /// Makes its area the root, cut by all rows.
+    pub fn enter_root(&mut self, program: &Program) {
+        back_to(&mut self.area, 0);
+        self.cutter.wake_all();
+        let _ = self.cut(program);
+    }
+
     /// What a slot comes to by the last bound.
     pub fn amount(&self, slot: u32) -> Amount {
         match self.amounts.get(slot as usize) {
@@ -105,11 +114,13 @@ impl Finder {
     /// Bounds its area from a basis, and notes what the slots come to. False says that it has no better plan.
     pub fn bound(&mut self, program: &Program, from: Option<usize>) -> bool {
         let aim = self.kept.worth;
-        let start = match from {
-            Some(place) if place < self.bases.len() => &self.bases[place],
-            _ => &self.start,
+        let outcome = match from {
+            Some(place) if place < self.bases.len() => {
+                let start = &self.bases[place];
+                self.workspace.bound(program, &self.area, start, aim, MOST_STEPS)
+            }
+            _ => self.workspace.bound(program, &self.area, &self.start, aim, MOST_STEPS),
         };
-        let outcome = self.workspace.bound(program, &self.area, start, aim, MOST_STEPS);
         self.count_bound();
         match outcome {
             Outcome::NoPoint | Outcome::Reached => false,
@@ -120,26 +131,27 @@ impl Finder {
         }
     }
 
-    // Counts the work of the last bound: for each pivot the lines times the columns, by the slots that are free.
+    // Counts the work of the last bound: for each pivot about the lines times the columns, by the slots that are free.
     fn count_bound(&mut self) {
         let mut free = 0u64;
         for slot in 0..self.area.slot_count() {
-            if !crate::areas::is_single(self.area.domain(slot)) {
+            if !is_single(domain_of(&self.area, slot)) {
                 free = free.wrapping_add(1);
             }
         }
         let pivots = u64::from(self.workspace.pivots()).wrapping_add(free / 4).wrapping_add(2);
-        self.work = self.work.wrapping_add(pivots.wrapping_mul(free.wrapping_mul(free)).wrapping_mul(2));
+        let cells = free.wrapping_mul(free).wrapping_mul(2);
+        self.work = self.work.wrapping_add(pivots.wrapping_mul(cells));
     }
 
     // Notes what the slots come to.
     fn note_amounts(&mut self) {
         for slot in 0..self.amounts.len() {
-            self.amounts[slot] = self.workspace.amount(slot as u32);
+            self.amounts[slot] = self.workspace.amount(numbered(slot));
         }
     }
 
-    /// Improves a point that is kept by all rows, and takes it where it is worth more than the best plan.
+    /// Repairs and improves its point, and takes it where it is worth more than the best plan.
     pub fn take_point(&mut self, program: &Program) {
         self.plan.read(&self.tables, self.point.as_slice());
         if self.plan.repair(&self.tables, program) {
@@ -151,18 +163,18 @@ impl Finder {
     /// Takes the only point of its area.
     pub fn take_only(&mut self, program: &Program) {
         for slot in 0..self.point.len() {
-            let domain = domain_of(&self.area, slot as u32);
-            self.point[slot] = if domain.zero { 0 } else { domain.lo };
+            self.point[slot] = only_value(&self.area, numbered(slot));
         }
         self.take_point(program);
     }
 
     /// Takes the rounded solution of the last bound.
     pub fn take_rounded(&mut self, program: &Program) {
-        if self.point.len() == self.area.slot_count() as usize && !self.area.has_empty() {
-            self.workspace.round(&self.area, self.point.as_mut_slice());
-            self.take_point(program);
+        for slot in 0..self.point.len() {
+            let domain = domain_of(&self.area, numbered(slot));
+            self.point[slot] = rounded(self.amount(numbered(slot)), domain);
         }
+        self.take_point(program);
     }
 
     /// Gives a slot one value and cuts; where that leaves no point, all is as before, and the answer false.
@@ -175,5 +187,16 @@ impl Finder {
             back_to(&mut self.area, mark);
         }
         lives
+    }
+}
+
+// The value of a domain that is nearest to what a slot comes to: 0 where it is held and the slot is started by less than a half.
+fn rounded(amount: Amount, domain: Domain) -> u8 {
+    if domain.lo > domain.hi || (domain.zero && amount.started < ONE / 2) {
+        return 0;
+    }
+    match u8::try_from(amount.quanta.saturating_add(ONE / 2) >> 30) {
+        Ok(quanta) => quanta.max(domain.lo).min(domain.hi),
+        Err(_) => domain.hi,
     }
 }

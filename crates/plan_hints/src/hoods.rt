@@ -24,38 +24,52 @@ pub struct Leveled {
 }
 
 /// The number of levels, without that of chance.
-pub const LEVELS: u32 = 6;
+pub const LEVELS: u32 = 5;
 
-// The most hoods of each sort.
+// From so many places on, windows of an eighth are searched too.
+const MANY_PLACES: u32 = 24;
+
+// The most neighbourhoods of a sort.
 const MOST_KINDS: u32 = 64;
 const MOST_PLACES: u32 = 64;
 const MOST_LANES: u32 = 32;
 
 /// The neighbourhoods of a program's plans.
 pub fn list_hoods(alloc: Global, program: &Program) -> Result<Vec<Leveled>, AllocError> {
+    let (places, lanes, kinds) = extents(program.tags.as_slice());
+    let mut hoods = Vec::new(alloc);
+    hoods.push(Leveled {
+        level: 0,
+        hood: Hood::Bound,
+    })?;
+    if places >= MANY_PLACES {
+        list_places(&mut hoods, 0, places, places / 8)?;
+    }
+    list_places(&mut hoods, 1, places, places.saturating_add(3) / 4)?;
+    list_places(&mut hoods, 2, places, places.saturating_add(1) / 2)?;
+    list_lanes(&mut hoods, lanes)?;
+    list_kinds(&mut hoods, kinds)?;
+    Ok(hoods)
+}
+
+// The numbers of places, lanes and kinds.
+fn extents(tags: &[Tag]) -> (u32, u32, u32) {
     let mut places = 0u32;
     let mut lanes = 0u32;
     let mut kinds = 0u32;
-    for tag in program.tags.as_slice() {
+    for tag in tags {
         places = places.max(tag.place.saturating_add(1));
         lanes = lanes.max(tag.lane.saturating_add(1));
         kinds = kinds.max(tag.kind.saturating_add(1));
     }
-    let mut hoods = Vec::new(alloc);
-    list_places(&mut hoods, 0, places, places.saturating_add(7) / 8)?;
-    list_places(&mut hoods, 1, places, places.saturating_add(3) / 4)?;
-    list_places(&mut hoods, 2, places, places.saturating_add(1) / 2)?;
-    hoods.push(Leveled { level: 3, hood: Hood::Bound })?;
-    list_lanes(&mut hoods, lanes)?;
-    list_kinds(&mut hoods, kinds)?;
-    Ok(hoods)
+    (places, lanes, kinds)
 }
 
 // Puts the kinds, three at a time, where there are more.
 fn list_kinds(hoods: &mut Vec<Leveled>, kinds: u32) -> Result<(), AllocError> {
     if kinds > 2 {
         for kind in 0..kinds.min(MOST_KINDS) {
-            hoods.push(Leveled { level: 5, hood: Hood::Kinds(kind, kinds) })?;
+            hoods.push(Leveled { level: 3, hood: Hood::Kinds(kind, kinds) })?;
         }
     }
     Ok(())
@@ -80,7 +94,7 @@ fn list_lanes(hoods: &mut Vec<Leveled>, lanes: u32) -> Result<(), AllocError> {
     for one in 0..lanes.min(MOST_LANES) {
         for other in one.saturating_add(1)..lanes.min(MOST_LANES) {
             if lanes <= 5 || other == one.saturating_add(1) {
-                hoods.push(Leveled { level: 4, hood: Hood::Lanes(one, other) })?;
+                hoods.push(Leveled { level: 3, hood: Hood::Lanes(one, other) })?;
             }
         }
     }
@@ -95,7 +109,7 @@ impl Hood {
             Hood::Places(from, to) => from < end && tag.place < to,
             Hood::Lanes(one, other) => tag.lane == one || tag.lane == other,
             Hood::Kinds(first, kinds) => is_of_three(tag.kind, first, kinds),
-            Hood::Chance(seed) => u32::from(scattered(tag, seed)) < 360 + 10 * (seed & 15),
+            Hood::Chance(seed) => u32::from(scattered(tag, seed)) < 360 + 10 * (seed % 16),
         }
     }
 }
@@ -110,11 +124,11 @@ fn is_of_three(kind: u32, first: u32, kinds: u32) -> bool {
     after < 3
 }
 
-// A number below 1,024, which looks like chance, the same for neighbours on a lane.
+// A number below 1,024, which looks like chance.
 fn scattered(tag: &Tag, seed: u32) -> u16 {
     let key = u64::from(tag.lane)
         .wrapping_mul(31)
-        .wrapping_add(u64::from(tag.place / 2).wrapping_mul(7_919))
+        .wrapping_add(u64::from(tag.place).wrapping_mul(7_919))
         .wrapping_add(u64::from(seed).wrapping_mul(104_729));
     let mixed = key.wrapping_mul(0x9E37_79B9_7F4A_7C15);
     let mixed = (mixed ^ (mixed >> 29)).wrapping_mul(0xBF58_476D_1CE4_E5B9);

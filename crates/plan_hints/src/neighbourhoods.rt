@@ -1,16 +1,18 @@
-use crate::areas::{back_to, domain_of, keep, keep_value};
+use crate::areas::{back_to, keep_side, keep_value};
+use crate::diving::ONE;
 use crate::finder::Finder;
 use crate::hoods::Hood;
+use crate::reserved::numbered;
 use crate::small_search::Picking;
 use dual_simplex::Amount;
-use row_kit::{Domain, Program};
+use row_kit::Program;
 
-// The number 1 of amounts, and what is near to it or to 0.
-const ONE: i64 = 1_073_741_824;
+// What is that near to a whole number counts as whole: 2 to the power -10.
 const NEAR: i64 = 1_048_576;
 
 impl Finder {
-    /// Searches its area where the best plan is left free by a neighbourhood; whether a better plan is found. `seen` is what the slots came to in the area's own bound.
+    /// Searches its area, where the best plan is left free by a neighbourhood. `seen` is what the slots came to in the bound with
+    /// which the plan is compared.
     pub fn search_hood(
         &mut self,
         program: &Program,
@@ -19,16 +21,11 @@ impl Finder {
         picking: Picking,
         most: u32,
         limit: u64,
-    ) -> bool {
-        let before = self.kept.worth;
+    ) {
         let mark = self.area.mark();
         self.agree(program, hood, seen);
-        if self.cut(program) {
-            self.search(program, picking, most, limit);
-            self.cutter.forget();
-        }
+        self.search(program, picking, most, limit);
         back_to(&mut self.area, mark);
-        self.kept.worth != before
     }
 
     // About the place up to before which a slot holds its lane.
@@ -42,22 +39,32 @@ impl Finder {
     // Keeps the values of the best plan outside a neighbourhood.
     fn agree(&mut self, program: &Program, hood: Hood, seen: &[Amount]) {
         for slot in 0..program.tags.len() {
-            let value = match self.kept.values.get(slot) {
-                None => 0,
-                Some(value) => *value,
+            let value = value_at(self.kept.values.as_slice(), slot);
+            let held = if hood == Hood::Bound {
+                slot < seen.len() && is_agreed(&seen[slot], value)
+            } else {
+                !hood.frees(program.tags.get(slot), self.end_of(slot))
             };
-            let domain = domain_of(&self.area, slot as u32);
-            if hood == Hood::Bound {
-                if slot < seen.len() && is_agreed(&seen[slot], value) {
-                    keep(&mut self.area, slot as u32, started_alike(domain, value));
-                    self.cutter.wake_slot(&self.tables, slot as u32);
-                }
-            } else if !hood.frees(program.tags.get(slot), self.end_of(slot)) {
-                keep_value(&mut self.area, slot as u32, value);
-                self.cutter.wake_slot(&self.tables, slot as u32);
+            if held {
+                self.hold(numbered(slot), value, hood == Hood::Bound);
             }
         }
     }
+
+    // Keeps a value of a slot, or all that start it alike.
+    fn hold(&mut self, slot: u32, value: u8, alike: bool) {
+        if alike && value != 0 {
+            keep_side(&mut self.area, slot, 0, true);
+        } else {
+            keep_value(&mut self.area, slot, value);
+        }
+        self.cutter.wake_slot(&self.tables, slot);
+    }
+}
+
+// The value at a place, and 0 where there is none.
+fn value_at(values: &[u8], place: usize) -> u8 {
+    if place < values.len() { values[place] } else { 0 }
 }
 
 // Whether a bound and a plan agree on whether a slot is started.
@@ -66,22 +73,5 @@ fn is_agreed(amount: &Amount, value: u8) -> bool {
         amount.started <= NEAR
     } else {
         amount.started >= ONE - NEAR
-    }
-}
-
-// The values of a domain that start a slot where a value does.
-fn started_alike(domain: Domain, value: u8) -> Domain {
-    if value == 0 {
-        Domain {
-            zero: true,
-            lo: 1,
-            hi: 0,
-        }
-    } else {
-        Domain {
-            zero: false,
-            lo: domain.lo,
-            hi: domain.hi,
-        }
     }
 }

@@ -1,7 +1,7 @@
 use crate::cutter::range_within;
-use crate::reserved::copy;
-use crate::tables::{Part, Tables};
-use row_kit::{Domain, Program};
+use crate::reserved::{copy, numbered};
+use crate::tables::{Part, Tables, counted};
+use row_kit::{Domain, Entry, Program};
 use std::alloc::{AllocError, Global};
 
 /// A value for each slot, with what they sum to in each row.
@@ -57,7 +57,7 @@ impl Plan {
         for used in self.used.iter_mut() {
             *used = 0;
         }
-        for slot in 0..self.values.len() as u32 {
+        for slot in 0..numbered(self.values.len()) {
             let value = self.value(slot);
             if value != 0 {
                 for part in tables.parts_of(slot) {
@@ -77,7 +77,7 @@ impl Plan {
 
     /// Whether it keeps all rows.
     pub fn is_kept(&self, tables: &Tables) -> bool {
-        for row in 0..self.used.len() as u32 {
+        for row in 0..numbered(self.used.len()) {
             if self.room(tables, row) < 0 {
                 return false;
             }
@@ -126,16 +126,21 @@ impl Plan {
     /// Raises and lowers single slots of a plan that keeps all rows, until none earns more.
     pub fn improve(&mut self, tables: &Tables, root: &[Domain]) {
         for _ in 0..MOST_ROUNDS {
-            let mut changed = false;
-            for slot in 0..root.len() {
-                if self.raise(tables, slot as u32, root[slot]) {
-                    changed = true;
-                }
-            }
-            if !changed {
+            if !self.raise_each(tables, root) {
                 return;
             }
         }
+    }
+
+    // Gives each slot the value that earns most; whether one earns more.
+    fn raise_each(&mut self, tables: &Tables, root: &[Domain]) -> bool {
+        let mut raised = false;
+        for slot in 0..root.len() {
+            if self.raise(tables, numbered(slot), root[slot]) {
+                raised = true;
+            }
+        }
+        raised
     }
 
     /// Takes starts out that count in broken rows, one after the other, the greatest in the row that is broken most; whether all
@@ -158,7 +163,7 @@ impl Plan {
     fn most_broken(&self, tables: &Tables) -> Option<u32> {
         let mut found = None;
         let mut least = 0i64;
-        for row in 0..self.used.len() as u32 {
+        for row in 0..numbered(self.used.len()) {
             let room = self.room(tables, row);
             if room < least {
                 least = room;
@@ -173,28 +178,28 @@ impl Plan {
         if row as usize >= program.rows.len() {
             return false;
         }
-        let mut most = 0i64;
-        let mut found = None;
-        for entry in program.rows.get(row as usize).entries.as_slice() {
-            let value = self.value(entry.slot);
-            let part = Part {
-                row,
-                fixed: entry.fixed,
-                per: entry.per,
-            };
-            let counted = part.counted(value);
-            if counted > most {
-                most = counted;
-                found = Some(entry.slot);
-            }
-        }
-        match found {
+        let entries = program.rows.get(row as usize).entries.as_slice();
+        match self.counts_most(entries) {
             None => false,
             Some(slot) => {
                 self.set(tables, slot, 0);
                 true
             }
         }
+    }
+
+    // The slot that counts most of entries, where one counts more than nothing.
+    fn counts_most(&self, entries: &[Entry]) -> Option<u32> {
+        let mut most = 0i64;
+        let mut found = None;
+        for entry in entries {
+            let counted = counted(entry.fixed, entry.per, self.value(entry.slot));
+            if counted > most {
+                most = counted;
+                found = Some(entry.slot);
+            }
+        }
+        found
     }
 }
 

@@ -13,3 +13,11 @@ pub fn copy<T: Copy>(items: &mut [T], others: &[T]) {
         }
     }
 }
+
+/// A place as a number of 32 bits, which is the greatest where it is above that.
+pub fn numbered(place: usize) -> u32 {
+    match u32::try_from(place) {
+        Ok(number) => number,
+        Err(_) => u32::MAX,
+    }
+}

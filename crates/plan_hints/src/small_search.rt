@@ -1,7 +1,7 @@
 use crate::areas::{back_to, domain_of, is_single, keep_side};
-use crate::diving::Dive;
+use crate::diving::{Dive, ONE, pair};
 use crate::finder::{Finder, Frame};
-use crate::reserved::put_last;
+use crate::reserved::{numbered, put_last};
 use dual_simplex::{Amount, Side, Trial};
 use row_kit::{Domain, Program};
 
@@ -14,9 +14,6 @@ pub enum Picking {
     Tried,
 }
 
-// The number 1 of amounts.
-const ONE: i64 = 1_073_741_824;
-
 // What is that near to a whole number counts as whole: 2 to the power -14.
 const NEAR: i64 = 65_536;
 
@@ -25,28 +22,26 @@ const MOST_TRIED: usize = 8;
 const MOST_STEPS: u32 = 15;
 
 impl Finder {
-    /// Searches its area depth first, from the start's basis, for a plan that is worth more than the best: at most so many boxes, and so much work.
+    /// Searches its area depth first, from the start's basis, for a plan that is worth more than the best: at most so many boxes,
+    /// and up to so much work in all. Then no row waits.
     pub fn search(&mut self, program: &Program, picking: Picking, most: u32, limit: u64) {
         self.frames.clear();
         let mut boxes = 0u32;
-        let mut entered = true;
         let mut from = None;
-        for _ in 0..most.saturating_mul(2) {
-            if entered {
-                if boxes >= most || self.work >= limit {
-                    return;
-                }
-                boxes = boxes.saturating_add(1);
-                entered = self.look(program, picking, from, boxes);
-                from = self.frames.len().checked_sub(1);
-            } else {
-                if !self.turn() {
-                    return;
-                }
-                from = Some(self.frames.len());
-                entered = true;
+        for _ in 0..most {
+            if boxes >= most || self.work >= limit {
+                break;
             }
+            boxes = boxes.saturating_add(1);
+            from = if self.look(program, picking, from, boxes) {
+                self.frames.len().checked_sub(1)
+            } else if self.turn() {
+                Some(self.frames.len())
+            } else {
+                break;
+            };
         }
+        self.cutter.forget();
     }
 
     // Goes to the lesser part of the last split; false where none is left.
@@ -75,18 +70,27 @@ impl Finder {
             return false;
         }
         self.take_rounded(program);
+        self.dive_at(program, boxes);
+        match self.pick(program, picking) {
+            None => false,
+            Some((slot, max)) => self.split(program, slot, max),
+        }
+    }
+
+    // Dives in each second box.
+    fn dive_at(&mut self, program: &Program, boxes: u32) {
         if boxes % 4 == 1 {
             self.dive(program, Dive::Amounts(ONE / 20));
         } else if boxes % 4 == 3 {
             self.dive(program, Dive::Amounts(ONE / 2));
         }
-        let picked = match picking {
+    }
+
+    // The slot to split, with the value to split at.
+    fn pick(&mut self, program: &Program, picking: Picking) -> Option<(u32, u8)> {
+        match picking {
             Picking::Furthest => self.furthest(program),
             Picking::Tried => self.tried(program),
-        };
-        match picked {
-            None => false,
-            Some((slot, max)) => self.split(program, slot, max),
         }
     }
 
@@ -104,18 +108,19 @@ impl Finder {
         true
     }
 
-    // The slot that is started furthest of those that are not wholly started, with the value to split at; else one whose quanta are no whole number; else any.
+    // The slot that is started furthest of those that lie between their ends, with the value to split at; else one whose quanta are
+    // no whole number, else any. Of several the one at the first place.
     fn furthest(&self, program: &Program) -> Option<(u32, u8)> {
         let mut found = None;
-        let mut most = (0i64, 0i64);
+        let mut most = i64::MIN;
         for slot in 0..program.tags.len() {
-            let domain = domain_of(&self.area, slot as u32);
+            let domain = domain_of(&self.area, numbered(slot));
             if !is_single(domain) {
-                let place = i64::from(program.tags.get(slot).place);
-                let rank = (urgency(domain, self.amount(slot as u32)), 0i64.saturating_sub(place));
-                if found.is_none() || rank > most {
+                let far = urgency(domain, self.amount(numbered(slot))) >> 8;
+                let rank = pair(far, 0i64.saturating_sub(i64::from(program.tags.get(slot).place)));
+                if rank > most {
                     most = rank;
-                    found = Some((slot as u32, middle(domain)));
+                    found = Some((numbered(slot), middle(domain)));
                 }
             }
         }
@@ -146,19 +151,29 @@ impl Finder {
     fn rank_prices(&mut self) {
         self.order.clear();
         for slot in 0..self.area.slot_count() {
-            let domain = self.area.domain(slot);
-            if !is_single(domain) && urgency(domain, self.amount(slot)) > 1 {
-                if let Some(prices) = self.workspace.prices(slot, middle(domain)) {
-                    let score = product(prices.at_most, prices.above) >> 60;
-                    let rank = match i64::try_from(score) {
-                        Ok(score) => 0i64.saturating_sub(score),
-                        Err(_) => i64::MIN,
-                    };
-                    put_last(&mut self.order, (rank, slot));
-                }
+            if let Some(rank) = self.price_rank(slot) {
+                put_last(&mut self.order, (rank, slot));
             }
         }
         self.order.sort_unstable();
+    }
+
+    // What the split of a slot costs by one step, the dearest first; None where it does not lie between its ends.
+    fn price_rank(&mut self, slot: u32) -> Option<i64> {
+        let domain = domain_of(&self.area, slot);
+        if is_single(domain) || urgency(domain, self.amount(slot)) <= 1 {
+            return None;
+        }
+        match self.workspace.prices(slot, middle(domain)) {
+            None => None,
+            Some(prices) => {
+                let score = product(prices.at_most, prices.above) >> 60;
+                match i64::try_from(score) {
+                    Ok(score) => Some(0i64.saturating_sub(score)),
+                    Err(_) => Some(i64::MIN),
+                }
+            }
+        }
     }
 
     // What a split costs on both sides.
@@ -183,7 +198,8 @@ fn product(one: i64, other: i64) -> i128 {
     i128::from(one.max(16_384)).saturating_mul(i128::from(other.max(16_384)))
 }
 
-// How far a slot is started where that is between its ends, above 1; 1 where only its quanta are no whole number, 0 where they are.
+// How far a slot is started where that is between its ends, above 1; else 1 or 2 where its quanta are no whole number, and 0 where
+// they are.
 fn urgency(domain: Domain, amount: Amount) -> i64 {
     if domain.zero && amount.started > NEAR && amount.started < ONE - NEAR {
         return amount.started;
