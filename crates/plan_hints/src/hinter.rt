@@ -32,10 +32,11 @@ const FIRST_BOXES: u32 = 20;
 const MOST_SMALL: u32 = 20;
 const MOST_WORK: u64 = 40_000_000;
 
-// The levels that are searched in a box, those without gain, and the work.
+// The levels that are searched in a box, those without gain, and the work, in the first box and in others.
 const MOST_TURNS: u32 = 100;
 const MOST_STAGES: u32 = 14;
-const MOST_TOTAL: u64 = 2_000_000_000;
+const FIRST_TOTAL: u64 = 2_000_000_000;
+const MOST_TOTAL: u64 = 500_000_000;
 
 // The neighbourhoods of chance at a time.
 const CHANCES: u32 = 24;
@@ -102,7 +103,8 @@ impl PlanHinter {
     // cheapest again after each gain.
     fn search_hoods(&mut self, program: &Program) {
         self.finder.enter_root(program);
-        let end = self.finder.work.saturating_add(MOST_TOTAL);
+        let total = if self.boxes == 1 { FIRST_TOTAL } else { MOST_TOTAL };
+        let end = self.finder.work.saturating_add(total);
         let mut stage = 0u32;
         for turn in 0..MOST_TURNS {
             let ended = stage >= MOST_STAGES || self.finder.work >= end;

@@ -1,5 +1,5 @@
 use crate::reserved::copy;
-use row_kit::{Program, is_lawful, worth};
+use row_kit::{Program, is_lawful, value, worth};
 use std::alloc::{AllocError, Global};
 
 /// The best plan that is known, with its worth.
@@ -20,17 +20,26 @@ impl Kept {
 
     /// Takes a point where it is lawful and worth more; whether it does.
     pub fn take(&mut self, program: &Program, point: &[u8]) -> bool {
-        if point.len() != program.root.len() || !is_lawful(program, point) {
+        if point.len() != program.root.len() {
+            return false;
+        }
+        if !self.is_below(value(program, point)) || !is_lawful(program, point) {
             return false;
         }
         let money = worth(program, point);
+        let better = self.is_below(money);
+        if better {
+            self.worth = Some(money);
+            copy(self.values.as_mut_slice(), point);
+        }
+        better
+    }
+
+    // Whether its worth is below so much money.
+    fn is_below(&self, money: i128) -> bool {
         match self.worth {
-            Some(own) if money <= own => false,
-            _ => {
-                self.worth = Some(money);
-                copy(self.values.as_mut_slice(), point);
-                true
-            }
+            None => true,
+            Some(own) => own < money,
         }
     }
 }

@@ -106,20 +106,17 @@ impl Plan {
 
     // Gives a slot of a plan that keeps all rows the value that earns most; whether that earns more.
     fn raise(&mut self, tables: &Tables, slot: u32, domain: Domain) -> bool {
-        let choices = self.choices(tables, slot, domain);
         let value = self.value(slot);
-        let mut best = (tables.earned(slot, value), value);
-        if choices.zero {
-            best = better(best, (0, 0));
-        }
-        if choices.lo <= choices.hi {
-            best = better(best, (tables.earned(slot, choices.hi), choices.hi));
-            best = better(best, (tables.earned(slot, choices.lo), choices.lo));
-        }
-        if best.1 == value {
+        let own = (tables.earned(slot, value), value);
+        if best_of(tables, slot, domain, own).1 == value {
             return false;
         }
-        self.set(tables, slot, best.1);
+        let choices = self.choices(tables, slot, domain);
+        let best = best_of(tables, slot, choices, own).1;
+        if best == value {
+            return false;
+        }
+        self.set(tables, slot, best);
         true
     }
 
@@ -201,6 +198,19 @@ impl Plan {
         }
         found
     }
+}
+
+// The value of a domain that earns most, with what it earns; the own one where none earns more.
+fn best_of(tables: &Tables, slot: u32, domain: Domain, own: (i64, u8)) -> (i64, u8) {
+    let mut best = own;
+    if domain.zero {
+        best = better(best, (0, 0));
+    }
+    if domain.lo <= domain.hi {
+        best = better(best, (tables.earned(slot, domain.hi), domain.hi));
+        best = better(best, (tables.earned(slot, domain.lo), domain.lo));
+    }
+    best
 }
 
 // The one that earns more of two values with what they earn.
