@@ -23,9 +23,8 @@ pub fn is_single(domain: Domain) -> bool {
     }
 }
 
-/// The least value of a slot; 0 where there is no such slot.
-pub fn only_value(area: &Area, slot: u32) -> u8 {
-    let domain = domain_of(area, slot);
+/// The least value of a domain that has one.
+pub fn least_value(domain: Domain) -> u8 {
     if domain.zero { 0 } else { domain.lo }
 }
 
@@ -33,28 +32,6 @@ pub fn only_value(area: &Area, slot: u32) -> u8 {
 pub fn keep(area: &mut Area, slot: u32, domain: Domain) {
     if slot < area.slot_count() && domain.lo >= 1 {
         area.keep(slot, domain.zero, domain.lo, domain.hi);
-    }
-}
-
-/// Keeps one value.
-pub fn keep_value(area: &mut Area, slot: u32, value: u8) {
-    if slot < area.slot_count() {
-        if value == 0 {
-            area.keep(slot, true, 1, 0);
-        } else {
-            area.keep(slot, false, value, value);
-        }
-    }
-}
-
-/// Keeps the values above `max`, or those up to it.
-pub fn keep_side(area: &mut Area, slot: u32, max: u8, above: bool) {
-    if slot < area.slot_count() {
-        if above {
-            area.above(slot, max);
-        } else {
-            area.at_most(slot, max);
-        }
     }
 }
 

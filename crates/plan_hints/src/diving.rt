@@ -1,4 +1,4 @@
-use crate::areas::{back_to, domain_of, is_single};
+use crate::areas::is_single;
 use crate::finder::Finder;
 use crate::reserved::{numbered, put_last};
 use dual_simplex::Amount;
@@ -26,12 +26,12 @@ const MOST_FAILS: u32 = 200;
 impl Finder {
     /// Fixes slot after slot with cuts after each, and takes the point that is reached. The area is afterwards as before.
     pub fn dive(&mut self, program: &Program, dive: Dive) {
-        let mark = self.area.mark();
+        let mark = self.field.mark();
         self.rank(program, dive);
         if self.fix_all(program, dive) {
             self.take_only(program);
         }
-        back_to(&mut self.area, mark);
+        self.field.back(&self.tables, mark);
     }
 
     // Puts the slots in the order of a dive.
@@ -64,7 +64,7 @@ impl Finder {
 
     // Fixes a slot at a value near to the wish; how many values were tried in vain.
     fn fix(&mut self, program: &Program, slot: u32, wish: u8) -> Option<u32> {
-        let domain = domain_of(&self.area, slot);
+        let domain = self.field.domain(slot);
         if is_single(domain) {
             return Some(0);
         }

@@ -1,6 +1,6 @@
-use crate::areas::{back_to, domain_of, is_single, keep, keep_value, only_value};
-use crate::cutter::Cutter;
+use crate::areas::{is_single, least_value};
 use crate::diving::ONE;
+use crate::field::Field;
 use crate::hoods::list_ends;
 use crate::kept::Kept;
 use crate::plan::Plan;
@@ -23,8 +23,7 @@ pub struct Frame {
 #[derive(Drop)]
 pub struct Finder {
     pub tables: Tables,
-    pub area: Area,
-    pub cutter: Cutter,
+    pub field: Field,
     pub workspace: Workspace,
     pub start: Basis,
     pub bases: Vec<Basis>,
@@ -63,8 +62,7 @@ impl Finder {
         }
         Ok(Finder {
             tables: Tables::new(alloc, program)?,
-            area: Area::new(alloc, program)?,
-            cutter: Cutter::new(alloc, program)?,
+            field: Field::new(alloc, program)?,
             workspace: Workspace::new(alloc, program)?,
             start: Basis::new(alloc, program)?,
             bases,
@@ -80,18 +78,18 @@ impl Finder {
     }
 
     /// Makes its area a copy of another, which has been cut.
-    pub fn enter(&mut self, other: &Area) {
-        back_to(&mut self.area, 0);
+    pub fn enter(&mut self, program: &Program, other: &Area) {
+        self.field.back(&self.tables, 0);
         for slot in 0..other.slot_count() {
-            keep(&mut self.area, slot, other.domain(slot));
+            self.field.keep(&self.tables, slot, other.domain(slot));
         }
+        let _ = self.cut(program);
     }
 
     /// Makes its area the root, cut by all rows.
     pub fn enter_root(&mut self, program: &Program) {
-        back_to(&mut self.area, 0);
-        self.cutter.wake_all();
-        let _ = self.cut(program);
+        self.field.back(&self.tables, 0);
+        let _ = self.field.cut_all(program, &self.tables);
     }
 
     /// What a slot comes to by the last bound.
@@ -104,9 +102,9 @@ impl Finder {
 
     /// Cuts its area by the rows that wait, and counts the work; false where there is no point.
     pub fn cut(&mut self, program: &Program) -> bool {
-        let before = self.cutter.work;
-        let lives = self.cutter.cut(program, &self.tables, &mut self.area);
-        let done = self.cutter.work.wrapping_sub(before);
+        let before = self.field.work;
+        let lives = self.field.cut(program, &self.tables);
+        let done = self.field.work.wrapping_sub(before);
         self.work = self.work.wrapping_add(done.wrapping_mul(CUT_WORK));
         lives
     }
@@ -117,9 +115,12 @@ impl Finder {
         let outcome = match from {
             Some(place) if place < self.bases.len() => {
                 let start = &self.bases[place];
-                self.workspace.bound(program, &self.area, start, aim, MOST_STEPS)
+                self.workspace
+                    .bound(program, &self.field.area, start, aim, MOST_STEPS)
             }
-            _ => self.workspace.bound(program, &self.area, &self.start, aim, MOST_STEPS),
+            _ => self
+                .workspace
+                .bound(program, &self.field.area, &self.start, aim, MOST_STEPS),
         };
         self.count_bound();
         match outcome {
@@ -134,12 +135,14 @@ impl Finder {
     // Counts the work of the last bound: for each pivot about the lines times the columns, by the slots that are free.
     fn count_bound(&mut self) {
         let mut free = 0u64;
-        for slot in 0..self.area.slot_count() {
-            if !is_single(domain_of(&self.area, slot)) {
+        for slot in 0..self.field.slot_count() {
+            if !is_single(self.field.domain(numbered(slot))) {
                 free = free.wrapping_add(1);
             }
         }
-        let pivots = u64::from(self.workspace.pivots()).wrapping_add(free / 4).wrapping_add(2);
+        let pivots = u64::from(self.workspace.pivots())
+            .wrapping_add(free / 4)
+            .wrapping_add(2);
         let cells = free.wrapping_mul(free).wrapping_mul(2);
         self.work = self.work.wrapping_add(pivots.wrapping_mul(cells));
     }
@@ -163,7 +166,7 @@ impl Finder {
     /// Takes the only point of its area.
     pub fn take_only(&mut self, program: &Program) {
         for slot in 0..self.point.len() {
-            self.point[slot] = only_value(&self.area, numbered(slot));
+            self.point[slot] = least_value(self.field.domain(numbered(slot)));
         }
         self.take_point(program);
     }
@@ -171,7 +174,7 @@ impl Finder {
     /// Takes the rounded solution of the last bound.
     pub fn take_rounded(&mut self, program: &Program) {
         for slot in 0..self.point.len() {
-            let domain = domain_of(&self.area, numbered(slot));
+            let domain = self.field.domain(numbered(slot));
             self.point[slot] = rounded(self.amount(numbered(slot)), domain);
         }
         self.take_point(program);
@@ -179,12 +182,11 @@ impl Finder {
 
     /// Gives a slot one value and cuts; where that leaves no point, all is as before, and the answer false.
     pub fn try_value(&mut self, program: &Program, slot: u32, value: u8) -> bool {
-        let mark = self.area.mark();
-        keep_value(&mut self.area, slot, value);
-        self.cutter.wake_slot(&self.tables, slot);
+        let mark = self.field.mark();
+        self.field.keep_value(&self.tables, slot, value);
         let lives = self.cut(program);
         if !lives {
-            back_to(&mut self.area, mark);
+            self.field.back(&self.tables, mark);
         }
         lives
     }

@@ -1,4 +1,4 @@
-use crate::areas::{back_to, only_value};
+use crate::areas::{domain_of, least_value};
 use crate::diving::{Dive, ONE};
 use crate::finder::{Finder, NONE};
 use crate::hoods::{Hood, LEVELS, Leveled, list_hoods};
@@ -26,17 +26,22 @@ pub struct PlanHinter {
 
 // The boxes in which a better plan has its neighbourhoods searched, and those in which each box is dived in.
 const MOST_BOXES: u32 = 400;
+
 const FIRST_BOXES: u32 = 20;
 
 // The boxes and the work of a small search.
 const MOST_SMALL: u32 = 20;
+
 const MOST_WORK: u64 = 40_000_000;
 
 // The levels that are searched in a box, those without gain, and the work, in the first box and in others.
 const MOST_TURNS: u32 = 100;
+
 const MOST_STAGES: u32 = 14;
-const FIRST_TOTAL: u64 = 2_000_000_000;
-const MOST_TOTAL: u64 = 500_000_000;
+
+const FIRST_TOTAL: u64 = 1_200_000_000;
+
+const MOST_TOTAL: u64 = 300_000_000;
 
 // The neighbourhoods of chance at a time.
 const CHANCES: u32 = 24;
@@ -64,14 +69,14 @@ impl PlanHinter {
     // Takes the only point of an area.
     fn take_only(&mut self, program: &Program, area: &Area) {
         for slot in 0..self.finder.point.len() {
-            self.finder.point[slot] = only_value(area, numbered(slot));
+            self.finder.point[slot] = least_value(domain_of(area, numbered(slot)));
         }
         let _ = self.finder.kept.take(program, self.finder.point.as_slice());
     }
 
     // Dives in a box: for greatest batches at the first, and by the bound.
     fn dive(&mut self, program: &Program, area: &Area) {
-        self.finder.enter(area);
+        self.finder.enter(program, area);
         if self.boxes == 1 {
             self.finder.dive(program, Dive::Greatest);
             self.finder.dive(program, Dive::GreatestBack);
@@ -92,9 +97,9 @@ impl PlanHinter {
         for picking in [Picking::Furthest, Picking::Tried] {
             if self.finder.kept.worth.is_none() {
                 let limit = self.finder.work.saturating_add(10 * MOST_WORK);
-                let mark = self.finder.area.mark();
+                let mark = self.finder.field.mark();
                 self.finder.search(program, picking, 10 * MOST_SMALL, limit);
-                back_to(&mut self.finder.area, mark);
+                self.finder.field.back(&self.finder.tables, mark);
             }
         }
     }
@@ -103,7 +108,11 @@ impl PlanHinter {
     // cheapest again after each gain.
     fn search_hoods(&mut self, program: &Program) {
         self.finder.enter_root(program);
-        let total = if self.boxes == 1 { FIRST_TOTAL } else { MOST_TOTAL };
+        let total = if self.boxes == 1 {
+            FIRST_TOTAL
+        } else {
+            MOST_TOTAL
+        };
         let end = self.finder.work.saturating_add(total);
         let mut stage = 0u32;
         for turn in 0..MOST_TURNS {
@@ -165,7 +174,10 @@ impl PlanHinter {
 
     // Whether this is a box in which the search for plans begins anew, with another first plan.
     fn begins_anew(&self) -> bool {
-        matches!(self.boxes, 1 | 4 | 8 | 32 | 128)
+        match self.boxes {
+            1 | 4 | 8 | 32 | 128 => true,
+            _ => false,
+        }
     }
 
     // Looks for plans in a box that has more than one point.

@@ -31,7 +31,9 @@ const MANY_PLACES: u32 = 24;
 
 // The most neighbourhoods of a sort.
 const MOST_KINDS: u32 = 64;
+
 const MOST_PLACES: u32 = 64;
+
 const MOST_LANES: u32 = 32;
 
 /// The neighbourhoods of a program's plans.
@@ -69,19 +71,30 @@ fn extents(tags: &[Tag]) -> (u32, u32, u32) {
 fn list_kinds(hoods: &mut Vec<Leveled>, kinds: u32) -> Result<(), AllocError> {
     if kinds > 2 {
         for kind in 0..kinds.min(MOST_KINDS) {
-            hoods.push(Leveled { level: 3, hood: Hood::Kinds(kind, kinds) })?;
+            hoods.push(Leveled {
+                level: 3,
+                hood: Hood::Kinds(kind, kinds),
+            })?;
         }
     }
     Ok(())
 }
 
 // Puts the windows of a width, each half a width after the one before.
-fn list_places(hoods: &mut Vec<Leveled>, level: u32, places: u32, width: u32) -> Result<(), AllocError> {
+fn list_places(
+    hoods: &mut Vec<Leveled>,
+    level: u32,
+    places: u32,
+    width: u32,
+) -> Result<(), AllocError> {
     let step = (width.saturating_add(1) / 2).max(1);
     for number in 0..MOST_PLACES {
         let from = number.saturating_mul(step);
         let to = from.saturating_add(width);
-        hoods.push(Leveled { level, hood: Hood::Places(from, to) })?;
+        hoods.push(Leveled {
+            level,
+            hood: Hood::Places(from, to),
+        })?;
         if to >= places {
             return Ok(());
         }
@@ -94,7 +107,10 @@ fn list_lanes(hoods: &mut Vec<Leveled>, lanes: u32) -> Result<(), AllocError> {
     for one in 0..lanes.min(MOST_LANES) {
         for other in one.saturating_add(1)..lanes.min(MOST_LANES) {
             if lanes <= 5 || other == one.saturating_add(1) {
-                hoods.push(Leveled { level: 3, hood: Hood::Lanes(one, other) })?;
+                hoods.push(Leveled {
+                    level: 3,
+                    hood: Hood::Lanes(one, other),
+                })?;
             }
         }
     }
@@ -141,7 +157,11 @@ pub fn list_ends(alloc: Global, program: &Program) -> Result<Vec<u32>, AllocErro
     let mut ends = vec![in alloc; 0u32; program.root.len()]?;
     for row in program.rows.as_slice() {
         let entries = row.entries.as_slice();
-        if row.limit == 1 && entries.iter().all(|entry| entry.fixed == 1 && entry.per == 0) {
+        if row.limit == 1
+            && entries
+                .iter()
+                .all(|entry| entry.fixed == 1 && entry.per == 0)
+        {
             raise_ends(program.tags.as_slice(), entries, &mut ends);
         }
     }

@@ -6,8 +6,8 @@
 mod areas;
 mod bounding;
 mod candidates;
-mod cutter;
 mod diving;
+mod field;
 mod finder;
 mod guide;
 mod hinter;
@@ -16,11 +16,13 @@ mod kept;
 mod neighbourhoods;
 mod path;
 mod plan;
+mod ranges;
 mod ranking;
 mod reserved;
 mod small_search;
 mod tables;
 mod trying;
+mod waiting;
 
 pub use guide::PlanGuide;
 pub use hinter::PlanHinter;

@@ -1,4 +1,3 @@
-use crate::areas::{back_to, keep_side, keep_value};
 use crate::diving::ONE;
 use crate::finder::Finder;
 use crate::hoods::Hood;
@@ -22,10 +21,10 @@ impl Finder {
         most: u32,
         limit: u64,
     ) {
-        let mark = self.area.mark();
+        let mark = self.field.mark();
         self.agree(program, hood, seen);
         self.search(program, picking, most, limit);
-        back_to(&mut self.area, mark);
+        self.field.back(&self.tables, mark);
     }
 
     // About the place up to before which a slot holds its lane.
@@ -54,17 +53,20 @@ impl Finder {
     // Keeps a value of a slot, or all that start it alike.
     fn hold(&mut self, slot: u32, value: u8, alike: bool) {
         if alike && value != 0 {
-            keep_side(&mut self.area, slot, 0, true);
+            self.field.keep_above(&self.tables, slot, 0);
         } else {
-            keep_value(&mut self.area, slot, value);
+            self.field.keep_value(&self.tables, slot, value);
         }
-        self.cutter.wake_slot(&self.tables, slot);
     }
 }
 
 // The value at a place, and 0 where there is none.
 fn value_at(values: &[u8], place: usize) -> u8 {
-    if place < values.len() { values[place] } else { 0 }
+    if place < values.len() {
+        values[place]
+    } else {
+        0
+    }
 }
 
 // Whether a bound and a plan agree on whether a slot is started.

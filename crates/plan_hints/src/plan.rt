@@ -1,4 +1,4 @@
-use crate::cutter::range_within;
+use crate::ranges::range_within;
 use crate::reserved::{copy, numbered};
 use crate::tables::{Part, Tables, counted};
 use row_kit::{Domain, Entry, Program};
@@ -91,7 +91,9 @@ impl Plan {
         let mut zero = domain.zero;
         let mut range = (domain.lo, domain.hi);
         for part in tables.parts_of(slot) {
-            let room = self.room(tables, part.row).wrapping_add(part.counted(value));
+            let room = self
+                .room(tables, part.row)
+                .wrapping_add(part.counted(value));
             zero = zero && room >= 0;
             if range.0 <= range.1 {
                 range = range_within(part.fixed, part.per, room, range);

@@ -1,4 +1,4 @@
-use crate::areas::{back_to, domain_of, is_single, keep_side};
+use crate::areas::is_single;
 use crate::diving::{Dive, ONE, pair};
 use crate::finder::{Finder, Frame};
 use crate::reserved::{numbered, put_last};
@@ -19,11 +19,12 @@ const NEAR: i64 = 65_536;
 
 // The slots that are tried, and the steps of each trial.
 const MOST_TRIED: usize = 8;
+
 const MOST_STEPS: u32 = 15;
 
 impl Finder {
     /// Searches its area depth first, from the start's basis, for a plan that is worth more than the best: at most so many boxes,
-    /// and up to so much work in all. Then no row waits.
+    /// and up to so much work in all.
     pub fn search(&mut self, program: &Program, picking: Picking, most: u32, limit: u64) {
         self.frames.clear();
         let mut boxes = 0u32;
@@ -41,7 +42,6 @@ impl Finder {
                 break;
             };
         }
-        self.cutter.forget();
     }
 
     // Goes to the lesser part of the last split; false where none is left.
@@ -49,20 +49,25 @@ impl Finder {
         match self.frames.pop() {
             None => false,
             Some(frame) => {
-                back_to(&mut self.area, frame.mark);
-                keep_side(&mut self.area, frame.slot, frame.max, false);
-                self.cutter.wake_slot(&self.tables, frame.slot);
+                self.field.back(&self.tables, frame.mark);
+                self.field.keep_most(&self.tables, frame.slot, frame.max);
                 true
             }
         }
     }
 
     // Looks at a box; whether it is split and its greater part entered.
-    fn look(&mut self, program: &Program, picking: Picking, from: Option<usize>, boxes: u32) -> bool {
+    fn look(
+        &mut self,
+        program: &Program,
+        picking: Picking,
+        from: Option<usize>,
+        boxes: u32,
+    ) -> bool {
         if !self.cut(program) {
             return false;
         }
-        if self.area.is_point() {
+        if self.field.area.is_point() {
             self.take_only(program);
             return false;
         }
@@ -101,10 +106,9 @@ impl Finder {
             return false;
         }
         self.workspace.save(program, &mut self.bases[depth]);
-        let mark = self.area.mark();
+        let mark = self.field.mark();
         put_last(&mut self.frames, Frame { slot, max, mark });
-        keep_side(&mut self.area, slot, max, true);
-        self.cutter.wake_slot(&self.tables, slot);
+        self.field.keep_above(&self.tables, slot, max);
         true
     }
 
@@ -114,10 +118,13 @@ impl Finder {
         let mut found = None;
         let mut most = i64::MIN;
         for slot in 0..program.tags.len() {
-            let domain = domain_of(&self.area, numbered(slot));
+            let domain = self.field.domain(numbered(slot));
             if !is_single(domain) {
                 let far = urgency(domain, self.amount(numbered(slot))) >> 8;
-                let rank = pair(far, 0i64.saturating_sub(i64::from(program.tags.get(slot).place)));
+                let rank = pair(
+                    far,
+                    0i64.saturating_sub(i64::from(program.tags.get(slot).place)),
+                );
                 if rank > most {
                     most = rank;
                     found = Some((numbered(slot), middle(domain)));
@@ -137,7 +144,7 @@ impl Finder {
         let mut most = -1i128;
         for place in 0..self.order.len().min(MOST_TRIED) {
             let slot = self.order[place].1;
-            let max = middle(domain_of(&self.area, slot));
+            let max = middle(self.field.domain(slot));
             let score = self.try_split(program, slot, max);
             if score > most {
                 most = score;
@@ -150,9 +157,9 @@ impl Finder {
     // Orders the slots that lie between their ends by what their splits cost.
     fn rank_prices(&mut self) {
         self.order.clear();
-        for slot in 0..self.area.slot_count() {
-            if let Some(rank) = self.price_rank(slot) {
-                put_last(&mut self.order, (rank, slot));
+        for slot in 0..self.field.slot_count() {
+            if let Some(rank) = self.price_rank(numbered(slot)) {
+                put_last(&mut self.order, (rank, numbered(slot)));
             }
         }
         self.order.sort_unstable();
@@ -160,7 +167,7 @@ impl Finder {
 
     // What the split of a slot costs by one step, the dearest first; None where it does not lie between its ends.
     fn price_rank(&mut self, slot: u32) -> Option<i64> {
-        let domain = domain_of(&self.area, slot);
+        let domain = self.field.domain(slot);
         if is_single(domain) || urgency(domain, self.amount(slot)) <= 1 {
             return None;
         }
@@ -178,8 +185,12 @@ impl Finder {
 
     // What a split costs on both sides.
     fn try_split(&mut self, program: &Program, slot: u32, max: u8) -> i128 {
-        let low = self.workspace.trial(program, slot, max, Side::AtMost, MOST_STEPS);
-        let high = self.workspace.trial(program, slot, max, Side::Above, MOST_STEPS);
+        let low = self
+            .workspace
+            .trial(program, slot, max, Side::AtMost, MOST_STEPS);
+        let high = self
+            .workspace
+            .trial(program, slot, max, Side::Above, MOST_STEPS);
         product(fall_of(low), fall_of(high))
     }
 }
