@@ -40,40 +40,18 @@ impl PlanGuide {
 
     fn pick(&mut self, program: &Program, area: &Area) -> Option<u32> {
         list_fractional(&self.workspace, area, &mut self.candidates);
-        let gap = match self.workspace.gap() {
-            None => 64 << 30,
-            Some(gap) => gap.max(1 << 20)
-        };
+        let gap = match self.workspace.gap() { None => 64 << 30, Some(gap) => gap.max(1 << 20) };
         let most = gap.saturating_mul(2);
-        rank(
-            &mut self.workspace,
-            &self.candidates,
-            most,
-            &mut self.ranked,
-        );
-        let (slot, score) = match try_first(
-            &mut self.workspace,
-            program,
-            &self.candidates,
-            &self.ranked,
-            most,
-        ) {
+        rank(&mut self.workspace, &self.candidates, most, &mut self.ranked);
+        let (slot, score) = match try_first(&mut self.workspace, program, &self.candidates, &self.ranked, most) {
             None => return None,
             Some(x) => x,
         };
         if score < i128::from(gap) * i128::from(gap) / 1000 {
             let mut heaviest = 0;
-            for c in &self.candidates {
-                heaviest = self.weights[c.slot as usize].max(heaviest);
-            }
-            let mut found = slot;
-            let mut most = -1;
-            for c in &self.candidates {
-                if self.weights[c.slot as usize] * 10 >= heaviest * 6 && c.fraction > most {
-                    most = c.fraction;
-                    found = c.slot;
-                }
-            }
+            for c in &self.candidates { heaviest = self.weights[c.slot as usize].max(heaviest); }
+            let mut found = slot; let mut most = -1;
+            for c in &self.candidates { if self.weights[c.slot as usize] * 10 >= heaviest * 6 && c.fraction > most { most = c.fraction; found = c.slot; } }
             return Some(found);
         }
         Some(slot)
@@ -85,9 +63,7 @@ fn weigh(alloc: Global, program: &Program) -> Result<Vec<u64>, AllocError> {
     for entry in program.profit.as_slice() {
         let slot = entry.slot as usize;
         let d = program.root.as_slice()[slot];
-        weights[slot] = (entry.fixed + entry.per * i64::from(d.lo))
-            .unsigned_abs()
-            .max((entry.fixed + entry.per * i64::from(d.hi)).unsigned_abs());
+        weights[slot] = (entry.fixed + entry.per * i64::from(d.lo)).unsigned_abs().max((entry.fixed + entry.per * i64::from(d.hi)).unsigned_abs());
     }
     Ok(weights)
 }
@@ -106,15 +82,10 @@ impl Guide for PlanGuide {
         best: Option<i128>,
         point: &mut [u8],
     ) -> Result<Advice, AllocError> {
-        let start = match self.path.above(depth) {
-            None => &self.none,
-            Some(start) => start
-        };
+        let start = match self.path.above(depth) { None => &self.none, Some(start) => start };
         let bounded = bound_box(alloc, &mut self.workspace, program, area, start, best)?;
         self.workspace.round(area, point);
-        let slot = if bounded.closes {
-            None
-        } else {
+        let slot = if bounded.closes { None } else {
             self.path.keep(depth, &self.workspace, program);
             self.pick(program, area)
         };

@@ -18,11 +18,7 @@ pub fn rank(
         let candidate = &candidates[number];
         let score = price(workspace, candidate, most);
         if ranked.len() < ranked.capacity() {
-            ranked.push_reserved((
-                0i128.saturating_sub(score),
-                0i64.saturating_sub(candidate.fraction),
-                number as u32,
-            ));
+            ranked.push_reserved((0i128.saturating_sub(score), 0i64.saturating_sub(candidate.fraction), number as u32));
         }
     }
     ranked.sort_unstable();

@@ -37,20 +37,8 @@ pub fn try_first(
 
 // The score of a candidate by trial bounds.
 fn tried(workspace: &mut Workspace, program: &Program, candidate: &Candidate, most: i64) -> i128 {
-    let low = workspace.trial(
-        program,
-        candidate.slot,
-        candidate.max,
-        Side::AtMost,
-        MOST_STEPS,
-    );
-    let high = workspace.trial(
-        program,
-        candidate.slot,
-        candidate.max,
-        Side::Above,
-        MOST_STEPS,
-    );
+    let low = workspace.trial(program, candidate.slot, candidate.max, Side::AtMost, MOST_STEPS);
+    let high = workspace.trial(program, candidate.slot, candidate.max, Side::Above, MOST_STEPS);
     match (low, high) {
         (Some(Trial::Closes), Some(Trial::Closes)) => i128::MAX,
         (Some(Trial::Closes), other) => CLOSES.saturating_add(i128::from(fall(other))),
