@@ -132,7 +132,8 @@ impl Finder {
         }
     }
 
-    // Counts the work of the last bound: for each pivot about the lines times the columns, by the slots that are free.
+    // Counts the work of the last bound: for each pivot about the lines times the columns, by the slots that are free, and two looks
+    // at all rows.
     fn count_bound(&mut self) {
         let mut free = 0u64;
         for slot in 0..self.field.slot_count() {
@@ -140,11 +141,11 @@ impl Finder {
                 free = free.wrapping_add(1);
             }
         }
-        let pivots = u64::from(self.workspace.pivots())
-            .wrapping_add(free / 4)
-            .wrapping_add(2);
+        let pivots = u64::from(self.workspace.pivots()).wrapping_add(free / 4);
         let cells = free.wrapping_mul(free).wrapping_mul(2);
-        self.work = self.work.wrapping_add(pivots.wrapping_mul(cells));
+        let looks = (self.tables.part_count() as u64).wrapping_mul(2);
+        let done = pivots.wrapping_mul(cells).wrapping_add(looks);
+        self.work = self.work.wrapping_add(done);
     }
 
     // Notes what the slots come to.
