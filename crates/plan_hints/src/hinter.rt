@@ -131,17 +131,23 @@ impl PlanHinter {
     // Searches the neighbourhoods of a level; whether a better plan is found.
     fn search_stage(&mut self, program: &Program, stage: u32, turn: u32) -> bool {
         let before = self.finder.kept.worth;
-        let picking = if stage % 2 == 1 {
-            Picking::Furthest
-        } else {
-            Picking::Tried
-        };
+        let picking = self.picking(stage);
         if stage / 2 >= LEVELS {
             self.search_chances(program, turn, picking);
         } else {
             self.search_level(program, stage / 2, picking);
         }
         self.finder.kept.worth != before
+    }
+
+    // How a stage picks: by trials first, in the fourth box by amounts first.
+    fn picking(&self, stage: u32) -> Picking {
+        let swapped = self.boxes == 4;
+        if (stage % 2 == 1) == swapped {
+            Picking::Tried
+        } else {
+            Picking::Furthest
+        }
     }
 
     // Searches the listed neighbourhoods of a level.
@@ -175,7 +181,7 @@ impl PlanHinter {
     // Whether this is a box in which the search for plans begins anew, with another first plan.
     fn begins_anew(&self) -> bool {
         match self.boxes {
-            1 | 4 | 8 | 32 | 128 => true,
+            1 | 4 | 8 | 16 | 32 | 128 => true,
             _ => false,
         }
     }
