@@ -7,7 +7,9 @@ mod bounding;
 mod candidates;
 mod guide;
 mod path;
+mod picking;
 mod ranking;
 mod trying;
+mod weights;
 
 pub use guide::PlanGuide;
