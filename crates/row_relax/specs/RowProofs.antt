@@ -5,8 +5,8 @@ use Rattle.range_prop.specs.declared.row_cut.RowCut.{RowCut}
 use Rattle.dual_bound.specs.declared.cert.Cert.{Cert}
 use Rattle.proof_tree.specs.declared.item.Item.{Item}
 use Rattle.proof_tree.specs.Tree.{Tree}
-use Rattle.row_relax.specs.declared.RowPick.{RowPick}
-use Rattle.row_relax.specs.declared.Rows.{Rows}
+use Rattle.row_relax.specs.declared.pick.RowPick.{RowPick}
+use Rattle.row_relax.specs.declared.rows.Rows.{Rows}
 
 -- an item of a proof over rows
 abbrev pub RowItem : Type 0
