@@ -7,6 +7,9 @@ use row_kit::Program;
 // The most candidates that are tried.
 const MOST_TRIED: usize = 16;
 
+// The most that are tried in a row without gaining more.
+const MOST_IDLE: u32 = 6;
+
 // The most steps of a trial.
 const MOST_STEPS: u32 = 15;
 
@@ -20,8 +23,31 @@ pub struct Tried {
     pub gain: i128,
 }
 
-/// The one of the first 16 candidates of an order whose split gains most by trial bounds of both sides; the first of these. None where
-/// there is no candidate.
+// The best of the candidates that have been tried, and how many have been tried since.
+#[derive(Clone, Copy)]
+struct Lead {
+    best: Option<Tried>,
+    idle: u32,
+}
+
+impl Lead {
+    // The lead after one more candidate has been tried.
+    fn after(self, slot: u32, gain: i128) -> Lead {
+        match self.best {
+            Some(tried) if tried.gain >= gain => Lead {
+                best: self.best,
+                idle: self.idle.saturating_add(1),
+            },
+            _ => Lead {
+                best: Some(Tried { slot, gain }),
+                idle: 0,
+            },
+        }
+    }
+}
+
+/// The one of the first 16 candidates of an order whose split gains most by trial bounds of both sides, the first of these. After 6 in
+/// a row that gain no more it looks no further. None where there is no candidate.
 pub fn try_first(
     workspace: &mut Workspace,
     program: &Program,
@@ -29,22 +55,19 @@ pub fn try_first(
     ranked: &[Ranked],
     most: i64,
 ) -> Option<Tried> {
-    let mut best = None;
+    let mut lead = Lead {
+        best: None,
+        idle: 0,
+    };
     for ranked in ranked.iter().take(MOST_TRIED) {
-        if let Some(candidate) = candidates.get(ranked.2 as usize) {
-            let gain = gain(workspace, program, candidate, most);
-            best = better(best, candidate.slot, gain);
+        if lead.idle < MOST_IDLE {
+            if let Some(candidate) = candidates.get(ranked.2 as usize) {
+                let gain = gain(workspace, program, candidate, most);
+                lead = lead.after(candidate.slot, gain);
+            }
         }
     }
-    best
-}
-
-// The best so far, or a slot that gains more.
-fn better(best: Option<Tried>, slot: u32, gain: i128) -> Option<Tried> {
-    match best {
-        Some(tried) if tried.gain >= gain => best,
-        _ => Some(Tried { slot, gain }),
-    }
+    lead.best
 }
 
 // What the split of a candidate gains: the product of the falls of both sides, and more than any product where a side closes.
