@@ -8,23 +8,32 @@ use proof_tree::Capped;
 use row_kit::{Area, Program};
 use std::alloc::{AllocError, Global};
 
-// The most steps of one bound.
+// The most steps of a bound, before it goes on for the last time.
 const MOST_STEPS: u32 = 2_000;
 
-// How often a bound may end at its aim without a certificate that closes the box.
+// How often a bound may come to its aim.
 const MOST_ROUNDS: u32 = 64;
 
 // The powers of two by which a ray is tried.
 const RAY_POWERS: [i32; 4] = [8, 14, 20, 26];
 
-/// The certificate of a box, and whether its cap leaves nothing above the best plan.
+/// A certificate of a box, and whether its cap leaves nothing above the best plan.
 #[derive(Drop)]
 pub struct Bounded {
     pub cert: Cert,
     pub closes: bool,
 }
 
-/// Bounds a box from a basis, until a certificate closes it or the steps are spent.
+// How a round of a bound ends.
+enum Round {
+    // The bound is at its end.
+    Over(Bounded),
+    // It went on, and came to this.
+    GoesOn(Outcome),
+}
+
+/// Bounds a box from a basis: until a certificate closes it, every row is kept, or the steps are spent. Each time the bound comes
+/// to the worth of the best plan, the exact cap is tried.
 pub fn bound_box(
     alloc: Global,
     workspace: &mut Workspace,
@@ -37,21 +46,34 @@ pub fn bound_box(
 {
     let mut outcome = workspace.bound(program, area, start, best, MOST_STEPS);
     for _ in 0..MOST_ROUNDS {
-        if outcome != Outcome::Reached {
-            break;
+        match go_round(alloc, workspace, program, area, best, outcome)? {
+            Round::Over(bounded) => return Ok(bounded),
+            Round::GoesOn(next) => outcome = next,
         }
-        let bounded = priced(alloc, workspace, program, area, best)?;
-        if bounded.closes {
-            return Ok(bounded);
-        }
-        let left = MOST_STEPS.saturating_sub(workspace.pivots());
-        outcome = workspace.go_on(program, left);
     }
+    priced(alloc, workspace, program, area, best)
+}
+
+// A round after a bound has come to an outcome.
+fn go_round(
+    alloc: Global,
+    workspace: &mut Workspace,
+    program: &Program,
+    area: &Area,
+    best: Option<i128>,
+    outcome: Outcome,
+) -> Result<Round, AllocError>
+    requires { length (present area.now) ≡ length program.now.root }
+{
     if outcome == Outcome::NoPoint {
-        by_ray(alloc, workspace, program, area, best)
-    } else {
-        priced(alloc, workspace, program, area, best)
+        return Ok(Round::Over(by_ray(alloc, workspace, program, area, best)?));
     }
+    let bounded = priced(alloc, workspace, program, area, best)?;
+    if bounded.closes || outcome != Outcome::Reached {
+        return Ok(Round::Over(bounded));
+    }
+    let left = MOST_STEPS.saturating_sub(workspace.pivots());
+    Ok(Round::GoesOn(workspace.go_on(program, left)))
 }
 
 // The certificate of where a bound has ended.

@@ -15,6 +15,7 @@ mod hoods;
 mod kept;
 mod neighbourhoods;
 mod path;
+mod picking;
 mod plan;
 mod ranges;
 mod ranking;
@@ -23,6 +24,7 @@ mod small_search;
 mod tables;
 mod trying;
 mod waiting;
+mod weights;
 
 pub use guide::PlanGuide;
 pub use hinter::PlanHinter;
