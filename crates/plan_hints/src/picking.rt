@@ -52,13 +52,7 @@ impl Picker {
     fn tried(&mut self, workspace: &mut Workspace, program: &Program, most: i64) -> Option<Tried> {
         let candidates = self.candidates.as_slice();
         rank(workspace, candidates, most, &mut self.ranked);
-        try_first(
-            workspace,
-            program,
-            candidates,
-            self.ranked.as_slice(),
-            most,
-        )
+        try_first(workspace, program, candidates, self.ranked.as_slice(), most)
     }
 }
 
