@@ -1,6 +1,6 @@
 //! The tests of texts, files and logs: words, parts, plans, plants that are made, stores, and the lines of logs.
 //!
-//! Nothing stands on it. Its one function makes the long texts of tests on limits.
+//! Nothing stands on it, and without its tests it holds nothing.
 #![tactic(auto)]
 
 #[cfg(test)]
@@ -15,10 +15,9 @@ mod lines;
 mod made_plants;
 #[cfg(test)]
 mod plan_files;
+#[cfg(test)]
 mod texts;
 #[cfg(test)]
 mod words;
 #[cfg(test)]
 mod written_logs;
-
-pub use texts::same_bytes;
