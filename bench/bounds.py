@@ -34,17 +34,24 @@ def figures(text):
     return {name: int(number) for name, number in re.findall(r"^([a-z-]+) (-?\d+)$", text, re.M)}
 
 
-def run(crate, plant, proved):
-    """The figures of one plant: by the built program, or by a build without proofs."""
-    with open(plant) as file:
-        if proved:
-            return figures(subprocess.run([os.path.join(crate, "out", "bounds_program")], stdin=file, capture_output=True, text=True).stdout)
+def run_built(crate, plants):
+    """The figures of each plant by the built program."""
+    for plant in plants:
+        with open(plant) as file:
+            done = subprocess.run([os.path.join(crate, "out", "bounds_program")], stdin=file, capture_output=True, text=True)
+        yield figures(done.stdout)
+
+
+def run_tried(crate, plants):
+    """The figures of each plant by one build without proofs."""
     cases = tempfile.mkdtemp(prefix="bounds-")
-    shutil.copy2(plant, cases)
+    for plant in plants:
+        shutil.copy2(plant, cases)
     words = ["rt", "try", "--steps", "1", "--seconds", "600", "--cases", cases]
-    done = subprocess.run(words, cwd=crate, capture_output=True, text=True)
+    text = subprocess.run(words, cwd=crate, capture_output=True, text=True).stdout
     shutil.rmtree(cases)
-    return figures(done.stdout)
+    parts = dict(re.findall(r"^== (\S+)\n(.*?)(?=^case=|\Z)", text, re.M | re.S))
+    return [figures(parts.get(os.path.basename(plant), "")) for plant in plants]
 
 
 def trial(folder, names):
@@ -87,8 +94,8 @@ def main():
     head = ["plant", "slots", "rows", "root cap", "seconds", "pivots", "from the root", "polish ms"]
     head += ["trial's cap", "seconds", "pivots"] if others else []
     print("| " + " | ".join(head) + " |\n" + "|---" * len(head) + "|", flush=True)
-    for name, plant in zip(names, plants):
-        print(line(name, run(crate, plant, proved), others.get(name)), flush=True)
+    for name, got in zip(names, run_built(crate, plants) if proved else run_tried(crate, plants)):
+        print(line(name, got, others.get(name)), flush=True)
     shutil.rmtree(room)
 
 
