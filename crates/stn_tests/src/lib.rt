@@ -6,7 +6,11 @@
 #[cfg(test)]
 mod answers;
 #[cfg(test)]
+mod demos;
+#[cfg(test)]
 mod logs;
+#[cfg(test)]
+mod logs_written;
 #[cfg(test)]
 mod plans;
 #[cfg(test)]

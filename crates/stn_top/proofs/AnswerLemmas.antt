@@ -1,5 +1,5 @@
 -- The answers of commands over the contents of their files.
-use Rattle.std.proofs.Common.{◌≡◌, ◌≢◌, ℕ, ◌<◌, List, [], ◌∷◌, map, Option, Some, None, Ok, Err, ap, take, ◌∙◌, inl, inr, refl}
+use Rattle.std.proofs.Common.{◌≡◌, ◌≢◌, ℕ, ◌<◌, List, [], ◌∷◌, map, Option, Some, None, Ok, Err, ap, take, ◌∙◌, inl, inr, refl, arith}
 use Rattle.std.specs.Prelude.{IfSome, IfOk, Result, ◌↔◌, ◌⊎◌}
 use Rattle.std.specs.Option.{option_map}
 use Rattle.stn_edge.specs.Files.{FileMap, file_of}
@@ -11,16 +11,20 @@ use Rattle.plant_text.specs.Reading.{reading}
 use Rattle.plan_text.specs.PlanText.{plan_of_text}
 use Rattle.stn_top.specs.declared.reply.Reply.{Reply}
 use Rattle.stn_top.specs.declared.stopped.Stopped.{Stopped}
-use Rattle.stn_top.specs.declared.stopped.Stopped.TheVariants.{Refused, ReadFault, Memory}
+use Rattle.stn_top.specs.declared.stopped.Stopped.TheVariants.{Refused, ReadFault, WriteFault, Memory}
 use Rattle.stn_top.specs.declared.command.PlanUse.{PlanUse}
-use Rattle.stn_top.specs.Words.{Request, Solving, Simulating, Checking, Upgrading, Says, HasNoForm}
-use Rattle.stn_top.specs.Sources.{IsReadOf, IsPlantRefusal, IsPlanRefusal, Refuses, IfRefusal, IfRefused, IfReplied}
-use Rattle.stn_top.specs.Solving.{Solved}
+use Rattle.stn_top.specs.Words.{Request, Solving, Logging, Simulating, Checking, Upgrading, Showing, Says, HasNoForm}
+use Rattle.plant_text.specs.declared.fault.PlantFault.{PlantFault}
+use Rattle.stn_model.specs.declared.answer.Answer.{Answer}
+use Rattle.stn_model.specs.declared.answer.Answer.TheVariants.{Optimal, Infeasible, BudgetSpent}
+use Rattle.stn_solve.specs.Proofs.{bytes_in}
+use Rattle.stn_top.specs.Sources.{OnPlant, IsReadOf, IsPlantRefusal, IsPlanRefusal, Refuses, IfRefusal, IfRefused, IfReplied}
+use Rattle.stn_top.specs.Solving.{Solved, status_of}
 use Rattle.stn_top.specs.Simulation.{Simulated}
 use Rattle.stn_top.specs.Checking.{Checked}
 use Rattle.stn_top.specs.Upgrading.{Upgraded}
-use Rattle.stn_top.specs.Requests.{IsAnswer, read_names, written_names, without, OthersKept}
-use Rattle.stn_top.specs.Replies.{IsReply, Answered, PartlyAnswered, IsCutOff}
+use Rattle.stn_top.specs.Requests.{IsAnswer, content}
+use Rattle.stn_top.specs.Replies.{IsReply, Answered, PartlyAnswered, IsCutOff, IsUnwritten}
 
 -- ---- contents
 
@@ -44,123 +48,195 @@ told_both (Some m) name bytes name2 bytes2 told told2 =
 
 -- ---- refused inputs
 
--- the name of a request's plant file
-abbrev plant_name : Request → List ℕ
-plant_name (Solving plant budget) = plant
-plant_name (Simulating usage plant plan) = plant
-plant_name (Checking plant log) = plant
-plant_name (Upgrading plant) = plant
+-- the reply is the refusal of a request's plant file; a request without one has none
+abbrev RefusesPlant : Option FileMap → Request → Reply → Type 0
+RefusesPlant files (Solving plant budget) reply = Refuses reading IsPlantRefusal files plant reply
+RefusesPlant files (Logging plant budget log) reply = Refuses reading IsPlantRefusal files plant reply
+RefusesPlant files (Simulating usage plant plan) reply = Refuses reading IsPlantRefusal files plant reply
+RefusesPlant files (Checking plant log) reply = Refuses reading IsPlantRefusal files plant reply
+RefusesPlant files (Upgrading plant) reply = Refuses reading IsPlantRefusal files plant reply
+RefusesPlant files (Showing seed) reply = ⊥
 
--- the refusal of the plant is an answer to every request
-refused-plant : (files : Option FileMap) (request : Request) (reply : Reply) → Refuses reading IsPlantRefusal files (plant_name request) reply
-    → IsAnswer files request reply.status reply.text.items
-refused-plant files (Solving plant budget) reply is = record {
+-- the refusal of the plant is an answer to every request, where the files are as before
+refused-plant : (old new : Option FileMap) (request : Request) (reply : Reply) → new ≡ old → RefusesPlant old request reply
+    → IsAnswer old new request reply.status reply.text.items
+refused-plant old new (Solving plant budget) reply same is = record {
   contents = is.read.bytes ∷ [];
-  told = told_first files plant is.read.bytes [] is.read.told;
+  told = told_first old plant is.read.bytes [] is.read.told;
   answers = rw is.read.is is.refusal;
+  kept = λ _. same;
 }
-refused-plant files (Simulating usage plant plan) reply is = record {
-  contents = is.read.bytes ∷ told_or_empty files plan ∷ [];
-  told = told_first files plant is.read.bytes (plan ∷ []) is.read.told;
-  answers = rw is.read.is is.refusal;
-}
-refused-plant files (Checking plant log) reply is = record {
-  contents = is.read.bytes ∷ told_or_empty files log ∷ [];
-  told = told_first files plant is.read.bytes (log ∷ []) is.read.told;
-  answers = rw is.read.is is.refusal;
-}
-refused-plant files (Upgrading plant) reply is = record {
+refused-plant old new (Logging plant budget log) reply same is = record {
   contents = is.read.bytes ∷ [];
-  told = told_first files plant is.read.bytes [] is.read.told;
+  told = told_first old plant is.read.bytes [] is.read.told;
   answers = rw is.read.is is.refusal;
+  kept = λ _. same;
 }
+refused-plant old new (Simulating usage plant plan) reply same is = record {
+  contents = is.read.bytes ∷ told_or_empty old plan ∷ [];
+  told = told_first old plant is.read.bytes (plan ∷ []) is.read.told;
+  answers = rw is.read.is is.refusal;
+  kept = λ _. same;
+}
+refused-plant old new (Checking plant log) reply same is = record {
+  contents = is.read.bytes ∷ told_or_empty old log ∷ [];
+  told = told_first old plant is.read.bytes (log ∷ []) is.read.told;
+  answers = rw is.read.is is.refusal;
+  kept = λ _. same;
+}
+refused-plant old new (Upgrading plant) reply same is = record {
+  contents = is.read.bytes ∷ [];
+  told = told_first old plant is.read.bytes [] is.read.told;
+  answers = rw is.read.is is.refusal;
+  kept = λ _. same;
+}
+refused-plant old new (Showing seed) reply same is = absurd is
 
 -- a fact of a refusal's reply from another
 IfRefusal-weaker : (stopped : Stopped) (P Q : Reply → Type 0) → ((reply : Reply) → P reply → Q reply) → IfRefusal stopped P → IfRefusal stopped Q
 IfRefusal-weaker (Refused reply) P Q step is = step reply is
 IfRefusal-weaker ReadFault P Q step is = tt
+IfRefusal-weaker WriteFault P Q step is = tt
 IfRefusal-weaker Memory P Q step is = tt
 
 -- the plant was refused
-pub plant_refused : (files : Option FileMap) (request : Request) (stopped : Stopped) → IfRefusal stopped (Refuses reading IsPlantRefusal files (plant_name request))
-    → IfRefusal stopped (λ reply. IsAnswer files request reply.status reply.text.items)
-plant_refused files request stopped is =
-    IfRefusal-weaker stopped (Refuses reading IsPlantRefusal files (plant_name request)) (λ reply. IsAnswer files request reply.status reply.text.items) (refused-plant files request) is
+pub plant_refused : (old new : Option FileMap) (request : Request) (stopped : Stopped) → new ≡ old → IfRefusal stopped (RefusesPlant old request)
+    → IfRefusal stopped (λ reply. IsAnswer old new request reply.status reply.text.items)
+plant_refused old new request stopped same is =
+    IfRefusal-weaker stopped (RefusesPlant old request) (λ reply. IsAnswer old new request reply.status reply.text.items) (λ reply. refused-plant old new request reply same) is
 
 -- the refusal of the plan is an answer to a request that reads a plan
-refused-plan : (files : Option FileMap) (usage : PlanUse) (plant plan : List ℕ) (p : Plant) → IsReadOf reading files plant (Ok p) → (reply : Reply) → Refuses (plan_of_text p) IsPlanRefusal files plan reply
-    → IsAnswer files (Simulating usage plant plan) reply.status reply.text.items
-refused-plan files usage plant plan p read reply is = record {
+refused-plan : (old new : Option FileMap) (usage : PlanUse) (plant plan : List ℕ) (p : Plant) → new ≡ old → IsReadOf reading old plant (Ok p) → (reply : Reply) → Refuses (plan_of_text p) IsPlanRefusal old plan reply
+    → IsAnswer old new (Simulating usage plant plan) reply.status reply.text.items
+refused-plan old new usage plant plan p same read reply is = record {
   contents = read.bytes ∷ is.read.bytes ∷ [];
-  told = told_both files plant read.bytes plan is.read.bytes read.told is.read.told;
+  told = told_both old plant read.bytes plan is.read.bytes read.told is.read.told;
   answers = rw (read.is, is.read.is) is.refusal;
+  kept = λ _. same;
 }
 
 -- the plan was refused
-pub plan_refused : (files : Option FileMap) (usage : PlanUse) (plant plan : List ℕ) (p : Plant) (stopped : Stopped) → IsReadOf reading files plant (Ok p) → IfRefusal stopped (Refuses (plan_of_text p) IsPlanRefusal files plan)
-    → IfRefusal stopped (λ reply. IsAnswer files (Simulating usage plant plan) reply.status reply.text.items)
-plan_refused files usage plant plan p stopped read is =
-    IfRefusal-weaker stopped (Refuses (plan_of_text p) IsPlanRefusal files plan) (λ reply. IsAnswer files (Simulating usage plant plan) reply.status reply.text.items) (refused-plan files usage plant plan p read) is
+pub plan_refused : (old new : Option FileMap) (usage : PlanUse) (plant plan : List ℕ) (p : Plant) (stopped : Stopped) → new ≡ old → IsReadOf reading old plant (Ok p) → IfRefusal stopped (Refuses (plan_of_text p) IsPlanRefusal old plan)
+    → IfRefusal stopped (λ reply. IsAnswer old new (Simulating usage plant plan) reply.status reply.text.items)
+plan_refused old new usage plant plan p stopped same read is =
+    IfRefusal-weaker stopped (Refuses (plan_of_text p) IsPlanRefusal old plan) (λ reply. IsAnswer old new (Simulating usage plant plan) reply.status reply.text.items) (refused-plan old new usage plant plan p same read) is
 
 -- ---- answers
 
 -- of planning
-pub solving_answer : (files : Option FileMap) (plant : List ℕ) (budget : ℕ) (p : Plant) (status : ℕ) (text : List ℕ) → IsReadOf reading files plant (Ok p) → Solved budget p status text
-    → IsAnswer files (Solving plant budget) status text
-solving_answer files plant budget p status text read is = record {
+pub solving_answer : (old new : Option FileMap) (plant : List ℕ) (budget : ℕ) (p : Plant) (status : ℕ) (text : List ℕ) → new ≡ old → IsReadOf reading old plant (Ok p) → Solved budget p None status text
+    → IsAnswer old new (Solving plant budget) status text
+solving_answer old new plant budget p status text same read is = record {
   contents = read.bytes ∷ [];
-  told = told_first files plant read.bytes [] read.told;
+  told = told_first old plant read.bytes [] read.told;
   answers = rw read.is is;
+  kept = λ _. same;
 }
 
+-- a status that is none of these
+written : (status : ℕ) → status ≢ 2 → status ≢ 3 → status ≢ 4 → status ≢ 7 → IsUnwritten status → ⊥
+written status two three four seven (inl is) = two is
+written status two three four seven (inr (inl is)) = three is
+written status two three four seven (inr (inr (inl is))) = four is
+written status two three four seven (inr (inr (inr is))) = seven is
+
+-- the status of an answer of planning is that of no refusal
+solved-status : (answer : Answer) (status : ℕ) → status ≡ status_of answer → IsUnwritten status → ⊥
+solved-status (Optimal plan earned) status is none = written status (λ s. omega (arith, is, s)) (λ s. omega (arith, is, s)) (λ s. omega (arith, is, s)) (λ s. omega (arith, is, s)) none
+solved-status Infeasible status is none = written status (λ s. omega (arith, is, s)) (λ s. omega (arith, is, s)) (λ s. omega (arith, is, s)) (λ s. omega (arith, is, s)) none
+solved-status (BudgetSpent plan earned cap) status is none = written status (λ s. omega (arith, is, s)) (λ s. omega (arith, is, s)) (λ s. omega (arith, is, s)) (λ s. omega (arith, is, s)) none
+
+-- of planning with a log
+logging_answer : (old new : Option FileMap) (plant : List ℕ) (budget : ℕ) (log : List ℕ) (p : Plant) (status : ℕ) (text : List ℕ) → IsReadOf reading old plant (Ok p) → Solved budget p (bytes_in log new) status text
+    → IsAnswer old new (Logging plant budget log) status text
+logging_answer old new plant budget log p status text read is = record {
+  contents = read.bytes ∷ [];
+  told = told_first old plant read.bytes [] read.told;
+  answers = rw read.is is;
+  kept = λ three. absurd (solved-status is.outcome.answer status is.status_is (inr (inl three)));
+}
+
+-- what planning with a log replies
+pub logged_reply : (old new : Option FileMap) (plant : List ℕ) (budget : ℕ) (log : List ℕ) (p : Plant) (r : Result Reply Stopped) → IsReadOf reading old plant (Ok p)
+    → IfOk r (λ reply. Solved budget p (bytes_in log new) reply.status reply.text.items) → IfRefused r (λ _. ⊥)
+    → IfReplied r (λ reply. IsAnswer old new (Logging plant budget log) reply.status reply.text.items)
+logged_reply old new plant budget log p (Ok reply) read is none = logging_answer old new plant budget log p reply.status reply.text.items read is
+logged_reply old new plant budget log p (Err (Refused reply)) read is none = absurd none
+logged_reply old new plant budget log p (Err ReadFault) read is none = tt
+logged_reply old new plant budget log p (Err WriteFault) read is none = tt
+logged_reply old new plant budget log p (Err Memory) read is none = tt
+
+-- an answer to planning with a log whose status is that of a refusal is one
+refused-logging : (budget : ℕ) (log : Option (List ℕ)) (read : Result Plant PlantFault) (status : ℕ) (text : List ℕ) → OnPlant read (λ p. Solved budget p log) status text → IsUnwritten status → status ≡ 3
+refused-logging budget log (Ok p) status text is none = absurd (solved-status is.outcome.answer status is.status_is none)
+refused-logging budget log (Err fault) status text is none = is.0
+
+-- a log was not written where the reply is a refusal
+logging-unwritten : (old new : Option FileMap) (plant : List ℕ) (budget : ℕ) (log : List ℕ) (status : ℕ) (text : List ℕ) → IsAnswer old new (Logging plant budget log) status text → IsUnwritten status → new ≡ old
+logging-unwritten old new plant budget log status text is none =
+    is.kept (refused-logging budget (bytes_in log new) (reading (content is.contents 0)) status text is.answers none)
+
+-- the same of what is replied
+pub logging_unwritten : (old new : Option FileMap) (plant : List ℕ) (budget : ℕ) (log : List ℕ) (r : Result Reply Stopped) → IfReplied r (λ reply. IsAnswer old new (Logging plant budget log) reply.status reply.text.items)
+    → IfReplied r (λ reply. IsUnwritten reply.status → new ≡ old)
+logging_unwritten old new plant budget log (Ok reply) is = logging-unwritten old new plant budget log reply.status reply.text.items is
+logging_unwritten old new plant budget log (Err (Refused reply)) is = logging-unwritten old new plant budget log reply.status reply.text.items is
+logging_unwritten old new plant budget log (Err ReadFault) is = tt
+logging_unwritten old new plant budget log (Err WriteFault) is = tt
+logging_unwritten old new plant budget log (Err Memory) is = tt
+
 -- of simulating
-pub simulating_answer : (files : Option FileMap) (usage : PlanUse) (plant plan : List ℕ) (p : Plant) (starts : List Start) (status : ℕ) (text : List ℕ)
-    → IsReadOf reading files plant (Ok p) → IsReadOf (plan_of_text p) files plan (Ok starts) → Simulated usage p starts status text
-    → IsAnswer files (Simulating usage plant plan) status text
-simulating_answer files usage plant plan p starts status text read read2 is = record {
+pub simulating_answer : (old new : Option FileMap) (usage : PlanUse) (plant plan : List ℕ) (p : Plant) (starts : List Start) (status : ℕ) (text : List ℕ)
+    → new ≡ old → IsReadOf reading old plant (Ok p) → IsReadOf (plan_of_text p) old plan (Ok starts) → Simulated usage p starts status text
+    → IsAnswer old new (Simulating usage plant plan) status text
+simulating_answer old new usage plant plan p starts status text same read read2 is = record {
   contents = read.bytes ∷ read2.bytes ∷ [];
-  told = told_both files plant read.bytes plan read2.bytes read.told read2.told;
+  told = told_both old plant read.bytes plan read2.bytes read.told read2.told;
   answers = rw (read.is, read2.is) is;
+  kept = λ _. same;
 }
 
 -- of checking
-checking_answer : (files : Option FileMap) (plant log : List ℕ) (p : Plant) (status : ℕ) (text : List ℕ) → IsReadOf reading files plant (Ok p)
-    → Checked (option_map (λ m. file_of m log) files) p status text → IsAnswer files (Checking plant log) status text
-checking_answer files plant log p status text read is = record {
-  contents = read.bytes ∷ told_or_empty files log ∷ [];
-  told = told_first files plant read.bytes (log ∷ []) read.told;
+checking_answer : (old new : Option FileMap) (plant log : List ℕ) (p : Plant) (status : ℕ) (text : List ℕ) → new ≡ old → IsReadOf reading old plant (Ok p)
+    → Checked (bytes_in log old) p status text → IsAnswer old new (Checking plant log) status text
+checking_answer old new plant log p status text same read is = record {
+  contents = read.bytes ∷ told_or_empty old log ∷ [];
+  told = told_first old plant read.bytes (log ∷ []) read.told;
   answers = rw read.is is;
+  kept = λ _. same;
 }
 
 -- what a check of a log that may be read replies
-pub checked_reply : (files : Option FileMap) (plant log : List ℕ) (p : Plant) (r : Result Reply Stopped) → IsReadOf reading files plant (Ok p)
-    → IfOk r (λ reply. Checked (option_map (λ m. file_of m log) files) p reply.status reply.text.items) → IfRefused r (λ _. ⊥)
-    → IfReplied r (λ reply. IsAnswer files (Checking plant log) reply.status reply.text.items)
-checked_reply files plant log p (Ok reply) read is none = checking_answer files plant log p reply.status reply.text.items read is
-checked_reply files plant log p (Err (Refused reply)) read is none = absurd none
-checked_reply files plant log p (Err ReadFault) read is none = tt
-checked_reply files plant log p (Err Memory) read is none = tt
+pub checked_reply : (old new : Option FileMap) (plant log : List ℕ) (p : Plant) (r : Result Reply Stopped) → new ≡ old → IsReadOf reading old plant (Ok p)
+    → IfOk r (λ reply. Checked (bytes_in log old) p reply.status reply.text.items) → IfRefused r (λ _. ⊥)
+    → IfReplied r (λ reply. IsAnswer old new (Checking plant log) reply.status reply.text.items)
+checked_reply old new plant log p (Ok reply) same read is none = checking_answer old new plant log p reply.status reply.text.items same read is
+checked_reply old new plant log p (Err (Refused reply)) same read is none = absurd none
+checked_reply old new plant log p (Err ReadFault) same read is none = tt
+checked_reply old new plant log p (Err WriteFault) same read is none = tt
+checked_reply old new plant log p (Err Memory) same read is none = tt
 
 -- of upgrading
-pub upgrading_answer : (files : Option FileMap) (plant : List ℕ) (p : Plant) (status : ℕ) (text : List ℕ) → IsReadOf reading files plant (Ok p) → Upgraded p status text
-    → IsAnswer files (Upgrading plant) status text
-upgrading_answer files plant p status text read is = record {
+pub upgrading_answer : (old new : Option FileMap) (plant : List ℕ) (p : Plant) (status : ℕ) (text : List ℕ) → new ≡ old → IsReadOf reading old plant (Ok p) → Upgraded p status text
+    → IsAnswer old new (Upgrading plant) status text
+upgrading_answer old new plant p status text same read is = record {
   contents = read.bytes ∷ [];
-  told = told_first files plant read.bytes [] read.told;
+  told = told_first old plant read.bytes [] read.told;
   answers = rw read.is is;
+  kept = λ _. same;
 }
 
 -- ---- words and files
 
 -- a first part of an answer that was put is one of a reply to the words that say its request
-pub cut_off : (words : List (List ℕ)) (files : Option FileMap) (request : Request) (old new : Option (List ℕ)) → Says words request
-    → IsCutOff (IsAnswer files request) old new → IsCutOff (IsReply words files) old new
-cut_off words files request old new says (inl same) = inl same
-cut_off words files request old new says (inr is) =
+pub cut_off : (words : List (List ℕ)) (files after : Option FileMap) (request : Request) (old new : Option (List ℕ)) → Says words request
+    → IsCutOff (IsAnswer files after request) old new → IsCutOff (IsReply words files after) old new
+cut_off words files after request old new says (inl same) = inl same
+cut_off words files after request old new says (inr is) =
     inr (record { status = is.status; text = is.text; reply = inr (request, (says, is.reply)); count = is.count; put = is.put })
 
 -- a first part of the line on words of no form
 pub none_cut_off : (words : List (List ℕ)) (files : Option FileMap) (text : List ℕ) (old new : Option (List ℕ)) → HasNoForm words → text ≡ words_text
-    → (count : ℕ) × (new ≡ option_map (extended (take count text)) old) → IsCutOff (IsReply words files) old new
+    → (count : ℕ) × (new ≡ option_map (extended (take count text)) old) → IsCutOff (IsReply words files files) old new
 none_cut_off words files text old new none is (count, put) =
-    inr (record { status = 2; text = text; reply = inl (none, refl, is); count = count; put = put })
+    inr (record { status = 2; text = text; reply = inl (none, refl, is, refl); count = count; put = put })

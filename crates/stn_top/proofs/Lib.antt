@@ -4,3 +4,5 @@ pub mod Named
 pub mod ReadFiles
 pub mod AnswerLemmas
 pub mod ReadBack
+pub mod DemoLemmas
+pub mod FileLemmas

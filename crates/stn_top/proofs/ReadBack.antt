@@ -20,6 +20,7 @@ use Rattle.stn_model.specs.declared.answer.Outcome.{Outcome}
 use Rattle.stn_model.specs.Answers.{IsAnswerOf, IsOutcome}
 use Rattle.stn_model.specs.Points.{boxes}
 use Rattle.stn_top.specs.declared.reply.Reply.{Reply}
+use Rattle.stn_solve.specs.Proofs.{HasPlantProof}
 use Rattle.stn_top.specs.Solving.{Solved}
 use Rattle.std.specs.Prelude.{Result, Err, IfOk}
 use Rattle.time_grid.specs.Slots.{slots}
@@ -230,14 +231,20 @@ reads-back plant admits least count budget used answer sound some right small fe
     ap (plan_of_text plant) (answer-lines plant used answer) ∙ reads-answer plant admits least count budget used answer (remarks answer used) sound some right (are_remarks answer used small few)
 
 -- an outcome that is right and its text are an answer of `solve`
-pub solved : {E : Type 0} (plant : Plant) (budget : ℕ) (outcome : Outcome) (r : Result Reply E) → Sound plant → budget ≤ 100000 → IsOutcome plant budget outcome
+pub solved : {E : Type 0} (plant : Plant) (budget : ℕ) (log : Option (List ℕ)) (outcome : Outcome) (r : Result Reply E) → Sound plant → budget ≤ 100000 → IsOutcome plant budget outcome → HasPlantProof plant log outcome
     → IfOk r (λ reply. (reply.status ≡ status_of outcome.answer) × (reply.text.items ≡ answer_text plant outcome.boxes outcome.answer)) → IsInMoney outcome.answer
-    → IfOk r (λ reply. Solved budget plant reply.status reply.text.items)
-solved plant budget outcome (Ok reply) sound most right is money = record {
+    → IfOk r (λ reply. Solved budget plant log reply.status reply.text.items)
+solved plant budget log outcome (Ok reply) sound most right proof is money = record {
   outcome = outcome;
   right = right;
+  proof = proof;
   status_is = is.0;
   text_is = is.1;
   reads_back = ap (plan_of_text plant) is.1 ∙ reads-back plant (Feasible plant) [] (boxes plant) budget outcome.boxes outcome.answer sound (λ plan is. is) right.answer money (omega (arith, right.within, most));
 }
-solved plant budget outcome (Err e) sound most right is money = tt
+solved plant budget log outcome (Err e) sound most right proof is money = tt
+
+-- the same of a reply
+pub solved_is : (plant : Plant) (budget : ℕ) (log : Option (List ℕ)) (outcome : Outcome) (reply : Reply) → Sound plant → budget ≤ 100000 → IsOutcome plant budget outcome → HasPlantProof plant log outcome
+    → (reply.status ≡ status_of outcome.answer) × (reply.text.items ≡ answer_text plant outcome.boxes outcome.answer) → IsInMoney outcome.answer → Solved budget plant log reply.status reply.text.items
+solved_is plant budget log outcome reply sound most right proof is money = solved {E = ℕ} plant budget log outcome (Ok reply) sound most right proof is money

@@ -11,7 +11,7 @@ use Rattle.plan_text.specs.declared.fault.PlanFault.{PlanFault}
 use Rattle.plant_text.specs.declared.fault.PlantFault.{PlantFault}
 use Rattle.stn_top.specs.declared.reply.Reply.{Reply}
 use Rattle.stn_top.specs.declared.stopped.Stopped.{Stopped}
-use Rattle.stn_top.specs.declared.stopped.Stopped.TheVariants.{Refused, ReadFault, Memory}
+use Rattle.stn_top.specs.declared.stopped.Stopped.TheVariants.{Refused, ReadFault, WriteFault, Memory}
 use Rattle.stn_top.specs.Sources.{IsReadOf, IsRefusedAs, Refuses, IfRefusal, IfRefused, plan_too_long}
 
 -- what was read of the bytes of a file was read of the file
@@ -26,6 +26,7 @@ refusal_of : {X E : Type 0} (reading_of : List ℕ → Result X E) (IsRefusal : 
 refusal_of reading_of IsRefusal files name bytes (Refused reply) told is =
     record { fault = is.fault; read = record { bytes = bytes; told = told; is = is.is }; refusal = is.refusal }
 refusal_of reading_of IsRefusal files name bytes ReadFault told is = tt
+refusal_of reading_of IsRefusal files name bytes WriteFault told is = tt
 refusal_of reading_of IsRefusal files name bytes Memory told is = tt
 
 -- the same of a result
@@ -51,6 +52,7 @@ too-long-refusal : {X E : Type 0} (reading_of : List ℕ → Result X E) (IsRefu
     → IsReadOf reading_of files name (Err fault) → IfRefusal stopped (λ reply. IsRefusal fault reply.status reply.text.items) → IfRefusal stopped (Refuses reading_of IsRefusal files name)
 too-long-refusal reading_of IsRefusal files name fault (Refused reply) read is = record { fault = fault; read = read; refusal = is }
 too-long-refusal reading_of IsRefusal files name fault ReadFault read is = tt
+too-long-refusal reading_of IsRefusal files name fault WriteFault read is = tt
 too-long-refusal reading_of IsRefusal files name fault Memory read is = tt
 
 -- of a plant file

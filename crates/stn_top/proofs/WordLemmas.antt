@@ -2,11 +2,11 @@
 use Rattle.std.specs.Cmp.Lexicographic.{same_text}
 use Rattle.std.specs.Prelude.{◌==◌, nat_eq}
 use lib.Pointwise.{pointwise}
-use Rattle.std.proofs.Common.{◌≡◌, true, false, ◌∙◌, ap, ℕ, ◌<◌, ◌≤◌, List, [], ◌∷◌, length, get_or, refl, arith, Bor}
+use Rattle.std.proofs.Common.{◌≡◌, ◌≢◌, not, true, false, ◌∙◌, ap, ℕ, ◌<◌, ◌≤◌, List, [], ◌∷◌, length, get_or, refl, arith, Bor}
 use Rattle.std.specs.Prelude.{Option, Some, None, MatchOption}
 use Rattle.stn_top.specs.declared.command.Command.{Command}
 use Rattle.stn_top.specs.declared.command.PlanUse.TheVariants.{Simulate, Report}
-use Rattle.stn_top.specs.Words.{texts, Request, Says, HasNoForm, Solving, Simulating, Checking, Upgrading, meaning}
+use Rattle.stn_top.specs.Words.{texts, Request, Says, HasNoForm, Solving, Logging, Simulating, Checking, Upgrading, Showing, meaning}
 
 -- three words are the list of their texts
 pub three_texts : (words : List (Bor (List ℕ))) (d : Bor (List ℕ)) → 3 ≤ length words → length words < 4 → texts words ≡ (get_or words 0 d).now ∷ (get_or words 1 d).now ∷ (get_or words 2 d).now ∷ []
@@ -15,6 +15,15 @@ three_texts (a ∷ []) d least most = absurd (omega arith)
 three_texts (a ∷ b ∷ []) d least most = absurd (omega arith)
 three_texts (a ∷ b ∷ e ∷ []) d least most = refl
 three_texts (a ∷ b ∷ e ∷ f ∷ rest) d least most = absurd (omega arith)
+
+-- four words are the list of their texts
+pub four_texts : (words : List (Bor (List ℕ))) (d : Bor (List ℕ)) → 4 ≤ length words → length words < 5 → texts words ≡ (get_or words 0 d).now ∷ (get_or words 1 d).now ∷ (get_or words 2 d).now ∷ (get_or words 3 d).now ∷ []
+four_texts [] d least most = absurd (omega arith)
+four_texts (a ∷ []) d least most = absurd (omega arith)
+four_texts (a ∷ b ∷ []) d least most = absurd (omega arith)
+four_texts (a ∷ b ∷ e ∷ []) d least most = absurd (omega arith)
+four_texts (a ∷ b ∷ e ∷ f ∷ []) d least most = refl
+four_texts (a ∷ b ∷ e ∷ f ∷ g ∷ rest) d least most = absurd (omega arith)
 
 -- two words are the list of their texts
 pub two_texts : (words : List (Bor (List ℕ))) (d : Bor (List ℕ)) → 2 ≤ length words → length words < 3 → texts words ≡ (get_or words 0 d).now ∷ (get_or words 1 d).now ∷ []
@@ -37,19 +46,35 @@ pub three_words : (words : List (Bor (List ℕ))) (d : Bor (List ℕ)) (first : 
 three_words words d first least most same =
     three_texts words d least most ∙ ap (λ (x : List ℕ). x ∷ (get_or words 1 d).now ∷ (get_or words 2 d).now ∷ []) (same_text _ _ same)
 
+-- four words, of which the first is known
+pub four_words : (words : List (Bor (List ℕ))) (d : Bor (List ℕ)) (first : List ℕ) → 4 ≤ length words → length words < 5 → true ≡ pointwise nat_eq (get_or words 0 d).now first → texts words ≡ first ∷ (get_or words 1 d).now ∷ (get_or words 2 d).now ∷ (get_or words 3 d).now ∷ []
+four_words words d first least most same =
+    four_texts words d least most ∙ ap (λ (x : List ℕ). x ∷ (get_or words 1 d).now ∷ (get_or words 2 d).now ∷ (get_or words 3 d).now ∷ []) (same_text _ _ same)
+
 -- the words say no request of two files with this first word
 abbrev NoFiles : List (List ℕ) → (List ℕ → List ℕ → Request) → Type 0
 NoFiles words request = (first second : List ℕ) → ¬ Says words (request first second)
 
+-- the words say no planning, with or without a log
+abbrev NoPlanning : List (List ℕ) → Type 0
+NoPlanning words = ((plant : List ℕ) (budget : ℕ) → ¬ Says words (Solving plant budget)) × ((plant log : List ℕ) (budget : ℕ) → ¬ Says words (Logging plant budget log))
+
+-- the words say nothing of a plant alone, and no seed
+abbrev NoOther : List (List ℕ) → Type 0
+NoOther words = ((plant : List ℕ) → ¬ Says words (Upgrading plant)) × ((seed : ℕ) → ¬ Says words (Showing seed))
+
 -- words that have none of the forms
-pub has_no_form : (words : List (List ℕ)) → ((plant : List ℕ) (budget : ℕ) → ¬ Says words (Solving plant budget)) → NoFiles words (Simulating Simulate) → NoFiles words (Simulating Report) → NoFiles words Checking → ((plant : List ℕ) → ¬ Says words (Upgrading plant)) → HasNoForm words
-has_no_form words solve simulate report check upgrade (Solving plant budget) = solve plant budget
-has_no_form words solve simulate report check upgrade (Simulating Simulate plant plan) = simulate plant plan
-has_no_form words solve simulate report check upgrade (Simulating Report plant plan) = report plant plan
-has_no_form words solve simulate report check upgrade (Checking plant log) = check plant log
-has_no_form words solve simulate report check upgrade (Upgrading plant) = upgrade plant
+pub has_no_form : (words : List (List ℕ)) → NoPlanning words → NoFiles words (Simulating Simulate) → NoFiles words (Simulating Report) → NoFiles words Checking → NoOther words → HasNoForm words
+has_no_form words solve simulate report check other (Solving plant budget) = solve.0 plant budget
+has_no_form words solve simulate report check other (Logging plant budget log) = solve.1 plant log budget
+has_no_form words solve simulate report check other (Simulating Simulate plant plan) = simulate plant plan
+has_no_form words solve simulate report check other (Simulating Report plant plan) = report plant plan
+has_no_form words solve simulate report check other (Checking plant log) = check plant log
+has_no_form words solve simulate report check other (Upgrading plant) = other.0 plant
+has_no_form words solve simulate report check other (Showing seed) = other.1 seed
 
 -- the last form decides
-pub last_form : (words : List (List ℕ)) (command : Option Command) → ((plant : List ℕ) (budget : ℕ) → ¬ Says words (Solving plant budget)) → NoFiles words (Simulating Simulate) → NoFiles words (Simulating Report) → NoFiles words Checking → MatchOption command ((plant : List ℕ) → ¬ Says words (Upgrading plant)) (λ c. Says words (meaning c)) → MatchOption command (HasNoForm words) (λ c. Says words (meaning c))
-last_form words None solve simulate report check upgrade = has_no_form words solve simulate report check upgrade
-last_form words (Some command) solve simulate report check upgrade = upgrade
+pub last_form : (words : List (List ℕ)) (command : Option Command) → NoPlanning words → NoFiles words (Simulating Simulate) → NoFiles words (Simulating Report) → NoFiles words Checking → ((plant : List ℕ) → ¬ Says words (Upgrading plant))
+    → MatchOption command ((seed : ℕ) → ¬ Says words (Showing seed)) (λ c. Says words (meaning c)) → MatchOption command (HasNoForm words) (λ c. Says words (meaning c))
+last_form words None solve simulate report check upgrade show = has_no_form words solve simulate report check (upgrade, show)
+last_form words (Some command) solve simulate report check upgrade show = show

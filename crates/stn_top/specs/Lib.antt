@@ -5,5 +5,6 @@ pub mod Solving
 pub mod Simulation
 pub mod Checking
 pub mod Upgrading
+pub mod Demo
 pub mod Requests
 pub mod Replies

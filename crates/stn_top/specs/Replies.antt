@@ -1,20 +1,25 @@
 -- What a run answers: its status, and what it puts.
 use Rattle.std.specs.Prelude.{◌≡◌, ◌⊎◌, ℕ, Bool, List, take, Option}
 use Rattle.std.specs.Option.{option_map}
+use Rattle.stn_edge.specs.Count.{Rose}
 use Rattle.stn_edge.specs.Text.{extended}
 use Rattle.stn_edge.specs.Files.{FileMap}
 use Rattle.stn_top.specs.Words.{Request, Says, HasNoForm}
 use Rattle.stn_top.specs.Lines.{words_text}
-use Rattle.stn_top.specs.Requests.{MayRead, IsAnswer}
+use Rattle.stn_top.specs.Requests.{MayRead, MayWrite, IsAnswer, GetsToWriting}
 
--- words of no form are refused with status 2; else the request that they say is answered
-abbrev pub IsReply : List (List ℕ) → Option FileMap → ℕ → List ℕ → Type 0
-IsReply words files status text =
-    (HasNoForm words × (status ≡ 2) × (text ≡ words_text)) ⊎ ((request : Request) × (Says words request × IsAnswer files request status text))
+-- words of no form are refused with status 2, and the files are as before; else the request that they say is answered
+abbrev pub IsReply : List (List ℕ) → Option FileMap → Option FileMap → ℕ → List ℕ → Type 0
+IsReply words files after status text =
+    (HasNoForm words × (status ≡ 2) × (text ≡ words_text) × (after ≡ files)) ⊎ ((request : Request) × (Says words request × IsAnswer files after request status text))
 
 -- whatever the words say, its files may be read
 abbrev pub MayReadAll : (List ℕ → Bool) → List (List ℕ) → Type 0
 MayReadAll may_read words = (request : Request) → Says words request → MayRead may_read request
+
+-- whatever the words say, its log may be written
+abbrev pub MayWriteAll : (List ℕ → Bool) → List (List ℕ) → Type 0
+MayWriteAll may_write words = (request : Request) → Says words request → MayWrite may_write request
 
 -- the text of such a reply was put, with this status
 pub record Answered (Replies : ℕ → List ℕ → Type 0) (status : ℕ) (old new : Option (List ℕ)) : Type 0 where
@@ -33,3 +38,11 @@ pub record PartlyAnswered (Replies : ℕ → List ℕ → Type 0) (old new : Opt
 -- nothing was put, or a first part of the text of such a reply
 abbrev pub IsCutOff : (ℕ → List ℕ → Type 0) → Option (List ℕ) → Option (List ℕ) → Type 0
 IsCutOff Replies old new = (new ≡ old) ⊎ PartlyAnswered Replies old new
+
+-- the words say a request that got to writing a file, and the count of write faults rose
+abbrev pub LogFailed : List (List ℕ) → Option FileMap → ℕ → ℕ → Type 0
+LogFailed words files old new = Rose old new × ((request : Request) × (Says words request × GetsToWriting files request))
+
+-- the statuses of refusals, and that of a file that could not be read
+abbrev pub IsUnwritten : ℕ → Type 0
+IsUnwritten status = (status ≡ 2) ⊎ ((status ≡ 3) ⊎ ((status ≡ 4) ⊎ (status ≡ 7)))

@@ -1,62 +1,96 @@
 -- The files of a request, and its answer.
-use Rattle.std.specs.Prelude.{◌≡◌, ℕ, Bool, IsTrue, All, List, [], ◌∷◌, map, slice_index_or, Option, IfSome}
+use Rattle.std.specs.Prelude.{◌≡◌, ◌≢◌, ◌⊎◌, ℕ, Bool, IsTrue, All, List, [], ◌∷◌, map, slice_index_or, Option, None, IfSome, Ok}
 use Rattle.std.specs.Option.{option_map}
-use Rattle.std.specs.Ordering.{nat_cmp}
-use Rattle.std.specs.FinMap.{remove}
+use Rattle.std.specs.FinMap.{get}
 use Rattle.stn_edge.specs.Files.{FileMap, file_of}
+use Rattle.stn_model.specs.declared.plant.Plant.{Plant}
+use Rattle.stn_model.specs.declared.answer.Outcome.{Outcome}
 use Rattle.plant_text.specs.Reading.{reading}
 use Rattle.plan_text.specs.PlanText.{plan_of_text}
-use Rattle.stn_top.specs.Words.{Request, Solving, Simulating, Checking, Upgrading}
-use Rattle.stn_top.specs.Sources.{OnPlant, OnPlan}
+use Rattle.stn_solve.specs.Proofs.{HasPlantProof, IsLeftOf, bytes_in}
+use Rattle.stn_top.specs.Words.{Request, Solving, Logging, Simulating, Checking, Upgrading, Showing}
+use Rattle.stn_top.specs.Sources.{IsReadOf, OnPlant, OnPlan}
 use Rattle.stn_top.specs.Solving.{Solved}
 use Rattle.stn_top.specs.Simulation.{Simulated}
 use Rattle.stn_top.specs.Checking.{Checked}
 use Rattle.stn_top.specs.Upgrading.{Upgraded}
+use Rattle.stn_top.specs.Demo.{Shown}
 
--- the names of the files that a request reads, in the order of its words: the plant, then the plan or the log
+-- the names of the files that a request reads, in the order of its words: the plant, then the plan, or the log to check
 abbrev pub read_names : Request → List (List ℕ)
 read_names (Solving plant budget) = plant ∷ []
+read_names (Logging plant budget log) = plant ∷ []
 read_names (Simulating usage plant plan) = plant ∷ plan ∷ []
 read_names (Checking plant log) = plant ∷ log ∷ []
 read_names (Upgrading plant) = plant ∷ []
+read_names (Showing seed) = []
 
--- the names of the files that a request writes: no command writes one
+-- the names of the files that a request writes: the log of a planning
 abbrev pub written_names : Request → List (List ℕ)
 written_names (Solving plant budget) = []
+written_names (Logging plant budget log) = log ∷ []
 written_names (Simulating usage plant plan) = []
 written_names (Checking plant log) = []
 written_names (Upgrading plant) = []
+written_names (Showing seed) = []
 
 -- the files that a request reads may be read
 abbrev pub MayRead : (List ℕ → Bool) → Request → Type 0
 MayRead may_read request = All (λ name. IsTrue (may_read name)) (read_names request)
 
--- the files without those of these names
-abbrev pub without : List (List ℕ) → Option FileMap → Option FileMap
-without [] files = files
-without (name ∷ names) files = without names (option_map (λ m. remove m name) files)
+-- the files that a request writes may be written
+abbrev pub MayWrite : (List ℕ → Bool) → Request → Type 0
+MayWrite may_write request = All (λ name. IsTrue (may_write name)) (written_names request)
 
 -- every file is as it was, but those that the request writes
 abbrev pub OthersKept : Request → Option FileMap → Option FileMap → Type 0
-OthersKept request old new = without (written_names request) new ≡ without (written_names request) old
+OthersKept request old new =
+    (name : List ℕ) → All (λ written. name ≢ written) (written_names request) → option_map (λ files. get files name) new ≡ option_map (λ files. get files name) old
 
 -- the bytes of the file of this number among those that a request reads
 abbrev pub content : List (List ℕ) → ℕ → List ℕ
 content contents number = slice_index_or contents number []
 
--- What is answered to a request whose files have these contents, in order. The bytes of a log, which is read in pieces,
--- are known where the files are told.
-abbrev pub AnswersTo : Option FileMap → List (List ℕ) → Request → ℕ → List ℕ → Type 0
-AnswersTo files contents (Solving plant budget) status text = OnPlant (reading (content contents 0)) (Solved budget) status text
-AnswersTo files contents (Simulating usage plant plan) status text =
+-- What is answered to a request whose files have these contents, in order. The bytes of a log that is checked, which is read
+-- in pieces, and of one that is written are known where the files are told.
+abbrev pub AnswersTo : Option FileMap → Option FileMap → List (List ℕ) → Request → ℕ → List ℕ → Type 0
+AnswersTo old new contents (Solving plant budget) status text = OnPlant (reading (content contents 0)) (λ p. Solved budget p None) status text
+AnswersTo old new contents (Logging plant budget log) status text = OnPlant (reading (content contents 0)) (λ p. Solved budget p (bytes_in log new)) status text
+AnswersTo old new contents (Simulating usage plant plan) status text =
     OnPlant (reading (content contents 0)) (λ p. OnPlan (plan_of_text p (content contents 1)) (Simulated usage p)) status text
-AnswersTo files contents (Checking plant log) status text =
-    OnPlant (reading (content contents 0)) (Checked (option_map (λ m. file_of m log) files)) status text
-AnswersTo files contents (Upgrading plant) status text = OnPlant (reading (content contents 0)) Upgraded status text
+AnswersTo old new contents (Checking plant log) status text = OnPlant (reading (content contents 0)) (Checked (bytes_in log old)) status text
+AnswersTo old new contents (Upgrading plant) status text = OnPlant (reading (content contents 0)) Upgraded status text
+AnswersTo old new contents (Showing seed) status text = Shown seed status text
 
--- The answer to a request: there are contents of the files that it reads, which are those of the files where the store
--- tells them, and it is the answer over these contents.
-pub record IsAnswer (files : Option FileMap) (request : Request) (status : ℕ) (text : List ℕ) : Type 0 where
+-- The answer to a request, with the files before and after: there are contents of the files that it reads, which are those of
+-- the files before where the store tells them, and it is the answer over these contents. A refusal of the plant leaves every
+-- file as it was.
+pub record IsAnswer (old new : Option FileMap) (request : Request) (status : ℕ) (text : List ℕ) : Type 0 where
   pub contents : List (List ℕ)
-  pub told : IfSome files (λ m. contents ≡ map (file_of m) (read_names request))
-  pub answers : AnswersTo files contents request status text
+  pub told : IfSome old (λ m. contents ≡ map (file_of m) (read_names request))
+  pub answers : AnswersTo old new contents request status text
+  pub kept : status ≡ 3 → new ≡ old
+
+-- the plant in a file was read, and the file of a log holds the log of a proof over it: begun, or whole, of an outcome
+pub record HoldsLog (old new : Option FileMap) (name log : List ℕ) : Type 0 where
+  pub plant : Plant
+  pub read : IsReadOf reading old name (Ok plant)
+  pub holds : IsLeftOf plant log old new ⊎ ((outcome : Outcome) × HasPlantProof plant (bytes_in log new) outcome)
+
+-- what a request leaves, however it ends: the files as they were, or, where it writes a log, a log in its file
+abbrev pub IsLeft : Request → Option FileMap → Option FileMap → Type 0
+IsLeft (Solving plant budget) old new = new ≡ old
+IsLeft (Logging plant budget log) old new = (new ≡ old) ⊎ HoldsLog old new plant log
+IsLeft (Simulating usage plant plan) old new = new ≡ old
+IsLeft (Checking plant log) old new = new ≡ old
+IsLeft (Upgrading plant) old new = new ≡ old
+IsLeft (Showing seed) old new = new ≡ old
+
+-- a request gets to writing a file: it names a log, and its plant was read
+abbrev pub GetsToWriting : Option FileMap → Request → Type 0
+GetsToWriting files (Solving plant budget) = ⊥
+GetsToWriting files (Logging plant budget log) = (p : Plant) × IsReadOf reading files plant (Ok p)
+GetsToWriting files (Simulating usage plant plan) = ⊥
+GetsToWriting files (Checking plant log) = ⊥
+GetsToWriting files (Upgrading plant) = ⊥
+GetsToWriting files (Showing seed) = ⊥

@@ -9,6 +9,7 @@ use Rattle.stn_model.specs.declared.answer.Outcome.{Outcome}
 use Rattle.stn_model.specs.Answers.{IsOutcome}
 use Rattle.plan_text.specs.PlanLines.{plan_lines, IsNamed}
 use Rattle.plan_text.specs.PlanText.{plan_of_text}
+use Rattle.stn_solve.specs.Proofs.{HasPlantProof}
 
 -- the line that says how many boxes it took
 abbrev pub boxes_line : ℕ → List ℕ
@@ -61,11 +62,13 @@ IsInMoney (Optimal plan earned) = IsMoney earned
 IsInMoney Infeasible = Unit {0}
 IsInMoney (BudgetSpent plan earned cap) = IsMoney earned × IsMoney cap
 
--- the answer of `solve`: a right outcome of planning within the budget, with its status and its text,
--- which, read as plan text, says the plan of the outcome
-pub record Solved (budget : ℕ) (plant : Plant) (status : ℕ) (text : List ℕ) : Type 0 where
+-- The answer of `solve`: a right outcome of planning within the budget, with its status and its text,
+-- which, read as plan text, says the plan of the outcome. There is a proof of the outcome, and where the
+-- bytes of a log are told, they are the text of its log.
+pub record Solved (budget : ℕ) (plant : Plant) (log : Option (List ℕ)) (status : ℕ) (text : List ℕ) : Type 0 where
   pub outcome : Outcome
   pub right : IsOutcome plant budget outcome
+  pub proof : HasPlantProof plant log outcome
   pub status_is : status ≡ status_of outcome.answer
   pub text_is : text ≡ answer_text plant outcome.boxes outcome.answer
   pub reads_back : plan_of_text plant text ≡ Ok (printed_plan outcome.answer)

@@ -7,7 +7,7 @@ use Rattle.plant_text.specs.declared.fault.PlantFault.{PlantFault}
 use Rattle.plan_text.specs.declared.fault.PlanFault.{PlanFault}
 use Rattle.stn_top.specs.declared.reply.Reply.{Reply}
 use Rattle.stn_top.specs.declared.stopped.Stopped.{Stopped}
-use Rattle.stn_top.specs.declared.stopped.Stopped.TheVariants.{Refused, ReadFault, Memory}
+use Rattle.stn_top.specs.declared.stopped.Stopped.TheVariants.{Refused, ReadFault, WriteFault, Memory}
 use Rattle.stn_top.specs.Lines.{fault_text, plan_fault_text}
 
 -- Some bytes, of which this is the reading: where the files are told, those of the file of this name.
@@ -54,6 +54,7 @@ pub record Refuses {X E : Type 0} (reading_of : List ℕ → Result X E) (IsRefu
 abbrev pub IfRefusal : Stopped → (Reply → Type 0) → Type 0
 IfRefusal (Refused reply) P = P reply
 IfRefusal ReadFault P = ⊤
+IfRefusal WriteFault P = ⊤
 IfRefusal Memory P = ⊤
 
 -- where an input was refused, the reply is such a one

@@ -1,5 +1,5 @@
 -- The words of a command.
-use Rattle.std.specs.Prelude.{◌≡◌, ◌≢◌, ℕ, ◌≤◌, List, [], ◌∷◌, map, codes, decimal}
+use Rattle.std.specs.Prelude.{◌≡◌, ◌≢◌, ℕ, ◌<◌, ◌≤◌, ◌^◌, List, [], ◌∷◌, map, codes, decimal}
 use Rattle.std.specs.Borrow.{Bor}
 use Rattle.stn_top.specs.declared.command.PlanUse.{PlanUse}
 use Rattle.stn_top.specs.declared.command.PlanUse.TheVariants.{Simulate, Report}
@@ -9,9 +9,11 @@ use Rattle.stn_top.specs.declared.command.Command.TheVariants as variants
 -- what a planner asks for
 pub data Request : Type 0 where
   Solving : (plant : List ℕ) (budget : ℕ) → Request
+  Logging : (plant : List ℕ) (budget : ℕ) (log : List ℕ) → Request
   Simulating : (usage : PlanUse) (plant plan : List ℕ) → Request
   Checking : (plant log : List ℕ) → Request
   Upgrading : (plant : List ℕ) → Request
+  Showing : (seed : ℕ) → Request
 
 -- the first word of a command that simulates a plan
 abbrev pub use_word : PlanUse → List ℕ
@@ -28,12 +30,20 @@ pub record IsBudget (word : List ℕ) (budget : ℕ) : Type 0 where
   pub some : 1 ≤ budget
   pub most : budget ≤ 100000
 
--- the words say the request; no file has an empty name
+-- the word is a seed in decimal digits, without sign and leading zeros
+pub record IsSeed (word : List ℕ) (seed : ℕ) : Type 0 where
+  pub digits : word ≡ decimal seed
+  pub most : seed < 2 ^ 32
+
+-- the words say the request; no file has an empty name, and a log is not written over its plant
 abbrev pub Says : List (List ℕ) → Request → Type 0
 Says words (Solving plant budget) = (word : List ℕ) × ((words ≡ codes "solve" ∷ plant ∷ word ∷ []) × (plant ≢ []) × IsBudget word budget)
+Says words (Logging plant budget log) =
+    (word : List ℕ) × ((words ≡ codes "solve" ∷ plant ∷ word ∷ log ∷ []) × (plant ≢ []) × (log ≢ []) × (log ≢ plant) × IsBudget word budget)
 Says words (Simulating usage plant plan) = (words ≡ use_word usage ∷ plant ∷ plan ∷ []) × (plant ≢ []) × (plan ≢ [])
 Says words (Checking plant log) = (words ≡ codes "check" ∷ plant ∷ log ∷ []) × (plant ≢ []) × (log ≢ [])
 Says words (Upgrading plant) = (words ≡ codes "upgrade" ∷ plant ∷ []) × (plant ≢ [])
+Says words (Showing seed) = (word : List ℕ) × ((words ≡ codes "demo" ∷ word ∷ []) × IsSeed word seed)
 
 -- the words have the form of no command
 abbrev pub HasNoForm : List (List ℕ) → Type 0
@@ -42,6 +52,8 @@ HasNoForm words = (request : Request) → ¬ Says words request
 -- what a command asks for
 abbrev pub meaning : declared.Command → Request
 meaning (variants.Solve plant budget) = Solving plant.now budget.boxes
+meaning (variants.Log plant budget log) = Logging plant.now budget.boxes log.now
 meaning (variants.Simulate usage plant plan) = Simulating usage plant.now plan.now
 meaning (variants.Check plant log) = Checking plant.now log.now
 meaning (variants.Upgrade plant) = Upgrading plant.now
+meaning (variants.Demo seed) = Showing seed

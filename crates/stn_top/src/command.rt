@@ -1,6 +1,6 @@
 //! The words of a command.
-ghost use Rattle.std.specs.Prelude.{◌≡◌, ℕ, List, MatchOption};
-ghost use Rattle.stn_top.specs.Words.{Says, HasNoForm, IsBudget, Solving, Simulating, Checking, Upgrading, texts, meaning, use_word};
+ghost use Rattle.std.specs.Prelude.{◌≡◌, ◌≢◌, ◌↔◌, true, ℕ, List, MatchOption};
+ghost use Rattle.stn_top.specs.Words.{Says, HasNoForm, IsBudget, IsSeed, Solving, Logging, Simulating, Checking, Upgrading, Showing, texts, meaning, use_word};
 
 use crate::budget::{Budget, MAX_BUDGET};
 use text_words::read_number;
@@ -22,6 +22,12 @@ pub enum Command<'a> {
         plant: &'a str,
         budget: Budget,
     },
+    /// `solve PLANT BUDGET LOG`: plan, and write the log of the proof.
+    Log {
+        plant: &'a str,
+        budget: Budget,
+        log: &'a str,
+    },
     /// `simulate PLANT PLAN` and `report PLANT PLAN`: simulate a plan.
     Simulate {
         usage: PlanUse,
@@ -37,6 +43,10 @@ pub enum Command<'a> {
     Upgrade {
         plant: &'a str,
     },
+    /// `demo SEED`: make a plant of the seed, plan it and check the log.
+    Demo {
+        seed: u32,
+    },
 }
 
 /// The command that the words say, if they have the form of one. It takes no memory.
@@ -45,6 +55,9 @@ pub fn command_of<'a>(words: &[&'a str]) -> Option<Command<'a>>
         (λ command. Says (texts words.now) (meaning command)) }
 {
     if let Some(command) = solve_of(words) {
+        return Some(command);
+    }
+    if let Some(command) = log_of(words) {
         return Some(command);
     }
     if let Some(command) = simulate_of(words, "simulate", PlanUse::Simulate) {
@@ -56,7 +69,10 @@ pub fn command_of<'a>(words: &[&'a str]) -> Option<Command<'a>>
     if let Some(command) = check_of(words) {
         return Some(command);
     }
-    upgrade_of(words)
+    if let Some(command) = upgrade_of(words) {
+        return Some(command);
+    }
+    demo_of(words)
 }
 
 fn solve_of<'a>(words: &[&'a str]) -> Option<Command<'a>>
@@ -73,6 +89,31 @@ fn solve_of<'a>(words: &[&'a str]) -> Option<Command<'a>>
         }
         _ => None,
     }
+}
+
+fn log_of<'a>(words: &[&'a str]) -> Option<Command<'a>>
+    ensures { MatchOption result ((plant log : List ℕ) (budget : ℕ)
+        → ¬ Says (texts words.now) (Logging plant budget log))
+        (λ command. Says (texts words.now) (meaning command)) }
+{
+    match words {
+        [first, plant, budget, log]
+            if *first == "solve" && !plant.is_empty() && !log.is_empty() && differ(log, plant) =>
+        {
+            match budget_of(budget) {
+                Some(budget) => Some(Command::Log { plant, budget, log }),
+                None => None,
+            }
+        }
+        _ => None,
+    }
+}
+
+// The words are not the same.
+fn differ(first: &str, second: &str) -> bool
+    ensures { (result ≡ true) ↔ (first.now ≢ second.now) }
+{
+    first != second
 }
 
 // The command on a plan whose first word is this use's.
@@ -112,6 +153,29 @@ fn upgrade_of<'a>(words: &[&'a str]) -> Option<Command<'a>>
             Some(Command::Upgrade { plant })
         }
         _ => None,
+    }
+}
+
+fn demo_of<'a>(words: &[&'a str]) -> Option<Command<'a>>
+    ensures { MatchOption result ((seed : ℕ) → ¬ Says (texts words.now) (Showing seed))
+        (λ command. Says (texts words.now) (meaning command)) }
+{
+    match words {
+        [first, seed] if *first == "demo" => match seed_of(seed) {
+            Some(seed) => Some(Command::Demo { seed }),
+            None => None,
+        },
+        _ => None,
+    }
+}
+
+fn seed_of(word: &str) -> Option<u32>
+    ensures { MatchOption result ((n : ℕ)
+        → ¬ IsSeed word.now n) (λ seed. IsSeed word.now seed) }
+{
+    match read_number(word.as_bytes(), 1 << 32) {
+        Some(number) => Some(number as u32),
+        None => None,
     }
 }
 

@@ -7,6 +7,7 @@
 pub mod budget;
 pub mod checking;
 pub mod command;
+mod demo;
 mod lines;
 pub mod reply;
 mod simulation;

@@ -1,5 +1,5 @@
 //! `simulate PLANT PLAN` and `report PLANT PLAN`: what a plan earns or breaks first, and its report.
-ghost use Rattle.std.specs.Prelude.{◌≡◌, ◌≤◌, ◌+◌, ◌<◌, ◌^◌, ◌++◌, length, Err, IsTrue, IfOk, codes, decimal};
+ghost use Rattle.std.specs.Prelude.{◌≡◌, ◌≢◌, ◌≤◌, ◌+◌, ◌<◌, ◌^◌, ◌++◌, length, Err, IsTrue, IfOk, codes, decimal};
 ghost use Rattle.stn_edge.specs.Count.{Rose};
 ghost use Rattle.stn_model.specs.Plant.{state_at, utility_at};
 ghost use Rattle.stn_model.specs.Sound.{Sound};
@@ -39,10 +39,11 @@ pub fn simulate_file<F: Shelf>(
 ) -> Result<Reply, Stopped>
     requires plant_readable { IsTrue (F.may_read files.old plant.now) }
     requires plan_readable { IsTrue (F.may_read files.old plan.now) }
-    ensures answer { IfReplied result (λ reply. IsAnswer (F.files files.old)
+    ensures answer { IfReplied result (λ reply. IsAnswer (F.files files.old) (F.files files.new)
         (Simulating usage plant.now plan.now) reply.status reply.text.items) }
     ensures fault { result ≡ Err Stopped.ReadFault
         → Rose (F.read_faults files.old) (F.read_faults files.new) }
+    ensures unwritten { result ≢ Err Stopped.WriteFault }
     ensures same { F.files files.new ≡ F.files files.old }
     ensures readable { F.may_read files.new ≡ F.may_read files.old }
     ensures writable { F.may_write files.new ≡ F.may_write files.old }

@@ -32,6 +32,7 @@ pub fn plant_in<F: Shelf>(alloc: Global, files: &mut F, name: &str) -> Result<Pl
         (Refuses reading IsPlantRefusal (F.files files.old) name.now) }
     ensures fault { result ≡ Err Stopped.ReadFault
         → Rose (F.read_faults files.old) (F.read_faults files.new) }
+    ensures unwritten { result ≢ Err Stopped.WriteFault }
     ensures same { F.files files.new ≡ F.files files.old }
     ensures readable { F.may_read files.new ≡ F.may_read files.old }
     ensures writable { F.may_write files.new ≡ F.may_write files.old }
@@ -52,6 +53,7 @@ fn plant_of(alloc: Global, bytes: &[u8]) -> Result<Plant, Stopped>
     ensures sound { IfOk result Sound }
     ensures refused { IfRefused result (IsRefusedAs reading IsPlantRefusal bytes.now) }
     ensures memory { result ≢ Err Stopped.ReadFault }
+    ensures unwritten { result ≢ Err Stopped.WriteFault }
 {
     match read_plant(alloc, bytes) {
         Ok(plant) => Ok(plant),
@@ -65,6 +67,7 @@ fn long_plant(alloc: Global) -> Stopped
     ensures refused { IfRefusal result
         (λ reply. IsPlantRefusal too_long reply.status reply.text.items) }
     ensures memory { result ≢ Stopped.ReadFault }
+    ensures unwritten { result ≢ Stopped.WriteFault }
 {
     let fault = PlantFault {
         kind: 1,
@@ -92,6 +95,7 @@ pub fn plan_in<F: Shelf>(
         (Refuses (plan_of_text plant.now) IsPlanRefusal (F.files files.old) name.now) }
     ensures fault { result ≡ Err Stopped.ReadFault
         → Rose (F.read_faults files.old) (F.read_faults files.new) }
+    ensures unwritten { result ≢ Err Stopped.WriteFault }
     ensures same { F.files files.new ≡ F.files files.old }
     ensures readable { F.may_read files.new ≡ F.may_read files.old }
     ensures writable { F.may_write files.new ≡ F.may_write files.old }
@@ -114,6 +118,7 @@ fn plan_of(alloc: Global, plant: &Plant, bytes: &[u8]) -> Result<List<Start>, St
     ensures refused { IfRefused result
         (IsRefusedAs (plan_of_text plant.now) IsPlanRefusal bytes.now) }
     ensures memory { result ≢ Err Stopped.ReadFault }
+    ensures unwritten { result ≢ Err Stopped.WriteFault }
 {
     match read_plan(alloc, plant, bytes) {
         Ok(plan) => Ok(plan),
@@ -127,6 +132,7 @@ fn long_plan(alloc: Global) -> Stopped
     ensures refused { IfRefusal result
         (λ reply. IsPlanRefusal plan_too_long reply.status reply.text.items) }
     ensures memory { result ≢ Stopped.ReadFault }
+    ensures unwritten { result ≢ Stopped.WriteFault }
 {
     let fault = PlanFault {
         kind: TOO_LONG,

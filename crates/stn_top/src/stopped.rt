@@ -12,6 +12,8 @@ pub enum Stopped {
     Refused(Reply),
     /// A file could not be read.
     ReadFault,
+    /// A file could not be written.
+    WriteFault,
     /// Memory ran out.
     Memory,
 }

@@ -1,18 +1,19 @@
 //! The top call.
-ghost use Rattle.std.specs.Prelude.{◌≡◌, ◌≢◌, ◌↔◌, ◌≤◌, ◌<◌, ℕ, take, Err};
+ghost use Rattle.std.specs.Prelude.{◌≡◌, ◌≢◌, ◌↔◌, ◌⊎◌, ◌≤◌, ◌<◌, ℕ, take, Err};
 ghost use Rattle.std.specs.Option.{option_map};
 ghost use Rattle.stn_edge.specs.Count.{Rose};
 ghost use Rattle.stn_edge.specs.Text.{extended};
 ghost use Rattle.stn_top.specs.Words.{Request, Says, HasNoForm, texts, meaning};
 ghost use Rattle.stn_top.specs.Sources.{IfReplied};
-ghost use Rattle.stn_top.specs.Requests.{MayRead, OthersKept, IsAnswer};
-ghost use Rattle.stn_top.specs.Replies.{IsReply, Answered, IsCutOff, MayReadAll};
+ghost use Rattle.stn_top.specs.Requests.{MayRead, MayWrite, OthersKept, IsAnswer, IsLeft, GetsToWriting};
+ghost use Rattle.stn_top.specs.Replies.{IsReply, Answered, IsCutOff, MayReadAll, MayWriteAll, LogFailed, IsUnwritten};
 
 use crate::checking::check_file;
 use crate::command::{Command, command_of};
+use crate::demo::show;
 use crate::reply::Reply;
 use crate::simulation::simulate_file;
-use crate::solving::solve_file;
+use crate::solving::{log_file, solve_file};
 use crate::stopped::Stopped;
 use crate::upgrading::upgrade_file;
 use std::alloc::Global;
@@ -23,33 +24,43 @@ use stn_edge::{Shelf, Sink, Stop};
 /// | Words | What they do |
 /// |---|---|
 /// | `solve PLANT BUDGET` | plans, with at most BUDGET boxes |
+/// | `solve PLANT BUDGET LOG` | plans, and writes the log of the proof; LOG is not the word PLANT |
 /// | `simulate PLANT PLAN` | simulates the plan, and says what it earns or what it breaks first |
 /// | `report PLANT PLAN` | simulates the plan, and shows it or says what it breaks first |
 /// | `check PLANT LOG` | checks a proof log, and says its claim or its first defect |
 /// | `upgrade PLANT` | prints the plant as a plant file of version 2 |
+/// | `demo SEED` | makes a plant of the seed, plans it with 500 boxes, and checks the log; no file is touched |
 ///
 /// Statuses: 0 optimal, feasible, reported, upgraded or valid; 1 no plan is feasible, the plan is not, or the log is not valid; 2 the words have no
-/// form; 3 the plant file has a fault; 4 the plan file has one; 6 the budget was spent; 7 a file could not be read; 8 the answer could not be put; 9 no memory.
-/// The answer is put at once, after all work. No file changes but those that the request writes.
+/// form; 3 the plant file has a fault; 4 the plan file has one; 6 the budget was spent; 7 a file could not be read; 8 the log could not be written or
+/// the answer could not be put; 9 no memory. The answer is put at once, after all work. No file changes but the log that the words name.
 pub fn run<F: Shelf, K: Sink>(alloc: Global, words: &[&str], files: &mut F, out: &mut K) -> u8
-    requires { MayReadAll (F.may_read files.old) (texts words.now) }
+    requires may_read { MayReadAll (F.may_read files.old) (texts words.now) }
+    requires may_write { MayWriteAll (F.may_write files.old) (texts words.now) }
 
-    // Below 7 the status and the text that was put are the answer's.
-    ensures answer { result < 7 → Answered (IsReply (texts words.now) (F.files files.old))
+    // Below 7 the status and the text that was put are the answer's, and so is the log that was written.
+    ensures answer { result < 7 → Answered (IsReply (texts words.now) (F.files files.old) (F.files files.new))
         result (K.written out.old) (K.written out.new) }
     ensures words { result < 7 → (result ≡ 2) ↔ HasNoForm (texts words.now) }
     ensures read_fault { result ≡ 7 → Rose (F.read_faults files.old) (F.read_faults files.new) }
     ensures nothing { result ≡ 7 → K.written out.new ≡ K.written out.old }
-    ensures write_fault { result ≡ 8 → Rose (K.faults out.old) (K.faults out.new) }
+
+    // 8 comes only where the sink failed, or the file of a log whose plant was read.
+    ensures write_fault { result ≡ 8 → Rose (K.faults out.old) (K.faults out.new)
+        ⊎ LogFailed (texts words.now) (F.files files.old) (F.write_faults files.old) (F.write_faults files.new) }
 
     // After 8 and 9 nothing or a first part of an answer was put.
-    ensures part { 7 < result → IsCutOff (IsReply (texts words.now) (F.files files.old))
+    ensures part { 7 < result → IsCutOff (IsReply (texts words.now) (F.files files.old) (F.files files.new))
         (K.written out.old) (K.written out.new) }
     ensures known { result ≤ 9 }
 
-    // Only files that the request writes may have changed, and none where the words have no form.
+    // Only the log that the request writes may have changed, and it holds a log, begun or whole. After
+    // 2, 3, 4 and 7 no file has.
     ensures files { (request : Request) → Says (texts words.now) request
         → OthersKept request (F.files files.old) (F.files files.new) }
+    ensures left { (request : Request) → Says (texts words.now) request
+        → IsLeft request (F.files files.old) (F.files files.new) }
+    ensures unwritten { IsUnwritten result → F.files files.new ≡ F.files files.old }
     ensures no_files { HasNoForm (texts words.now) → F.files files.new ≡ F.files files.old }
     ensures readable { F.may_read files.new ≡ F.may_read files.old }
     ensures writable { F.may_write files.new ≡ F.may_write files.old }
@@ -65,17 +76,21 @@ pub fn run<F: Shelf, K: Sink>(alloc: Global, words: &[&str], files: &mut F, out:
 
 // Puts the answer to a command, and answers with the exit status.
 fn answer<F: Shelf, K: Sink>(alloc: Global, command: Command, files: &mut F, out: &mut K) -> u8
-    requires { MayRead (F.may_read files.old) (meaning command) }
-    ensures answer { result < 7 → Answered (IsAnswer (F.files files.old) (meaning command.entry))
+    requires may_read { MayRead (F.may_read files.old) (meaning command) }
+    requires may_write { MayWrite (F.may_write files.old) (meaning command) }
+    ensures answer { result < 7 → Answered (IsAnswer (F.files files.old) (F.files files.new) (meaning command.entry))
         result (K.written out.old) (K.written out.new) }
     ensures asked { result ≢ 2 }
     ensures read_fault { result ≡ 7 → Rose (F.read_faults files.old) (F.read_faults files.new) }
     ensures nothing { result ≡ 7 → K.written out.new ≡ K.written out.old }
-    ensures write_fault { result ≡ 8 → Rose (K.faults out.old) (K.faults out.new) }
-    ensures part { 7 < result → IsCutOff (IsAnswer (F.files files.old) (meaning command.entry))
+    ensures write_fault { result ≡ 8 → Rose (K.faults out.old) (K.faults out.new)
+        ⊎ (Rose (F.write_faults files.old) (F.write_faults files.new) × GetsToWriting (F.files files.old) (meaning command.entry)) }
+    ensures part { 7 < result → IsCutOff (IsAnswer (F.files files.old) (F.files files.new) (meaning command.entry))
         (K.written out.old) (K.written out.new) }
     ensures known { result ≤ 9 }
     ensures files { OthersKept (meaning command.entry) (F.files files.old) (F.files files.new) }
+    ensures left { IsLeft (meaning command.entry) (F.files files.old) (F.files files.new) }
+    ensures unwritten { IsUnwritten result → F.files files.new ≡ F.files files.old }
     ensures readable { F.may_read files.new ≡ F.may_read files.old }
     ensures writable { F.may_write files.new ≡ F.may_write files.old }
     ensures reads { F.read_faults files.old ≤ F.read_faults files.new }
@@ -86,6 +101,7 @@ fn answer<F: Shelf, K: Sink>(alloc: Global, command: Command, files: &mut F, out
         Ok(reply) => put(out, reply.status, reply.text.as_slice()),
         Err(Stopped::Refused(reply)) => put(out, reply.status, reply.text.as_slice()),
         Err(Stopped::ReadFault) => 7,
+        Err(Stopped::WriteFault) => 8,
         Err(Stopped::Memory) => 9,
     }
 }
@@ -111,12 +127,19 @@ fn put<K: Sink>(out: &mut K, status: u8, text: &[u8]) -> u8
 
 // What a command answers.
 fn reply_to<F: Shelf>(alloc: Global, command: Command, files: &mut F) -> Result<Reply, Stopped>
-    requires { MayRead (F.may_read files.old) (meaning command) }
-    ensures answer { IfReplied result (λ reply. IsAnswer (F.files files.old)
+    requires may_read { MayRead (F.may_read files.old) (meaning command) }
+    requires may_write { MayWrite (F.may_write files.old) (meaning command) }
+    ensures answer { IfReplied result (λ reply. IsAnswer (F.files files.old) (F.files files.new)
         (meaning command.entry) reply.status reply.text.items) }
+    ensures unwritten { IfReplied result (λ reply. IsUnwritten reply.status
+        → F.files files.new ≡ F.files files.old) }
     ensures fault { result ≡ Err Stopped.ReadFault
         → Rose (F.read_faults files.old) (F.read_faults files.new) }
+    ensures unread { result ≡ Err Stopped.ReadFault → F.files files.new ≡ F.files files.old }
+    ensures write_fault { result ≡ Err Stopped.WriteFault
+        → Rose (F.write_faults files.old) (F.write_faults files.new) × GetsToWriting (F.files files.old) (meaning command.entry) }
     ensures files { OthersKept (meaning command.entry) (F.files files.old) (F.files files.new) }
+    ensures left { IsLeft (meaning command.entry) (F.files files.old) (F.files files.new) }
     ensures readable { F.may_read files.new ≡ F.may_read files.old }
     ensures writable { F.may_write files.new ≡ F.may_write files.old }
     ensures reads { F.read_faults files.old ≤ F.read_faults files.new }
@@ -124,8 +147,10 @@ fn reply_to<F: Shelf>(alloc: Global, command: Command, files: &mut F) -> Result<
 {
     match command {
         Command::Solve { plant, budget } => solve_file(alloc, files, plant, budget),
+        Command::Log { plant, budget, log } => log_file(alloc, files, plant, budget, log),
         Command::Simulate { usage, plant, plan } => simulate_file(alloc, files, usage, plant, plan),
         Command::Check { plant, log } => check_file(alloc, files, plant, log),
         Command::Upgrade { plant } => upgrade_file(alloc, files, plant),
+        Command::Demo { seed } => Ok(show(alloc, seed)?),
     }
 }

@@ -1,5 +1,5 @@
 //! `upgrade PLANT`: printing a plant anew.
-ghost use Rattle.std.specs.Prelude.{◌≡◌, ◌≤◌, Err, IsTrue, IfOk};
+ghost use Rattle.std.specs.Prelude.{◌≡◌, ◌≢◌, ◌≤◌, Err, IsTrue, IfOk};
 ghost use Rattle.stn_edge.specs.Count.{Rose};
 ghost use Rattle.stn_model.specs.Sound.{Sound};
 ghost use Rattle.stn_top.specs.Words.{Upgrading};
@@ -18,10 +18,11 @@ use stn_model::Plant;
 /// Prints the plant in a file as a plant file of version 2. The files are as before.
 pub fn upgrade_file<F: Shelf>(alloc: Global, files: &mut F, name: &str) -> Result<Reply, Stopped>
     requires { IsTrue (F.may_read files.old name.now) }
-    ensures answer { IfReplied result (λ reply. IsAnswer (F.files files.old)
+    ensures answer { IfReplied result (λ reply. IsAnswer (F.files files.old) (F.files files.new)
         (Upgrading name.now) reply.status reply.text.items) }
     ensures fault { result ≡ Err Stopped.ReadFault
         → Rose (F.read_faults files.old) (F.read_faults files.new) }
+    ensures unwritten { result ≢ Err Stopped.WriteFault }
     ensures same { F.files files.new ≡ F.files files.old }
     ensures readable { F.may_read files.new ≡ F.may_read files.old }
     ensures writable { F.may_write files.new ≡ F.may_write files.old }

@@ -6,9 +6,9 @@ use Rattle.stn_top.proofs.checking.check_file.Goals as goal
 pub returns-in_err-plant-clause-answer : goal.returns-in_err-plant-clause-answer
 returns-in_err-plant-clause-answer g c =
     let p = err_from_is_err_and c.from_residual.result c.from_residual.ensures.1 in
-    rw (p.1, p.2) (plant_refused (g.F.Shelf.files c.args.files.now) (Checking c.args.plant.now c.args.log.now) c.in_err-plant.field-0.0 c.in_err-plant.ensures.refused)
+    rw (p.1, p.2) (plant_refused (g.F.Shelf.files c.args.files.now) (g.F.Shelf.files c.plant_in.new.files) (Checking c.args.plant.now c.args.log.now) c.in_err-plant.field-0.0 c.in_err-plant.ensures.same c.in_err-plant.ensures.refused)
 
 pub returns-clause-answer : goal.returns-clause-answer
 returns-clause-answer g c =
-    checked_reply (g.F.Shelf.files c.args.files.now) c.args.plant.now c.args.log.now c.in_ok-plant.plant c.check_log.result
+    checked_reply (g.F.Shelf.files c.args.files.now) (g.F.Shelf.files c.check_log.new.files) c.args.plant.now c.args.log.now c.in_ok-plant.plant c.check_log.result (cc)
     c.in_ok-plant.ensures.read (let e = c.in_ok-plant.ensures.same in rw e at c.check_log.ensures.answer) c.check_log.ensures.none

@@ -6,17 +6,17 @@ use Rattle.stn_top.proofs.simulation.simulate_file.Goals as goal
 pub returns-in_err-plant-clause-answer : goal.returns-in_err-plant-clause-answer
 returns-in_err-plant-clause-answer g c =
     let p = err_from_is_err_and c.from_residual.result c.from_residual.ensures.1 in
-    rw (p.1, p.2) (plant_refused (g.F.Shelf.files c.args.files.now) (Simulating c.args.usage c.args.plant.now c.args.plan.now) c.in_err-plant.field-0.0 c.in_err-plant.ensures.refused)
+    rw (p.1, p.2) (plant_refused (g.F.Shelf.files c.args.files.now) (g.F.Shelf.files c.plant_in.new.files) (Simulating c.args.usage c.args.plant.now c.args.plan.now) c.in_err-plant.field-0.0 c.in_err-plant.ensures.same c.in_err-plant.ensures.refused)
 
 pub returns-in_err-plan-clause-answer : goal.returns-in_err-plan-clause-answer
 returns-in_err-plan-clause-answer g c =
     let p = err_from_is_err_and c.from_residual-in_err-plan.result c.from_residual-in_err-plan.ensures.1 in
-    rw (p.1, p.2) (plan_refused (g.F.Shelf.files c.args.files.now) c.args.usage c.args.plant.now c.args.plan.now c.in_ok-plant.plant c.in_err-plan.field-0.0
+    rw (p.1, p.2) (plan_refused (g.F.Shelf.files c.args.files.now) (g.F.Shelf.files c.plan_in.new.files) c.args.usage c.args.plant.now c.args.plan.now c.in_ok-plant.plant c.in_err-plan.field-0.0 (cc)
     c.in_ok-plant.ensures.read (let e = c.in_ok-plant.ensures.same in rw e at c.in_err-plan.ensures.refused))
 
 pub returns-clause-answer : goal.returns-clause-answer
 returns-clause-answer g c =
-    simulating_answer (g.F.Shelf.files c.args.files.now) c.args.usage c.args.plant.now c.args.plan.now c.in_ok-plant.plant c.in_ok-plan.plan
-    c.in_ok-simulate_plan.field-0.status c.in_ok-simulate_plan.field-0.text.items
+    simulating_answer (g.F.Shelf.files c.args.files.now) (g.F.Shelf.files c.plan_in.new.files) c.args.usage c.args.plant.now c.args.plan.now c.in_ok-plant.plant c.in_ok-plan.plan
+    c.in_ok-simulate_plan.field-0.status c.in_ok-simulate_plan.field-0.text.items (cc)
     c.in_ok-plant.ensures.read (let e = c.in_ok-plant.ensures.same in rw e at c.in_ok-plan.ensures.read)
     (let e = c.as_slice.ensures in rw e at c.in_ok-simulate_plan.ensures)

@@ -1,13 +1,24 @@
 use Rattle.stn_top.specs.Words.{texts, meaning}
 use Rattle.stn_top.proofs.AnswerLemmas.{cut_off, none_cut_off}
+use Rattle.stn_top.proofs.FileLemmas.{kept_all, left_all}
 use Rattle.stn_top.proofs.top.run.Goals as goal
 
 pub returns-in-Some-clause-part : goal.returns-in-Some-clause-part
 returns-in-Some-clause-part g c = λ more.
-    cut_off (texts c.args.words.now) (g.F.Shelf.files c.args.files.now) (meaning c.in-Some.command) (g.K.Sink.written c.args.out.now) (g.K.Sink.written c.answer.new.out)
+    cut_off (texts c.args.words.now) (g.F.Shelf.files c.args.files.now) (g.F.Shelf.files c.answer.new.files) (meaning c.in-Some.command) (g.K.Sink.written c.args.out.now) (g.K.Sink.written c.answer.new.out)
     c.in-Some.ensures (c.answer.ensures.part more)
 
 pub returns-in-None-clause-part : goal.returns-in-None-clause-part
 returns-in-None-clause-part g c = λ more.
     none_cut_off (texts c.args.words.now) (g.F.Shelf.files c.args.files.now) c.as_bytes.result.now (g.K.Sink.written c.args.out.now) (g.K.Sink.written c.put.new.out)
     c.in-None.ensures c.as_bytes.ensures.value (c.put.ensures.part more)
+
+pub returns-in-Some-clause-files : goal.returns-in-Some-clause-files
+returns-in-Some-clause-files g c =
+    kept_all (texts c.args.words.now) (meaning c.in-Some.command) (g.F.Shelf.files c.args.files.now) (g.F.Shelf.files c.answer.new.files)
+    c.in-Some.ensures c.answer.ensures.files c.answer.ensures.left
+
+pub returns-in-Some-clause-left : goal.returns-in-Some-clause-left
+returns-in-Some-clause-left g c =
+    left_all (texts c.args.words.now) (meaning c.in-Some.command) (g.F.Shelf.files c.args.files.now) (g.F.Shelf.files c.answer.new.files)
+    c.in-Some.ensures c.answer.ensures.files c.answer.ensures.left

@@ -1,4 +1,0 @@
-pub mod Numbered
-pub mod Listed
-pub mod Cap
-pub mod Settled

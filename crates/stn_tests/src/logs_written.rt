@@ -1,0 +1,102 @@
+//! Logs that `solve` writes: what a check says of them, and what faults leave of them.
+use crate::plants::{FIVE, FULL, TINY};
+use std::alloc::Global;
+use std::test::Fail;
+use stn_edge::{FixedShelf, FixedSink, MemShelf, MemSink};
+use stn_top::run;
+
+// A plant, a budget, the statuses that may come, how the text of `solve` begins, and how that of the
+// check of its log does.
+type Logged = (
+    &'static str,
+    &'static str,
+    &'static [u8],
+    &'static str,
+    &'static str,
+);
+
+const LOGGED: [Logged; 3] = [
+    (
+        TINY,
+        "31",
+        &[0],
+        "# optimal 60\n# boxes ",
+        "yes optimal 60\n",
+    ),
+    (
+        FULL,
+        "1",
+        &[1],
+        "# infeasible\n# boxes 1\n",
+        "yes infeasible\n",
+    ),
+    (FIVE, "2000", &[0, 6], "# ", "yes "),
+];
+
+#[test]
+fn logs_are_valid(rt: HostRuntime) -> Result<(), Fail> {
+    for (plant, budget, statuses, start, claim) in LOGGED {
+        let mut files = FixedShelf::new(rt.alloc());
+        files.put_file("plant", plant.as_bytes())?;
+        let mut out = FixedSink::new(rt.alloc());
+        let words = ["solve", "plant", budget, "log"];
+        let status = run(rt.alloc(), &words, &mut files, &mut out);
+        assert!(rt; statuses.contains(&status));
+        assert!(rt; out.written().starts_with(start.as_bytes()));
+        let mut said = FixedSink::new(rt.alloc());
+        let words = ["check", "plant", "log"];
+        let status = run(rt.alloc(), &words, &mut files, &mut said);
+        assert_eq!(rt; status, 0);
+        assert!(rt; said.written().starts_with(claim.as_bytes()));
+    }
+    Ok(())
+}
+
+// Tiny, and a file where its log goes.
+fn tiny_files(alloc: Global) -> Result<MemShelf, Fail> {
+    let mut files = MemShelf::new(alloc);
+    files.put_file("plant", TINY.as_bytes())?;
+    files.put_file("log", "old".as_bytes())?;
+    Ok(files)
+}
+
+// A call of the store that fails after five bytes, the status, and what the file of the log then holds: the
+// plant is read in two calls, and the log is cleared, then appended.
+const FAULTS: [(u64, u8, &str); 4] = [
+    (1, 7, "old"),
+    (2, 7, "old"),
+    (3, 8, "old"),
+    (4, 8, "stn-l"),
+];
+
+#[test]
+fn faults_leave_a_first_part(rt: HostRuntime) -> Result<(), Fail> {
+    for (call, wanted, left) in FAULTS {
+        let mut files = tiny_files(rt.alloc())?;
+        files.fail_call(call, 5)?;
+        let mut out = MemSink::new(rt.alloc());
+        let words = ["solve", "plant", "31", "log"];
+        let status = run(rt.alloc(), &words, &mut files, &mut out);
+        assert_eq!(rt; status, wanted);
+        assert_eq!(rt; out.written(), "".as_bytes());
+        assert_eq!(rt; files.file("log").ok_or("log")?, left.as_bytes());
+    }
+    Ok(())
+}
+
+// The log is whole before the answer is put.
+#[test]
+fn a_failing_sink_leaves_a_whole_log(rt: HostRuntime) -> Result<(), Fail> {
+    let mut files = tiny_files(rt.alloc())?;
+    let mut out = MemSink::new(rt.alloc());
+    out.fail_call(1, 5)?;
+    let words = ["solve", "plant", "31", "log"];
+    let status = run(rt.alloc(), &words, &mut files, &mut out);
+    assert_eq!(rt; status, 8);
+    assert_eq!(rt; out.written(), "# opt".as_bytes());
+    let mut said = MemSink::new(rt.alloc());
+    let status = run(rt.alloc(), &["check", "plant", "log"], &mut files, &mut said);
+    assert_eq!(rt; status, 0);
+    assert_eq!(rt; said.written(), "yes optimal 60\n".as_bytes());
+    Ok(())
+}

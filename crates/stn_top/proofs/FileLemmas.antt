@@ -1,0 +1,88 @@
+-- What a run leaves in its files, for whatever request its words say.
+use Rattle.std.proofs.Common.{◌≡◌, ◌≢◌, ℕ, ◌<◌, List, [], ◌∷◌, length, get_or, Option, Ok, Err, inl, inr, refl, sym, ap, ◌∙◌, subst, arith}
+use Rattle.std.specs.Prelude.{All, IfSome, Result, codes, ◌⊎◌}
+use Rattle.std.specs.Option.{option_map}
+use Rattle.std.specs.FinMap.{get}
+use Rattle.stn_edge.specs.Files.{FileMap, OthersStay}
+use Rattle.stn_top.specs.declared.reply.Reply.{Reply}
+use Rattle.stn_top.specs.declared.stopped.Stopped.{Stopped}
+use Rattle.stn_top.specs.declared.stopped.Stopped.TheVariants.{Refused, ReadFault, WriteFault, Memory}
+use Rattle.stn_top.specs.declared.command.PlanUse.TheVariants.{Simulate, Report}
+use Rattle.stn_top.specs.Words.{Request, Solving, Logging, Simulating, Checking, Upgrading, Showing, Says}
+use Rattle.stn_top.specs.Sources.{IfReplied}
+use Rattle.stn_top.specs.Requests.{IsLeft, HoldsLog, OthersKept}
+
+-- ---- files that are as before
+
+-- every other file is as before where all are
+pub kept_same : (request : Request) (old new : Option FileMap) → new ≡ old → OthersKept request old new
+kept_same request old new same = λ name others. ap (λ (files : Option FileMap). option_map (λ m. get m name) files) same
+
+-- and so is every file but one
+pub stay_same : (log : List ℕ) (old new : Option FileMap) → new ≡ old → OthersStay log old new
+stay_same log old new same = λ name others. ap (λ (files : Option FileMap). option_map (λ m. get m name) files) same
+
+-- and nothing is left
+pub left_same : (request : Request) (old new : Option FileMap) → new ≡ old → IsLeft request old new
+left_same (Solving plant budget) old new same = same
+left_same (Logging plant budget log) old new same = inl same
+left_same (Simulating usage plant plan) old new same = same
+left_same (Checking plant log) old new same = same
+left_same (Upgrading plant) old new same = same
+left_same (Showing seed) old new same = same
+
+-- what holds of every reply
+pub replied : (r : Result Reply Stopped) (P : Type 0) → P → IfReplied r (λ _. P)
+replied (Ok reply) P is = is
+replied (Err (Refused reply)) P is = is
+replied (Err ReadFault) P is = tt
+replied (Err WriteFault) P is = tt
+replied (Err Memory) P is = tt
+
+-- ---- a log
+
+-- every file but the log is as before
+pub kept_log : (plant : List ℕ) (budget : ℕ) (log : List ℕ) (old new : Option FileMap) → OthersStay log old new → OthersKept (Logging plant budget log) old new
+kept_log plant budget log old new stay = λ name others. stay name (others 0 [] (omega arith))
+
+-- what a request leaves
+record Leaves (request : Request) (old new : Option FileMap) : Type 0 where
+  kept : OthersKept request old new
+  left : IsLeft request old new
+
+-- where all files are as before
+leaves_same : (request : Request) (old new : Option FileMap) → new ≡ old → Leaves request old new
+leaves_same request old new same = record { kept = kept_same request old new same; left = left_same request old new same }
+
+-- the words of a planning with a log say no other request
+leaves_log : (words : List (List ℕ)) (plant : List ℕ) (budget : ℕ) (log : List ℕ) (other : Request) (old new : Option FileMap) → Says words (Logging plant budget log) → Says words other
+    → Leaves (Logging plant budget log) old new → Leaves other old new
+leaves_log words plant budget log (Solving plant2 budget2) old new says also is = (let same = ap length (sym says.1.0 ∙ also.1.0) in absurd (omega (arith, same)))
+leaves_log words plant budget log (Simulating usage plant2 plan2) old new says also is = (let same = ap length (sym says.1.0 ∙ also.0) in absurd (omega (arith, same)))
+leaves_log words plant budget log (Checking plant2 log2) old new says also is = (let same = ap length (sym says.1.0 ∙ also.0) in absurd (omega (arith, same)))
+leaves_log words plant budget log (Upgrading plant2) old new says also is = (let same = ap length (sym says.1.0 ∙ also.0) in absurd (omega (arith, same)))
+leaves_log words plant budget log (Showing seed) old new says also is = (let same = ap length (sym says.1.0 ∙ also.1.0) in absurd (omega (arith, same)))
+leaves_log words plant budget log (Logging plant2 budget2 log2) old new says also is =
+    let same : codes "solve" ∷ plant ∷ says.0 ∷ log ∷ [] ≡ codes "solve" ∷ plant2 ∷ also.0 ∷ log2 ∷ [] = sym says.1.0 ∙ also.1.0 in
+    let same_plant : plant ≡ plant2 = ap (λ (ws : List (List ℕ)). get_or ws 1 []) same in
+    let same_log : log ≡ log2 = ap (λ (ws : List (List ℕ)). get_or ws 3 []) same in
+    record {
+      kept = subst (λ (l : List ℕ). OthersKept (Logging plant2 budget2 l) old new) same_log is.kept;
+      left = subst (λ (l : List ℕ). IsLeft (Logging plant2 budget2 l) old new) same_log (subst (λ (p : List ℕ). IsLeft (Logging p budget log) old new) same_plant is.left);
+    }
+
+-- what one request leaves that the words say, each leaves that they say
+leaves : (words : List (List ℕ)) (request other : Request) (old new : Option FileMap) → Says words request → Says words other → Leaves request old new → Leaves other old new
+leaves words (Solving plant budget) other old new says also is = leaves_same other old new is.left
+leaves words (Logging plant budget log) other old new says also is = leaves_log words plant budget log other old new says also is
+leaves words (Simulating usage plant plan) other old new says also is = leaves_same other old new is.left
+leaves words (Checking plant log) other old new says also is = leaves_same other old new is.left
+leaves words (Upgrading plant) other old new says also is = leaves_same other old new is.left
+leaves words (Showing seed) other old new says also is = leaves_same other old new is.left
+
+-- the two facts apart
+pub kept_all : (words : List (List ℕ)) (request : Request) (old new : Option FileMap) → Says words request → OthersKept request old new → IsLeft request old new → (other : Request) → Says words other → OthersKept other old new
+kept_all words request old new says kept left other also = (leaves words request other old new says also (record { kept = kept; left = left })).kept
+
+pub left_all : (words : List (List ℕ)) (request : Request) (old new : Option FileMap) → Says words request → OthersKept request old new → IsLeft request old new → (other : Request) → Says words other → IsLeft other old new
+left_all words request old new says kept left other also = (leaves words request other old new says also (record { kept = kept; left = left })).left

@@ -1,0 +1,11 @@
+use Rattle.stn_top.proofs.AnswerLemmas.{logging_unwritten}
+use Rattle.stn_top.proofs.FileLemmas.{kept_log}
+use Rattle.stn_top.proofs.top.reply_to.Goals as goal
+
+pub returns-in-Log-clause-unwritten : goal.returns-in-Log-clause-unwritten
+returns-in-Log-clause-unwritten g c =
+    logging_unwritten (g.F.Shelf.files c.args.files.now) (g.F.Shelf.files c.log_file.new.files) c.in-Log.plant.now c.in-Log.budget.boxes c.in-Log.log.now c.log_file.result c.log_file.ensures.answer
+
+pub returns-in-Log-clause-files : goal.returns-in-Log-clause-files
+returns-in-Log-clause-files g c =
+    rw c.in-Log.is (kept_log c.in-Log.plant.now c.in-Log.budget.boxes c.in-Log.log.now (g.F.Shelf.files c.args.files.now) (g.F.Shelf.files c.log_file.new.files) c.log_file.ensures.others)
