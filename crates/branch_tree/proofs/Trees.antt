@@ -86,7 +86,7 @@ least_held d n some = at d.zero refl
         record { at_zero = λ e. absurd (omega arith); above_zero = λ _. (omega arith, omega (arith, count, some)) }
 
 -- domains that have values hold the point of the least
-least_lies : (ds : List Domain) → All IsNormal ds → All IsOpen ds → LiesIn ds (only_point ds)
+pub least_lies : (ds : List Domain) → All IsNormal ds → All IsOpen ds → LiesIn ds (only_point ds)
 least_lies ds normal' each = record {
   same_length = length-map ds only_value;
   held = λ k lt. subst (Holds (domain_at ds k)) (sym (get_or-map only_value ds k no_values 0 lt)) (least_held (domain_at ds k) (normal' k no_values lt) (each k no_values lt));

@@ -44,7 +44,7 @@ use Rattle.branch_tree.proofs.Stopping.{box_before}
 use Rattle.branch_tree.proofs.Trees.{defined-not_bad, tree-boxes, tree-closed, tree-defined, tree-depth, tree-justified, tree-open}
 
 -- found points among fit items are lawful and stand with their worth
-fit-groups : (program : Program) (items : List RowItem) → All (IsFitItem program) items → All (IsGroup program) (found_in items)
+pub fit-groups : (program : Program) (items : List RowItem) → All (IsFitItem program) items → All (IsGroup program) (found_in items)
 fit-groups program [] fit = All-nil (IsGroup program)
 fit-groups program (item ∷ items) fit = at item (All-head (IsFitItem program) item items fit) (fit-groups program items (All-tail (IsFitItem program) item items fit))
   where

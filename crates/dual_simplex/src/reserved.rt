@@ -18,6 +18,10 @@ pub fn fill<T: Copy>(items: &mut [T], item: T) {
 
 /// Copies items into the places of as many others as there are of both.
 pub fn copy<T: Copy>(items: &mut [T], others: &[T]) {
+    if items.len() == others.len() {
+        items.copy_from_slice(others);
+        return;
+    }
     for place in 0..items.len() {
         if place < others.len() {
             items[place] = others[place];

@@ -43,11 +43,14 @@ fn copy_lines(into: &mut Dictionary, lines: &[Line]) {
 
 // Makes a line a copy of another.
 fn copy_line(into: &mut Line, other: &Line) {
-    into.blank(other.parts.len());
+    if into.parts.len() != other.parts.len() {
+        into.blank(other.parts.len());
+    }
     into.variable = other.variable;
     into.bound = other.bound;
     into.constant = other.constant;
     into.value = other.value;
+    into.passed = false;
     copy(into.parts.as_mut_slice(), other.parts.as_slice());
 }
 

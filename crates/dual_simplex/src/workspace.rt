@@ -58,6 +58,7 @@ pub struct Workspace {
     broken: Vec<(i64, u32)>,
     mults: Vec<Mult>,
     base: i128,
+    aim: i64,
     stuck: Option<Broken>,
 }
 
@@ -76,6 +77,7 @@ impl Workspace {
             broken: Vec::with_capacity(alloc, rows)?,
             mults: Vec::with_capacity(alloc, rows)?,
             base: 0,
+            aim: i64::MIN,
             stuck: None,
         })
     }
@@ -126,10 +128,11 @@ impl Workspace {
         fill_columns(&mut self.dictionary, program, &self.scales, domains)?;
         start_from(&mut self.dictionary, program, &self.scales, domains, start)?;
         self.base = base_worth(program, domains);
-        if let Some(aim) = aim {
-            let least = aim.saturating_add(1).saturating_sub(self.base);
-            self.dictionary.stop = self.in_unit(&least);
-        }
+        self.aim = match aim {
+            None => i64::MIN,
+            Some(aim) => self.in_unit(&aim.saturating_add(1).saturating_sub(self.base)),
+        };
+        self.dictionary.stop = self.aim;
         Ok(())
     }
 
@@ -295,11 +298,11 @@ impl Workspace {
 
     /// How far the profit lies above the one that is aimed at; None where nothing is.
     pub fn gap(&self) -> Option<i64> {
-        if self.dictionary.stop == i64::MIN {
+        if self.aim == i64::MIN {
             return None;
         }
         match objective(&self.dictionary) {
-            Ok(profit) => Some(profit.saturating_sub(self.dictionary.stop)),
+            Ok(profit) => Some(profit.saturating_sub(self.aim)),
             Err(OutOfRange) => None,
         }
     }
@@ -349,6 +352,7 @@ impl Workspace {
         write_stand(&self.dictionary, slot, domain, &mut self.stand)?;
         let end = end_of(domain, max, side)?;
         copy_dictionary(&mut self.trial, &self.dictionary);
+        self.trial.stop = self.aim;
         let variable = slack_variable(program, numbered(program.rows.len()));
         restrict(&mut self.trial, &self.stand, end, side, variable)
     }

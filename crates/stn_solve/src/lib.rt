@@ -4,9 +4,13 @@
 //! that was found and a cap; and a justified proof of it, whose log is valid.
 #![tactic(auto)]
 
+mod item_dropper;
+mod logging;
 mod part;
 mod plant;
+mod searching;
 mod solved;
+mod telling;
 
 pub use part::{plan_rows, solve_rows, solve_rows_to};
 pub use plant::{plan, solve, solve_to};

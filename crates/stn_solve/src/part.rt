@@ -8,7 +8,11 @@ ghost use Rattle.row_set.specs.Parts.{IsPartOf};
 ghost use Rattle.stn_solve.specs.Outcomes.{IsPartOutcome};
 ghost use Rattle.stn_solve.specs.Proofs.{HasProof, IsLeft, IsProofOf, bytes_in, claim_of};
 
+use crate::logging::{Logged, search_logged};
+use crate::searching::{search_built, search_only};
 use crate::solved::Solved;
+use crate::telling::{Told, told_of};
+use branch_tree::{Ended, Searched};
 use row_relax::Rows;
 use std::alloc::{AllocError, Global};
 use stn_edge::{Shelf, Stop};
@@ -27,7 +31,13 @@ pub fn plan_rows(
     ensures outcome { IfOk result (IsPartOutcome plant.now rows.now.program budget) }
     ensures proof { IfOk result (HasProof plant.now rows.now.program None) }
 {
-    Err(AllocError)
+    match search_only(alloc, rows, budget) {
+        Ok(ended) => {
+            let told = told_of(alloc, plant, ended)?;
+            Ok(told.outcome)
+        }
+        Err(_) => Err(AllocError),
+    }
 }
 
 /// Plans over a part of a plant's choices, with at most so many boxes, and keeps the proof.
@@ -44,7 +54,25 @@ pub fn solve_rows(
     ensures proof { IfOk result (λ solved. IsProofOf plant.now rows.now.program solved.outcome (tree_of solved.tree)) }
     ensures claim { IfOk result (λ solved. solved.claim ≡ claim_of plant.now solved.outcome.answer) }
 {
-    Err(AllocError)
+    let Searched {
+        tree,
+        best,
+        cap,
+        spent,
+        left_open,
+    } = search_built(alloc, rows, budget)?;
+    let ended = Ended {
+        best,
+        cap,
+        spent,
+        left_open,
+    };
+    let Told { outcome, claim } = told_of(alloc, plant, ended)?;
+    Ok(Solved {
+        outcome,
+        tree,
+        claim,
+    })
 }
 
 /// Plans over a part of a plant's choices, with at most so many boxes, and writes the log of the proof to a file while it
@@ -72,5 +100,8 @@ pub fn solve_rows_to<F: Shelf>(
     ensures later { F.write_faults files.old ≤ F.write_faults files.new }
     ensures failed { result ≡ Err Stop.Failed → Rose (F.write_faults files.old) (F.write_faults files.new) }
 {
-    Err(Stop::Memory)
+    let Logged { ended, writer } = search_logged(alloc, rows, budget, files, name)?;
+    let told = told_of(alloc, plant, ended)?;
+    writer.finish(files, &told.claim)?;
+    Ok(told.outcome)
 }

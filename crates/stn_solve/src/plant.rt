@@ -7,7 +7,10 @@ ghost use Rattle.stn_model.specs.Answers.{IsOutcome};
 ghost use Rattle.proof_tree.specs.Tree.{tree_of};
 ghost use Rattle.stn_solve.specs.Proofs.{HasPlantProof, IsLeftOf, IsPlantProof, bytes_in, claim_of};
 
+use crate::part::{plan_rows, solve_rows, solve_rows_to};
 use crate::solved::Solved;
+use row_relax::Rows;
+use row_set::program_of;
 use std::alloc::{AllocError, Global};
 use stn_edge::{Shelf, Stop};
 use stn_model::{Outcome, Plant};
@@ -19,7 +22,9 @@ pub fn plan(alloc: Global, plant: &Plant, budget: u32) -> Result<Outcome, AllocE
     ensures outcome { IfOk result (IsOutcome plant.now budget) }
     ensures proof { IfOk result (HasPlantProof plant.now None) }
 {
-    Err(AllocError)
+    let program = program_of(alloc, plant)?;
+    let rows = Rows { program };
+    plan_rows(alloc, plant, &rows, budget)
 }
 
 /// Plans a plant with at most so many boxes, and keeps the proof.
@@ -30,7 +35,9 @@ pub fn solve(alloc: Global, plant: &Plant, budget: u32) -> Result<Solved, AllocE
     ensures proof { IfOk result (λ solved. IsPlantProof plant.now solved.outcome (tree_of solved.tree)) }
     ensures claim { IfOk result (λ solved. solved.claim ≡ claim_of plant.now solved.outcome.answer) }
 {
-    Err(AllocError)
+    let program = program_of(alloc, plant)?;
+    let rows = Rows { program };
+    solve_rows(alloc, plant, &rows, budget)
 }
 
 /// Plans a plant with at most so many boxes, and writes the log of the proof to a file while it searches. After an error the
@@ -55,5 +62,7 @@ pub fn solve_to<F: Shelf>(
     ensures later { F.write_faults files.old ≤ F.write_faults files.new }
     ensures failed { result ≡ Err Stop.Failed → Rose (F.write_faults files.old) (F.write_faults files.new) }
 {
-    Err(Stop::Memory)
+    let program = program_of(alloc, plant)?;
+    let rows = Rows { program };
+    solve_rows_to(alloc, plant, &rows, budget, files, name)
 }

@@ -4,6 +4,7 @@ use crate::plants::{TINT, TINY, edited};
 use plant_text::read_plant;
 use std::alloc::{AllocError, Global};
 use std::test::Fail;
+use stn_model::{Plant, State, Task};
 
 const SECOND: &str =
     "version = 2\nperiods = 2\n[[state]]\nname = \"feed\"\ninitial = 12\nlimits = [0, 4, 5]\n[[unit]]\nname = \"U\"\n[[outage]]\nunit = \"U\"\nfrom = 0\nto = 1\n";
@@ -204,29 +205,52 @@ fn too_much_is_refused(rt: HostRuntime) -> Result<(), Fail> {
     Ok(())
 }
 
+// Whether this is the state of the feed in Tiny.
+fn is_feed(state: &State) -> bool {
+    let is_named = state.name.as_slice() == b"feed".as_slice();
+    is_named && state.initial == 12 && state.limits.is_empty() && state.price == 1
+}
+
+// Whether this is the task of Tiny.
+fn is_make(task: &Task) -> bool {
+    for input in task.inputs.as_slice() {
+        if input.amount != 2 {
+            return false;
+        }
+    }
+    for output in task.outputs.as_slice() {
+        if output.state != 1 || output.delay != 1 {
+            return false;
+        }
+    }
+    task.quantum == 2
+}
+
+// Whether the first of each list is that of Tiny.
+fn is_tiny(plant: &Plant) -> bool {
+    let parts = (
+        plant.states.as_slice().first(),
+        plant.tasks.as_slice().first(),
+        plant.runs.as_slice().first(),
+    );
+    match parts {
+        (Some(state), Some(task), Some(run)) => {
+            is_feed(state) && is_make(task) && run.min == 1 && run.max == 3
+        }
+        _ => false,
+    }
+}
+
 #[test]
 fn a_plant_is_read(rt: HostRuntime) -> Result<(), Fail> {
     let plant = read_plant(rt.alloc(), TINY.as_bytes())?;
-    assert_eq!(rt; plant.periods, 2);
-    assert_eq!(rt; plant.states.len(), 2);
-    assert_eq!(rt; plant.tasks.len(), 1);
-    assert_eq!(rt; plant.runs.len(), 1);
-    let feed = plant.states.get(0);
-    assert_eq!(rt; feed.name.as_slice(), b"feed".as_slice());
-    assert_eq!(rt; feed.initial, 12);
-    assert!(rt; feed.limits.is_empty());
-    assert_eq!(rt; feed.price, 1);
-    let make = plant.tasks.get(0);
-    assert_eq!(rt; make.quantum, 2);
-    for input in make.inputs.as_slice() {
-        assert_eq!(rt; input.amount, 2);
-    }
-    for output in make.outputs.as_slice() {
-        assert_eq!(rt; output.state, 1);
-        assert_eq!(rt; output.delay, 1);
-    }
-    let run = plant.runs.get(0);
-    assert_eq!(rt; run.min, 1);
-    assert_eq!(rt; run.max, 3);
+    let counts = (
+        plant.periods,
+        plant.states.len(),
+        plant.tasks.len(),
+        plant.runs.len(),
+    );
+    assert!(rt; counts == (2, 2, 1, 1));
+    assert!(rt; is_tiny(&plant));
     Ok(())
 }

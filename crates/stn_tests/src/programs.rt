@@ -82,9 +82,8 @@ fn programs_have_the_rows_of_their_plants(rt: HostRuntime) -> Result<(), Fail> {
 fn programs_have_the_profits_of_their_plants(rt: HostRuntime) -> Result<(), Fail> {
     for (plant, rows, base, changes, profit) in PROGRAMS {
         let program = program(rt.alloc(), plant, &[])?;
-        assert_eq!(rt; program.rows.len(), rows);
-        assert_eq!(rt; program.base, base);
-        assert_eq!(rt; program.changes.len(), changes);
+        let counts = (program.rows.len(), program.base, program.changes.len());
+        assert!(rt; counts == (rows, base, changes));
         assert!(rt; are_entries(program.profit.as_slice(), profit));
     }
     Ok(())

@@ -1,85 +1,85 @@
 //! Words and files that are refused, and reads and puts that fail.
 use crate::answers::answer;
 use crate::plants::{ODD, TINY, edited, repeated, widened};
-use crate::texts::same_bytes;
+use std::alloc::{AllocError, Global};
 use std::test::Fail;
 use stn_edge::{MemShelf, MemSink};
 use stn_top::run;
 
+// Words that are no request.
+const WRONG: [&[&str]; 9] = [
+    &["solve", "plant", "31", "plant"],
+    &[],
+    &["solve", "plant", "0"],
+    &["solve", "plant", "031"],
+    &["solve", "plant", "100001"],
+    &["solve", "", "31"],
+    &["simulate", "plant", ""],
+    &["report", "plant"],
+    &["upgrade", "plant", "plant"],
+];
+
 #[test]
 fn words_are_refused(rt: HostRuntime) -> Result<(), Fail> {
-    let wrong: [&[&str]; 9] = [
-        &["solve", "plant", "31", "plant"],
-        &[],
-        &["solve", "plant", "0"],
-        &["solve", "plant", "031"],
-        &["solve", "plant", "100001"],
-        &["solve", "", "31"],
-        &["simulate", "plant", ""],
-        &["report", "plant"],
-        &["upgrade", "plant", "plant"],
-    ];
-    for words in wrong {
-        let (status, out) = answer(rt.alloc(), TINY, "", words)?;
-        assert_eq!(rt; status, 2);
-        assert_eq!(rt; out.written(), "refused words\n".as_bytes());
+    for words in WRONG {
+        assert!(rt; answers(rt.alloc(), (TINY, ""), words, (2, "refused words\n"))?);
     }
     Ok(())
 }
 
+// Whether a run over a plant file and a plan file has this status and this text.
+fn answers(
+    alloc: Global,
+    files: (&str, &str),
+    words: &[&str],
+    wanted: (u8, &str),
+) -> Result<bool, AllocError> {
+    let (status, out) = answer(alloc, files.0, files.1, words)?;
+    Ok(status == wanted.0 && out.written() == wanted.1.as_bytes())
+}
+
+const SIMULATE: &[&str] = &["simulate", "plant", "plan"];
+
+const LONG: [(bool, u8, &str); 2] = [
+    (true, 3, "refused plant 1 top 0 0 -\n"),
+    (false, 4, "refused plan 4 0\n"),
+];
+
+// A plant file and a plan file of a byte too much.
 #[test]
 fn long_files_are_refused(rt: HostRuntime) -> Result<(), Fail> {
-    let long = String::from_utf8(same_bytes(rt.alloc(), b'#', 1_048_577)?)
-        .ok()
-        .ok_or("text")?;
-    let (status, out) = answer(rt.alloc(), long.as_str(), "", &["solve", "plant", "31"])?;
-    assert_eq!(rt; status, 3);
-    assert_eq!(rt; out.written(), "refused plant 1 top 0 0 -\n".as_bytes());
-    let (status, out) = answer(
-        rt.alloc(),
-        TINY,
-        long.as_str(),
-        &["simulate", "plant", "plan"],
-    )?;
-    assert_eq!(rt; status, 4);
-    assert_eq!(rt; out.written(), "refused plan 4 0\n".as_bytes());
+    let long = repeated(rt.alloc(), "#", 1_048_577)?;
+    for (is_plant, status, text) in LONG {
+        let files = if is_plant {
+            (long.as_str(), "")
+        } else {
+            (TINY, long.as_str())
+        };
+        assert!(rt; answers(rt.alloc(), files, SIMULATE, (status, text))?);
+    }
     Ok(())
 }
 
+// Periods, units, and the answer to a plant of so many slots: 512 and 513.
+const SLOTS: [(&str, u32, u8, &str); 2] = [
+    ("periods = 64", 8, 0, "feasible 12\n"),
+    ("periods = 57", 9, 3, "refused plant 18 run 0 0 -\n"),
+];
+
 #[test]
 fn slots_are_limited(rt: HostRuntime) -> Result<(), Fail> {
-    let most = widened(rt.alloc(), "periods = 64", 8)?;
-    let (status, out) = answer(
-        rt.alloc(),
-        most.as_str(),
-        "",
-        &["simulate", "plant", "plan"],
-    )?;
-    assert_eq!(rt; status, 0);
-    assert_eq!(rt; out.written(), "feasible 12\n".as_bytes());
-    let more = widened(rt.alloc(), "periods = 57", 9)?;
-    let (status, out) = answer(
-        rt.alloc(),
-        more.as_str(),
-        "",
-        &["simulate", "plant", "plan"],
-    )?;
-    assert_eq!(rt; status, 3);
-    assert_eq!(rt; out.written(), "refused plant 18 run 0 0 -\n".as_bytes());
+    for (periods, units, status, text) in SLOTS {
+        let plant = widened(rt.alloc(), periods, units)?;
+        assert!(rt; answers(rt.alloc(), (plant.as_str(), ""), SIMULATE, (status, text))?);
+    }
     Ok(())
 }
 
 #[test]
 fn starts_are_limited(rt: HostRuntime) -> Result<(), Fail> {
     let plan = repeated(rt.alloc(), "0 U make 1\n", 2049)?;
-    let (status, out) = answer(
-        rt.alloc(),
-        TINY,
-        plan.as_str(),
-        &["simulate", "plant", "plan"],
-    )?;
-    assert_eq!(rt; status, 4);
-    assert_eq!(rt; out.written(), "refused plan 3 2049\n".as_bytes());
+    let refused = (4, "refused plan 3 2049\n");
+    assert!(rt; answers(rt.alloc(), (TINY, plan.as_str()), SIMULATE, refused)?);
     Ok(())
 }
 

@@ -1,0 +1,65 @@
+//! The guide of the search.
+use crate::bounding::bound_box;
+use crate::path::Path;
+use crate::picking::Picker;
+use branch_tree::{Advice, Guide};
+use dual_simplex::Workspace;
+use row_kit::{Area, Program};
+use std::alloc::{AllocError, Global};
+
+/// A guide by the dual simplex. Each box is bounded from where the bound of the split above it has ended; where it stays open, the
+/// slot to split is chosen by trial bounds of both sides. The rounded solution is left in the point. It leaves no box open.
+///
+/// It promises nothing. Its room is made with it: afterwards only certificates take memory.
+#[derive(Drop)]
+pub struct PlanGuide {
+    workspace: Workspace,
+    path: Path,
+    picker: Picker,
+}
+
+impl PlanGuide {
+    /// A guide for searches of a program.
+    pub fn new(alloc: Global, program: &Program) -> Result<PlanGuide, AllocError> {
+        Ok(PlanGuide {
+            workspace: Workspace::new(alloc, program)?,
+            path: Path::new(alloc, program)?,
+            picker: Picker::new(alloc, program)?,
+        })
+    }
+
+    // The slot to split in a box that stays open below so many splits.
+    fn slot_of(&mut self, program: &Program, area: &Area, depth: u32) -> Option<u32> {
+        self.path.keep(depth, &self.workspace, program);
+        self.picker.pick(&mut self.workspace, program, area)
+    }
+}
+
+impl Guide for PlanGuide {
+    fn leaves(&mut self, _program: &Program, _area: &Area, _depth: u32) -> bool {
+        false
+    }
+
+    fn advise(
+        &mut self,
+        alloc: Global,
+        program: &Program,
+        area: &Area,
+        depth: u32,
+        best: Option<i128>,
+        point: &mut [u8],
+    ) -> Result<Advice, AllocError> {
+        let start = self.path.above(depth);
+        let bounded = bound_box(alloc, &mut self.workspace, program, area, start, best)?;
+        self.workspace.round(area, point);
+        let slot = if bounded.closes {
+            None
+        } else {
+            self.slot_of(program, area, depth)
+        };
+        Ok(Advice {
+            cert: Some(bounded.cert),
+            slot,
+        })
+    }
+}

@@ -1,0 +1,236 @@
+use crate::areas::{domain_of, least_value};
+use crate::diving::{Dive, ONE};
+use crate::finder::{Finder, NONE};
+use crate::hoods::{Hood, LEVELS, Leveled, list_hoods};
+use crate::kept::Kept;
+use crate::reserved::{copy, numbered};
+use crate::small_search::Picking;
+use branch_tree::Hinter;
+use dual_simplex::Amount;
+use row_kit::{Area, Program};
+use std::alloc::{AllocError, Global};
+
+/// Offers plans, each once and only where it is worth more than those before: what the guide left, repaired; greatest batches;
+/// dives by the bound; and what searches in the neighbourhoods of the best plan find. `offer` takes no memory, and its work is
+/// counted in steps.
+#[derive(Drop)]
+pub struct PlanHinter {
+    finder: Finder,
+    best: Kept,
+    hoods: Vec<Leveled>,
+    seen: Vec<Amount>,
+    boxes: u32,
+    searched: Option<i128>,
+    offered: Option<i128>,
+}
+
+// The boxes in which a better plan has its neighbourhoods searched, and those in which each box is dived in.
+const MOST_BOXES: u32 = 400;
+
+const FIRST_BOXES: u32 = 20;
+
+// The boxes and the work of a small search.
+const MOST_SMALL: u32 = 20;
+
+const MOST_WORK: u64 = 40_000_000;
+
+// The levels that are searched in a box, those without gain, and the work, in the first box and in others.
+const MOST_TURNS: u32 = 100;
+
+const MOST_STAGES: u32 = 14;
+
+const FIRST_TOTAL: u64 = 1_200_000_000;
+
+const MOST_TOTAL: u64 = 300_000_000;
+
+// The neighbourhoods of chance at a time.
+const CHANCES: u32 = 24;
+
+impl PlanHinter {
+    /// A hinter for a program. It has room for all that can come.
+    pub fn new(alloc: Global, program: &Program) -> Result<PlanHinter, AllocError> {
+        Ok(PlanHinter {
+            finder: Finder::new(alloc, program)?,
+            best: Kept::new(alloc, program)?,
+            hoods: list_hoods(alloc, program)?,
+            seen: vec![in alloc; NONE; program.root.len()]?,
+            boxes: 0,
+            searched: None,
+            offered: None,
+        })
+    }
+
+    // Takes what the guide left.
+    fn take_left(&mut self, program: &Program, point: &[u8]) {
+        copy(self.finder.point.as_mut_slice(), point);
+        self.finder.take_point(program);
+    }
+
+    // Takes the only point of an area.
+    fn take_only(&mut self, program: &Program, area: &Area) {
+        for slot in 0..self.finder.point.len() {
+            self.finder.point[slot] = least_value(domain_of(area, numbered(slot)));
+        }
+        let _ = self.finder.kept.take(program, self.finder.point.as_slice());
+    }
+
+    // Dives in a box: for greatest batches at the first, and by the bound.
+    fn dive(&mut self, program: &Program, area: &Area) {
+        self.finder.enter(program, area);
+        if self.boxes == 1 {
+            self.finder.dive(program, Dive::Greatest);
+            self.finder.dive(program, Dive::GreatestBack);
+        }
+        self.finder.start.clear();
+        if self.finder.bound(program, None) {
+            self.finder.workspace.save(program, &mut self.finder.start);
+            copy(self.seen.as_mut_slice(), self.finder.amounts.as_slice());
+            self.finder.take_rounded(program);
+            self.finder.dive(program, Dive::Amounts(ONE / 20));
+            self.finder.dive(program, Dive::Amounts(ONE / 2));
+            self.finder.dive(program, Dive::Places(ONE / 5));
+        }
+    }
+
+    // Searches the box for a first plan, where none is known.
+    fn find_first(&mut self, program: &Program) {
+        for picking in [Picking::Furthest, Picking::Tried] {
+            if self.finder.kept.worth.is_none() {
+                let limit = self.finder.work.saturating_add(10 * MOST_WORK);
+                let mark = self.finder.field.mark();
+                self.finder.search(program, picking, 10 * MOST_SMALL, limit);
+                self.finder.field.back(&self.finder.tables, mark);
+            }
+        }
+    }
+
+    // Searches the neighbourhoods of the best plan, level by level, the cheapest first, each with both ways of picking, and from the
+    // cheapest again after each gain.
+    fn search_hoods(&mut self, program: &Program) {
+        self.finder.enter_root(program);
+        let total = if self.boxes == 1 {
+            FIRST_TOTAL
+        } else {
+            MOST_TOTAL
+        };
+        let end = self.finder.work.saturating_add(total);
+        let mut stage = 0u32;
+        for turn in 0..MOST_TURNS {
+            let ended = stage >= MOST_STAGES || self.finder.work >= end;
+            if ended || self.finder.kept.worth.is_none() {
+                return;
+            }
+            stage = if self.search_stage(program, stage, turn) {
+                0
+            } else {
+                stage.saturating_add(1)
+            };
+        }
+    }
+
+    // Searches the neighbourhoods of a level; whether a better plan is found.
+    fn search_stage(&mut self, program: &Program, stage: u32, turn: u32) -> bool {
+        let before = self.finder.kept.worth;
+        let picking = self.picking(stage);
+        if stage / 2 >= LEVELS {
+            self.search_chances(program, turn, picking);
+        } else {
+            self.search_level(program, stage / 2, picking);
+        }
+        self.finder.kept.worth != before
+    }
+
+    // How a stage picks: by trials first, in the fourth box by amounts first.
+    fn picking(&self, stage: u32) -> Picking {
+        let swapped = self.boxes == 4;
+        if (stage % 2 == 1) == swapped {
+            Picking::Tried
+        } else {
+            Picking::Furthest
+        }
+    }
+
+    // Searches the listed neighbourhoods of a level.
+    fn search_level(&mut self, program: &Program, level: u32, picking: Picking) {
+        for place in 0..self.hoods.len() {
+            if place < self.hoods.len() {
+                let leveled = self.hoods[place];
+                if leveled.level == level {
+                    self.search_hood(program, leveled.hood, picking);
+                }
+            }
+        }
+    }
+
+    // Searches neighbourhoods of chance.
+    fn search_chances(&mut self, program: &Program, turn: u32, picking: Picking) {
+        for number in 0..CHANCES {
+            let seed = turn.wrapping_mul(32).wrapping_add(number);
+            self.search_hood(program, Hood::Chance(seed), picking);
+        }
+    }
+
+    // Searches a neighbourhood.
+    fn search_hood(&mut self, program: &Program, hood: Hood, picking: Picking) {
+        let limit = self.finder.work.saturating_add(MOST_WORK);
+        let seen = self.seen.as_slice();
+        self.finder
+            .search_hood(program, hood, seen, picking, MOST_SMALL, limit);
+    }
+
+    // Whether this is a box in which the search for plans begins anew, with another first plan.
+    fn begins_anew(&self) -> bool {
+        match self.boxes {
+            1 | 4 | 8 | 16 | 32 | 128 => true,
+            _ => false,
+        }
+    }
+
+    // Looks for plans in a box that has more than one point.
+    fn look(&mut self, program: &Program, area: &Area, point: &[u8]) {
+        let anew = self.begins_anew();
+        if anew {
+            self.finder.kept.worth = None;
+        }
+        self.take_left(program, point);
+        if anew || self.boxes <= FIRST_BOXES || self.boxes % 16 == 0 {
+            self.dive(program, area);
+        }
+        let gained = self.boxes < MOST_BOXES && self.finder.kept.worth != self.searched;
+        if anew || gained {
+            self.find_first(program);
+            self.search_hoods(program);
+            self.recall(program);
+            self.searched = self.finder.kept.worth;
+        }
+    }
+
+    // Goes on from the best of all plans.
+    fn recall(&mut self, program: &Program) {
+        let _ = self.best.take(program, self.finder.kept.values.as_slice());
+        let _ = self.finder.kept.take(program, self.best.values.as_slice());
+    }
+
+    // Whether the best plan has not been offered; then it is.
+    fn hand_out(&mut self, program: &Program, point: &mut [u8]) -> bool {
+        self.recall(program);
+        if self.best.worth == self.offered {
+            return false;
+        }
+        self.offered = self.best.worth;
+        copy(point, self.best.values.as_slice());
+        true
+    }
+}
+
+impl Hinter for PlanHinter {
+    fn offer(&mut self, program: &Program, area: &Area, point: &mut [u8]) -> bool {
+        self.boxes = self.boxes.saturating_add(1);
+        if area.is_point() {
+            self.take_only(program, area);
+        } else {
+            self.look(program, area, point);
+        }
+        self.hand_out(program, point)
+    }
+}

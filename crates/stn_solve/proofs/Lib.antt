@@ -1,0 +1,11 @@
+pub mod BegunLog
+pub mod CapShort
+pub mod CleanText
+pub mod LogsLeft
+pub mod NoDefect
+pub mod PartPlans
+pub mod SmallClaim
+pub mod Told
+pub mod ValidLog
+pub mod WholePlant
+pub mod WorthShort

@@ -1,0 +1,81 @@
+-- What the steps of writing a log leave of the files.
+use Rattle.std.proofs.Common.{◌≡◌, ◌≢◌, ℕ, Bool, List, [], ◌∷◌, ◌++◌, flat_map, string_bytes, Option, None, Some, IfSome, refl, sym, ap, ◌∙◌, subst, inl, inr}
+use Rattle.std.specs.Prelude.{◌⊎◌}
+use Rattle.std.specs.Option.{option_map}
+use Rattle.std.specs.FinMap.{get}
+use Rattle.std.proofs.lemmas.List.{append-nil}
+use Rattle.stn_edge.specs.Files.{FileMap, MayClear, OthersStay, cleared, file_of}
+use Rattle.stn_edge.proofs.FileLemmas.{get-cleared_other}
+use Rattle.row_kit.specs.declared.program.Program.{Program}
+use Rattle.proof_tree.specs.Items.{tree_items}
+use Rattle.branch_tree.specs.declared.ended.Ended.{Ended}
+use Rattle.log_lines.specs.declared.line.Line.TheVariants.{Header, End}
+use Rattle.proof_log.specs.declared.claim.Claim.{Claim}
+use Rattle.proof_log.specs.Log.{claim_lines, item_lines, lines_text}
+use Rattle.proof_log.specs.declared.writer.LogWriter.{LogWriter}
+use Rattle.proof_log.specs.Writer.{Broke, IsWhole, Keeps, Took, Writing, writing}
+use Rattle.proof_log.proofs.Lines.{lines_text-append}
+use Rattle.proof_log.proofs.Writing.{IsWhole-took}
+use Rattle.stn_solve.specs.Proofs.{IsLeft, IsLogBegun, bytes_in}
+use Rattle.stn_solve.specs.laws.Logging.{IsLogged, stored}
+use Rattle.stn_solve.proofs.BegunLog.{begun-finish, begun-took}
+
+others_cleared : (name other : List ℕ) (files : Option FileMap) → other ≢ name → option_map (λ (m : FileMap). get m other) (option_map (cleared name) files) ≡ option_map (λ (m : FileMap). get m other) files
+others_cleared name other None apart = refl
+others_cleared name other (Some files) apart = ap Some (get-cleared_other name files other apart)
+
+-- to clear a file leaves the others as they are
+pub others-clear : (name : List ℕ) (old new : Option FileMap) → new ≡ option_map (cleared name) old → OthersStay name old new
+others-clear name old new is other apart = ap (option_map (λ (m : FileMap). get m other)) is ∙ others_cleared name other old apart
+
+pub others-may_clear : (name : List ℕ) (old new : Option FileMap) → MayClear name old new → OthersStay name old new
+others-may_clear name old new (inl same) other apart = ap (option_map (λ (m : FileMap). get m other)) same
+others-may_clear name old new (inr is) other apart = others-clear name old new is other apart
+
+-- a log that was begun is begun after an attempt that did not end
+pub left-then : (part : Program) (name : List ℕ) (mid new : Option FileMap) → IfSome (bytes_in name mid) (IsLogBegun part) → IsLeft part name mid new → IfSome (bytes_in name new) (IsLogBegun part)
+left-then part name mid new begun (inl same) = subst (λ (files : Option FileMap). IfSome (bytes_in name files) (IsLogBegun part)) (sym same) begun
+left-then part name mid new begun (inr is) = is
+
+-- a log that lacks its claim is begun
+pub logged-begun : (part : Program) (budget : ℕ) (name : List ℕ) (ended : Ended) (at : Writing) → IsLogged part budget name ended at → IfSome (bytes_in name at.files) (IsLogBegun part)
+logged-begun part budget name ended at is =
+    let begun = begun-took part is.first at is.tree (tree_items is.tree) [] is.header (sym (append-nil (tree_items is.tree))) is.search.writable is.took in
+    subst (λ (own : List ℕ). IfSome (bytes_in own at.files) (IsLogBegun part)) (sym is.took.keeps.name ∙ is.named) begun
+
+-- a log whose claim was not written, or in part, is begun
+pub logged-broke : (part : Program) (budget : ℕ) (name : List ℕ) (ended : Ended) (at new : Writing) (claim : Claim) → IsLogged part budget name ended at
+    → Broke at new (lines_text (claim_lines claim ++ End ∷ [])) → IfSome (bytes_in name new.files) (IsLogBegun part)
+logged-broke part budget name ended at new claim is broke =
+    let begun = begun-finish part is.first at new is.tree claim is.header is.search.writable is.took broke in
+    subst (λ (own : List ℕ). IfSome (bytes_in own new.files) (IsLogBegun part)) (sym is.took.keeps.name ∙ is.named) begun
+
+-- what was taken or not wholly taken keeps the rest
+pub handed-keeps : (old new : Writing) (text : List ℕ) → Took old new text ⊎ Broke old new text → Keeps old new
+handed-keeps old new text (inl took) = took.keeps
+handed-keeps old new text (inr broke) = broke.keeps
+
+-- what a log is begun in and what takes its items leave of a store
+pub kept-handed : {S : Type 0} (files : S → Option FileMap) (reads : S → ℕ) (may_read may_write : S → List ℕ → Bool) (name : List ℕ) (writer writer_after : LogWriter) (before store store_after : S)
+    → string_bytes writer.name ≡ name → OthersStay name (files before) (files store) → reads store ≡ reads before → may_read store ≡ may_read before → may_write store ≡ may_write before
+    → Keeps (writing files reads may_read may_write writer store) (writing files reads may_read may_write writer_after store_after)
+    → Keeps (stored files reads may_read may_write name before) (stored files reads may_read may_write name store_after)
+kept-handed files reads may_read may_write name writer writer_after before store store_after named others no_read readable writable keeps = record {
+  name = refl;
+  others = λ other apart. keeps.others other (λ is. apart (is ∙ named)) ∙ others other apart;
+  reads = keeps.reads ∙ no_read;
+  may_read = keeps.may_read ∙ readable;
+  may_write = keeps.may_write ∙ writable;
+}
+
+-- all items of the proof stand in the log that lacks its claim
+pub logged-whole : (part : Program) (budget : ℕ) (name : List ℕ) (ended : Ended) (at : Writing) → (is : IsLogged part budget name ended at)
+    → IsWhole at (lines_text (Header 2 ∷ flat_map item_lines (tree_items is.tree)))
+logged-whole part budget name ended at is =
+    subst (IsWhole at) (sym (lines_text-append (Header 2 ∷ []) (flat_map item_lines (tree_items is.tree))))
+    (IsWhole-took is.first at (lines_text (Header 2 ∷ [])) (lines_text (flat_map item_lines (tree_items is.tree))) is.header is.took)
+
+-- the bytes of a file that is told are a text
+pub told-bytes : (name own : List ℕ) (files : Option FileMap) (text whole_text : List ℕ) → own ≡ name → text ≡ whole_text → IfSome files (λ m. file_of m own ≡ text) → IfSome (bytes_in name files) (λ bytes. bytes ≡ whole_text)
+told-bytes name own None text whole_text named same is = tt
+told-bytes name own (Some m) text whole_text named same is = ap (file_of m) (sym named) ∙ is ∙ same

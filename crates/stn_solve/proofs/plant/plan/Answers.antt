@@ -1,0 +1,22 @@
+-- The program of a plant is a part of its choices, and its outcomes are those of the plant.
+use Rattle.std.proofs.Common.{None}
+use Rattle.std.proofs.lemmas.Result.{IfOk-weaker}
+use Rattle.stn_model.specs.declared.answer.Outcome.{Outcome}
+use Rattle.stn_solve.specs.Proofs.{HasProof}
+use Rattle.stn_solve.proofs.WholePlant.{whole-is_part, whole-outcome}
+use Rattle.stn_solve.proofs.plant.plan.Goals as goal
+
+pub plan_rows-requires-clause-part : goal.plan_rows-requires-clause-part
+plan_rows-requires-clause-part c = whole-is_part c.args.plant.now c.in_ok-program.program c.in_ok-program.ensures.made c.in_ok-program.ensures.means
+
+pub returns-clause-outcome : goal.returns-clause-outcome
+returns-clause-outcome c =
+    IfOk-weaker c.plan_rows.result _ _
+    (λ outcome right. whole-outcome c.args.plant.now c.in_ok-program.program c.args.budget outcome c.requires.sound c.in_ok-program.ensures.made c.in_ok-program.ensures.means right)
+    c.plan_rows.ensures.outcome
+
+pub returns-clause-proof : goal.returns-clause-proof
+returns-clause-proof c =
+    IfOk-weaker c.plan_rows.result _ _
+    (λ (outcome : Outcome) (has : HasProof c.args.plant.now c.in_ok-program.program None outcome). record { program = c.in_ok-program.program; made = c.in_ok-program.ensures.made; means = c.in_ok-program.ensures.means; has = has })
+    c.plan_rows.ensures.proof

@@ -1,0 +1,122 @@
+//! Searches whose proof is written to a log while they go on.
+ghost use Rattle.std.specs.Prelude.{◌≡◌, ◌≤◌, ◌↔◌, true, Err, IsTrue, IfOk, OnErr};
+ghost use Rattle.stn_edge.specs.Count.{Rose};
+ghost use Rattle.branch_tree.specs.Searched.{IsExact};
+ghost use Rattle.proof_log.specs.Writer.{Keeps, writing};
+ghost use Rattle.stn_solve.specs.Proofs.{IsLeft};
+ghost use Rattle.stn_solve.specs.laws.Logging.{IsLogged, stored};
+
+use branch_tree::{Ended, Guide, Hinter, search_guided_to, search_to};
+use plan_hints::{PlanGuide, PlanHinter};
+use proof_log::LogWriter;
+use proof_tree::TakeStop;
+use row_relax::Rows;
+use std::alloc::Global;
+use stn_edge::{Shelf, Stop};
+
+/// What a search ended with, and the writer of its log, which lacks the claim.
+#[derive(Drop)]
+pub struct Logged {
+    pub ended: Ended,
+    pub writer: LogWriter,
+}
+
+// Searches the root with the advice on plans, and where its count is not exact anew without it, log and all.
+pub fn search_logged<F: Shelf>(
+    alloc: Global,
+    rows: &Rows,
+    budget: u32,
+    files: &mut F,
+    name: &str,
+) -> Result<Logged, Stop>
+    requires budget { (1 ≤ budget) × (budget ≤ 100000) }
+    requires allowed { IsTrue (F.may_write files.old name.now) }
+    ensures logged { IfOk result (λ logged. IsLogged rows.now.program budget name.now logged.ended
+        (writing F.files F.read_faults F.may_read F.may_write logged.writer files.new)) }
+    ensures exact { IfOk result (λ logged. IsExact rows.now.program budget logged.ended) }
+    ensures err { OnErr result (IsLeft rows.now.program name.now (F.files files.old) (F.files files.new)) }
+    ensures kept { Keeps (stored F.files F.read_faults F.may_read F.may_write name.now files.old)
+        (stored F.files F.read_faults F.may_read F.may_write name.now files.new) }
+    ensures later { F.write_faults files.old ≤ F.write_faults files.new }
+    ensures failed { result ≡ Err Stop.Failed → Rose (F.write_faults files.old) (F.write_faults files.new) }
+{
+    let mut hinter = PlanHinter::new(alloc, &rows.program)?;
+    let mut guide = PlanGuide::new(alloc, &rows.program)?;
+    let (logged, exact) = log_guided(alloc, rows, budget, &mut hinter, &mut guide, files, name)?;
+    if exact {
+        return Ok(logged);
+    }
+    log_plain(alloc, rows, budget, &mut hinter, files, name)
+}
+
+// Begins a log and writes the proof of a search with a guide. The answer also says whether its count is exact.
+fn log_guided<H: Hinter, G: Guide, F: Shelf>(
+    alloc: Global,
+    rows: &Rows,
+    budget: u32,
+    hinter: &mut H,
+    guide: &mut G,
+    files: &mut F,
+    name: &str,
+) -> Result<(Logged, bool), Stop>
+    requires budget { (1 ≤ budget) × (budget ≤ 100000) }
+    requires allowed { IsTrue (F.may_write files.old name.now) }
+    ensures logged { IfOk result (λ found. IsLogged rows.now.program budget name.now found.0.ended
+        (writing F.files F.read_faults F.may_read F.may_write found.0.writer files.new)) }
+    ensures exact { IfOk result (λ found. found.1 ≡ true → IsExact rows.now.program budget found.0.ended) }
+    ensures err { OnErr result (IsLeft rows.now.program name.now (F.files files.old) (F.files files.new)) }
+    ensures kept { Keeps (stored F.files F.read_faults F.may_read F.may_write name.now files.old)
+        (stored F.files F.read_faults F.may_read F.may_write name.now files.new) }
+    ensures later { F.write_faults files.old ≤ F.write_faults files.new }
+    ensures failed { result ≡ Err Stop.Failed → Rose (F.write_faults files.old) (F.write_faults files.new) }
+{
+    let mut writer = LogWriter::begin(alloc, files, name)?;
+    match search_guided_to(alloc, rows, budget, hinter, guide, &mut writer, files) {
+        Ok(guided) => {
+            let exact = guided.exact;
+            let logged = Logged {
+                ended: guided.ended,
+                writer,
+            };
+            Ok((logged, exact))
+        }
+        Err(stop) => Err(stop_of(stop)),
+    }
+}
+
+// Begins a log and writes the proof of a search.
+fn log_plain<H: Hinter, F: Shelf>(
+    alloc: Global,
+    rows: &Rows,
+    budget: u32,
+    hinter: &mut H,
+    files: &mut F,
+    name: &str,
+) -> Result<Logged, Stop>
+    requires budget { (1 ≤ budget) × (budget ≤ 100000) }
+    requires allowed { IsTrue (F.may_write files.old name.now) }
+    ensures logged { IfOk result (λ logged. IsLogged rows.now.program budget name.now logged.ended
+        (writing F.files F.read_faults F.may_read F.may_write logged.writer files.new)) }
+    ensures exact { IfOk result (λ logged. IsExact rows.now.program budget logged.ended) }
+    ensures err { OnErr result (IsLeft rows.now.program name.now (F.files files.old) (F.files files.new)) }
+    ensures kept { Keeps (stored F.files F.read_faults F.may_read F.may_write name.now files.old)
+        (stored F.files F.read_faults F.may_read F.may_write name.now files.new) }
+    ensures later { F.write_faults files.old ≤ F.write_faults files.new }
+    ensures failed { result ≡ Err Stop.Failed → Rose (F.write_faults files.old) (F.write_faults files.new) }
+{
+    let mut writer = LogWriter::begin(alloc, files, name)?;
+    match search_to(alloc, rows, budget, hinter, &mut writer, files) {
+        Ok(ended) => Ok(Logged { ended, writer }),
+        Err(stop) => Err(stop_of(stop)),
+    }
+}
+
+// Why an item was not written.
+fn stop_of(stop: TakeStop) -> Stop
+    ensures { result ≡ Stop.Failed ↔ stop ≡ TakeStop.Failed }
+{
+    match stop {
+        TakeStop::Failed => Stop::Failed,
+        TakeStop::Memory => Stop::Memory,
+    }
+}

@@ -1,0 +1,49 @@
+//! Searches with the advice on plans, and where that leaves boxes open though budget is left, anew without it.
+ghost use Rattle.std.specs.Prelude.{◌≤◌, IfOk};
+ghost use Rattle.proof_tree.specs.Tree.{tree_of};
+ghost use Rattle.branch_tree.specs.Searched.{ended_of};
+ghost use Rattle.stn_solve.specs.laws.Ended.{IsSearchOf, IsSearched};
+
+use crate::item_dropper::ItemDropper;
+use branch_tree::{Ended, Searched, search, search_guided, search_guided_to, search_to};
+use plan_hints::{PlanGuide, PlanHinter};
+use proof_tree::TakeStop;
+use row_relax::Rows;
+use std::alloc::{AllocError, Global};
+
+// Searches the root, and drops the proof.
+pub fn search_only(alloc: Global, rows: &Rows, budget: u32) -> Result<Ended, TakeStop>
+    requires budget { (1 ≤ budget) × (budget ≤ 100000) }
+    ensures { IfOk result (IsSearched rows.now.program budget) }
+{
+    let mut hinter = PlanHinter::new(alloc, &rows.program)?;
+    let mut guide = PlanGuide::new(alloc, &rows.program)?;
+    let mut taker = ItemDropper;
+    let guided = search_guided_to(
+        alloc,
+        rows,
+        budget,
+        &mut hinter,
+        &mut guide,
+        &mut taker,
+        &mut (),
+    )?;
+    if guided.exact {
+        return Ok(guided.ended);
+    }
+    search_to(alloc, rows, budget, &mut hinter, &mut taker, &mut ())
+}
+
+// Searches the root, and builds the proof.
+pub fn search_built(alloc: Global, rows: &Rows, budget: u32) -> Result<Searched, AllocError>
+    requires budget { (1 ≤ budget) × (budget ≤ 100000) }
+    ensures { IfOk result (λ searched. IsSearchOf rows.now.program budget (ended_of searched) (tree_of searched.tree)) }
+{
+    let mut hinter = PlanHinter::new(alloc, &rows.program)?;
+    let mut guide = PlanGuide::new(alloc, &rows.program)?;
+    let (searched, exact) = search_guided(alloc, rows, budget, &mut hinter, &mut guide)?;
+    if exact {
+        return Ok(searched);
+    }
+    search(alloc, rows, budget, &mut hinter)
+}
