@@ -31,13 +31,9 @@ pub fn plan_rows(
     ensures outcome { IfOk result (IsPartOutcome plant.now rows.now.program budget) }
     ensures proof { IfOk result (HasProof plant.now rows.now.program None) }
 {
-    match search_only(alloc, rows, budget) {
-        Ok(ended) => {
-            let told = told_of(alloc, plant, ended)?;
-            Ok(told.outcome)
-        }
-        Err(_) => Err(AllocError),
-    }
+    let ended = search_only(alloc, rows, budget)?;
+    let Told { outcome, .. } = told_of(alloc, plant, ended)?;
+    Ok(outcome)
 }
 
 /// Plans over a part of a plant's choices, with at most so many boxes, and keeps the proof.

@@ -7,19 +7,18 @@ ghost use Rattle.stn_solve.specs.laws.Ended.{IsSearchOf, IsSearched};
 use crate::item_dropper::ItemDropper;
 use branch_tree::{Ended, Searched, search, search_guided, search_guided_to, search_to};
 use plan_hints::{PlanGuide, PlanHinter};
-use proof_tree::TakeStop;
 use row_relax::Rows;
 use std::alloc::{AllocError, Global};
 
 // Searches the root, and drops the proof.
-pub fn search_only(alloc: Global, rows: &Rows, budget: u32) -> Result<Ended, TakeStop>
+pub fn search_only(alloc: Global, rows: &Rows, budget: u32) -> Result<Ended, AllocError>
     requires budget { (1 ≤ budget) × (budget ≤ 100000) }
     ensures { IfOk result (IsSearched rows.now.program budget) }
 {
     let mut hinter = PlanHinter::new(alloc, &rows.program)?;
     let mut guide = PlanGuide::new(alloc, &rows.program)?;
     let mut taker = ItemDropper;
-    let guided = search_guided_to(
+    let Ok(guided) = search_guided_to(
         alloc,
         rows,
         budget,
@@ -27,11 +26,16 @@ pub fn search_only(alloc: Global, rows: &Rows, budget: u32) -> Result<Ended, Tak
         &mut guide,
         &mut taker,
         &mut (),
-    )?;
+    ) else {
+        return Err(AllocError);
+    };
     if guided.exact {
         return Ok(guided.ended);
     }
-    search_to(alloc, rows, budget, &mut hinter, &mut taker, &mut ())
+    match search_to(alloc, rows, budget, &mut hinter, &mut taker, &mut ()) {
+        Ok(ended) => Ok(ended),
+        Err(_) => Err(AllocError),
+    }
 }
 
 // Searches the root, and builds the proof.
