@@ -49,7 +49,7 @@ impl Finder {
     fn fix_all(&mut self, program: &Program, dive: Dive) -> bool {
         let mut fails = 0u32;
         for place in 0..self.order.len() {
-            let slot = self.order[place].1;
+            let slot = self.ordered(place);
             let wish = wish(self.amount(slot), dive);
             match self.fix(program, slot, wish) {
                 Some(failed) => fails = fails.saturating_add(failed),
@@ -104,8 +104,10 @@ pub fn pair(first: i64, second: i64) -> i64 {
 // The value that a dive wishes for a slot.
 fn wish(amount: Amount, dive: Dive) -> u8 {
     match dive {
-        Dive::Greatest | Dive::GreatestBack => u8::MAX,
-        Dive::Amounts(least) | Dive::Places(least) => wish_by(amount, least),
+        Dive::Greatest => u8::MAX,
+        Dive::GreatestBack => u8::MAX,
+        Dive::Amounts(least) => wish_by(amount, least),
+        Dive::Places(least) => wish_by(amount, least),
     }
 }
 

@@ -109,6 +109,14 @@ impl Finder {
         lives
     }
 
+    /// The slot at a place of its order; one that no program has where there is no such place.
+    pub fn ordered(&self, place: usize) -> u32 {
+        match self.order.get(place) {
+            None => u32::MAX,
+            Some((_, slot)) => *slot,
+        }
+    }
+
     /// Bounds its area from a basis, and notes what the slots come to. False says that it has no better plan.
     pub fn bound(&mut self, program: &Program, from: Option<usize>) -> bool {
         let aim = self.kept.worth;

@@ -68,9 +68,7 @@ impl PlanHinter {
 
     // Takes the only point of an area.
     fn take_only(&mut self, program: &Program, area: &Area) {
-        for slot in 0..self.finder.point.len() {
-            self.finder.point[slot] = least_value(domain_of(area, numbered(slot)));
-        }
+        put_only(area, self.finder.point.as_mut_slice());
         let _ = self.finder.kept.take(program, self.finder.point.as_slice());
     }
 
@@ -220,6 +218,13 @@ impl PlanHinter {
         self.offered = self.best.worth;
         copy(point, self.best.values.as_slice());
         true
+    }
+}
+
+// Writes the least value of each slot of an area.
+fn put_only(area: &Area, point: &mut [u8]) {
+    for slot in 0..point.len() {
+        point[slot] = least_value(domain_of(area, numbered(slot)));
     }
 }
 

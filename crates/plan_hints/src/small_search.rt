@@ -143,7 +143,7 @@ impl Finder {
         let mut found = None;
         let mut most = -1i128;
         for place in 0..self.order.len().min(MOST_TRIED) {
-            let slot = self.order[place].1;
+            let slot = self.ordered(place);
             let max = middle(self.field.domain(slot));
             let score = self.try_split(program, slot, max);
             if score > most {
