@@ -5,50 +5,55 @@ use std::test::Fail;
 use stn_edge::{FixedShelf, FixedSink, MemShelf, MemSink};
 use stn_top::run;
 
-// A plant, a budget, the statuses that may come, how the text of `solve` begins, and how that of the
-// check of its log does.
-type Logged = (
-    &'static str,
-    &'static str,
-    &'static [u8],
-    &'static str,
-    &'static str,
-);
-
-const LOGGED: [Logged; 3] = [
+// A plant, a budget, the status of `solve`, how its text begins, and that of the check of its log.
+const LOGGED: [(&str, &str, u8, &str, &str); 2] = [
     (
         TINY,
         "31",
-        &[0],
+        0,
         "# optimal 60\n# boxes ",
         "yes optimal 60\n",
     ),
     (
         FULL,
         "1",
-        &[1],
+        1,
         "# infeasible\n# boxes 1\n",
         "yes infeasible\n",
     ),
-    (FIVE, "2000", &[0, 6], "# ", "yes "),
 ];
+
+// The status and the text of planning a plant with a log, and those of the check of the log.
+fn logged(alloc: Global, plant: &str, budget: &str) -> Result<[(u8, FixedSink); 2], Fail> {
+    let mut files = FixedShelf::new(alloc);
+    files.put_file("plant", plant.as_bytes())?;
+    let mut out = FixedSink::new(alloc);
+    let words = ["solve", "plant", budget, "log"];
+    let solved = run(alloc, &words, &mut files, &mut out);
+    let mut said = FixedSink::new(alloc);
+    let checked = run(alloc, &["check", "plant", "log"], &mut files, &mut said);
+    Ok([(solved, out), (checked, said)])
+}
 
 #[test]
 fn logs_are_valid(rt: HostRuntime) -> Result<(), Fail> {
-    for (plant, budget, statuses, start, claim) in LOGGED {
-        let mut files = FixedShelf::new(rt.alloc());
-        files.put_file("plant", plant.as_bytes())?;
-        let mut out = FixedSink::new(rt.alloc());
-        let words = ["solve", "plant", budget, "log"];
-        let status = run(rt.alloc(), &words, &mut files, &mut out);
-        assert!(rt; statuses.contains(&status));
+    for (plant, budget, status, start, claim) in LOGGED {
+        let [(solved, out), (checked, said)] = logged(rt.alloc(), plant, budget)?;
+        assert_eq!(rt; solved, status);
         assert!(rt; out.written().starts_with(start.as_bytes()));
-        let mut said = FixedSink::new(rt.alloc());
-        let words = ["check", "plant", "log"];
-        let status = run(rt.alloc(), &words, &mut files, &mut said);
-        assert_eq!(rt; status, 0);
-        assert!(rt; said.written().starts_with(claim.as_bytes()));
+        assert_eq!(rt; checked, 0);
+        assert_eq!(rt; said.written(), claim.as_bytes());
     }
+    Ok(())
+}
+
+// It may end by its budget: then the log is that of a cap.
+#[test]
+fn the_log_of_five_is_valid(rt: HostRuntime) -> Result<(), Fail> {
+    let [(solved, _), (checked, said)] = logged(rt.alloc(), FIVE, "2000")?;
+    assert!(rt; solved == 0 || solved == 6);
+    assert_eq!(rt; checked, 0);
+    assert!(rt; said.written().starts_with("yes ".as_bytes()));
     Ok(())
 }
 
