@@ -43,8 +43,8 @@ const SOLVED: [Solved; 11] = [
         ODD,
         "1",
         6,
-        "# budget-spent ",
-        "\n",
+        "# budget-spent 34 5",
+        "# boxes 1\n0 U make 3\n",
     ),
     (
         TINY,
