@@ -3,6 +3,7 @@ pub mod Below
 pub mod GainParts
 pub mod Small
 pub mod Roots
+pub mod PartPoints
 pub mod Changeovers
 pub mod Meaning
 pub mod Bounds

@@ -13,10 +13,10 @@ use Rattle.row_kit.specs.Domain.{Holds, IsNormal, IsOpen}
 use Rattle.row_kit.specs.Point.{LiesIn}
 use Rattle.row_set.specs.PlantProgram.{slot_domain}
 
-choice-of : (plant : Plant) (slot : ℕ × ℕ) (value : ℕ) → Holds (slot_domain plant slot) value → IsChoice plant slot value
+pub choice-of : (plant : Plant) (slot : ℕ × ℕ) (value : ℕ) → Holds (slot_domain plant slot) value → IsChoice plant slot value
 choice-of plant slot value holds = elim (cases_eq value 0) [ inl e ↦ inl e | inr n ↦ inr (holds.above_zero (omega arith)) ]
 
-holds-of : (plant : Plant) (slot : ℕ × ℕ) (value : ℕ) → IsChoice plant slot value → Holds (slot_domain plant slot) value
+pub holds-of : (plant : Plant) (slot : ℕ × ℕ) (value : ℕ) → IsChoice plant slot value → Holds (slot_domain plant slot) value
 holds-of plant slot value (inl e) = record { at_zero = λ z. refl; above_zero = λ l. absurd (omega arith) }
 holds-of plant slot value (inr size) = record { at_zero = λ z. refl; above_zero = λ l. size }
 
