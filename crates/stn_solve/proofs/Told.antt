@@ -44,7 +44,8 @@ use Rattle.stn_solve.specs.Proofs.{IfSpent, IsProofOf, claim_of}
 use Rattle.stn_solve.specs.laws.Ended.{IsSearchOf}
 use Rattle.stn_solve.specs.laws.Telling.{IsTold, told_bare, told_plan}
 use Rattle.stn_solve.specs.declared.telling.Told.{Told}
-use Rattle.stn_solve.proofs.PartPlans.{admitted-earns, admitted-lawful, lawful-places, lawful-plan, least-point}
+use Rattle.row_set.proofs.PartPoints.{admitted-lawful, admitted-worth}
+use Rattle.stn_solve.proofs.PartPlans.{lawful-places, lawful-plan, least-point}
 use Rattle.stn_solve.proofs.SmallClaim.{IsSmallClaim}
 use Rattle.stn_solve.proofs.ValidLog.{search-cap_short, valid-search}
 
@@ -75,18 +76,18 @@ module _ (plant : Plant) (part : Program) (sound : Sound plant) (is : IsPartOf p
   -- no admitted plan earns more than a cap
   capped : (cap : ℤ) → Bounds (LiesIn part.root) (IsLawful part) (worth_of part) (AtMost cap) → (other : List Start) → IsAdmitted plant part other → profit plant other ≤ℤ cap
   capped cap bounds other admitted =
-      let lawful = admitted-lawful plant part sound is other admitted in
-      subst (λ z. z ≤ℤ cap) (sym (admitted-earns plant part sound is other admitted)) (bounds (plan_point plant other) lawful.lies lawful)
+      let lawful = admitted-lawful plant part other is admitted in
+      subst (λ z. z ≤ℤ cap) (admitted-worth plant part other is admitted) (bounds (plan_point plant other) lawful.lies lawful)
 
   none_admitted : Bounds (LiesIn part.root) (IsLawful part) (worth_of part) NoPoint → NoneOf (IsAdmitted plant part)
   none_admitted bounds other admitted =
-      let lawful = admitted-lawful plant part sound is other admitted in bounds (plan_point plant other) lawful.lies lawful
+      let lawful = admitted-lawful plant part other is admitted in bounds (plan_point plant other) lawful.lies lawful
 
   least_lawful : IsAdmitted plant part (least_plan plant part) → IsLawful part (only_point part.root)
-  least_lawful admitted = subst (IsLawful part) (least-point plant part sound is) (admitted-lawful plant part sound is (least_plan plant part) admitted)
+  least_lawful admitted = subst (IsLawful part) (least-point plant part sound is) (admitted-lawful plant part (least_plan plant part) is admitted)
 
   least_earns : IsAdmitted plant part (least_plan plant part) → profit plant (least_plan plant part) ≡ worth_of part (only_point part.root)
-  least_earns admitted = admitted-earns plant part sound is (least_plan plant part) admitted ∙ ap (worth_of part) (least-point plant part sound is)
+  least_earns admitted = sym (admitted-worth plant part (least_plan plant part) is admitted) ∙ ap (worth_of part) (least-point plant part sound is)
 
 -- an outcome that is told is right, this is its proof, and the claim that is told is that of its answer
 pub record IsToldRight (plant : Plant) (part : Program) (budget : ℕ) (tree : RowTree) (told : Told) : Type 0 where
