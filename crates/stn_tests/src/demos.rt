@@ -30,7 +30,10 @@ fn a_seed_is_always_shown_alike(rt: HostRuntime) -> Result<(), Fail> {
 fn the_last_seed_is_shown(rt: HostRuntime) -> Result<(), Fail> {
     let (status, out) = demo(rt.alloc(), "4294967295");
     assert!(rt; status == 0 || status == 6);
-    assert!(rt; out.written().starts_with("demo 4294967295\nslots ".as_bytes()));
+    assert!(rt;
+        out.written()
+            .starts_with("demo 4294967295\nslots ".as_bytes())
+    );
     let text = str::from_utf8(out.written()).ok().ok_or("text")?;
     assert!(rt; text.contains("\nyes "));
     Ok(())

@@ -7,13 +7,7 @@ use stn_top::run;
 
 // A plant, a budget, the status of `solve`, how its text begins, and that of the check of its log.
 const LOGGED: [(&str, &str, u8, &str, &str); 2] = [
-    (
-        TINY,
-        "31",
-        0,
-        "# optimal 60\n# boxes ",
-        "yes optimal 60\n",
-    ),
+    (TINY, "31", 0, "# optimal 60\n# boxes ", "yes optimal 60\n"),
     (
         FULL,
         "1",
@@ -67,12 +61,7 @@ fn tiny_files(alloc: Global) -> Result<MemShelf, Fail> {
 
 // A call of the store that fails after five bytes, the status, and what the file of the log then holds: the
 // plant is read in two calls, and the log is cleared, then appended.
-const FAULTS: [(u64, u8, &str); 4] = [
-    (1, 7, "old"),
-    (2, 7, "old"),
-    (3, 8, "old"),
-    (4, 8, "stn-l"),
-];
+const FAULTS: [(u64, u8, &str); 4] = [(1, 7, "old"), (2, 7, "old"), (3, 8, "old"), (4, 8, "stn-l")];
 
 #[test]
 fn faults_leave_a_first_part(rt: HostRuntime) -> Result<(), Fail> {
@@ -100,7 +89,12 @@ fn a_failing_sink_leaves_a_whole_log(rt: HostRuntime) -> Result<(), Fail> {
     assert_eq!(rt; status, 8);
     assert_eq!(rt; out.written(), "# opt".as_bytes());
     let mut said = MemSink::new(rt.alloc());
-    let status = run(rt.alloc(), &["check", "plant", "log"], &mut files, &mut said);
+    let status = run(
+        rt.alloc(),
+        &["check", "plant", "log"],
+        &mut files,
+        &mut said,
+    );
     assert_eq!(rt; status, 0);
     assert_eq!(rt; said.written(), "yes optimal 60\n".as_bytes());
     Ok(())

@@ -1,0 +1,4 @@
+pub mod Before
+pub mod Domains
+pub mod Meaning
+pub mod Building
