@@ -218,19 +218,16 @@ fn two_lines(alloc: Global, most: usize) -> Result<FixedShelf, AllocError>
     Ok(shelf)
 }
 
-// Whether the next line of the log is this one, and how it ends.
-fn is_next(shelf: &mut FixedShelf, reader: &mut LineReader, line: &[u8], end: LineEnd) -> bool {
-    reader.next(shelf, "log") == Ok(end) && reader.line() == line
-}
-
 #[test]
 fn reads_lines_piece_by_piece(rt: HostRuntime) -> Result<(), Fail> {
     for most in [1, 2, 7] {
         assert!(rt; most > 0);
         let mut shelf = two_lines(rt.alloc(), most)?;
         let mut reader = LineReader::begin(rt.alloc())?;
-        assert!(rt; is_next(&mut shelf, &mut reader, b"stn-log 2", LineEnd::Whole));
-        assert!(rt; is_next(&mut shelf, &mut reader, b"node", LineEnd::Cut));
+        assert_eq!(rt; reader.next(&mut shelf, "log"), Ok(LineEnd::Whole));
+        assert_eq!(rt; reader.line(), b"stn-log 2".as_slice());
+        assert_eq!(rt; reader.next(&mut shelf, "log"), Ok(LineEnd::Cut));
+        assert_eq!(rt; reader.line(), b"node".as_slice());
     }
     Ok(())
 }
