@@ -1,4 +1,5 @@
 pub mod BegunLog
+pub mod Both
 pub mod CapShort
 pub mod CleanText
 pub mod LogsLeft

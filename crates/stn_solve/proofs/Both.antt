@@ -1,0 +1,7 @@
+-- What two clauses say of one answer.
+use Rattle.std.proofs.Common.{Result, Ok, Err, IfOk}
+
+-- where two facts hold of an answer, what follows from both does
+pub ok_both : {X E : Type 0} (r : Result X E) (P Q R : X → Type 0) → ((x : X) → P x → Q x → R x) → IfOk r P → IfOk r Q → IfOk r R
+ok_both (Ok x) P Q R f p q = f x p q
+ok_both (Err e) P Q R f p q = tt
