@@ -129,7 +129,9 @@ fn take(area: &mut Area, step: Step) {
         Step::AtMost(slot, m) if slot < slots => area.at_most(slot, m),
         Step::Above(slot, m) if slot < slots => area.above(slot, m),
         Step::Keep(slot, domain) if slot < slots => {
-            area.keep(slot, domain.zero, domain.lo, domain.hi);
+            if domain.lo >= 1 {
+                area.keep(slot, domain.zero, domain.lo, domain.hi);
+            }
         }
         Step::Back(mark) if mark <= area.mark() => area.back(mark),
         _ => {}
