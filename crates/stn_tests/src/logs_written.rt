@@ -17,26 +17,41 @@ const LOGGED: [(&str, &str, u8, &str, &str); 2] = [
     ),
 ];
 
-// The status and the text of planning a plant with a log, and those of the check of the log.
-fn logged(alloc: Global, plant: &str, budget: &str) -> Result<[(u8, FixedSink); 2], Fail> {
+// What planning a plant with a log came to, and what a check said of the log.
+#[derive(Drop)]
+struct Outcome {
+    solved: u8,
+    answer: Vec<u8>,
+    checked: u8,
+    claim: Vec<u8>,
+}
+
+fn logged(alloc: Global, plant: &str, budget: &str) -> Result<Outcome, Fail> {
     let mut files = FixedShelf::new(alloc);
     files.put_file("plant", plant.as_bytes())?;
     let mut out = FixedSink::new(alloc);
     let words = ["solve", "plant", budget, "log"];
     let solved = run(alloc, &words, &mut files, &mut out);
+    let answer = Vec::from_slice(alloc, out.written())?;
     let mut said = FixedSink::new(alloc);
     let checked = run(alloc, &["check", "plant", "log"], &mut files, &mut said);
-    Ok([(solved, out), (checked, said)])
+    let claim = Vec::from_slice(alloc, said.written())?;
+    Ok(Outcome {
+        solved,
+        answer,
+        checked,
+        claim,
+    })
 }
 
 #[test]
 fn logs_are_valid(rt: HostRuntime) -> Result<(), Fail> {
     for (plant, budget, status, start, claim) in LOGGED {
-        let [(solved, out), (checked, said)] = logged(rt.alloc(), plant, budget)?;
-        assert_eq!(rt; solved, status);
-        assert!(rt; out.written().starts_with(start.as_bytes()));
-        assert_eq!(rt; checked, 0);
-        assert_eq!(rt; said.written(), claim.as_bytes());
+        let made = logged(rt.alloc(), plant, budget)?;
+        assert_eq!(rt; made.solved, status);
+        assert!(rt; made.answer.as_slice().starts_with(start.as_bytes()));
+        assert_eq!(rt; made.checked, 0);
+        assert_eq!(rt; made.claim.as_slice(), claim.as_bytes());
     }
     Ok(())
 }
@@ -44,10 +59,10 @@ fn logs_are_valid(rt: HostRuntime) -> Result<(), Fail> {
 // It may end by its budget: then the log is that of a cap.
 #[test]
 fn the_log_of_five_is_valid(rt: HostRuntime) -> Result<(), Fail> {
-    let [(solved, _), (checked, said)] = logged(rt.alloc(), FIVE, "2000")?;
-    assert!(rt; solved == 0 || solved == 6);
-    assert_eq!(rt; checked, 0);
-    assert!(rt; said.written().starts_with("yes ".as_bytes()));
+    let made = logged(rt.alloc(), FIVE, "2000")?;
+    assert!(rt; made.solved == 0 || made.solved == 6);
+    assert_eq!(rt; made.checked, 0);
+    assert!(rt; made.claim.as_slice().starts_with("yes ".as_bytes()));
     Ok(())
 }
 
