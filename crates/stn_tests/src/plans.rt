@@ -38,14 +38,7 @@ const SOLVED: [Solved; 11] = [
         "\n",
     ),
     (TINY, ODD, "7", 0, "# optimal 34\n# boxes ", " U make 3\n"),
-    (
-        TINY,
-        ODD,
-        "1",
-        6,
-        "# budget-spent 34 5",
-        "# boxes 1\n0 U make 3\n",
-    ),
+    (TINY, ODD, "1", 6, "# budget-spent 34 5", " U make 3\n"),
     (
         TINY,
         &[("[[unit]]", DUE)],
