@@ -5,7 +5,7 @@ use lib.Pointwise.{pointwise}
 use Rattle.std.proofs.Common.{◌≡◌, true, false, ◌∙◌, ap, ℕ, ◌<◌, ◌≤◌, List, [], ◌∷◌, length, get_or, refl, arith, Bor}
 use Rattle.std.specs.Prelude.{Option, Some, None, MatchOption}
 use Rattle.stn_top.specs.declared.command.Command.{Command}
-use Rattle.stn_top.specs.declared.command.PlanUse.TheVariants.{Simulate, Report}
+use Rattle.stn_top.specs.declared.command.PlanUse.TheVariants.{Simulate, Report, Picture}
 use Rattle.stn_top.specs.Words.{texts, Request, Says, HasNoForm, Solving, Logging, Simulating, Checking, Upgrading, Showing, meaning}
 
 -- three words are the list of their texts
@@ -64,17 +64,18 @@ abbrev NoOther : List (List ℕ) → Type 0
 NoOther words = ((plant : List ℕ) → ¬ Says words (Upgrading plant)) × ((seed : ℕ) → ¬ Says words (Showing seed))
 
 -- words that have none of the forms
-pub has_no_form : (words : List (List ℕ)) → NoPlanning words → NoFiles words (Simulating Simulate) → NoFiles words (Simulating Report) → NoFiles words Checking → NoOther words → HasNoForm words
-has_no_form words solve simulate report check other (Solving plant budget) = solve.0 plant budget
-has_no_form words solve simulate report check other (Logging plant budget log) = solve.1 plant log budget
-has_no_form words solve simulate report check other (Simulating Simulate plant plan) = simulate plant plan
-has_no_form words solve simulate report check other (Simulating Report plant plan) = report plant plan
-has_no_form words solve simulate report check other (Checking plant log) = check plant log
-has_no_form words solve simulate report check other (Upgrading plant) = other.0 plant
-has_no_form words solve simulate report check other (Showing seed) = other.1 seed
+pub has_no_form : (words : List (List ℕ)) → NoPlanning words → NoFiles words (Simulating Simulate) → NoFiles words (Simulating Report) → NoFiles words (Simulating Picture) → NoFiles words Checking → NoOther words → HasNoForm words
+has_no_form words solve simulate report picture check other (Solving plant budget) = solve.0 plant budget
+has_no_form words solve simulate report picture check other (Logging plant budget log) = solve.1 plant log budget
+has_no_form words solve simulate report picture check other (Simulating Simulate plant plan) = simulate plant plan
+has_no_form words solve simulate report picture check other (Simulating Report plant plan) = report plant plan
+has_no_form words solve simulate report picture check other (Simulating Picture plant plan) = picture plant plan
+has_no_form words solve simulate report picture check other (Checking plant log) = check plant log
+has_no_form words solve simulate report picture check other (Upgrading plant) = other.0 plant
+has_no_form words solve simulate report picture check other (Showing seed) = other.1 seed
 
 -- the last form decides
-pub last_form : (words : List (List ℕ)) (command : Option Command) → NoPlanning words → NoFiles words (Simulating Simulate) → NoFiles words (Simulating Report) → NoFiles words Checking → ((plant : List ℕ) → ¬ Says words (Upgrading plant))
+pub last_form : (words : List (List ℕ)) (command : Option Command) → NoPlanning words → NoFiles words (Simulating Simulate) → NoFiles words (Simulating Report) → NoFiles words (Simulating Picture) → NoFiles words Checking → ((plant : List ℕ) → ¬ Says words (Upgrading plant))
     → MatchOption command ((seed : ℕ) → ¬ Says words (Showing seed)) (λ c. Says words (meaning c)) → MatchOption command (HasNoForm words) (λ c. Says words (meaning c))
-last_form words None solve simulate report check upgrade show = has_no_form words solve simulate report check (upgrade, show)
-last_form words (Some command) solve simulate report check upgrade show = show
+last_form words None solve simulate report picture check upgrade show = has_no_form words solve simulate report picture check (upgrade, show)
+last_form words (Some command) solve simulate report picture check upgrade show = show

@@ -2,7 +2,7 @@
 use Rattle.std.specs.Prelude.{◌≡◌, ◌≢◌, ℕ, ◌<◌, ◌≤◌, ◌^◌, List, [], ◌∷◌, map, codes, decimal}
 use Rattle.std.specs.Borrow.{Bor}
 use Rattle.stn_top.specs.declared.command.PlanUse.{PlanUse}
-use Rattle.stn_top.specs.declared.command.PlanUse.TheVariants.{Simulate, Report}
+use Rattle.stn_top.specs.declared.command.PlanUse.TheVariants.{Simulate, Report, Picture}
 use Rattle.stn_top.specs.declared.command.Command as declared
 use Rattle.stn_top.specs.declared.command.Command.TheVariants as variants
 
@@ -19,6 +19,7 @@ pub data Request : Type 0 where
 abbrev pub use_word : PlanUse → List ℕ
 use_word Simulate = codes "simulate"
 use_word Report = codes "report"
+use_word Picture = codes "picture"
 
 -- the bytes of the words
 abbrev pub texts : List (Bor (List ℕ)) → List (List ℕ)

@@ -12,6 +12,8 @@ pub enum PlanUse {
     Simulate,
     /// Show it, or say what it breaks first.
     Report,
+    /// Draw it, or say what it breaks first.
+    Picture,
 }
 
 /// What the words ask for.
@@ -28,7 +30,7 @@ pub enum Command<'a> {
         budget: Budget,
         log: &'a str,
     },
-    /// `simulate PLANT PLAN` and `report PLANT PLAN`: simulate a plan.
+    /// `simulate PLANT PLAN`, `report PLANT PLAN` and `picture PLANT PLAN`: simulate a plan.
     Simulate {
         usage: PlanUse,
         plant: &'a str,
@@ -64,6 +66,9 @@ pub fn command_of<'a>(words: &[&'a str]) -> Option<Command<'a>>
         return Some(command);
     }
     if let Some(command) = simulate_of(words, "report", PlanUse::Report) {
+        return Some(command);
+    }
+    if let Some(command) = simulate_of(words, "picture", PlanUse::Picture) {
         return Some(command);
     }
     if let Some(command) = check_of(words) {
