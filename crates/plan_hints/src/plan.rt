@@ -56,9 +56,11 @@ impl Plan {
 
     /// Takes the values of a point.
     pub fn read(&mut self, tables: &Tables, point: &[u8]) {
-        for place in 0..self.values.len().min(point.len()) {
-            if self.values[place] != point[place] {
-                self.set(tables, numbered(place), point[place]);
+        for slot in 0..numbered(self.values.len()) {
+            if let Some(value) = point.get(slot as usize) {
+                if self.value(slot) != *value {
+                    self.set(tables, slot, *value);
+                }
             }
         }
     }
