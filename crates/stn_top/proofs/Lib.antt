@@ -6,3 +6,4 @@ pub mod AnswerLemmas
 pub mod ReadBack
 pub mod DemoLemmas
 pub mod FileLemmas
+pub mod ReplanLemmas

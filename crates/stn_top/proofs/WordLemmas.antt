@@ -6,7 +6,7 @@ use Rattle.std.proofs.Common.{◌≡◌, true, false, ◌∙◌, ap, ℕ, ◌<�
 use Rattle.std.specs.Prelude.{Option, Some, None, MatchOption}
 use Rattle.stn_top.specs.declared.command.Command.{Command}
 use Rattle.stn_top.specs.declared.command.PlanUse.TheVariants.{Simulate, Report, Picture}
-use Rattle.stn_top.specs.Words.{texts, Request, Says, HasNoForm, Solving, Logging, Simulating, Checking, Upgrading, Showing, meaning}
+use Rattle.stn_top.specs.Words.{texts, Request, Says, HasNoForm, Solving, Logging, Simulating, Checking, Upgrading, Showing, Replanning, ReplanLogging, CheckingReplan, meaning}
 
 -- three words are the list of their texts
 pub three_texts : (words : List (Bor (List ℕ))) (d : Bor (List ℕ)) → 3 ≤ length words → length words < 4 → texts words ≡ (get_or words 0 d).now ∷ (get_or words 1 d).now ∷ (get_or words 2 d).now ∷ []
@@ -24,6 +24,29 @@ four_texts (a ∷ b ∷ []) d least most = absurd (omega arith)
 four_texts (a ∷ b ∷ e ∷ []) d least most = absurd (omega arith)
 four_texts (a ∷ b ∷ e ∷ f ∷ []) d least most = refl
 four_texts (a ∷ b ∷ e ∷ f ∷ g ∷ rest) d least most = absurd (omega arith)
+
+-- five words are the list of their texts
+five_texts : (words : List (Bor (List ℕ))) (d : Bor (List ℕ)) → 5 ≤ length words → length words < 6 →
+    texts words ≡ (get_or words 0 d).now ∷ (get_or words 1 d).now ∷ (get_or words 2 d).now ∷ (get_or words 3 d).now ∷ (get_or words 4 d).now ∷ []
+five_texts [] d least most = absurd (omega arith)
+five_texts (a ∷ []) d least most = absurd (omega arith)
+five_texts (a ∷ b ∷ []) d least most = absurd (omega arith)
+five_texts (a ∷ b ∷ e ∷ []) d least most = absurd (omega arith)
+five_texts (a ∷ b ∷ e ∷ f ∷ []) d least most = absurd (omega arith)
+five_texts (a ∷ b ∷ e ∷ f ∷ g ∷ []) d least most = refl
+five_texts (a ∷ b ∷ e ∷ f ∷ g ∷ h ∷ rest) d least most = absurd (omega arith)
+
+-- six words are the list of their texts
+six_texts : (words : List (Bor (List ℕ))) (d : Bor (List ℕ)) → 6 ≤ length words → length words < 7 →
+    texts words ≡ (get_or words 0 d).now ∷ (get_or words 1 d).now ∷ (get_or words 2 d).now ∷ (get_or words 3 d).now ∷ (get_or words 4 d).now ∷ (get_or words 5 d).now ∷ []
+six_texts [] d least most = absurd (omega arith)
+six_texts (a ∷ []) d least most = absurd (omega arith)
+six_texts (a ∷ b ∷ []) d least most = absurd (omega arith)
+six_texts (a ∷ b ∷ e ∷ []) d least most = absurd (omega arith)
+six_texts (a ∷ b ∷ e ∷ f ∷ []) d least most = absurd (omega arith)
+six_texts (a ∷ b ∷ e ∷ f ∷ g ∷ []) d least most = absurd (omega arith)
+six_texts (a ∷ b ∷ e ∷ f ∷ g ∷ h ∷ []) d least most = refl
+six_texts (a ∷ b ∷ e ∷ f ∷ g ∷ h ∷ i ∷ rest) d least most = absurd (omega arith)
 
 -- two words are the list of their texts
 pub two_texts : (words : List (Bor (List ℕ))) (d : Bor (List ℕ)) → 2 ≤ length words → length words < 3 → texts words ≡ (get_or words 0 d).now ∷ (get_or words 1 d).now ∷ []
@@ -51,6 +74,19 @@ pub four_words : (words : List (Bor (List ℕ))) (d : Bor (List ℕ)) (first : L
 four_words words d first least most same =
     four_texts words d least most ∙ ap (λ (x : List ℕ). x ∷ (get_or words 1 d).now ∷ (get_or words 2 d).now ∷ (get_or words 3 d).now ∷ []) (same_text _ _ same)
 
+-- five words, of which the first is known
+pub five_words : (words : List (Bor (List ℕ))) (d : Bor (List ℕ)) (first : List ℕ) → 5 ≤ length words → length words < 6 → true ≡ pointwise nat_eq (get_or words 0 d).now first →
+    texts words ≡ first ∷ (get_or words 1 d).now ∷ (get_or words 2 d).now ∷ (get_or words 3 d).now ∷ (get_or words 4 d).now ∷ []
+five_words words d first least most same =
+    five_texts words d least most ∙ ap (λ (x : List ℕ). x ∷ (get_or words 1 d).now ∷ (get_or words 2 d).now ∷ (get_or words 3 d).now ∷ (get_or words 4 d).now ∷ []) (same_text _ _ same)
+
+-- six words, of which the first is known
+pub six_words : (words : List (Bor (List ℕ))) (d : Bor (List ℕ)) (first : List ℕ) → 6 ≤ length words → length words < 7 → true ≡ pointwise nat_eq (get_or words 0 d).now first →
+    texts words ≡ first ∷ (get_or words 1 d).now ∷ (get_or words 2 d).now ∷ (get_or words 3 d).now ∷ (get_or words 4 d).now ∷ (get_or words 5 d).now ∷ []
+six_words words d first least most same =
+    six_texts words d least most
+    ∙ ap (λ (x : List ℕ). x ∷ (get_or words 1 d).now ∷ (get_or words 2 d).now ∷ (get_or words 3 d).now ∷ (get_or words 4 d).now ∷ (get_or words 5 d).now ∷ []) (same_text _ _ same)
+
 -- the words say no request of two files with this first word
 abbrev NoFiles : List (List ℕ) → (List ℕ → List ℕ → Request) → Type 0
 NoFiles words request = (first second : List ℕ) → ¬ Says words (request first second)
@@ -59,23 +95,32 @@ NoFiles words request = (first second : List ℕ) → ¬ Says words (request fir
 abbrev NoPlanning : List (List ℕ) → Type 0
 NoPlanning words = ((plant : List ℕ) (budget : ℕ) → ¬ Says words (Solving plant budget)) × ((plant log : List ℕ) (budget : ℕ) → ¬ Says words (Logging plant budget log))
 
+-- the words say no replanning, with or without a log, and no check of one
+pub record NoReplanning (words : List (List ℕ)) : Type 0 where
+  pub replan : (plant plan : List ℕ) (period budget : ℕ) → ¬ Says words (Replanning plant plan period budget)
+  pub log : (plant plan log : List ℕ) (period budget : ℕ) → ¬ Says words (ReplanLogging plant plan period budget log)
+  pub check : (plant plan log : List ℕ) (period : ℕ) → ¬ Says words (CheckingReplan plant plan period log)
+
 -- the words say nothing of a plant alone, and no seed
 abbrev NoOther : List (List ℕ) → Type 0
 NoOther words = ((plant : List ℕ) → ¬ Says words (Upgrading plant)) × ((seed : ℕ) → ¬ Says words (Showing seed))
 
 -- words that have none of the forms
-pub has_no_form : (words : List (List ℕ)) → NoPlanning words → NoFiles words (Simulating Simulate) → NoFiles words (Simulating Report) → NoFiles words (Simulating Picture) → NoFiles words Checking → NoOther words → HasNoForm words
-has_no_form words solve simulate report picture check other (Solving plant budget) = solve.0 plant budget
-has_no_form words solve simulate report picture check other (Logging plant budget log) = solve.1 plant log budget
-has_no_form words solve simulate report picture check other (Simulating Simulate plant plan) = simulate plant plan
-has_no_form words solve simulate report picture check other (Simulating Report plant plan) = report plant plan
-has_no_form words solve simulate report picture check other (Simulating Picture plant plan) = picture plant plan
-has_no_form words solve simulate report picture check other (Checking plant log) = check plant log
-has_no_form words solve simulate report picture check other (Upgrading plant) = other.0 plant
-has_no_form words solve simulate report picture check other (Showing seed) = other.1 seed
+pub has_no_form : (words : List (List ℕ)) → NoPlanning words → NoFiles words (Simulating Simulate) → NoFiles words (Simulating Report) → NoFiles words (Simulating Picture) → NoFiles words Checking → NoReplanning words → NoOther words → HasNoForm words
+has_no_form words solve simulate report picture check replan other (Solving plant budget) = solve.0 plant budget
+has_no_form words solve simulate report picture check replan other (Logging plant budget log) = solve.1 plant log budget
+has_no_form words solve simulate report picture check replan other (Simulating Simulate plant plan) = simulate plant plan
+has_no_form words solve simulate report picture check replan other (Simulating Report plant plan) = report plant plan
+has_no_form words solve simulate report picture check replan other (Simulating Picture plant plan) = picture plant plan
+has_no_form words solve simulate report picture check replan other (Checking plant log) = check plant log
+has_no_form words solve simulate report picture check replan other (Upgrading plant) = other.0 plant
+has_no_form words solve simulate report picture check replan other (Showing seed) = other.1 seed
+has_no_form words solve simulate report picture check replan other (Replanning plant plan period budget) = replan.replan plant plan period budget
+has_no_form words solve simulate report picture check replan other (ReplanLogging plant plan period budget log) = replan.log plant plan log period budget
+has_no_form words solve simulate report picture check replan other (CheckingReplan plant plan period log) = replan.check plant plan log period
 
 -- the last form decides
-pub last_form : (words : List (List ℕ)) (command : Option Command) → NoPlanning words → NoFiles words (Simulating Simulate) → NoFiles words (Simulating Report) → NoFiles words (Simulating Picture) → NoFiles words Checking → ((plant : List ℕ) → ¬ Says words (Upgrading plant))
+pub last_form : (words : List (List ℕ)) (command : Option Command) → NoPlanning words → NoFiles words (Simulating Simulate) → NoFiles words (Simulating Report) → NoFiles words (Simulating Picture) → NoFiles words Checking → NoReplanning words → ((plant : List ℕ) → ¬ Says words (Upgrading plant))
     → MatchOption command ((seed : ℕ) → ¬ Says words (Showing seed)) (λ c. Says words (meaning c)) → MatchOption command (HasNoForm words) (λ c. Says words (meaning c))
-last_form words None solve simulate report picture check upgrade show = has_no_form words solve simulate report picture check (upgrade, show)
-last_form words (Some command) solve simulate report picture check upgrade show = show
+last_form words None solve simulate report picture check replan upgrade show = has_no_form words solve simulate report picture check replan (upgrade, show)
+last_form words (Some command) solve simulate report picture check replan upgrade show = show

@@ -14,6 +14,9 @@ pub data Request : Type 0 where
   Checking : (plant log : List ℕ) → Request
   Upgrading : (plant : List ℕ) → Request
   Showing : (seed : ℕ) → Request
+  Replanning : (plant plan : List ℕ) (period budget : ℕ) → Request
+  ReplanLogging : (plant plan : List ℕ) (period budget : ℕ) (log : List ℕ) → Request
+  CheckingReplan : (plant plan : List ℕ) (period : ℕ) (log : List ℕ) → Request
 
 -- the first word of a command that simulates a plan
 abbrev pub use_word : PlanUse → List ℕ
@@ -36,7 +39,12 @@ pub record IsSeed (word : List ℕ) (seed : ℕ) : Type 0 where
   pub digits : word ≡ decimal seed
   pub most : seed < 2 ^ 32
 
--- the words say the request; no file has an empty name, and a log is not written over its plant
+-- the word is a period in decimal digits, without sign and leading zeros
+pub record IsPeriod (word : List ℕ) (period : ℕ) : Type 0 where
+  pub digits : word ≡ decimal period
+  pub most : period ≤ 336
+
+-- the words say the request; no file has an empty name, and a log is not written over a file that is read
 abbrev pub Says : List (List ℕ) → Request → Type 0
 Says words (Solving plant budget) = (word : List ℕ) × ((words ≡ codes "solve" ∷ plant ∷ word ∷ []) × (plant ≢ []) × IsBudget word budget)
 Says words (Logging plant budget log) =
@@ -45,6 +53,13 @@ Says words (Simulating usage plant plan) = (words ≡ use_word usage ∷ plant �
 Says words (Checking plant log) = (words ≡ codes "check" ∷ plant ∷ log ∷ []) × (plant ≢ []) × (log ≢ [])
 Says words (Upgrading plant) = (words ≡ codes "upgrade" ∷ plant ∷ []) × (plant ≢ [])
 Says words (Showing seed) = (word : List ℕ) × ((words ≡ codes "demo" ∷ word ∷ []) × IsSeed word seed)
+Says words (Replanning plant plan period budget) =
+    (from : List ℕ) × ((most : List ℕ) × ((words ≡ codes "replan" ∷ plant ∷ plan ∷ from ∷ most ∷ []) × (plant ≢ []) × (plan ≢ []) × IsPeriod from period × IsBudget most budget))
+Says words (ReplanLogging plant plan period budget log) =
+    (from : List ℕ) × ((most : List ℕ) × ((words ≡ codes "replan" ∷ plant ∷ plan ∷ from ∷ most ∷ log ∷ [])
+    × (plant ≢ []) × (plan ≢ []) × (log ≢ []) × (log ≢ plant) × (log ≢ plan) × IsPeriod from period × IsBudget most budget))
+Says words (CheckingReplan plant plan period log) =
+    (from : List ℕ) × ((words ≡ codes "check-replan" ∷ plant ∷ plan ∷ from ∷ log ∷ []) × (plant ≢ []) × (plan ≢ []) × (log ≢ []) × IsPeriod from period)
 
 -- the words have the form of no command
 abbrev pub HasNoForm : List (List ℕ) → Type 0
@@ -58,3 +73,6 @@ meaning (variants.Simulate usage plant plan) = Simulating usage plant.now plan.n
 meaning (variants.Check plant log) = Checking plant.now log.now
 meaning (variants.Upgrade plant) = Upgrading plant.now
 meaning (variants.Demo seed) = Showing seed
+meaning (variants.Replan plant plan period budget) = Replanning plant.now plan.now period.number budget.boxes
+meaning (variants.LogReplan plant plan period budget log) = ReplanLogging plant.now plan.now period.number budget.boxes log.now
+meaning (variants.CheckReplan plant plan period log) = CheckingReplan plant.now plan.now period.number log.now

@@ -1,8 +1,10 @@
 //! The words of a command.
 ghost use Rattle.std.specs.Prelude.{◌≡◌, ◌≢◌, ◌↔◌, true, ℕ, List, MatchOption};
-ghost use Rattle.stn_top.specs.Words.{Says, HasNoForm, IsBudget, IsSeed, Solving, Logging, Simulating, Checking, Upgrading, Showing, texts, meaning, use_word};
+ghost use Rattle.stn_top.specs.Words.{Says, HasNoForm, IsBudget, IsPeriod, IsSeed, Solving, Logging, Simulating, Checking, Upgrading, Showing, Replanning, ReplanLogging, CheckingReplan, texts, meaning, use_word};
 
 use crate::budget::{Budget, MAX_BUDGET};
+use crate::period::Period;
+use stn_model::limits::MAX_PERIODS;
 use text_words::read_number;
 
 /// What is done with a plan.
@@ -49,6 +51,28 @@ pub enum Command<'a> {
     Demo {
         seed: u32,
     },
+    /// `replan PLANT PLAN PERIOD BUDGET`: plan on from the starts of a plan before a period.
+    Replan {
+        plant: &'a str,
+        plan: &'a str,
+        period: Period,
+        budget: Budget,
+    },
+    /// `replan PLANT PLAN PERIOD BUDGET LOG`: the same, and write the log of the proof.
+    LogReplan {
+        plant: &'a str,
+        plan: &'a str,
+        period: Period,
+        budget: Budget,
+        log: &'a str,
+    },
+    /// `check-replan PLANT PLAN PERIOD LOG`: check the proof log of such a planning.
+    CheckReplan {
+        plant: &'a str,
+        plan: &'a str,
+        period: Period,
+        log: &'a str,
+    },
 }
 
 /// The command that the words say, if they have the form of one. It takes no memory.
@@ -75,6 +99,15 @@ pub fn command_of<'a>(words: &[&'a str]) -> Option<Command<'a>>
         return Some(command);
     }
     if let Some(command) = upgrade_of(words) {
+        return Some(command);
+    }
+    if let Some(command) = replan_of(words) {
+        return Some(command);
+    }
+    if let Some(command) = log_replan_of(words) {
+        return Some(command);
+    }
+    if let Some(command) = check_replan_of(words) {
         return Some(command);
     }
     demo_of(words)
@@ -170,6 +203,115 @@ fn demo_of<'a>(words: &[&'a str]) -> Option<Command<'a>>
             None => None,
         },
         _ => None,
+    }
+}
+
+fn replan_of<'a>(words: &[&'a str]) -> Option<Command<'a>>
+    ensures { MatchOption result ((plant plan : List ℕ) (period budget : ℕ)
+        → ¬ Says (texts words.now) (Replanning plant plan period budget))
+        (λ command. Says (texts words.now) (meaning command)) }
+{
+    match words {
+        [first, plant, plan, from, most]
+            if *first == "replan" && !plant.is_empty() && !plan.is_empty() => {
+            match numbers_of(from, most) {
+                Some(Numbers { period, budget }) => Some(Command::Replan {
+                    plant,
+                    plan,
+                    period,
+                    budget,
+                }),
+                None => None,
+            }
+        }
+        _ => None,
+    }
+}
+
+fn log_replan_of<'a>(words: &[&'a str]) -> Option<Command<'a>>
+    ensures { MatchOption result ((plant plan log : List ℕ) (period budget : ℕ)
+        → ¬ Says (texts words.now) (ReplanLogging plant plan period budget log))
+        (λ command. Says (texts words.now) (meaning command)) }
+{
+    match words {
+        [first, plant, plan, from, most, log]
+            if *first == "replan"
+                && !plant.is_empty()
+                && !plan.is_empty()
+                && !log.is_empty()
+                && differ(log, plant)
+                && differ(log, plan) => {
+            match numbers_of(from, most) {
+                Some(Numbers { period, budget }) => Some(Command::LogReplan {
+                    plant,
+                    plan,
+                    period,
+                    budget,
+                    log,
+                }),
+                None => None,
+            }
+        }
+        _ => None,
+    }
+}
+
+fn check_replan_of<'a>(words: &[&'a str]) -> Option<Command<'a>>
+    ensures { MatchOption result ((plant plan log : List ℕ) (period : ℕ)
+        → ¬ Says (texts words.now) (CheckingReplan plant plan period log))
+        (λ command. Says (texts words.now) (meaning command)) }
+{
+    match words {
+        [first, plant, plan, from, log]
+            if *first == "check-replan"
+                && !plant.is_empty()
+                && !plan.is_empty()
+                && !log.is_empty() => {
+            match period_of(from) {
+                Some(period) => Some(Command::CheckReplan {
+                    plant,
+                    plan,
+                    period,
+                    log,
+                }),
+                None => None,
+            }
+        }
+        _ => None,
+    }
+}
+
+// The numbers of a replanning.
+#[derive(Clone, Copy)]
+struct Numbers {
+    period: Period,
+    budget: Budget,
+}
+
+fn numbers_of(from: &str, most: &str) -> Option<Numbers>
+    ensures { MatchOption result ((period budget : ℕ)
+        → IsPeriod from.now period → ¬ IsBudget most.now budget)
+        (λ numbers. IsPeriod from.now numbers.period.number
+        × IsBudget most.now numbers.budget.boxes) }
+{
+    match period_of(from) {
+        Some(period) => match budget_of(most) {
+            Some(budget) => Some(Numbers { period, budget }),
+            None => None,
+        },
+        None => None,
+    }
+}
+
+fn period_of(word: &str) -> Option<Period>
+    ensures { MatchOption result ((n : ℕ)
+        → ¬ IsPeriod word.now n) (λ period. IsPeriod word.now period.number) }
+{
+    match read_number(word.as_bytes(), MAX_PERIODS as u64 + 1) {
+        Some(number) => Some(Period {
+            number: number as u32,
+        }),
+        None => None,
     }
 }
 

@@ -121,8 +121,9 @@ fn feasible_text(
     }
 }
 
+/// The line on what a plan breaks first.
 #[tactic(auto, unfolding(crate::specs::Simulation::violation_text))]
-fn violation_text(
+pub fn violation_text(
     alloc: Global,
     plant: &Plant,
     violation: &Violation,
