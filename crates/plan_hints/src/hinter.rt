@@ -26,7 +26,10 @@ pub struct PlanHinter {
     offered: Option<i128>,
 }
 
-// The boxes in which a better plan has its neighbourhoods searched, and those in which each box is dived in.
+// How often the search for plans begins, the boxes in which a better plan has its neighbourhoods searched, and those in which each
+// box is dived in.
+const MOST_BEGUN: u32 = 12;
+
 const MOST_BOXES: u32 = 400;
 
 const FIRST_BOXES: u32 = 20;
@@ -36,7 +39,7 @@ const MOST_SMALL: u32 = 20;
 
 const MOST_WORK: u64 = 40_000_000;
 
-// The levels that are searched in a box, those without gain, and the work, in the first box and in others.
+// The stages that are searched in a box, those without gain, without chance and with it, and the work, in the first box and in others.
 const MOST_TURNS: u32 = 100;
 
 const FIRST_STAGES: u32 = 8;
@@ -131,9 +134,9 @@ impl PlanHinter {
         }
     }
 
-    // How many stages without gain end a search: the first one leaves out those of chance, which the boxes have to earn.
+    // How many stages without gain end a search: those of chance count each fourth time that it begins anew.
     fn stages(&self, anew: bool) -> u32 {
-        if anew && self.begun > 1 {
+        if anew && self.begun % 4 == 0 {
             MOST_STAGES
         } else {
             FIRST_STAGES
@@ -190,11 +193,13 @@ impl PlanHinter {
             .search_hood(program, hood, seen, picking, MOST_SMALL, limit);
     }
 
-    // Whether the search for plans begins anew, with another first plan: at first, and each time that the boxes have earned all its
-    // work so far as often as it has begun.
+    // Whether the search for plans begins anew, with another first plan: at first, and where the boxes have earned all its work so far.
     fn begins_anew(&self) -> bool {
+        if self.begun == 0 {
+            return true;
+        }
         let earned = self.earned.saturating_mul(u64::from(self.boxes));
-        self.finder.work.saturating_mul(u64::from(self.begun)) <= earned
+        self.begun < MOST_BEGUN && self.finder.work <= earned
     }
 
     // Looks for plans in a box that has more than one point.
@@ -235,10 +240,10 @@ impl PlanHinter {
     }
 }
 
-// The work that each box earns: eight times the square of the slots, about as much as a box costs.
+// The work that each box earns: 24 times the square of the slots, about as much as a box costs beside.
 fn earned_by(program: &Program) -> u64 {
     let slots = program.root.len() as u64;
-    slots.saturating_mul(slots).saturating_mul(8)
+    slots.saturating_mul(slots).saturating_mul(24)
 }
 
 // Writes the least value of each slot of an area.
