@@ -81,7 +81,7 @@ impl PlanHinter {
         let _ = self.finder.kept.take(program, self.finder.point.as_slice());
     }
 
-    // Dives in a box: for greatest batches at the first, and by the bound.
+    // Dives in a box: for greatest batches at the first, and by the bound, from where that of the last such box has ended.
     fn dive(&mut self, program: &Program, area: &Area) {
         self.finder.enter(program, area);
         if self.boxes == 1 {
@@ -111,7 +111,7 @@ impl PlanHinter {
     }
 
     // Searches the neighbourhoods of the best plan, level by level, the cheapest first, each with both ways of picking, and from the
-    // cheapest again after each gain.
+    // cheapest again after each gain, until so many stages bring none.
     fn search_hoods(&mut self, program: &Program, most: u32) {
         self.finder.enter_root(program);
         let total = if self.boxes == 1 {
@@ -155,7 +155,7 @@ impl PlanHinter {
         self.finder.kept.worth != before
     }
 
-    // How a stage picks: by trials first, in the fourth box by amounts first.
+    // How a stage picks: by trials first, each second time that it begins by amounts first.
     fn picking(&self, stage: u32) -> Picking {
         let swapped = self.begun % 2 == 0;
         if (stage % 2 == 1) == swapped {
