@@ -1,3 +1,6 @@
 pub mod Bounding
+pub mod Capping
+pub mod RaisedSound
+pub mod RaisedStates
 pub mod Same
 pub mod Shown

@@ -1,2 +1,4 @@
 pub mod Loose
+pub mod Estimate
+pub mod Raised
 pub mod laws

@@ -4,6 +4,10 @@
 //! other limits of one state, and `estimate` says what no plan of a plant can earn more than, by a proof over another one.
 #![tactic(auto)]
 
+mod estimating;
 mod loosening;
+mod raising;
 
+pub use estimating::estimate;
 pub use loosening::loose;
+pub use raising::{raise, raised_law};
