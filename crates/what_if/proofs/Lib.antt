@@ -1,5 +1,6 @@
 pub mod Bounding
 pub mod Capping
+pub mod OldLogs
 pub mod RaisedSound
 pub mod RaisedStates
 pub mod Same

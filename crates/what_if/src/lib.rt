@@ -7,7 +7,9 @@
 mod estimating;
 mod loosening;
 mod raising;
+mod reading;
 
 pub use estimating::estimate;
 pub use loosening::loose;
 pub use raising::{raise, raised_law};
+pub use reading::{OldLog, claimed_plan, old_log};
