@@ -2,7 +2,9 @@ pub mod WordLemmas
 pub mod TextLemmas
 pub mod Named
 pub mod ReadFiles
+pub mod TankLines
 pub mod AnswerLemmas
 pub mod ReadBack
+pub mod TankAnswers
 pub mod DemoLemmas
 pub mod FileLemmas

@@ -6,5 +6,6 @@ pub mod Simulation
 pub mod Checking
 pub mod Upgrading
 pub mod Demo
+pub mod Estimating
 pub mod Requests
 pub mod Replies
