@@ -7,7 +7,7 @@ use Rattle.stn_edge.specs.Files.{FileMap, OthersStay}
 use Rattle.stn_top.specs.declared.reply.Reply.{Reply}
 use Rattle.stn_top.specs.declared.stopped.Stopped.{Stopped}
 use Rattle.stn_top.specs.declared.stopped.Stopped.TheVariants.{Refused, ReadFault, WriteFault, Memory}
-use Rattle.stn_top.specs.Words.{Request, Solving, Logging, Simulating, Checking, Upgrading, Showing, Says}
+use Rattle.stn_top.specs.Words.{Request, Solving, Logging, Simulating, Checking, Upgrading, Showing, Estimating, Says}
 use Rattle.stn_top.specs.Sources.{IfReplied}
 use Rattle.stn_top.specs.Requests.{IsLeft, OthersKept}
 
@@ -29,6 +29,7 @@ left_same (Simulating usage plant plan) old new same = same
 left_same (Checking plant log) old new same = same
 left_same (Upgrading plant) old new same = same
 left_same (Showing seed) old new same = same
+left_same (Estimating plant log state step count) old new same = same
 
 -- what holds of every reply
 pub replied : (r : Result Reply Stopped) (P : Type 0) → P → IfReplied r (λ _. P)
@@ -61,6 +62,7 @@ leaves_log words plant budget log (Simulating usage plant2 plan2) old new says a
 leaves_log words plant budget log (Checking plant2 log2) old new says also is = (let same = ap length (sym says.1.0 ∙ also.0) in absurd (omega (arith, same)))
 leaves_log words plant budget log (Upgrading plant2) old new says also is = (let same = ap length (sym says.1.0 ∙ also.0) in absurd (omega (arith, same)))
 leaves_log words plant budget log (Showing seed) old new says also is = (let same = ap length (sym says.1.0 ∙ also.1.0) in absurd (omega (arith, same)))
+leaves_log words plant budget log (Estimating plant2 log2 state step count) old new says also is = (let same = ap length (sym says.1.0 ∙ also.1.1.0) in absurd (omega (arith, same)))
 leaves_log words plant budget log (Logging plant2 budget2 log2) old new says also is =
     let same : codes "solve" ∷ plant ∷ says.0 ∷ log ∷ [] ≡ codes "solve" ∷ plant2 ∷ also.0 ∷ log2 ∷ [] = sym says.1.0 ∙ also.1.0 in
     let same_plant : plant ≡ plant2 = ap (λ (ws : List (List ℕ)). get_or ws 1 []) same in
@@ -78,6 +80,7 @@ leaves words (Simulating usage plant plan) other old new says also is = leaves_s
 leaves words (Checking plant log) other old new says also is = leaves_same other old new is.left
 leaves words (Upgrading plant) other old new says also is = leaves_same other old new is.left
 leaves words (Showing seed) other old new says also is = leaves_same other old new is.left
+leaves words (Estimating plant log state step count) other old new says also is = leaves_same other old new is.left
 
 -- the two facts apart
 pub kept_all : (words : List (List ℕ)) (request : Request) (old new : Option FileMap) → Says words request → OthersKept request old new → IsLeft request old new → (other : Request) → Says words other → OthersKept other old new

@@ -1,4 +1,5 @@
 pub mod WordLemmas
+pub mod StepWords
 pub mod TextLemmas
 pub mod Named
 pub mod ReadFiles

@@ -2,11 +2,11 @@
 use Rattle.std.specs.Cmp.Lexicographic.{same_text}
 use Rattle.std.specs.Prelude.{◌==◌, nat_eq}
 use lib.Pointwise.{pointwise}
-use Rattle.std.proofs.Common.{◌≡◌, true, false, ◌∙◌, ap, ℕ, ◌<◌, ◌≤◌, List, [], ◌∷◌, length, get_or, refl, arith, Bor}
+use Rattle.std.proofs.Common.{◌≡◌, true, false, ◌∙◌, ap, ℕ, ℤ, ◌<◌, ◌≤◌, List, [], ◌∷◌, length, get_or, refl, arith, Bor}
 use Rattle.std.specs.Prelude.{Option, Some, None, MatchOption}
 use Rattle.stn_top.specs.declared.command.Command.{Command}
 use Rattle.stn_top.specs.declared.command.PlanUse.TheVariants.{Simulate, Report}
-use Rattle.stn_top.specs.Words.{texts, Request, Says, HasNoForm, Solving, Logging, Simulating, Checking, Upgrading, Showing, meaning}
+use Rattle.stn_top.specs.Words.{texts, Request, Says, HasNoForm, Solving, Logging, Simulating, Checking, Upgrading, Showing, Estimating, meaning}
 
 -- three words are the list of their texts
 pub three_texts : (words : List (Bor (List ℕ))) (d : Bor (List ℕ)) → 3 ≤ length words → length words < 4 → texts words ≡ (get_or words 0 d).now ∷ (get_or words 1 d).now ∷ (get_or words 2 d).now ∷ []
@@ -24,6 +24,18 @@ four_texts (a ∷ b ∷ []) d least most = absurd (omega arith)
 four_texts (a ∷ b ∷ e ∷ []) d least most = absurd (omega arith)
 four_texts (a ∷ b ∷ e ∷ f ∷ []) d least most = refl
 four_texts (a ∷ b ∷ e ∷ f ∷ g ∷ rest) d least most = absurd (omega arith)
+
+-- six words are the list of their texts
+six_texts : (words : List (Bor (List ℕ))) (d : Bor (List ℕ)) → 6 ≤ length words → length words < 7 →
+    texts words ≡ (get_or words 0 d).now ∷ (get_or words 1 d).now ∷ (get_or words 2 d).now ∷ (get_or words 3 d).now ∷ (get_or words 4 d).now ∷ (get_or words 5 d).now ∷ []
+six_texts [] d least most = absurd (omega arith)
+six_texts (a ∷ []) d least most = absurd (omega arith)
+six_texts (a ∷ b ∷ []) d least most = absurd (omega arith)
+six_texts (a ∷ b ∷ e ∷ []) d least most = absurd (omega arith)
+six_texts (a ∷ b ∷ e ∷ f ∷ []) d least most = absurd (omega arith)
+six_texts (a ∷ b ∷ e ∷ f ∷ g ∷ []) d least most = absurd (omega arith)
+six_texts (a ∷ b ∷ e ∷ f ∷ g ∷ h ∷ []) d least most = refl
+six_texts (a ∷ b ∷ e ∷ f ∷ g ∷ h ∷ i ∷ rest) d least most = absurd (omega arith)
 
 -- two words are the list of their texts
 pub two_texts : (words : List (Bor (List ℕ))) (d : Bor (List ℕ)) → 2 ≤ length words → length words < 3 → texts words ≡ (get_or words 0 d).now ∷ (get_or words 1 d).now ∷ []
@@ -51,6 +63,13 @@ pub four_words : (words : List (Bor (List ℕ))) (d : Bor (List ℕ)) (first : L
 four_words words d first least most same =
     four_texts words d least most ∙ ap (λ (x : List ℕ). x ∷ (get_or words 1 d).now ∷ (get_or words 2 d).now ∷ (get_or words 3 d).now ∷ []) (same_text _ _ same)
 
+-- six words, of which the first is known
+pub six_words : (words : List (Bor (List ℕ))) (d : Bor (List ℕ)) (first : List ℕ) → 6 ≤ length words → length words < 7 → true ≡ pointwise nat_eq (get_or words 0 d).now first →
+    texts words ≡ first ∷ (get_or words 1 d).now ∷ (get_or words 2 d).now ∷ (get_or words 3 d).now ∷ (get_or words 4 d).now ∷ (get_or words 5 d).now ∷ []
+six_words words d first least most same =
+    six_texts words d least most
+    ∙ ap (λ (x : List ℕ). x ∷ (get_or words 1 d).now ∷ (get_or words 2 d).now ∷ (get_or words 3 d).now ∷ (get_or words 4 d).now ∷ (get_or words 5 d).now ∷ []) (same_text _ _ same)
+
 -- the words say no request of two files with this first word
 abbrev NoFiles : List (List ℕ) → (List ℕ → List ℕ → Request) → Type 0
 NoFiles words request = (first second : List ℕ) → ¬ Says words (request first second)
@@ -59,22 +78,27 @@ NoFiles words request = (first second : List ℕ) → ¬ Says words (request fir
 abbrev NoPlanning : List (List ℕ) → Type 0
 NoPlanning words = ((plant : List ℕ) (budget : ℕ) → ¬ Says words (Solving plant budget)) × ((plant log : List ℕ) (budget : ℕ) → ¬ Says words (Logging plant budget log))
 
+-- the words say no estimate by an old log
+abbrev NoEstimate : List (List ℕ) → Type 0
+NoEstimate words = (plant log state : List ℕ) (step : ℤ) (count : ℕ) → ¬ Says words (Estimating plant log state step count)
+
 -- the words say nothing of a plant alone, and no seed
 abbrev NoOther : List (List ℕ) → Type 0
 NoOther words = ((plant : List ℕ) → ¬ Says words (Upgrading plant)) × ((seed : ℕ) → ¬ Says words (Showing seed))
 
 -- words that have none of the forms
-pub has_no_form : (words : List (List ℕ)) → NoPlanning words → NoFiles words (Simulating Simulate) → NoFiles words (Simulating Report) → NoFiles words Checking → NoOther words → HasNoForm words
-has_no_form words solve simulate report check other (Solving plant budget) = solve.0 plant budget
-has_no_form words solve simulate report check other (Logging plant budget log) = solve.1 plant log budget
-has_no_form words solve simulate report check other (Simulating Simulate plant plan) = simulate plant plan
-has_no_form words solve simulate report check other (Simulating Report plant plan) = report plant plan
-has_no_form words solve simulate report check other (Checking plant log) = check plant log
-has_no_form words solve simulate report check other (Upgrading plant) = other.0 plant
-has_no_form words solve simulate report check other (Showing seed) = other.1 seed
+pub has_no_form : (words : List (List ℕ)) → NoPlanning words → NoFiles words (Simulating Simulate) → NoFiles words (Simulating Report) → NoFiles words Checking → NoEstimate words → NoOther words → HasNoForm words
+has_no_form words solve simulate report check estimate other (Solving plant budget) = solve.0 plant budget
+has_no_form words solve simulate report check estimate other (Logging plant budget log) = solve.1 plant log budget
+has_no_form words solve simulate report check estimate other (Simulating Simulate plant plan) = simulate plant plan
+has_no_form words solve simulate report check estimate other (Simulating Report plant plan) = report plant plan
+has_no_form words solve simulate report check estimate other (Checking plant log) = check plant log
+has_no_form words solve simulate report check estimate other (Upgrading plant) = other.0 plant
+has_no_form words solve simulate report check estimate other (Showing seed) = other.1 seed
+has_no_form words solve simulate report check estimate other (Estimating plant log state step count) = estimate plant log state step count
 
 -- the last form decides
-pub last_form : (words : List (List ℕ)) (command : Option Command) → NoPlanning words → NoFiles words (Simulating Simulate) → NoFiles words (Simulating Report) → NoFiles words Checking → ((plant : List ℕ) → ¬ Says words (Upgrading plant))
+pub last_form : (words : List (List ℕ)) (command : Option Command) → NoPlanning words → NoFiles words (Simulating Simulate) → NoFiles words (Simulating Report) → NoFiles words Checking → NoEstimate words → ((plant : List ℕ) → ¬ Says words (Upgrading plant))
     → MatchOption command ((seed : ℕ) → ¬ Says words (Showing seed)) (λ c. Says words (meaning c)) → MatchOption command (HasNoForm words) (λ c. Says words (meaning c))
-last_form words None solve simulate report check upgrade show = has_no_form words solve simulate report check (upgrade, show)
-last_form words (Some command) solve simulate report check upgrade show = show
+last_form words None solve simulate report check estimate upgrade show = has_no_form words solve simulate report check estimate (upgrade, show)
+last_form words (Some command) solve simulate report check estimate upgrade show = show

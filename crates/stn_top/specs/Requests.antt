@@ -8,15 +8,16 @@ use Rattle.stn_model.specs.declared.answer.Outcome.{Outcome}
 use Rattle.plant_text.specs.Reading.{reading}
 use Rattle.plan_text.specs.PlanText.{plan_of_text}
 use Rattle.stn_solve.specs.Proofs.{HasPlantProof, IsLeftOf, bytes_in}
-use Rattle.stn_top.specs.Words.{Request, Solving, Logging, Simulating, Checking, Upgrading, Showing}
+use Rattle.stn_top.specs.Words.{Request, Solving, Logging, Simulating, Checking, Upgrading, Showing, Estimating}
 use Rattle.stn_top.specs.Sources.{IsReadOf, OnPlant, OnPlan}
 use Rattle.stn_top.specs.Solving.{Solved}
 use Rattle.stn_top.specs.Simulation.{Simulated}
 use Rattle.stn_top.specs.Checking.{Checked}
 use Rattle.stn_top.specs.Upgrading.{Upgraded}
 use Rattle.stn_top.specs.Demo.{Shown}
+use Rattle.stn_top.specs.Estimating.{Estimated}
 
--- the names of the files that a request reads, in the order of its words: the plant, then the plan, or the log to check
+-- the names of the files that a request reads, in the order of its words: the plant, then the plan, or the log to check or to estimate by
 abbrev pub read_names : Request → List (List ℕ)
 read_names (Solving plant budget) = plant ∷ []
 read_names (Logging plant budget log) = plant ∷ []
@@ -24,6 +25,7 @@ read_names (Simulating usage plant plan) = plant ∷ plan ∷ []
 read_names (Checking plant log) = plant ∷ log ∷ []
 read_names (Upgrading plant) = plant ∷ []
 read_names (Showing seed) = []
+read_names (Estimating plant log state step count) = plant ∷ log ∷ []
 
 -- the names of the files that a request writes: the log of a planning
 abbrev pub written_names : Request → List (List ℕ)
@@ -33,6 +35,7 @@ written_names (Simulating usage plant plan) = []
 written_names (Checking plant log) = []
 written_names (Upgrading plant) = []
 written_names (Showing seed) = []
+written_names (Estimating plant log state step count) = []
 
 -- the files that a request reads may be read
 abbrev pub MayRead : (List ℕ → Bool) → Request → Type 0
@@ -61,6 +64,7 @@ AnswersTo old new contents (Simulating usage plant plan) status text =
 AnswersTo old new contents (Checking plant log) status text = OnPlant (reading (content contents 0)) (Checked (bytes_in log old)) status text
 AnswersTo old new contents (Upgrading plant) status text = OnPlant (reading (content contents 0)) Upgraded status text
 AnswersTo old new contents (Showing seed) status text = Shown seed status text
+AnswersTo old new contents (Estimating plant log state step count) status text = OnPlant (reading (content contents 0)) (Estimated state step count (content contents 1)) status text
 
 -- The answer to a request, with the files before and after: there are contents of the files that it reads, which are those of
 -- the files before where the store tells them, and it is the answer over these contents. A refusal of the plant leaves every
@@ -85,6 +89,7 @@ IsLeft (Simulating usage plant plan) old new = new ≡ old
 IsLeft (Checking plant log) old new = new ≡ old
 IsLeft (Upgrading plant) old new = new ≡ old
 IsLeft (Showing seed) old new = new ≡ old
+IsLeft (Estimating plant log state step count) old new = new ≡ old
 
 -- a request gets to writing a file: it names a log, and its plant was read
 abbrev pub GetsToWriting : Option FileMap → Request → Type 0
@@ -94,3 +99,4 @@ GetsToWriting files (Simulating usage plant plan) = ⊥
 GetsToWriting files (Checking plant log) = ⊥
 GetsToWriting files (Upgrading plant) = ⊥
 GetsToWriting files (Showing seed) = ⊥
+GetsToWriting files (Estimating plant log state step count) = ⊥

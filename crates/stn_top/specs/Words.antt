@@ -1,5 +1,6 @@
 -- The words of a command.
-use Rattle.std.specs.Prelude.{◌≡◌, ◌≢◌, ℕ, ◌<◌, ◌≤◌, ◌^◌, List, [], ◌∷◌, map, codes, decimal}
+use Rattle.std.specs.Prelude.{◌≡◌, ◌≢◌, ℕ, ℤ, ◌<◌, ◌≤◌, ◌^◌, unsigned_abs, List, [], ◌∷◌, map, codes, decimal}
+use Rattle.std.specs.Fmt.{signed_decimal}
 use Rattle.std.specs.Borrow.{Bor}
 use Rattle.stn_top.specs.declared.command.PlanUse.{PlanUse}
 use Rattle.stn_top.specs.declared.command.PlanUse.TheVariants.{Simulate, Report}
@@ -14,6 +15,7 @@ pub data Request : Type 0 where
   Checking : (plant log : List ℕ) → Request
   Upgrading : (plant : List ℕ) → Request
   Showing : (seed : ℕ) → Request
+  Estimating : (plant log state : List ℕ) (step : ℤ) (count : ℕ) → Request
 
 -- the first word of a command that simulates a plan
 abbrev pub use_word : PlanUse → List ℕ
@@ -35,6 +37,17 @@ pub record IsSeed (word : List ℕ) (seed : ℕ) : Type 0 where
   pub digits : word ≡ decimal seed
   pub most : seed < 2 ^ 32
 
+-- the word is a step: decimal digits without leading zeros, after a minus where it is below 0
+pub record IsStep (word : List ℕ) (step : ℤ) : Type 0 where
+  pub digits : word ≡ signed_decimal step
+  pub most : unsigned_abs step ≤ 1000000000
+
+-- the word is a number of steps in decimal digits, without sign and leading zeros
+pub record IsStepCount (word : List ℕ) (count : ℕ) : Type 0 where
+  pub digits : word ≡ decimal count
+  pub some : 1 ≤ count
+  pub most : count ≤ 50
+
 -- the words say the request; no file has an empty name, and a log is not written over its plant
 abbrev pub Says : List (List ℕ) → Request → Type 0
 Says words (Solving plant budget) = (word : List ℕ) × ((words ≡ codes "solve" ∷ plant ∷ word ∷ []) × (plant ≢ []) × IsBudget word budget)
@@ -44,6 +57,8 @@ Says words (Simulating usage plant plan) = (words ≡ use_word usage ∷ plant �
 Says words (Checking plant log) = (words ≡ codes "check" ∷ plant ∷ log ∷ []) × (plant ≢ []) × (log ≢ [])
 Says words (Upgrading plant) = (words ≡ codes "upgrade" ∷ plant ∷ []) × (plant ≢ [])
 Says words (Showing seed) = (word : List ℕ) × ((words ≡ codes "demo" ∷ word ∷ []) × IsSeed word seed)
+Says words (Estimating plant log state step count) =
+    (by : List ℕ) × ((times : List ℕ) × ((words ≡ codes "whatif" ∷ plant ∷ log ∷ state ∷ by ∷ times ∷ []) × (plant ≢ []) × (log ≢ []) × IsStep by step × IsStepCount times count))
 
 -- the words have the form of no command
 abbrev pub HasNoForm : List (List ℕ) → Type 0
@@ -57,3 +72,4 @@ meaning (variants.Simulate usage plant plan) = Simulating usage plant.now plan.n
 meaning (variants.Check plant log) = Checking plant.now log.now
 meaning (variants.Upgrade plant) = Upgrading plant.now
 meaning (variants.Demo seed) = Showing seed
+meaning (variants.Estimate plant log state steps) = Estimating plant.now log.now state.now steps.step steps.count

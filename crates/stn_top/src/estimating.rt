@@ -9,7 +9,9 @@ ghost use Rattle.time_grid.specs.Slots.{slots};
 ghost use Rattle.proof_tree.specs.Tree.{tree_of};
 ghost use Rattle.proof_log.specs.OneText.{IsClaimOver};
 ghost use Rattle.what_if.specs.Raised.{raised};
-ghost use Rattle.stn_top.specs.Sources.{IfRefused};
+ghost use Rattle.stn_top.specs.Sources.{IfRefused, IfReplied};
+ghost use Rattle.stn_top.specs.Requests.{IsAnswer};
+ghost use Rattle.stn_top.specs.Words.{Estimating};
 ghost use Rattle.stn_top.specs.Estimating.{
   is_tank,
   line_head,
@@ -30,6 +32,7 @@ use crate::checking::checked;
 use crate::command::PlanUse;
 use crate::reply::Reply;
 use crate::simulation::simulate_plan;
+use crate::sources::plant_in;
 use crate::steps::Steps;
 use crate::stopped::Stopped;
 use log_check::LogVerdict;
@@ -44,8 +47,35 @@ use what_if::{OldLog, claimed_plan, estimate, old_log, raise};
 /// The longest log that is read, in bytes.
 const MOST_BYTES: u64 = 67_108_864;
 
-/// The answer on a plant and a log in a file. The files are as before.
-pub fn estimate_log<F: Shelf>(
+/// Says what no plan of the plant in a file earns more than where the limits of a state are raised, by the log in another. The
+/// files are as before.
+pub fn estimate_file<F: Shelf>(
+    alloc: Global,
+    files: &mut F,
+    plant: &str,
+    log: &str,
+    state: &str,
+    steps: Steps,
+) -> Result<Reply, Stopped>
+    requires plant_readable { IsTrue (F.may_read files.old plant.now) }
+    requires log_readable { IsTrue (F.may_read files.old log.now) }
+    ensures answer { IfReplied result (λ reply. IsAnswer (F.files files.old) (F.files files.new)
+        (Estimating plant.now log.now state.now steps.step steps.count) reply.status reply.text.items) }
+    ensures fault { result ≡ Err Stopped.ReadFault
+        → Rose (F.read_faults files.old) (F.read_faults files.new) }
+    ensures unwritten { result ≢ Err Stopped.WriteFault }
+    ensures same { F.files files.new ≡ F.files files.old }
+    ensures readable { F.may_read files.new ≡ F.may_read files.old }
+    ensures writable { F.may_write files.new ≡ F.may_write files.old }
+    ensures later { F.read_faults files.old ≤ F.read_faults files.new }
+    ensures no_write { F.write_faults files.new ≡ F.write_faults files.old }
+{
+    let plant = plant_in(alloc, files, plant)?;
+    estimate_log(alloc, files, plant, log, state, steps)
+}
+
+// The answer on a plant and a log in a file.
+fn estimate_log<F: Shelf>(
     alloc: Global,
     files: &mut F,
     plant: Plant,

@@ -8,7 +8,7 @@ pub mod budget;
 pub mod checking;
 pub mod command;
 mod demo;
-pub mod estimating;
+mod estimating;
 mod lines;
 pub mod reply;
 mod simulation;
