@@ -12,9 +12,13 @@ use Rattle.row_set.specs.PlantProgram.{slot_domain}
 abbrev pub is_before : ℕ → Start → Bool
 is_before period start = nat_lt start.period period
 
+-- the starts of a plan before a period, in order: those that are kept of it
+abbrev pub kept_starts : ℕ → List Start → List Start
+kept_starts period plan = filter (is_before period) plan
+
 -- a plan agrees with the kept starts: its starts before the period are those that are kept, each as often
 abbrev pub Agrees : ℕ → List Start → List Start → Type 0
-Agrees period kept plan = IsPermutation (filter (is_before period) plan) kept
+Agrees period kept plan = IsPermutation (kept_starts period plan) kept
 
 -- the domain that holds one value
 abbrev pub only : ℕ → Domain

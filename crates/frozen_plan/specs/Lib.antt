@@ -1,1 +1,2 @@
 pub mod Frozen
+pub mod Keeping

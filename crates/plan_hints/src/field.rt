@@ -1,4 +1,4 @@
-use crate::areas::{back_to, domain_of, keep};
+use crate::areas::{back_to, domain_of, is_single, keep};
 use crate::ranges::cut_domain;
 use crate::reserved::put_last;
 use crate::tables::{Tables, ends, least};
@@ -223,6 +223,9 @@ impl Field {
     // Cuts the domain of an entry's slot by its row; false where no value is left.
     fn cut_entry(&mut self, tables: &Tables, row: u32, entry: &Entry) -> bool {
         let before = self.domain(entry.slot);
+        if is_single(before) {
+            return true;
+        }
         let after = cut_domain(entry, before, self.spare(tables, row));
         if after == before {
             return true;

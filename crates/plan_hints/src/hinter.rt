@@ -19,12 +19,17 @@ pub struct PlanHinter {
     best: Kept,
     hoods: Vec<Leveled>,
     seen: Vec<Amount>,
+    earned: u64,
     boxes: u32,
+    begun: u32,
     searched: Option<i128>,
     offered: Option<i128>,
 }
 
-// The boxes in which a better plan has its neighbourhoods searched, and those in which each box is dived in.
+// How often the search for plans begins, the boxes in which a better plan has its neighbourhoods searched, and those in which each
+// box is dived in.
+const MOST_BEGUN: u32 = 12;
+
 const MOST_BOXES: u32 = 400;
 
 const FIRST_BOXES: u32 = 20;
@@ -34,8 +39,10 @@ const MOST_SMALL: u32 = 20;
 
 const MOST_WORK: u64 = 40_000_000;
 
-// The levels that are searched in a box, those without gain, and the work, in the first box and in others.
+// The stages that are searched in a box, those without gain, without chance and with it, and the work, in the first box and in others.
 const MOST_TURNS: u32 = 100;
+
+const FIRST_STAGES: u32 = 8;
 
 const MOST_STAGES: u32 = 14;
 
@@ -54,7 +61,9 @@ impl PlanHinter {
             best: Kept::new(alloc, program)?,
             hoods: list_hoods(alloc, program)?,
             seen: vec![in alloc; NONE; program.root.len()]?,
+            earned: earned_by(program),
             boxes: 0,
+            begun: 0,
             searched: None,
             offered: None,
         })
@@ -79,7 +88,6 @@ impl PlanHinter {
             self.finder.dive(program, Dive::Greatest);
             self.finder.dive(program, Dive::GreatestBack);
         }
-        self.finder.start.clear();
         if self.finder.bound(program, None) {
             self.finder.workspace.save(program, &mut self.finder.start);
             copy(self.seen.as_mut_slice(), self.finder.amounts.as_slice());
@@ -104,7 +112,7 @@ impl PlanHinter {
 
     // Searches the neighbourhoods of the best plan, level by level, the cheapest first, each with both ways of picking, and from the
     // cheapest again after each gain.
-    fn search_hoods(&mut self, program: &Program) {
+    fn search_hoods(&mut self, program: &Program, most: u32) {
         self.finder.enter_root(program);
         let total = if self.boxes == 1 {
             FIRST_TOTAL
@@ -114,7 +122,7 @@ impl PlanHinter {
         let end = self.finder.work.saturating_add(total);
         let mut stage = 0u32;
         for turn in 0..MOST_TURNS {
-            let ended = stage >= MOST_STAGES || self.finder.work >= end;
+            let ended = stage >= most || self.finder.work >= end;
             if ended || self.finder.kept.worth.is_none() {
                 return;
             }
@@ -123,6 +131,15 @@ impl PlanHinter {
             } else {
                 stage.saturating_add(1)
             };
+        }
+    }
+
+    // How many stages without gain end a search: those of chance count each fourth time that it begins anew.
+    fn stages(&self, anew: bool) -> u32 {
+        if anew && self.begun % 4 == 0 {
+            MOST_STAGES
+        } else {
+            FIRST_STAGES
         }
     }
 
@@ -140,7 +157,7 @@ impl PlanHinter {
 
     // How a stage picks: by trials first, in the fourth box by amounts first.
     fn picking(&self, stage: u32) -> Picking {
-        let swapped = self.boxes == 4;
+        let swapped = self.begun % 2 == 0;
         if (stage % 2 == 1) == swapped {
             Picking::Tried
         } else {
@@ -176,18 +193,20 @@ impl PlanHinter {
             .search_hood(program, hood, seen, picking, MOST_SMALL, limit);
     }
 
-    // Whether this is a box in which the search for plans begins anew, with another first plan.
+    // Whether the search for plans begins anew, with another first plan: at first, and where the boxes have earned all its work so far.
     fn begins_anew(&self) -> bool {
-        match self.boxes {
-            1 | 4 | 8 | 16 | 32 | 128 => true,
-            _ => false,
+        if self.begun == 0 {
+            return true;
         }
+        let earned = self.earned.saturating_mul(u64::from(self.boxes));
+        self.begun < MOST_BEGUN && self.finder.work <= earned
     }
 
     // Looks for plans in a box that has more than one point.
     fn look(&mut self, program: &Program, area: &Area, point: &[u8]) {
         let anew = self.begins_anew();
         if anew {
+            self.begun = self.begun.saturating_add(1);
             self.finder.kept.worth = None;
         }
         self.take_left(program, point);
@@ -197,7 +216,7 @@ impl PlanHinter {
         let gained = self.boxes < MOST_BOXES && self.finder.kept.worth != self.searched;
         if anew || gained {
             self.find_first(program);
-            self.search_hoods(program);
+            self.search_hoods(program, self.stages(anew));
             self.recall(program);
             self.searched = self.finder.kept.worth;
         }
@@ -219,6 +238,12 @@ impl PlanHinter {
         copy(point, self.best.values.as_slice());
         true
     }
+}
+
+// The work that each box earns: 24 times the square of the slots, about as much as a box costs beside.
+fn earned_by(program: &Program) -> u64 {
+    let slots = program.root.len() as u64;
+    slots.saturating_mul(slots).saturating_mul(24)
 }
 
 // Writes the least value of each slot of an area.

@@ -1,5 +1,5 @@
 use crate::ranges::range_within;
-use crate::reserved::{copy, numbered};
+use crate::reserved::numbered;
 use crate::tables::{Part, Tables, counted};
 use row_kit::{Domain, Entry, Program};
 use std::alloc::{AllocError, Global};
@@ -9,6 +9,8 @@ use std::alloc::{AllocError, Global};
 pub struct Plan {
     pub values: Vec<u8>,
     used: Vec<i64>,
+    // For each slot the place among its parts of the row that last kept it from a value that earns more.
+    tight: Vec<u32>,
 }
 
 // The most rounds of improvement.
@@ -20,6 +22,7 @@ impl Plan {
         Ok(Plan {
             values: vec![in alloc; 0u8; program.root.len()]?,
             used: vec![in alloc; 0i64; program.rows.len()]?,
+            tight: vec![in alloc; 0u32; program.root.len()]?,
         })
     }
 
@@ -53,15 +56,10 @@ impl Plan {
 
     /// Takes the values of a point.
     pub fn read(&mut self, tables: &Tables, point: &[u8]) {
-        copy(self.values.as_mut_slice(), point);
-        for used in self.used.iter_mut() {
-            *used = 0;
-        }
         for slot in 0..numbered(self.values.len()) {
-            let value = self.value(slot);
-            if value != 0 {
-                for part in tables.parts_of(slot) {
-                    self.add(part, part.counted(value));
+            if let Some(value) = point.get(slot as usize) {
+                if self.value(slot) != *value {
+                    self.set(tables, slot, *value);
                 }
             }
         }
@@ -85,37 +83,73 @@ impl Plan {
         true
     }
 
-    // The values of a domain at which all rows of the slot are kept, the other slots as they are.
-    fn choices(&self, tables: &Tables, slot: u32, domain: Domain) -> Domain {
+    // The values of a domain at which the row of a part is kept, the other slots as they are.
+    fn narrowed(&self, tables: &Tables, part: &Part, value: u8, domain: Domain) -> Domain {
+        let room = self
+            .room(tables, part.row)
+            .wrapping_add(part.counted(value));
+        let (lo, hi) = if domain.lo <= domain.hi {
+            range_within(part.fixed, part.per, room, (domain.lo, domain.hi))
+        } else {
+            (domain.lo, domain.hi)
+        };
+        Domain {
+            zero: domain.zero && room >= 0,
+            lo,
+            hi,
+        }
+    }
+
+    // The value of a slot that earns most among those of a domain at which all its rows are kept, the other slots as they are; its own
+    // where none earns more. A row that leaves none is noted.
+    fn best_value(&mut self, tables: &Tables, slot: u32, domain: Domain) -> u8 {
         let value = self.value(slot);
-        let mut zero = domain.zero;
-        let mut range = (domain.lo, domain.hi);
-        for part in tables.parts_of(slot) {
-            let room = self
-                .room(tables, part.row)
-                .wrapping_add(part.counted(value));
-            zero = zero && room >= 0;
-            if range.0 <= range.1 {
-                range = range_within(part.fixed, part.per, room, range);
+        let own = (tables.earned(slot, value), value);
+        let mut best = best_of(tables, slot, domain, own).1;
+        let parts = tables.parts_of(slot);
+        if best == value || self.is_held(tables, slot, domain, own) {
+            return value;
+        }
+        let mut left = domain;
+        for place in 0..parts.len() {
+            let next = self.narrowed(tables, &parts[place], value, left);
+            if next != left {
+                left = next;
+                best = best_of(tables, slot, left, own).1;
+                if best == value {
+                    self.note_tight(slot, place);
+                    return value;
+                }
             }
         }
-        Domain {
-            zero,
-            lo: range.0,
-            hi: range.1,
+        best
+    }
+
+    // Whether the row that was noted for a slot still leaves no value of a domain that earns more than its own.
+    fn is_held(&self, tables: &Tables, slot: u32, domain: Domain, own: (i64, u8)) -> bool {
+        match self.tight.get(slot as usize) {
+            None => false,
+            Some(place) => match tables.parts_of(slot).get(*place as usize) {
+                None => false,
+                Some(part) => {
+                    let left = self.narrowed(tables, part, own.1, domain);
+                    best_of(tables, slot, left, own).1 == own.1
+                }
+            },
+        }
+    }
+
+    // Notes the part whose row keeps a slot from a value that earns more.
+    fn note_tight(&mut self, slot: u32, place: usize) {
+        if (slot as usize) < self.tight.len() {
+            self.tight[slot as usize] = numbered(place);
         }
     }
 
     // Gives a slot of a plan that keeps all rows the value that earns most; whether that earns more.
     fn raise(&mut self, tables: &Tables, slot: u32, domain: Domain) -> bool {
-        let value = self.value(slot);
-        let own = (tables.earned(slot, value), value);
-        if best_of(tables, slot, domain, own).1 == value {
-            return false;
-        }
-        let choices = self.choices(tables, slot, domain);
-        let best = best_of(tables, slot, choices, own).1;
-        if best == value {
+        let best = self.best_value(tables, slot, domain);
+        if best == self.value(slot) {
             return false;
         }
         self.set(tables, slot, best);

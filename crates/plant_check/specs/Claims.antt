@@ -7,16 +7,20 @@ use Rattle.stn_model.specs.Profit.{profit}
 use Rattle.time_grid.specs.Slots.{slots}
 use Rattle.row_kit.specs.declared.program.Program.{Program}
 use Rattle.row_kit.specs.Point.{IsLawful, worth_of}
-use Rattle.row_set.specs.Parts.{plan_of_values}
+use Rattle.row_set.specs.Parts.{IsAdmitted, plan_of_values}
 use Rattle.row_set.specs.PlantProgram.{IsMadeOf}
 use Rattle.proof_log.specs.declared.claim.Claim.{Claim}
 use Rattle.proof_log.specs.ClaimSays.{ClaimSays}
 use Rattle.log_check.specs.declared.verdict.LogVerdict.{LogVerdict}
 use Rattle.log_check.specs.Verdict.{IsVerdict, IfYes}
 
--- what a claim says of all plans of the plant, where `optimal` says that its plan is feasible, has this profit, and is best
+-- what a claim says of all admitted plans, where `optimal` says that its plan is admitted, has this profit, and is best
+abbrev pub SaysOf : Plant → (List Start → Type 0) → Claim → Type 0
+SaysOf plant admits claim = ClaimSays admits (profit plant) (plan_of_values plant) claim
+
+-- what a claim says of all plans of the plant: each feasible one is admitted
 abbrev pub Says : Plant → Claim → Type 0
-Says plant claim = ClaimSays (Feasible plant) (profit plant) (plan_of_values plant) claim
+Says plant claim = SaysOf plant (Feasible plant) claim
 
 -- The program is the plant's, and its lawful points are the plant's plans: values are lawful exactly where
 -- their plan is feasible, and then their worth is its profit.
@@ -29,6 +33,10 @@ pub record IsOfPlant (plant : Plant) (program : Program) : Type 0 where
 abbrev pub YesSays : Plant → LogVerdict → Type 0
 YesSays plant verdict = IfYes (Says plant) verdict
 
+-- where the answer is yes, what the claim says holds of all plans that a part of the plant's choices admits
+abbrev pub YesSaysOf : Plant → Program → LogVerdict → Type 0
+YesSaysOf plant part verdict = IfYes (SaysOf plant (IsAdmitted plant part)) verdict
+
 -- The verdict on a log is right of the plant: it is right over the plant's program, where at most 4,608 splits may be open, and
 -- the claim of a log that is valid holds of all plans.
 pub record IsChecked (plant : Plant) (log : List ℕ) (verdict : LogVerdict) : Type 0 where
@@ -36,3 +44,9 @@ pub record IsChecked (plant : Plant) (log : List ℕ) (verdict : LogVerdict) : T
   pub of_plant : IsOfPlant plant program
   pub right : IsVerdict program 4608 log verdict
   pub holds : YesSays plant verdict
+
+-- The verdict on a log is right of a part of the plant's choices: it is right over the part's program, where at most 4,608 splits
+-- may be open, and the claim of a log that is valid holds of all plans that the part admits.
+pub record IsPartChecked (plant : Plant) (part : Program) (log : List ℕ) (verdict : LogVerdict) : Type 0 where
+  pub right : IsVerdict part 4608 log verdict
+  pub holds : YesSaysOf plant part verdict

@@ -22,4 +22,6 @@ mod plants;
 #[cfg(test)]
 mod programs;
 #[cfg(test)]
+mod replans;
+#[cfg(test)]
 mod runs;

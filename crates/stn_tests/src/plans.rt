@@ -1,4 +1,4 @@
-//! Plans that are made, simulated, reported and printed again, with answers that were worked out by hand.
+//! Plans that are made, simulated, reported, drawn and printed again, with answers that were worked out by hand.
 use crate::answers::answer;
 use crate::plants::{
     DUE, FIVE, FIVE_PLAN, FLAT, FULL, GOLD, LESS_STEAM, ODD, ONE_WAY, OUT_OF_USE, RISING, SEP,
@@ -154,11 +154,87 @@ fn plans_are_simulated(rt: HostRuntime) -> Result<(), Fail> {
     Ok(())
 }
 
-// A plant, a plan, the status, and how the text begins and ends.
-type Reported = (&'static str, &'static str, u8, &'static str, &'static str);
+// The picture of the plan of Tiny below its style.
+const TINY_PICTURE: &str = r#"<text class="title" x="16" y="24">profit 60</text>
+<rect class="outage" x="266" y="10" width="24" height="16"/>
+<text class="task" x="296" y="22">outage</text>
+<path class="limit" d="M516 18h24"/>
+<text class="task" x="546" y="22">limit</text>
+<rect class="bar c0 e0" x="16" y="36" width="24" height="16"/>
+<text class="task" x="46" y="48">make</text>
+<g transform="translate(16 60)">
+<text class="head" x="0" y="20">units</text>
+<text class="time" x="0" y="40">0</text>
+<text class="time" x="360" y="40">1</text>
+<text class="time" x="720" y="40">2</text>
+<text class="name" x="2" y="59">U</text>
+<rect class="row" x="0" y="62" width="720" height="32"/>
+<path class="grid" d="M0 48V314M360 48V314M720 48V314"/>
+<svg x="0" y="62" width="360" height="32">
+<title>make 3</title>
+<rect class="bar c0 e0" x="0" y="0" width="360" height="32"/>
+<text class="task" x="4" y="13">make</text>
+<text class="quanta" x="4" y="27">3</text>
+</svg>
+<svg x="360" y="62" width="360" height="32">
+<title>make 3</title>
+<rect class="bar c0 e0" x="0" y="0" width="360" height="32"/>
+<text class="task" x="4" y="13">make</text>
+<text class="quanta" x="4" y="27">3</text>
+</svg>
+<text class="head" x="0" y="118">stock</text>
+<text class="time" x="0" y="138">0</text>
+<text class="time" x="360" y="138">1</text>
+<text class="time" x="720" y="138">2</text>
+<text class="name" x="2" y="157">feed</text>
+<svg y="160" width="1080" height="36" viewBox="0 0 3 6" preserveAspectRatio="none" overflow="visible"><g transform="translate(0 6) scale(1 -1)"><path class="level" d="M0 0V6h1V0h1V0h1V0"/><path class="limit" d="M0 0"/></g></svg>
+<text class="number" x="3" y="192">6</text>
+<text class="number" x="363" y="192">0</text>
+<text class="name" x="2" y="217">prod</text>
+<svg y="220" width="1080" height="36" viewBox="0 0 3 12" preserveAspectRatio="none" overflow="visible"><g transform="translate(0 12) scale(1 -1)"><path class="level" d="M0 0V0h1V6h1V12h1V0"/><path class="limit" d="M0 0"/></g></svg>
+<text class="number" x="3" y="252">0</text>
+<text class="number" x="363" y="252">6</text>
+<text class="number" x="723" y="252">12</text>
+<text class="head" x="0" y="286">load</text>
+<text class="time" x="0" y="306">0</text>
+<text class="time" x="360" y="306">1</text>
+<text class="time" x="720" y="306">2</text>
+</g>
+</svg>
+"#;
 
-const REPORTED: [Reported; 4] = [
+// How the picture of the plan of Five ends: its one utility.
+const FIVE_LOADS: &str = r#"<text class="head" x="0" y="796">load</text>
+<text class="time" x="0" y="816">0</text>
+<text class="time" x="102" y="816">1</text>
+<text class="time" x="204" y="816">2</text>
+<text class="time" x="306" y="816">3</text>
+<text class="time" x="408" y="816">4</text>
+<text class="time" x="510" y="816">5</text>
+<text class="time" x="612" y="816">6</text>
+<text class="time" x="714" y="816">7</text>
+<text class="name" x="2" y="835">steam</text>
+<svg y="838" width="816" height="36" viewBox="0 0 8 20" preserveAspectRatio="none" overflow="visible"><g transform="translate(0 20) scale(1 -1)"><path class="level" d="M0 0V0h1V6h1V0h1V0h1V0h1V0h1V0h1V0"/><path class="limit" d="M0 20V20h1V20h1V20h1V20h1V20h1V20h1V20h1"/></g></svg>
+<text class="number" x="3" y="870">0</text>
+<text class="number" x="105" y="870">6</text>
+<text class="number" x="207" y="870">0</text>
+</g>
+</svg>
+"#;
+
+// What is done with a plan, a plant, the plan, the status, and how the text begins and ends.
+type Shown = (
+    &'static str,
+    &'static str,
+    &'static str,
+    u8,
+    &'static str,
+    &'static str,
+);
+
+const SHOWN: [Shown; 7] = [
     (
+        "report",
         TINY,
         "0 U make 3\n1 U make 3\n",
         0,
@@ -166,26 +242,61 @@ const REPORTED: [Reported; 4] = [
         "   0               6               0\n   1               0               6\n   2               0              12\nload\n   0\n   1\nprofit 60\n",
     ),
     (
+        "report",
         SEP,
         "0 S sep 1\n1 V pack 1\n",
         0,
         "gantt\nS                               |01 01 ..\nV                                ..|02 ..\n",
         "profit 9\n",
     ),
-    (SEP, "0 S sep 1\n1 S sep 1\n", 1, "broken busy 1 2\n", ""),
     (
+        "report",
+        SEP,
+        "0 S sep 1\n1 S sep 1\n",
+        1,
+        "broken busy 1 2\n",
+        "",
+    ),
+    (
+        "report",
         FIVE,
         FIVE_PLAN,
         0,
         "gantt\nheater                           ..|01 .. .. .. .. ..\nr1                              |02 02|03 03|04 .. ..\nr2                               .. .. .. .. .. .. ..\nstill                            .. .. .. .. ..|05 05\ntask 01 heat\n",
         "   6               0\nprofit 854\n",
     ),
+    (
+        "picture",
+        TINY,
+        "0 U make 3\n1 U make 3\n",
+        0,
+        r#"<svg xmlns="http://www.w3.org/2000/svg" viewBox="0 0 1112 390" width="1112" height="390">
+<style>"#,
+        TINY_PICTURE,
+    ),
+    (
+        "picture",
+        FIVE,
+        FIVE_PLAN,
+        0,
+        r#"<svg xmlns="http://www.w3.org/2000/svg" viewBox="0 0 848 980" width="848" height="980">
+<style>"#,
+        FIVE_LOADS,
+    ),
+    (
+        "picture",
+        SEP,
+        "0 S sep 1\n1 S sep 1\n",
+        1,
+        "broken busy 1 2\n",
+        "",
+    ),
 ];
 
 #[test]
-fn plans_are_reported(rt: HostRuntime) -> Result<(), Fail> {
-    for (plant, plan, status, start, end) in REPORTED {
-        let (answered, out) = answer(rt.alloc(), plant, plan, &["report", "plant", "plan"])?;
+fn plans_are_shown(rt: HostRuntime) -> Result<(), Fail> {
+    for (word, plant, plan, status, start, end) in SHOWN {
+        let (answered, out) = answer(rt.alloc(), plant, plan, &[word, "plant", "plan"])?;
         assert_eq!(rt; answered, status);
         assert!(rt; out.written().starts_with(start.as_bytes()));
         assert!(rt; out.written().ends_with(end.as_bytes()));

@@ -7,7 +7,7 @@ use stn_edge::{MemShelf, MemSink};
 use stn_top::run;
 
 // Words that are no request.
-const WRONG: [&[&str]; 9] = [
+const WRONG: [&[&str]; 11] = [
     &["solve", "plant", "31", "plant"],
     &[],
     &["solve", "plant", "0"],
@@ -17,6 +17,8 @@ const WRONG: [&[&str]; 9] = [
     &["simulate", "plant", ""],
     &["report", "plant"],
     &["upgrade", "plant", "plant"],
+    &["replan", "plant", "plan", "1", "7", "plan"],
+    &["replan", "plant", "plan", "01", "7"],
 ];
 
 #[test]

@@ -1,6 +1,6 @@
 -- The answers of commands over the contents of their files.
 use Rattle.std.proofs.Common.{◌≡◌, ◌≢◌, ℕ, ℤ, List, [], ◌∷◌, map, Option, Some, None, Ok, Err, ap, take, ◌∙◌, inl, inr, refl, arith}
-use Rattle.std.specs.Prelude.{IfSome, IfOk, MatchOption, Result}
+use Rattle.std.specs.Prelude.{◌⊎◌, IfSome, IfOk, MatchOption, Result}
 use Rattle.std.specs.Option.{option_map}
 use Rattle.stn_edge.specs.Files.{FileMap, file_of}
 use Rattle.stn_edge.specs.Text.{extended}
@@ -13,7 +13,7 @@ use Rattle.stn_top.specs.declared.reply.Reply.{Reply}
 use Rattle.stn_top.specs.declared.stopped.Stopped.{Stopped}
 use Rattle.stn_top.specs.declared.stopped.Stopped.TheVariants.{Refused, ReadFault, WriteFault, Memory}
 use Rattle.stn_top.specs.declared.command.PlanUse.{PlanUse}
-use Rattle.stn_top.specs.Words.{Request, Solving, Logging, Simulating, Checking, Upgrading, Showing, Estimating, Says, HasNoForm}
+use Rattle.stn_top.specs.Words.{Request, Solving, Logging, Simulating, Checking, Upgrading, Showing, Replanning, ReplanLogging, CheckingReplan, Estimating, Says, HasNoForm}
 use Rattle.plant_text.specs.declared.fault.PlantFault.{PlantFault}
 use Rattle.stn_model.specs.declared.answer.Answer.{Answer}
 use Rattle.stn_model.specs.declared.answer.Answer.TheVariants.{Optimal, Infeasible, BudgetSpent}
@@ -30,7 +30,7 @@ use Rattle.stn_top.specs.Replies.{IsReply, IsCutOff, IsUnwritten}
 -- ---- contents
 
 -- what a file holds where it is told, else nothing
-abbrev told_or_empty : Option FileMap → List ℕ → List ℕ
+abbrev pub told_or_empty : Option FileMap → List ℕ → List ℕ
 told_or_empty None name = []
 told_or_empty (Some m) name = file_of m name
 
@@ -41,7 +41,7 @@ told_first None name bytes names told = tt
 told_first (Some m) name bytes names told = ap (λ (b : List ℕ). b ∷ map (file_of m) names) told
 
 -- the contents of two files
-told_both : (files : Option FileMap) (name bytes name2 bytes2 : List ℕ) → IfSome files (λ m. bytes ≡ file_of m name) → IfSome files (λ m. bytes2 ≡ file_of m name2)
+pub told_both : (files : Option FileMap) (name bytes name2 bytes2 : List ℕ) → IfSome files (λ m. bytes ≡ file_of m name) → IfSome files (λ m. bytes2 ≡ file_of m name2)
     → IfSome files (λ m. (bytes ∷ bytes2 ∷ []) ≡ map (file_of m) (name ∷ name2 ∷ []))
 told_both None name bytes name2 bytes2 told told2 = tt
 told_both (Some m) name bytes name2 bytes2 told told2 =
@@ -62,6 +62,9 @@ RefusesPlant files (Simulating usage plant plan) reply = Refuses reading IsPlant
 RefusesPlant files (Checking plant log) reply = Refuses reading IsPlantRefusal files plant reply
 RefusesPlant files (Upgrading plant) reply = Refuses reading IsPlantRefusal files plant reply
 RefusesPlant files (Showing seed) reply = ⊥
+RefusesPlant files (Replanning plant plan period budget) reply = Refuses reading IsPlantRefusal files plant reply
+RefusesPlant files (ReplanLogging plant plan period budget log) reply = Refuses reading IsPlantRefusal files plant reply
+RefusesPlant files (CheckingReplan plant plan period log) reply = Refuses reading IsPlantRefusal files plant reply
 RefusesPlant files (Estimating plant log state step count) reply = Refuses reading IsPlantRefusal files plant reply
 
 -- the refusal of the plant is an answer to every request, where the files are as before
@@ -98,6 +101,24 @@ refused-plant old new (Upgrading plant) reply same is = record {
   kept = λ _. same;
 }
 refused-plant old new (Showing seed) reply same is = absurd is
+refused-plant old new (Replanning plant plan period budget) reply same is = record {
+  contents = is.read.bytes ∷ told_or_empty old plan ∷ [];
+  told = told_first old plant is.read.bytes (plan ∷ []) is.read.told;
+  answers = rw is.read.is is.refusal;
+  kept = λ _. same;
+}
+refused-plant old new (ReplanLogging plant plan period budget log) reply same is = record {
+  contents = is.read.bytes ∷ told_or_empty old plan ∷ [];
+  told = told_first old plant is.read.bytes (plan ∷ []) is.read.told;
+  answers = rw is.read.is is.refusal;
+  kept = λ _. same;
+}
+refused-plant old new (CheckingReplan plant plan period log) reply same is = record {
+  contents = is.read.bytes ∷ told_or_empty old plan ∷ told_or_empty old log ∷ [];
+  told = told_first old plant is.read.bytes (plan ∷ log ∷ []) is.read.told;
+  answers = rw is.read.is is.refusal;
+  kept = λ _. same;
+}
 refused-plant old new (Estimating plant log state step count) reply same is = record {
   contents = is.read.bytes ∷ told_or_empty old log ∷ [];
   told = told_first old plant is.read.bytes (log ∷ []) is.read.told;
@@ -106,7 +127,7 @@ refused-plant old new (Estimating plant log state step count) reply same is = re
 }
 
 -- a fact of a refusal's reply from another
-IfRefusal-weaker : (stopped : Stopped) (P Q : Reply → Type 0) → ((reply : Reply) → P reply → Q reply) → IfRefusal stopped P → IfRefusal stopped Q
+pub IfRefusal-weaker : (stopped : Stopped) (P Q : Reply → Type 0) → ((reply : Reply) → P reply → Q reply) → IfRefusal stopped P → IfRefusal stopped Q
 IfRefusal-weaker (Refused reply) P Q step is = step reply is
 IfRefusal-weaker ReadFault P Q step is = tt
 IfRefusal-weaker WriteFault P Q step is = tt
@@ -154,8 +175,13 @@ written status two three four five seven (inr (inr (inl is))) = four is
 written status two three four five seven (inr (inr (inr (inl is)))) = five is
 written status two three four five seven (inr (inr (inr (inr is)))) = seven is
 
+-- the statuses of refused inputs are among those after which no file has changed
+pub of_refusal : (status : ℕ) → (status ≡ 3) ⊎ (status ≡ 4) → IsUnwritten status
+of_refusal status (inl three) = inr (inl three)
+of_refusal status (inr four) = inr (inr (inl four))
+
 -- the status of an answer of planning is that of no refusal
-solved-status : (answer : Answer) (status : ℕ) → status ≡ status_of answer → IsUnwritten status → ⊥
+pub solved-status : (answer : Answer) (status : ℕ) → status ≡ status_of answer → IsUnwritten status → ⊥
 solved-status (Optimal plan earned) status is none = written status (λ s. omega (arith, is, s)) (λ s. omega (arith, is, s)) (λ s. omega (arith, is, s)) (λ s. omega (arith, is, s)) (λ s. omega (arith, is, s)) none
 solved-status Infeasible status is none = written status (λ s. omega (arith, is, s)) (λ s. omega (arith, is, s)) (λ s. omega (arith, is, s)) (λ s. omega (arith, is, s)) (λ s. omega (arith, is, s)) none
 solved-status (BudgetSpent plan earned cap) status is none = written status (λ s. omega (arith, is, s)) (λ s. omega (arith, is, s)) (λ s. omega (arith, is, s)) (λ s. omega (arith, is, s)) (λ s. omega (arith, is, s)) none
@@ -167,7 +193,7 @@ logging_answer old new plant budget log p status text read is = record {
   contents = read.bytes ∷ [];
   told = told_first old plant read.bytes [] read.told;
   answers = rw read.is is;
-  kept = λ three. absurd (solved-status is.outcome.answer status is.status_is (inr (inl three)));
+  kept = λ refused. absurd (solved-status is.outcome.answer status is.status_is (of_refusal status refused));
 }
 
 -- what planning with a log replies
@@ -188,7 +214,7 @@ refused-logging budget log (Err fault) status text is none = is.0
 -- a log was not written where the reply is a refusal
 logging-unwritten : (old new : Option FileMap) (plant : List ℕ) (budget : ℕ) (log : List ℕ) (status : ℕ) (text : List ℕ) → IsAnswer old new (Logging plant budget log) status text → IsUnwritten status → new ≡ old
 logging-unwritten old new plant budget log status text is none =
-    is.kept (refused-logging budget (bytes_in log new) (reading (content is.contents 0)) status text is.answers none)
+    is.kept (inl (refused-logging budget (bytes_in log new) (reading (content is.contents 0)) status text is.answers none))
 
 -- the same of what is replied
 pub logging_unwritten : (old new : Option FileMap) (plant : List ℕ) (budget : ℕ) (log : List ℕ) (r : Result Reply Stopped) → IfReplied r (λ reply. IsAnswer old new (Logging plant budget log) reply.status reply.text.items)

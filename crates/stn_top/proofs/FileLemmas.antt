@@ -3,11 +3,12 @@ use Rattle.std.proofs.Common.{◌≡◌, ℕ, List, [], ◌∷◌, length, get_o
 use Rattle.std.specs.Prelude.{Result, codes}
 use Rattle.std.specs.Option.{option_map}
 use Rattle.std.specs.FinMap.{get}
+use Rattle.std.proofs.lemmas.Fmt.{decimal_injective}
 use Rattle.stn_edge.specs.Files.{FileMap, OthersStay}
 use Rattle.stn_top.specs.declared.reply.Reply.{Reply}
 use Rattle.stn_top.specs.declared.stopped.Stopped.{Stopped}
 use Rattle.stn_top.specs.declared.stopped.Stopped.TheVariants.{Refused, ReadFault, WriteFault, Memory}
-use Rattle.stn_top.specs.Words.{Request, Solving, Logging, Simulating, Checking, Upgrading, Showing, Estimating, Says}
+use Rattle.stn_top.specs.Words.{Request, Solving, Logging, Simulating, Checking, Upgrading, Showing, Replanning, ReplanLogging, CheckingReplan, Estimating, Says}
 use Rattle.stn_top.specs.Sources.{IfReplied}
 use Rattle.stn_top.specs.Requests.{IsLeft, OthersKept}
 
@@ -29,6 +30,9 @@ left_same (Simulating usage plant plan) old new same = same
 left_same (Checking plant log) old new same = same
 left_same (Upgrading plant) old new same = same
 left_same (Showing seed) old new same = same
+left_same (Replanning plant plan period budget) old new same = same
+left_same (ReplanLogging plant plan period budget log) old new same = inl same
+left_same (CheckingReplan plant plan period log) old new same = same
 left_same (Estimating plant log state step count) old new same = same
 
 -- what holds of every reply
@@ -44,6 +48,10 @@ replied (Err Memory) P is = tt
 -- every file but the log is as before
 pub kept_log : (plant : List ℕ) (budget : ℕ) (log : List ℕ) (old new : Option FileMap) → OthersStay log old new → OthersKept (Logging plant budget log) old new
 kept_log plant budget log old new stay = λ name others. stay name (others 0 [] (omega arith))
+
+-- every file but the log of a replanning is as before
+pub kept_replan : (plant plan : List ℕ) (period budget : ℕ) (log : List ℕ) (old new : Option FileMap) → OthersStay log old new → OthersKept (ReplanLogging plant plan period budget log) old new
+kept_replan plant plan period budget log old new stay = λ name others. stay name (others 0 [] (omega arith))
 
 -- what a request leaves
 record Leaves (request : Request) (old new : Option FileMap) : Type 0 where
@@ -62,6 +70,9 @@ leaves_log words plant budget log (Simulating usage plant2 plan2) old new says a
 leaves_log words plant budget log (Checking plant2 log2) old new says also is = (let same = ap length (sym says.1.0 ∙ also.0) in absurd (omega (arith, same)))
 leaves_log words plant budget log (Upgrading plant2) old new says also is = (let same = ap length (sym says.1.0 ∙ also.0) in absurd (omega (arith, same)))
 leaves_log words plant budget log (Showing seed) old new says also is = (let same = ap length (sym says.1.0 ∙ also.1.0) in absurd (omega (arith, same)))
+leaves_log words plant budget log (Replanning plant2 plan2 period2 budget2) old new says also is = (let same = ap length (sym says.1.0 ∙ also.1.1.0) in absurd (omega (arith, same)))
+leaves_log words plant budget log (ReplanLogging plant2 plan2 period2 budget2 log2) old new says also is = (let same = ap length (sym says.1.0 ∙ also.1.1.0) in absurd (omega (arith, same)))
+leaves_log words plant budget log (CheckingReplan plant2 plan2 period2 log2) old new says also is = (let same = ap length (sym says.1.0 ∙ also.1.0) in absurd (omega (arith, same)))
 leaves_log words plant budget log (Estimating plant2 log2 state step count) old new says also is = (let same = ap length (sym says.1.0 ∙ also.1.1.0) in absurd (omega (arith, same)))
 leaves_log words plant budget log (Logging plant2 budget2 log2) old new says also is =
     let same : codes "solve" ∷ plant ∷ says.0 ∷ log ∷ [] ≡ codes "solve" ∷ plant2 ∷ also.0 ∷ log2 ∷ [] = sym says.1.0 ∙ also.1.0 in
@@ -72,6 +83,32 @@ leaves_log words plant budget log (Logging plant2 budget2 log2) old new says als
       left = subst (λ (l : List ℕ). IsLeft (Logging plant2 budget2 l) old new) same_log (subst (λ (p : List ℕ). IsLeft (Logging p budget log) old new) same_plant is.left);
     }
 
+-- the words of a replanning with a log say no other request
+leaves_replan : (words : List (List ℕ)) (plant plan : List ℕ) (period budget : ℕ) (log : List ℕ) (other : Request) (old new : Option FileMap) → Says words (ReplanLogging plant plan period budget log) → Says words other
+    → Leaves (ReplanLogging plant plan period budget log) old new → Leaves other old new
+leaves_replan words plant plan period budget log (Solving plant2 budget2) old new says also is = (let same = ap length (sym says.1.1.0 ∙ also.1.0) in absurd (omega (arith, same)))
+leaves_replan words plant plan period budget log (Logging plant2 budget2 log2) old new says also is = (let same = ap length (sym says.1.1.0 ∙ also.1.0) in absurd (omega (arith, same)))
+leaves_replan words plant plan period budget log (Simulating usage plant2 plan2) old new says also is = (let same = ap length (sym says.1.1.0 ∙ also.0) in absurd (omega (arith, same)))
+leaves_replan words plant plan period budget log (Checking plant2 log2) old new says also is = (let same = ap length (sym says.1.1.0 ∙ also.0) in absurd (omega (arith, same)))
+leaves_replan words plant plan period budget log (Upgrading plant2) old new says also is = (let same = ap length (sym says.1.1.0 ∙ also.0) in absurd (omega (arith, same)))
+leaves_replan words plant plan period budget log (Showing seed) old new says also is = (let same = ap length (sym says.1.1.0 ∙ also.1.0) in absurd (omega (arith, same)))
+leaves_replan words plant plan period budget log (Replanning plant2 plan2 period2 budget2) old new says also is = (let same = ap length (sym says.1.1.0 ∙ also.1.1.0) in absurd (omega (arith, same)))
+leaves_replan words plant plan period budget log (CheckingReplan plant2 plan2 period2 log2) old new says also is = (let same = ap length (sym says.1.1.0 ∙ also.1.0) in absurd (omega (arith, same)))
+leaves_replan words plant plan period budget log (Estimating plant2 log2 state step count) old new says also is =
+    let first : 114 ≡ 119 = ap (λ (ws : List (List ℕ)). get_or (get_or ws 0 []) 0 0) (sym says.1.1.0 ∙ also.1.1.0) in absurd (omega (arith, first))
+leaves_replan words plant plan period budget log (ReplanLogging plant2 plan2 period2 budget2 log2) old new says also is =
+    let same : codes "replan" ∷ plant ∷ plan ∷ says.0 ∷ says.1.0 ∷ log ∷ [] ≡ codes "replan" ∷ plant2 ∷ plan2 ∷ also.0 ∷ also.1.0 ∷ log2 ∷ [] = sym says.1.1.0 ∙ also.1.1.0 in
+    let word = λ (k : ℕ). ap (λ (ws : List (List ℕ)). get_or ws k []) same in
+    let period_is : period ≡ period2 = decimal_injective period period2 (omega (arith, says.1.1.6.most)) (omega (arith, also.1.1.6.most)) (sym says.1.1.6.digits ∙ word 3 ∙ also.1.1.6.digits) in
+    record {
+      kept = subst (λ (l : List ℕ). OthersKept (ReplanLogging plant2 plan2 period2 budget2 l) old new) (word 5) is.kept;
+      left =
+          subst (λ (l : List ℕ). IsLeft (ReplanLogging plant2 plan2 period2 budget2 l) old new) (word 5)
+          (subst (λ (p : ℕ). IsLeft (ReplanLogging plant2 plan2 p budget2 log) old new) period_is
+          (subst (λ (q : List ℕ). IsLeft (ReplanLogging plant2 q period budget2 log) old new) (word 2)
+          (subst (λ (q : List ℕ). IsLeft (ReplanLogging q plan period budget2 log) old new) (word 1) is.left)));
+    }
+
 -- what one request leaves that the words say, each leaves that they say
 leaves : (words : List (List ℕ)) (request other : Request) (old new : Option FileMap) → Says words request → Says words other → Leaves request old new → Leaves other old new
 leaves words (Solving plant budget) other old new says also is = leaves_same other old new is.left
@@ -80,6 +117,9 @@ leaves words (Simulating usage plant plan) other old new says also is = leaves_s
 leaves words (Checking plant log) other old new says also is = leaves_same other old new is.left
 leaves words (Upgrading plant) other old new says also is = leaves_same other old new is.left
 leaves words (Showing seed) other old new says also is = leaves_same other old new is.left
+leaves words (Replanning plant plan period budget) other old new says also is = leaves_same other old new is.left
+leaves words (ReplanLogging plant plan period budget log) other old new says also is = leaves_replan words plant plan period budget log other old new says also is
+leaves words (CheckingReplan plant plan period log) other old new says also is = leaves_same other old new is.left
 leaves words (Estimating plant log state step count) other old new says also is = leaves_same other old new is.left
 
 -- the two facts apart

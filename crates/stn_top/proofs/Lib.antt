@@ -9,3 +9,4 @@ pub mod ReadBack
 pub mod TankAnswers
 pub mod DemoLemmas
 pub mod FileLemmas
+pub mod ReplanLemmas

@@ -17,11 +17,11 @@ use Rattle.stn_model.specs.Sound.{Sound}
 use Rattle.stn_model.specs.Fits.{Fits}
 use Rattle.stn_model.specs.Feasible.{Feasible}
 use Rattle.stn_model.specs.declared.answer.Outcome.{Outcome}
-use Rattle.stn_model.specs.Answers.{IsAnswerOf, IsOutcome}
+use Rattle.stn_model.specs.Answers.{IsAnswerOf, IsOutcome, IsOutcomeOf}
 use Rattle.stn_model.specs.Points.{boxes}
 use Rattle.stn_top.specs.declared.reply.Reply.{Reply}
 use Rattle.stn_solve.specs.Proofs.{HasPlantProof}
-use Rattle.stn_top.specs.Solving.{Solved}
+use Rattle.stn_top.specs.Solving.{Planned, Solved}
 use Rattle.std.specs.Prelude.{Result, Err, IfOk}
 use Rattle.time_grid.specs.Slots.{slots}
 use Rattle.time_grid.specs.PlanPoint.{plan_point, point_starts}
@@ -230,19 +230,27 @@ pub reads-back : (plant : Plant) (admits : List Start → Type 0) (least : List 
 reads-back plant admits least count budget used answer sound some right small few =
     ap (plan_of_text plant) (answer-lines plant used answer) ∙ reads-answer plant admits least count budget used answer (remarks answer used) sound some right (are_remarks answer used small few)
 
--- an outcome that is right and its text are an answer of `solve`
-pub solved : {E : Type 0} (plant : Plant) (budget : ℕ) (log : Option (List ℕ)) (outcome : Outcome) (r : Result Reply E) → Sound plant → budget ≤ 100000 → IsOutcome plant budget outcome → HasPlantProof plant log outcome
+-- an outcome that is right of the admitted plans and its text are an answer of planning among them
+pub planned_if : {E : Type 0} (plant : Plant) (admits : List Start → Type 0) (least : List Start) (count budget : ℕ) (HasProof : Outcome → Type 0) (outcome : Outcome) (r : Result Reply E)
+    → Sound plant → ((plan : List Start) → admits plan → Feasible plant plan) → budget ≤ 100000 → IsOutcomeOf plant admits least count budget outcome → HasProof outcome
     → IfOk r (λ reply. (reply.status ≡ status_of outcome.answer) × (reply.text.items ≡ answer_text plant outcome.boxes outcome.answer)) → IsInMoney outcome.answer
-    → IfOk r (λ reply. Solved budget plant log reply.status reply.text.items)
-solved plant budget log outcome (Ok reply) sound most right proof is money = record {
+    → IfOk r (λ reply. Planned plant (IsOutcomeOf plant admits least count budget) HasProof reply.status reply.text.items)
+planned_if plant admits least count budget HasProof outcome (Ok reply) sound some most right proof is money = record {
   outcome = outcome;
   right = right;
   proof = proof;
   status_is = is.0;
   text_is = is.1;
-  reads_back = ap (plan_of_text plant) is.1 ∙ reads-back plant (Feasible plant) [] (boxes plant) budget outcome.boxes outcome.answer sound (λ plan is. is) right.answer money (omega (arith, right.within, most));
+  reads_back = ap (plan_of_text plant) is.1 ∙ reads-back plant admits least count budget outcome.boxes outcome.answer sound some right.answer money (omega (arith, right.within, most));
 }
-solved plant budget log outcome (Err e) sound most right proof is money = tt
+planned_if plant admits least count budget HasProof outcome (Err e) sound some most right proof is money = tt
+
+-- an outcome that is right and its text are an answer of `solve`
+pub solved : {E : Type 0} (plant : Plant) (budget : ℕ) (log : Option (List ℕ)) (outcome : Outcome) (r : Result Reply E) → Sound plant → budget ≤ 100000 → IsOutcome plant budget outcome → HasPlantProof plant log outcome
+    → IfOk r (λ reply. (reply.status ≡ status_of outcome.answer) × (reply.text.items ≡ answer_text plant outcome.boxes outcome.answer)) → IsInMoney outcome.answer
+    → IfOk r (λ reply. Solved budget plant log reply.status reply.text.items)
+solved plant budget log outcome r sound most right proof is money =
+    planned_if plant (Feasible plant) [] (boxes plant) budget (HasPlantProof plant log) outcome r sound (λ plan feasible. feasible) most right proof is money
 
 -- the same of a reply
 pub solved_is : (plant : Plant) (budget : ℕ) (log : Option (List ℕ)) (outcome : Outcome) (reply : Reply) → Sound plant → budget ≤ 100000 → IsOutcome plant budget outcome → HasPlantProof plant log outcome

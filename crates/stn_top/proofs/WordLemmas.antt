@@ -5,8 +5,8 @@ use lib.Pointwise.{pointwise}
 use Rattle.std.proofs.Common.{◌≡◌, true, false, ◌∙◌, ap, ℕ, ℤ, ◌<◌, ◌≤◌, List, [], ◌∷◌, length, get_or, refl, arith, Bor}
 use Rattle.std.specs.Prelude.{Option, Some, None, MatchOption}
 use Rattle.stn_top.specs.declared.command.Command.{Command}
-use Rattle.stn_top.specs.declared.command.PlanUse.TheVariants.{Simulate, Report}
-use Rattle.stn_top.specs.Words.{texts, Request, Says, HasNoForm, Solving, Logging, Simulating, Checking, Upgrading, Showing, Estimating, meaning}
+use Rattle.stn_top.specs.declared.command.PlanUse.TheVariants.{Simulate, Report, Picture}
+use Rattle.stn_top.specs.Words.{texts, Request, Says, HasNoForm, Solving, Logging, Simulating, Checking, Upgrading, Showing, Replanning, ReplanLogging, CheckingReplan, Estimating, meaning}
 
 -- three words are the list of their texts
 pub three_texts : (words : List (Bor (List ℕ))) (d : Bor (List ℕ)) → 3 ≤ length words → length words < 4 → texts words ≡ (get_or words 0 d).now ∷ (get_or words 1 d).now ∷ (get_or words 2 d).now ∷ []
@@ -24,6 +24,17 @@ four_texts (a ∷ b ∷ []) d least most = absurd (omega arith)
 four_texts (a ∷ b ∷ e ∷ []) d least most = absurd (omega arith)
 four_texts (a ∷ b ∷ e ∷ f ∷ []) d least most = refl
 four_texts (a ∷ b ∷ e ∷ f ∷ g ∷ rest) d least most = absurd (omega arith)
+
+-- five words are the list of their texts
+five_texts : (words : List (Bor (List ℕ))) (d : Bor (List ℕ)) → 5 ≤ length words → length words < 6 →
+    texts words ≡ (get_or words 0 d).now ∷ (get_or words 1 d).now ∷ (get_or words 2 d).now ∷ (get_or words 3 d).now ∷ (get_or words 4 d).now ∷ []
+five_texts [] d least most = absurd (omega arith)
+five_texts (a ∷ []) d least most = absurd (omega arith)
+five_texts (a ∷ b ∷ []) d least most = absurd (omega arith)
+five_texts (a ∷ b ∷ e ∷ []) d least most = absurd (omega arith)
+five_texts (a ∷ b ∷ e ∷ f ∷ []) d least most = absurd (omega arith)
+five_texts (a ∷ b ∷ e ∷ f ∷ g ∷ []) d least most = refl
+five_texts (a ∷ b ∷ e ∷ f ∷ g ∷ h ∷ rest) d least most = absurd (omega arith)
 
 -- six words are the list of their texts
 six_texts : (words : List (Bor (List ℕ))) (d : Bor (List ℕ)) → 6 ≤ length words → length words < 7 →
@@ -63,6 +74,12 @@ pub four_words : (words : List (Bor (List ℕ))) (d : Bor (List ℕ)) (first : L
 four_words words d first least most same =
     four_texts words d least most ∙ ap (λ (x : List ℕ). x ∷ (get_or words 1 d).now ∷ (get_or words 2 d).now ∷ (get_or words 3 d).now ∷ []) (same_text _ _ same)
 
+-- five words, of which the first is known
+pub five_words : (words : List (Bor (List ℕ))) (d : Bor (List ℕ)) (first : List ℕ) → 5 ≤ length words → length words < 6 → true ≡ pointwise nat_eq (get_or words 0 d).now first →
+    texts words ≡ first ∷ (get_or words 1 d).now ∷ (get_or words 2 d).now ∷ (get_or words 3 d).now ∷ (get_or words 4 d).now ∷ []
+five_words words d first least most same =
+    five_texts words d least most ∙ ap (λ (x : List ℕ). x ∷ (get_or words 1 d).now ∷ (get_or words 2 d).now ∷ (get_or words 3 d).now ∷ (get_or words 4 d).now ∷ []) (same_text _ _ same)
+
 -- six words, of which the first is known
 pub six_words : (words : List (Bor (List ℕ))) (d : Bor (List ℕ)) (first : List ℕ) → 6 ≤ length words → length words < 7 → true ≡ pointwise nat_eq (get_or words 0 d).now first →
     texts words ≡ first ∷ (get_or words 1 d).now ∷ (get_or words 2 d).now ∷ (get_or words 3 d).now ∷ (get_or words 4 d).now ∷ (get_or words 5 d).now ∷ []
@@ -78,6 +95,12 @@ NoFiles words request = (first second : List ℕ) → ¬ Says words (request fir
 abbrev NoPlanning : List (List ℕ) → Type 0
 NoPlanning words = ((plant : List ℕ) (budget : ℕ) → ¬ Says words (Solving plant budget)) × ((plant log : List ℕ) (budget : ℕ) → ¬ Says words (Logging plant budget log))
 
+-- the words say no replanning, with or without a log, and no check of one
+pub record NoReplanning (words : List (List ℕ)) : Type 0 where
+  pub replan : (plant plan : List ℕ) (period budget : ℕ) → ¬ Says words (Replanning plant plan period budget)
+  pub log : (plant plan log : List ℕ) (period budget : ℕ) → ¬ Says words (ReplanLogging plant plan period budget log)
+  pub check : (plant plan log : List ℕ) (period : ℕ) → ¬ Says words (CheckingReplan plant plan period log)
+
 -- the words say no estimate by an old log
 abbrev NoEstimate : List (List ℕ) → Type 0
 NoEstimate words = (plant log state : List ℕ) (step : ℤ) (count : ℕ) → ¬ Says words (Estimating plant log state step count)
@@ -87,18 +110,22 @@ abbrev NoOther : List (List ℕ) → Type 0
 NoOther words = ((plant : List ℕ) → ¬ Says words (Upgrading plant)) × ((seed : ℕ) → ¬ Says words (Showing seed))
 
 -- words that have none of the forms
-pub has_no_form : (words : List (List ℕ)) → NoPlanning words → NoFiles words (Simulating Simulate) → NoFiles words (Simulating Report) → NoFiles words Checking → NoEstimate words → NoOther words → HasNoForm words
-has_no_form words solve simulate report check estimate other (Solving plant budget) = solve.0 plant budget
-has_no_form words solve simulate report check estimate other (Logging plant budget log) = solve.1 plant log budget
-has_no_form words solve simulate report check estimate other (Simulating Simulate plant plan) = simulate plant plan
-has_no_form words solve simulate report check estimate other (Simulating Report plant plan) = report plant plan
-has_no_form words solve simulate report check estimate other (Checking plant log) = check plant log
-has_no_form words solve simulate report check estimate other (Upgrading plant) = other.0 plant
-has_no_form words solve simulate report check estimate other (Showing seed) = other.1 seed
-has_no_form words solve simulate report check estimate other (Estimating plant log state step count) = estimate plant log state step count
+pub has_no_form : (words : List (List ℕ)) → NoPlanning words → NoFiles words (Simulating Simulate) → NoFiles words (Simulating Report) → NoFiles words (Simulating Picture) → NoFiles words Checking → NoReplanning words → NoEstimate words → NoOther words → HasNoForm words
+has_no_form words solve simulate report picture check replan estimate other (Solving plant budget) = solve.0 plant budget
+has_no_form words solve simulate report picture check replan estimate other (Logging plant budget log) = solve.1 plant log budget
+has_no_form words solve simulate report picture check replan estimate other (Simulating Simulate plant plan) = simulate plant plan
+has_no_form words solve simulate report picture check replan estimate other (Simulating Report plant plan) = report plant plan
+has_no_form words solve simulate report picture check replan estimate other (Simulating Picture plant plan) = picture plant plan
+has_no_form words solve simulate report picture check replan estimate other (Checking plant log) = check plant log
+has_no_form words solve simulate report picture check replan estimate other (Upgrading plant) = other.0 plant
+has_no_form words solve simulate report picture check replan estimate other (Showing seed) = other.1 seed
+has_no_form words solve simulate report picture check replan estimate other (Replanning plant plan period budget) = replan.replan plant plan period budget
+has_no_form words solve simulate report picture check replan estimate other (ReplanLogging plant plan period budget log) = replan.log plant plan log period budget
+has_no_form words solve simulate report picture check replan estimate other (CheckingReplan plant plan period log) = replan.check plant plan log period
+has_no_form words solve simulate report picture check replan estimate other (Estimating plant log state step count) = estimate plant log state step count
 
 -- the last form decides
-pub last_form : (words : List (List ℕ)) (command : Option Command) → NoPlanning words → NoFiles words (Simulating Simulate) → NoFiles words (Simulating Report) → NoFiles words Checking → NoEstimate words → ((plant : List ℕ) → ¬ Says words (Upgrading plant))
+pub last_form : (words : List (List ℕ)) (command : Option Command) → NoPlanning words → NoFiles words (Simulating Simulate) → NoFiles words (Simulating Report) → NoFiles words (Simulating Picture) → NoFiles words Checking → NoReplanning words → NoEstimate words → ((plant : List ℕ) → ¬ Says words (Upgrading plant))
     → MatchOption command ((seed : ℕ) → ¬ Says words (Showing seed)) (λ c. Says words (meaning c)) → MatchOption command (HasNoForm words) (λ c. Says words (meaning c))
-last_form words None solve simulate report check estimate upgrade show = has_no_form words solve simulate report check estimate (upgrade, show)
-last_form words (Some command) solve simulate report check estimate upgrade show = show
+last_form words None solve simulate report picture check replan estimate upgrade show = has_no_form words solve simulate report picture check replan estimate (upgrade, show)
+last_form words (Some command) solve simulate report picture check replan estimate upgrade show = show

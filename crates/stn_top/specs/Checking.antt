@@ -25,11 +25,15 @@ abbrev pub checked_status : LogVerdict → ℕ
 checked_status (Yes claim) = 0
 checked_status (No defect) = 1
 
--- The answer of `check`: a verdict, with its status and its text. After a yes what the claim says holds of all plans,
--- and where the log's bytes are told, the verdict is the right one on them.
-pub record Checked (log : Option (List ℕ)) (plant : Plant) (status : ℕ) (text : List ℕ) : Type 0 where
+-- The answer of checking a log: a verdict, with its status and its text. What it says holds, and where the log's bytes
+-- are told, the verdict is the right one on them.
+pub record Judged (IsRight : List ℕ → LogVerdict → Type 0) (Holds : LogVerdict → Type 0) (log : Option (List ℕ)) (status : ℕ) (text : List ℕ) : Type 0 where
   pub verdict : LogVerdict
-  pub right : IfSome log (λ bytes. IsChecked plant bytes verdict)
-  pub says : YesSays plant verdict
+  pub right : IfSome log (λ bytes. IsRight bytes verdict)
+  pub says : Holds verdict
   pub status_is : status ≡ checked_status verdict
   pub text_is : text ≡ checked_text verdict
+
+-- the answer of `check`: after a yes what the claim says holds of all plans
+abbrev pub Checked : Option (List ℕ) → Plant → ℕ → List ℕ → Type 0
+Checked log plant status text = Judged (IsChecked plant) (YesSays plant) log status text

@@ -6,6 +6,7 @@ pub mod Simulation
 pub mod Checking
 pub mod Upgrading
 pub mod Demo
+pub mod Replanning
 pub mod Estimating
 pub mod Requests
 pub mod Replies

@@ -4,11 +4,14 @@ use Rattle.std.specs.Option.{option_map}
 use Rattle.std.specs.FinMap.{get}
 use Rattle.stn_edge.specs.Files.{FileMap, file_of}
 use Rattle.stn_model.specs.declared.plant.Plant.{Plant}
+use Rattle.stn_model.specs.declared.start.Start.{Start}
 use Rattle.stn_model.specs.declared.answer.Outcome.{Outcome}
 use Rattle.plant_text.specs.Reading.{reading}
 use Rattle.plan_text.specs.PlanText.{plan_of_text}
+use Rattle.frozen_plan.specs.Frozen.{kept_starts}
+use Rattle.frozen_plan.specs.Keeping.{StandTogether}
 use Rattle.stn_solve.specs.Proofs.{HasPlantProof, IsLeftOf, bytes_in}
-use Rattle.stn_top.specs.Words.{Request, Solving, Logging, Simulating, Checking, Upgrading, Showing, Estimating}
+use Rattle.stn_top.specs.Words.{Request, Solving, Logging, Simulating, Checking, Upgrading, Showing, Replanning, ReplanLogging, CheckingReplan, Estimating}
 use Rattle.stn_top.specs.Sources.{IsReadOf, OnPlant, OnPlan}
 use Rattle.stn_top.specs.Solving.{Solved}
 use Rattle.stn_top.specs.Simulation.{Simulated}
@@ -16,8 +19,9 @@ use Rattle.stn_top.specs.Checking.{Checked}
 use Rattle.stn_top.specs.Upgrading.{Upgraded}
 use Rattle.stn_top.specs.Demo.{Shown}
 use Rattle.stn_top.specs.Estimating.{Estimated}
+use Rattle.stn_top.specs.Replanning.{Replanned, ReplanChecked, LeavesReplan}
 
--- the names of the files that a request reads, in the order of its words: the plant, then the plan, or the log to check or to estimate by
+-- the names of the files that a request reads, in the order of its words: the plant, then the plan, or the log to check
 abbrev pub read_names : Request → List (List ℕ)
 read_names (Solving plant budget) = plant ∷ []
 read_names (Logging plant budget log) = plant ∷ []
@@ -25,6 +29,9 @@ read_names (Simulating usage plant plan) = plant ∷ plan ∷ []
 read_names (Checking plant log) = plant ∷ log ∷ []
 read_names (Upgrading plant) = plant ∷ []
 read_names (Showing seed) = []
+read_names (Replanning plant plan period budget) = plant ∷ plan ∷ []
+read_names (ReplanLogging plant plan period budget log) = plant ∷ plan ∷ []
+read_names (CheckingReplan plant plan period log) = plant ∷ plan ∷ log ∷ []
 read_names (Estimating plant log state step count) = plant ∷ log ∷ []
 
 -- the names of the files that a request writes: the log of a planning
@@ -35,6 +42,9 @@ written_names (Simulating usage plant plan) = []
 written_names (Checking plant log) = []
 written_names (Upgrading plant) = []
 written_names (Showing seed) = []
+written_names (Replanning plant plan period budget) = []
+written_names (ReplanLogging plant plan period budget log) = log ∷ []
+written_names (CheckingReplan plant plan period log) = []
 written_names (Estimating plant log state step count) = []
 
 -- the files that a request reads may be read
@@ -64,22 +74,44 @@ AnswersTo old new contents (Simulating usage plant plan) status text =
 AnswersTo old new contents (Checking plant log) status text = OnPlant (reading (content contents 0)) (Checked (bytes_in log old)) status text
 AnswersTo old new contents (Upgrading plant) status text = OnPlant (reading (content contents 0)) Upgraded status text
 AnswersTo old new contents (Showing seed) status text = Shown seed status text
+AnswersTo old new contents (Replanning plant plan period budget) status text =
+    OnPlant (reading (content contents 0)) (λ p. OnPlan (plan_of_text p (content contents 1)) (λ starts. Replanned budget p period (kept_starts period starts) None (new ≡ old))) status text
+AnswersTo old new contents (ReplanLogging plant plan period budget log) status text =
+    OnPlant (reading (content contents 0)) (λ p. OnPlan (plan_of_text p (content contents 1)) (λ starts. Replanned budget p period (kept_starts period starts) (bytes_in log new) (new ≡ old))) status text
+AnswersTo old new contents (CheckingReplan plant plan period log) status text =
+    OnPlant (reading (content contents 0)) (λ p. OnPlan (plan_of_text p (content contents 1)) (λ starts. ReplanChecked (bytes_in log old) p period (kept_starts period starts) (new ≡ old))) status text
 AnswersTo old new contents (Estimating plant log state step count) status text = OnPlant (reading (content contents 0)) (Estimated state step count (content contents 1)) status text
 
 -- The answer to a request, with the files before and after: there are contents of the files that it reads, which are those of
--- the files before where the store tells them, and it is the answer over these contents. A refusal of the plant leaves every
--- file as it was.
+-- the files before where the store tells them, and it is the answer over these contents. A refusal of the plant or of the plan
+-- leaves every file as it was.
 pub record IsAnswer (old new : Option FileMap) (request : Request) (status : ℕ) (text : List ℕ) : Type 0 where
   pub contents : List (List ℕ)
   pub told : IfSome old (λ m. contents ≡ map (file_of m) (read_names request))
   pub answers : AnswersTo old new contents request status text
-  pub kept : status ≡ 3 → new ≡ old
+  pub kept : (status ≡ 3) ⊎ (status ≡ 4) → new ≡ old
 
 -- the plant in a file was read, and the file of a log holds the log of a proof over it: begun, or whole, of an outcome
 pub record HoldsLog (old new : Option FileMap) (name log : List ℕ) : Type 0 where
   pub plant : Plant
   pub read : IsReadOf reading old name (Ok plant)
   pub holds : IsLeftOf plant log old new ⊎ ((outcome : Outcome) × HasPlantProof plant (bytes_in log new) outcome)
+
+-- the plant and the plan in two files were read, and the file of a log is as it was, or holds a log over the kept starts
+pub record HoldsReplan (old new : Option FileMap) (name plan : List ℕ) (period : ℕ) (log : List ℕ) : Type 0 where
+  pub plant : Plant
+  pub read : IsReadOf reading old name (Ok plant)
+  pub starts : List Start
+  pub read_plan : IsReadOf (plan_of_text plant) old plan (Ok starts)
+  pub holds : LeavesReplan plant period (kept_starts period starts) log old new
+
+-- the plant and the plan of a replanning were read, and the starts that are kept of the plan stand together
+pub record CanReplan (files : Option FileMap) (name plan : List ℕ) (period : ℕ) : Type 0 where
+  pub plant : Plant
+  pub read : IsReadOf reading files name (Ok plant)
+  pub starts : List Start
+  pub read_plan : IsReadOf (plan_of_text plant) files plan (Ok starts)
+  pub together : StandTogether plant (kept_starts period starts)
 
 -- what a request leaves, however it ends: the files as they were, or, where it writes a log, a log in its file
 abbrev pub IsLeft : Request → Option FileMap → Option FileMap → Type 0
@@ -89,9 +121,12 @@ IsLeft (Simulating usage plant plan) old new = new ≡ old
 IsLeft (Checking plant log) old new = new ≡ old
 IsLeft (Upgrading plant) old new = new ≡ old
 IsLeft (Showing seed) old new = new ≡ old
+IsLeft (Replanning plant plan period budget) old new = new ≡ old
+IsLeft (ReplanLogging plant plan period budget log) old new = (new ≡ old) ⊎ HoldsReplan old new plant plan period log
+IsLeft (CheckingReplan plant plan period log) old new = new ≡ old
 IsLeft (Estimating plant log state step count) old new = new ≡ old
 
--- a request gets to writing a file: it names a log, and its plant was read
+-- a request gets to writing a file: it names a log, and its plant was read, and its plan where it has one, of which the kept starts stand together
 abbrev pub GetsToWriting : Option FileMap → Request → Type 0
 GetsToWriting files (Solving plant budget) = ⊥
 GetsToWriting files (Logging plant budget log) = (p : Plant) × IsReadOf reading files plant (Ok p)
@@ -99,4 +134,7 @@ GetsToWriting files (Simulating usage plant plan) = ⊥
 GetsToWriting files (Checking plant log) = ⊥
 GetsToWriting files (Upgrading plant) = ⊥
 GetsToWriting files (Showing seed) = ⊥
+GetsToWriting files (Replanning plant plan period budget) = ⊥
+GetsToWriting files (ReplanLogging plant plan period budget log) = CanReplan files plant plan period
+GetsToWriting files (CheckingReplan plant plan period log) = ⊥
 GetsToWriting files (Estimating plant log state step count) = ⊥

@@ -1,6 +1,5 @@
--- The answer of `simulate` and of `report`: its text, and when it is right.
-use Rattle.std.specs.Prelude.{◌≡◌, ◌<◌, ◌+◌, ℕ, length, List, ◌++◌, codes, decimal}
-use Rattle.std.specs.Fmt.{signed_decimal}
+-- The answer of `simulate`, `report` and `picture`: its text, and when it is right.
+use Rattle.std.specs.Prelude.{◌≡◌, ◌<◌, ◌+◌, ℕ, ℤ, length, List, ◌++◌, codes, decimal}
 use Rattle.stn_model.specs.declared.plant.Plant.{Plant}
 use Rattle.stn_model.specs.declared.start.Start.{Start}
 use Rattle.stn_model.specs.Plant.{state_at, utility_at}
@@ -10,8 +9,10 @@ use Rattle.plan_sim.specs.declared.verdict.Verdict.{Verdict}
 use Rattle.plan_sim.specs.declared.verdict.Verdict.TheVariants.{Feasible, Broken}
 use Rattle.plan_sim.specs.Verdicts.{IsVerdict}
 use Rattle.gantt_report.specs.Report.{report_text}
+use Rattle.plan_picture.specs.Picture.{picture_text}
+use Rattle.stn_top.specs.Lines.{amount_line}
 use Rattle.stn_top.specs.declared.command.PlanUse.{PlanUse}
-use Rattle.stn_top.specs.declared.command.PlanUse.TheVariants.{Simulate, Report}
+use Rattle.stn_top.specs.declared.command.PlanUse.TheVariants.{Simulate, Report, Picture}
 
 -- a line on two places of a plan, which are counted from 1
 abbrev pub pair_line : List ℕ → ℕ → ℕ → List ℕ
@@ -30,16 +31,16 @@ violation_text plant (StockLow state time) = named_line (codes "broken stock-low
 violation_text plant (StockHigh state time) = named_line (codes "broken stock-high ") (state_at plant state).name time
 violation_text plant (Load utility period) = named_line (codes "broken load ") (utility_at plant utility).name period
 
--- the text of a verdict: the profit of a feasible plan, or what it breaks first
-unfoldable pub verdict_text : Plant → Verdict → List ℕ
-verdict_text plant (Feasible earned) = codes "feasible " ++ (signed_decimal earned ++ codes "\n")
-verdict_text plant (Broken violation) = violation_text plant violation
+-- the text that a use of a feasible plan puts: what it earns, its report, or its picture
+abbrev pub feasible_text : PlanUse → Plant → List Start → ℤ → List ℕ
+feasible_text Simulate plant plan earned = amount_line (codes "feasible ") earned
+feasible_text Report plant plan earned = report_text plant plan
+feasible_text Picture plant plan earned = picture_text plant plan
 
--- the text that a use of a plan puts: what it earns, or its report, or what it breaks first
+-- the text that a use of a plan puts: that of a feasible plan, or what it breaks first
 abbrev pub use_text : PlanUse → Plant → List Start → Verdict → List ℕ
-use_text Simulate plant plan verdict = verdict_text plant verdict
-use_text Report plant plan (Feasible earned) = report_text plant plan
-use_text Report plant plan (Broken violation) = violation_text plant violation
+use_text usage plant plan (Feasible earned) = feasible_text usage plant plan earned
+use_text usage plant plan (Broken violation) = violation_text plant violation
 
 -- the exit status of a verdict
 abbrev pub verdict_status : Verdict → ℕ
@@ -55,7 +56,7 @@ IsOfPlant plant (StockLow state time) = state < length plant.states
 IsOfPlant plant (StockHigh state time) = state < length plant.states
 IsOfPlant plant (Load utility period) = utility < length plant.utilities
 
--- the answer of `simulate` and of `report`: the right verdict on the plan, with its status and its text
+-- the answer of `simulate`, `report` and `picture`: the right verdict on the plan, with its status and its text
 pub record Simulated (usage : PlanUse) (plant : Plant) (plan : List Start) (status : ℕ) (text : List ℕ) : Type 0 where
   pub verdict : Verdict
   pub right : IsVerdict plant plan verdict

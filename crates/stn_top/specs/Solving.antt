@@ -62,13 +62,17 @@ IsInMoney (Optimal plan earned) = IsMoney earned
 IsInMoney Infeasible = Unit {0}
 IsInMoney (BudgetSpent plan earned cap) = IsMoney earned × IsMoney cap
 
--- The answer of `solve`: a right outcome of planning within the budget, with its status and its text,
--- which, read as plan text, says the plan of the outcome. There is a proof of the outcome, and where the
--- bytes of a log are told, they are the text of its log.
-pub record Solved (budget : ℕ) (plant : Plant) (log : Option (List ℕ)) (status : ℕ) (text : List ℕ) : Type 0 where
+-- The answer of planning a plant: an outcome that is right, with its proof, its status and its text, which,
+-- read as plan text, says the plan of the outcome.
+pub record Planned (plant : Plant) (IsRight HasProof : Outcome → Type 0) (status : ℕ) (text : List ℕ) : Type 0 where
   pub outcome : Outcome
-  pub right : IsOutcome plant budget outcome
-  pub proof : HasPlantProof plant log outcome
+  pub right : IsRight outcome
+  pub proof : HasProof outcome
   pub status_is : status ≡ status_of outcome.answer
   pub text_is : text ≡ answer_text plant outcome.boxes outcome.answer
   pub reads_back : plan_of_text plant text ≡ Ok (printed_plan outcome.answer)
+
+-- The answer of `solve`: a right outcome of planning within the budget. There is a proof of the outcome, and
+-- where the bytes of a log are told, they are the text of its log.
+abbrev pub Solved : ℕ → Plant → Option (List ℕ) → ℕ → List ℕ → Type 0
+Solved budget plant log status text = Planned plant (IsOutcome plant budget) (HasPlantProof plant log) status text

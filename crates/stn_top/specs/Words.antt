@@ -3,7 +3,7 @@ use Rattle.std.specs.Prelude.{◌≡◌, ◌≢◌, ℕ, ℤ, ◌<◌, ◌≤◌
 use Rattle.std.specs.Fmt.{signed_decimal}
 use Rattle.std.specs.Borrow.{Bor}
 use Rattle.stn_top.specs.declared.command.PlanUse.{PlanUse}
-use Rattle.stn_top.specs.declared.command.PlanUse.TheVariants.{Simulate, Report}
+use Rattle.stn_top.specs.declared.command.PlanUse.TheVariants.{Simulate, Report, Picture}
 use Rattle.stn_top.specs.declared.command.Command as declared
 use Rattle.stn_top.specs.declared.command.Command.TheVariants as variants
 
@@ -15,12 +15,16 @@ pub data Request : Type 0 where
   Checking : (plant log : List ℕ) → Request
   Upgrading : (plant : List ℕ) → Request
   Showing : (seed : ℕ) → Request
+  Replanning : (plant plan : List ℕ) (period budget : ℕ) → Request
+  ReplanLogging : (plant plan : List ℕ) (period budget : ℕ) (log : List ℕ) → Request
+  CheckingReplan : (plant plan : List ℕ) (period : ℕ) (log : List ℕ) → Request
   Estimating : (plant log state : List ℕ) (step : ℤ) (count : ℕ) → Request
 
 -- the first word of a command that simulates a plan
 abbrev pub use_word : PlanUse → List ℕ
 use_word Simulate = codes "simulate"
 use_word Report = codes "report"
+use_word Picture = codes "picture"
 
 -- the bytes of the words
 abbrev pub texts : List (Bor (List ℕ)) → List (List ℕ)
@@ -37,6 +41,11 @@ pub record IsSeed (word : List ℕ) (seed : ℕ) : Type 0 where
   pub digits : word ≡ decimal seed
   pub most : seed < 2 ^ 32
 
+-- the word is a period in decimal digits, without sign and leading zeros
+pub record IsPeriod (word : List ℕ) (period : ℕ) : Type 0 where
+  pub digits : word ≡ decimal period
+  pub most : period ≤ 336
+
 -- the word is a step: decimal digits without leading zeros, after a minus where it is below 0
 pub record IsStep (word : List ℕ) (step : ℤ) : Type 0 where
   pub digits : word ≡ signed_decimal step
@@ -48,7 +57,7 @@ pub record IsStepCount (word : List ℕ) (count : ℕ) : Type 0 where
   pub some : 1 ≤ count
   pub most : count ≤ 50
 
--- the words say the request; no file has an empty name, and a log is not written over its plant
+-- the words say the request; no file has an empty name, and a log is not written over a file that is read
 abbrev pub Says : List (List ℕ) → Request → Type 0
 Says words (Solving plant budget) = (word : List ℕ) × ((words ≡ codes "solve" ∷ plant ∷ word ∷ []) × (plant ≢ []) × IsBudget word budget)
 Says words (Logging plant budget log) =
@@ -57,6 +66,13 @@ Says words (Simulating usage plant plan) = (words ≡ use_word usage ∷ plant �
 Says words (Checking plant log) = (words ≡ codes "check" ∷ plant ∷ log ∷ []) × (plant ≢ []) × (log ≢ [])
 Says words (Upgrading plant) = (words ≡ codes "upgrade" ∷ plant ∷ []) × (plant ≢ [])
 Says words (Showing seed) = (word : List ℕ) × ((words ≡ codes "demo" ∷ word ∷ []) × IsSeed word seed)
+Says words (Replanning plant plan period budget) =
+    (from : List ℕ) × ((most : List ℕ) × ((words ≡ codes "replan" ∷ plant ∷ plan ∷ from ∷ most ∷ []) × (plant ≢ []) × (plan ≢ []) × IsPeriod from period × IsBudget most budget))
+Says words (ReplanLogging plant plan period budget log) =
+    (from : List ℕ) × ((most : List ℕ) × ((words ≡ codes "replan" ∷ plant ∷ plan ∷ from ∷ most ∷ log ∷ [])
+    × (plant ≢ []) × (plan ≢ []) × (log ≢ []) × (log ≢ plant) × (log ≢ plan) × IsPeriod from period × IsBudget most budget))
+Says words (CheckingReplan plant plan period log) =
+    (from : List ℕ) × ((words ≡ codes "check-replan" ∷ plant ∷ plan ∷ from ∷ log ∷ []) × (plant ≢ []) × (plan ≢ []) × (log ≢ []) × IsPeriod from period)
 Says words (Estimating plant log state step count) =
     (by : List ℕ) × ((times : List ℕ) × ((words ≡ codes "whatif" ∷ plant ∷ log ∷ state ∷ by ∷ times ∷ []) × (plant ≢ []) × (log ≢ []) × IsStep by step × IsStepCount times count))
 
@@ -72,4 +88,7 @@ meaning (variants.Simulate usage plant plan) = Simulating usage plant.now plan.n
 meaning (variants.Check plant log) = Checking plant.now log.now
 meaning (variants.Upgrade plant) = Upgrading plant.now
 meaning (variants.Demo seed) = Showing seed
+meaning (variants.Replan plant plan period budget) = Replanning plant.now plan.now period.number budget.boxes
+meaning (variants.LogReplan plant plan period budget log) = ReplanLogging plant.now plan.now period.number budget.boxes log.now
+meaning (variants.CheckReplan plant plan period log) = CheckingReplan plant.now plan.now period.number log.now
 meaning (variants.Estimate plant log state steps) = Estimating plant.now log.now state.now steps.step steps.count

@@ -1,9 +1,11 @@
 //! The words of a command.
 ghost use Rattle.std.specs.Prelude.{◌≡◌, ◌≢◌, ◌↔◌, ◌∷◌, true, ℕ, ℤ, List, MatchOption};
-ghost use Rattle.stn_top.specs.Words.{Says, HasNoForm, IsBudget, IsSeed, IsStep, IsStepCount, Solving, Logging, Simulating, Checking, Upgrading, Showing, Estimating, texts, meaning, use_word};
+ghost use Rattle.stn_top.specs.Words.{Says, HasNoForm, IsBudget, IsPeriod, IsSeed, IsStep, IsStepCount, Solving, Logging, Simulating, Checking, Upgrading, Showing, Replanning, ReplanLogging, CheckingReplan, Estimating, texts, meaning, use_word};
 
 use crate::budget::{Budget, MAX_BUDGET};
+use crate::period::Period;
 use crate::steps::{MAX_STEP, MAX_STEPS, Steps};
+use stn_model::limits::MAX_PERIODS;
 use text_words::read_number;
 
 /// What is done with a plan.
@@ -13,6 +15,8 @@ pub enum PlanUse {
     Simulate,
     /// Show it, or say what it breaks first.
     Report,
+    /// Draw it, or say what it breaks first.
+    Picture,
 }
 
 /// What the words ask for.
@@ -29,7 +33,7 @@ pub enum Command<'a> {
         budget: Budget,
         log: &'a str,
     },
-    /// `simulate PLANT PLAN` and `report PLANT PLAN`: simulate a plan.
+    /// `simulate PLANT PLAN`, `report PLANT PLAN` and `picture PLANT PLAN`: simulate a plan.
     Simulate {
         usage: PlanUse,
         plant: &'a str,
@@ -47,6 +51,28 @@ pub enum Command<'a> {
     /// `demo SEED`: make a plant of the seed, plan it and check the log.
     Demo {
         seed: u32,
+    },
+    /// `replan PLANT PLAN PERIOD BUDGET`: plan on from the starts of a plan before a period.
+    Replan {
+        plant: &'a str,
+        plan: &'a str,
+        period: Period,
+        budget: Budget,
+    },
+    /// `replan PLANT PLAN PERIOD BUDGET LOG`: the same, and write the log of the proof.
+    LogReplan {
+        plant: &'a str,
+        plan: &'a str,
+        period: Period,
+        budget: Budget,
+        log: &'a str,
+    },
+    /// `check-replan PLANT PLAN PERIOD LOG`: check the proof log of such a planning.
+    CheckReplan {
+        plant: &'a str,
+        plan: &'a str,
+        period: Period,
+        log: &'a str,
     },
     /// `whatif PLANT LOG STATE STEP COUNT`: say what a larger or a smaller tank would be worth at most.
     Estimate {
@@ -74,13 +100,25 @@ pub fn command_of<'a>(words: &[&'a str]) -> Option<Command<'a>>
     if let Some(command) = simulate_of(words, "report", PlanUse::Report) {
         return Some(command);
     }
+    if let Some(command) = simulate_of(words, "picture", PlanUse::Picture) {
+        return Some(command);
+    }
     if let Some(command) = check_of(words) {
         return Some(command);
     }
-    if let Some(command) = estimate_of(words) {
+    if let Some(command) = upgrade_of(words) {
         return Some(command);
     }
-    if let Some(command) = upgrade_of(words) {
+    if let Some(command) = replan_of(words) {
+        return Some(command);
+    }
+    if let Some(command) = log_replan_of(words) {
+        return Some(command);
+    }
+    if let Some(command) = check_replan_of(words) {
+        return Some(command);
+    }
+    if let Some(command) = estimate_of(words) {
         return Some(command);
     }
     demo_of(words)
@@ -176,6 +214,115 @@ fn demo_of<'a>(words: &[&'a str]) -> Option<Command<'a>>
             None => None,
         },
         _ => None,
+    }
+}
+
+fn replan_of<'a>(words: &[&'a str]) -> Option<Command<'a>>
+    ensures { MatchOption result ((plant plan : List ℕ) (period budget : ℕ)
+        → ¬ Says (texts words.now) (Replanning plant plan period budget))
+        (λ command. Says (texts words.now) (meaning command)) }
+{
+    match words {
+        [first, plant, plan, from, most]
+            if *first == "replan" && !plant.is_empty() && !plan.is_empty() => {
+            match numbers_of(from, most) {
+                Some(Numbers { period, budget }) => Some(Command::Replan {
+                    plant,
+                    plan,
+                    period,
+                    budget,
+                }),
+                None => None,
+            }
+        }
+        _ => None,
+    }
+}
+
+fn log_replan_of<'a>(words: &[&'a str]) -> Option<Command<'a>>
+    ensures { MatchOption result ((plant plan log : List ℕ) (period budget : ℕ)
+        → ¬ Says (texts words.now) (ReplanLogging plant plan period budget log))
+        (λ command. Says (texts words.now) (meaning command)) }
+{
+    match words {
+        [first, plant, plan, from, most, log]
+            if *first == "replan"
+                && !plant.is_empty()
+                && !plan.is_empty()
+                && !log.is_empty()
+                && differ(log, plant)
+                && differ(log, plan) => {
+            match numbers_of(from, most) {
+                Some(Numbers { period, budget }) => Some(Command::LogReplan {
+                    plant,
+                    plan,
+                    period,
+                    budget,
+                    log,
+                }),
+                None => None,
+            }
+        }
+        _ => None,
+    }
+}
+
+fn check_replan_of<'a>(words: &[&'a str]) -> Option<Command<'a>>
+    ensures { MatchOption result ((plant plan log : List ℕ) (period : ℕ)
+        → ¬ Says (texts words.now) (CheckingReplan plant plan period log))
+        (λ command. Says (texts words.now) (meaning command)) }
+{
+    match words {
+        [first, plant, plan, from, log]
+            if *first == "check-replan"
+                && !plant.is_empty()
+                && !plan.is_empty()
+                && !log.is_empty() => {
+            match period_of(from) {
+                Some(period) => Some(Command::CheckReplan {
+                    plant,
+                    plan,
+                    period,
+                    log,
+                }),
+                None => None,
+            }
+        }
+        _ => None,
+    }
+}
+
+// The numbers of a replanning.
+#[derive(Clone, Copy)]
+struct Numbers {
+    period: Period,
+    budget: Budget,
+}
+
+fn numbers_of(from: &str, most: &str) -> Option<Numbers>
+    ensures { MatchOption result ((period budget : ℕ)
+        → IsPeriod from.now period → ¬ IsBudget most.now budget)
+        (λ numbers. IsPeriod from.now numbers.period.number
+        × IsBudget most.now numbers.budget.boxes) }
+{
+    match period_of(from) {
+        Some(period) => match budget_of(most) {
+            Some(budget) => Some(Numbers { period, budget }),
+            None => None,
+        },
+        None => None,
+    }
+}
+
+fn period_of(word: &str) -> Option<Period>
+    ensures { MatchOption result ((n : ℕ)
+        → ¬ IsPeriod word.now n) (λ period. IsPeriod word.now period.number) }
+{
+    match read_number(word.as_bytes(), MAX_PERIODS as u64 + 1) {
+        Some(number) => Some(Period {
+            number: number as u32,
+        }),
+        None => None,
     }
 }
 

@@ -1,4 +1,4 @@
-//! `simulate PLANT PLAN` and `report PLANT PLAN`: what a plan earns or breaks first, and its report.
+//! `simulate`, `report` and `picture PLANT PLAN`: what a plan earns or breaks first, its report, and its picture.
 ghost use Rattle.std.specs.Prelude.{◌≡◌, ◌≢◌, ◌≤◌, ◌+◌, ◌<◌, ◌^◌, ◌++◌, length, Err, IsTrue, IfOk, codes, decimal};
 ghost use Rattle.stn_edge.specs.Count.{Rose};
 ghost use Rattle.stn_model.specs.Plant.{state_at, utility_at};
@@ -10,8 +10,8 @@ ghost use Rattle.stn_top.specs.Simulation.{
   pair_line,
   named_line,
   violation_text,
-  verdict_text,
   verdict_status,
+  feasible_text,
   use_text,
   IsOfPlant,
   Simulated,
@@ -23,13 +23,14 @@ use crate::reply::Reply;
 use crate::sources::{plan_in, plant_in};
 use crate::stopped::Stopped;
 use gantt_report::report;
+use plan_picture::picture;
 use plan_sim::{Verdict, simulate};
 use std::alloc::{AllocError, Global};
 use stn_edge::Shelf;
 use stn_model::{Plant, Start, Violation};
 
-/// Simulates the plan in a file on the plant in another, and says what it earns, shows it, or says what
-/// it breaks first. The files are as before.
+/// Simulates the plan in a file on the plant in another, and says what it earns, shows or draws it, or
+/// says what it breaks first. The files are as before.
 pub fn simulate_file<F: Shelf>(
     alloc: Global,
     files: &mut F,
@@ -68,34 +69,13 @@ pub fn simulate_plan(
         (λ reply. Simulated usage plant.now plan.now reply.status reply.text.items) }
 {
     let verdict = simulate(alloc, plant, plan)?;
-    match usage {
-        PlanUse::Simulate => simulated(alloc, plant, &verdict),
-        PlanUse::Report => reported(alloc, plant, plan, &verdict),
-    }
+    answered(alloc, usage, plant, plan, &verdict)
 }
 
 // The answer that a simulation found.
-#[tactic(auto, unfolding(crate::specs::Simulation::verdict_text))]
-fn simulated(alloc: Global, plant: &Plant, verdict: &Verdict) -> Result<Reply, AllocError>
-    requires { (v : Violation) → verdict.now ≡ Verdict.Broken v → IsOfPlant plant.now v }
-    ensures { IfOk result (λ reply. (reply.status ≡ verdict_status verdict.now)
-        × (reply.text.items ≡ verdict_text plant.now verdict.now)) }
-{
-    match verdict {
-        Verdict::Feasible { profit } => {
-            let text = amount_line(alloc, "feasible ", profit)?;
-            Ok(Reply { status: 0, text })
-        }
-        Verdict::Broken(violation) => {
-            let text = violation_text(alloc, plant, violation)?;
-            Ok(Reply { status: 1, text })
-        }
-    }
-}
-
-// The report of a plan that was simulated, or what it breaks first.
-fn reported(
+fn answered(
     alloc: Global,
+    usage: PlanUse,
     plant: &Plant,
     plan: &[Start],
     verdict: &Verdict,
@@ -104,12 +84,11 @@ fn reported(
     requires short { length plan.now < 2 ^ 32 }
     requires named { (v : Violation) → verdict.now ≡ Verdict.Broken v → IsOfPlant plant.now v }
     ensures { IfOk result (λ reply. (reply.status ≡ verdict_status verdict.now)
-        × (reply.text.items ≡ use_text PlanUse.Report plant.now plan.now verdict.now)) }
+        × (reply.text.items ≡ use_text usage plant.now plan.now verdict.now)) }
 {
     match verdict {
-        Verdict::Feasible { profit: _ } => {
-            let mut text = Vec::new(alloc);
-            report(alloc, plant, plan, &mut text)?;
+        Verdict::Feasible { profit } => {
+            let text = feasible_text(alloc, usage, plant, plan, profit)?;
             Ok(Reply { status: 0, text })
         }
         Verdict::Broken(violation) => {
@@ -119,8 +98,32 @@ fn reported(
     }
 }
 
+// What a feasible plan earns, its report, or its picture.
+fn feasible_text(
+    alloc: Global,
+    usage: PlanUse,
+    plant: &Plant,
+    plan: &[Start],
+    profit: &i128,
+) -> Result<Vec<u8>, AllocError>
+    requires sound { Sound plant.now }
+    requires short { length plan.now < 2 ^ 32 }
+    ensures { IfOk result (λ text. text.items ≡ feasible_text usage plant.now plan.now profit.now) }
+{
+    match usage {
+        PlanUse::Simulate => amount_line(alloc, "feasible ", profit),
+        PlanUse::Report => {
+            let mut text = Vec::new(alloc);
+            report(alloc, plant, plan, &mut text)?;
+            Ok(text)
+        }
+        PlanUse::Picture => picture(alloc, plant, plan),
+    }
+}
+
+/// The line on what a plan breaks first.
 #[tactic(auto, unfolding(crate::specs::Simulation::violation_text))]
-fn violation_text(
+pub fn violation_text(
     alloc: Global,
     plant: &Plant,
     violation: &Violation,

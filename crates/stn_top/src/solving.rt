@@ -129,8 +129,8 @@ fn log_plant<F: Shelf>(
     }
 }
 
-// The answer that planning found.
-fn planned(alloc: Global, plant: &Plant, outcome: &Outcome) -> Result<Reply, AllocError>
+/// The answer that planning found.
+pub fn planned(alloc: Global, plant: &Plant, outcome: &Outcome) -> Result<Reply, AllocError>
     requires { IsNamedIn plant.now outcome.now.answer }
     ensures { IfOk result (λ reply. (reply.status ≡ status_of outcome.now.answer)
         × (reply.text.items ≡ answer_text plant.now outcome.now.boxes outcome.now.answer)) }
@@ -155,8 +155,8 @@ fn planned(alloc: Global, plant: &Plant, outcome: &Outcome) -> Result<Reply, All
     }
 }
 
-// What the types of an answer's amounts say of them.
-fn in_money(answer: &Answer)
+/// What the types of an answer's amounts say of them.
+pub fn in_money(answer: &Answer)
     ensures { IsInMoney answer.now }
 {
     match answer {

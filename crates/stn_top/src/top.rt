@@ -12,6 +12,7 @@ use crate::checking::check_file;
 use crate::command::{Command, command_of};
 use crate::demo::show;
 use crate::estimating::estimate_file;
+use crate::replanning::{check_replan_file, log_replan_file, replan_file};
 use crate::reply::Reply;
 use crate::simulation::simulate_file;
 use crate::solving::{log_file, solve_file};
@@ -31,9 +32,12 @@ use stn_edge::{Shelf, Sink, Stop};
 /// | `check PLANT LOG` | checks a proof log, and says its claim or its first defect |
 /// | `upgrade PLANT` | prints the plant as a plant file of version 2 |
 /// | `demo SEED` | makes a plant of the seed, plans it with 500 boxes, and checks the log; no file is touched |
+/// | `replan PLANT PLAN PERIOD BUDGET` | keeps the starts of the plan before the period, and plans what comes after as `solve` does; where one of them does not fit or two meet, says so |
+/// | `replan PLANT PLAN PERIOD BUDGET LOG` | the same, and writes the log of the proof; LOG is neither the word PLANT nor PLAN |
+/// | `check-replan PLANT PLAN PERIOD LOG` | checks the proof log of such a planning, and says its claim or its first defect |
 /// | `whatif PLANT LOG STATE STEP COUNT` | says by an old log, without a search, what no plan earns more than where the limits of the state are raised by no step, by one, and so on, and what the log's plan then comes to |
 ///
-/// Statuses: 0 optimal, feasible, reported, upgraded, valid or estimated; 1 no plan is feasible, the plan is not, or the log is not valid; 2 the words have no
+/// Statuses: 0 optimal, feasible, reported, upgraded, valid or estimated; 1 no plan is feasible, the plan is not or what is kept of it can't be, or the log is not valid; 2 the words have no
 /// form; 3 the plant file has a fault; 4 the plan file has one; 5 STATE is not the name of a state with limits; 6 the budget was spent; 7 a file could not be read; 8 the log could not be written or
 /// the answer could not be put; 9 no memory. The answer is put at once, after all work. No file changes but the log that the words name.
 pub fn run<F: Shelf, K: Sink>(alloc: Global, words: &[&str], files: &mut F, out: &mut K) -> u8
@@ -154,6 +158,25 @@ fn reply_to<F: Shelf>(alloc: Global, command: Command, files: &mut F) -> Result<
         Command::Check { plant, log } => check_file(alloc, files, plant, log),
         Command::Upgrade { plant } => upgrade_file(alloc, files, plant),
         Command::Demo { seed } => Ok(show(alloc, seed)?),
+        Command::Replan {
+            plant,
+            plan,
+            period,
+            budget,
+        } => replan_file(alloc, files, plant, plan, period, budget),
+        Command::LogReplan {
+            plant,
+            plan,
+            period,
+            budget,
+            log,
+        } => log_replan_file(alloc, files, plant, plan, period, budget, log),
+        Command::CheckReplan {
+            plant,
+            plan,
+            period,
+            log,
+        } => check_replan_file(alloc, files, plant, plan, period, log),
         Command::Estimate {
             plant,
             log,

@@ -1,0 +1,7 @@
+use Rattle.std.proofs.Common.{◌≡◌, ◌++◌, take}
+use Rattle.std.specs.List.{flat_map}
+use Rattle.plan_picture.specs.Graphs.{level_step}
+use Rattle.plan_picture.proofs.graphs.push_level_steps.Given as goal
+
+abbrev pub invariant-loop-level : goal.invariant-loop-level
+invariant-loop-level l = l.text.items ≡ l.initial.text.items ++ flat_map level_step (take l.level-index l.levels)
