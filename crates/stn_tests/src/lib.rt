@@ -25,3 +25,5 @@ mod programs;
 mod replans;
 #[cfg(test)]
 mod runs;
+#[cfg(test)]
+mod tanks;
