@@ -27,3 +27,5 @@ mod programs;
 mod replans;
 #[cfg(test)]
 mod runs;
+#[cfg(test)]
+mod tanks;

@@ -1,6 +1,6 @@
 -- The answers of commands over the contents of their files.
-use Rattle.std.proofs.Common.{◌≡◌, ◌≢◌, ℕ, List, [], ◌∷◌, map, Option, Some, None, Ok, Err, ap, take, ◌∙◌, inl, inr, refl, arith}
-use Rattle.std.specs.Prelude.{◌⊎◌, IfSome, IfOk, Result}
+use Rattle.std.proofs.Common.{◌≡◌, ◌≢◌, ℕ, ℤ, List, [], ◌∷◌, map, Option, Some, None, Ok, Err, ap, take, ◌∙◌, inl, inr, refl, arith}
+use Rattle.std.specs.Prelude.{◌⊎◌, IfSome, IfOk, MatchOption, Result}
 use Rattle.std.specs.Option.{option_map}
 use Rattle.stn_edge.specs.Files.{FileMap, file_of}
 use Rattle.stn_edge.specs.Text.{extended}
@@ -13,7 +13,7 @@ use Rattle.stn_top.specs.declared.reply.Reply.{Reply}
 use Rattle.stn_top.specs.declared.stopped.Stopped.{Stopped}
 use Rattle.stn_top.specs.declared.stopped.Stopped.TheVariants.{Refused, ReadFault, WriteFault, Memory}
 use Rattle.stn_top.specs.declared.command.PlanUse.{PlanUse}
-use Rattle.stn_top.specs.Words.{Request, Solving, Logging, Simulating, Checking, Upgrading, Showing, Replanning, ReplanLogging, CheckingReplan, Says, HasNoForm}
+use Rattle.stn_top.specs.Words.{Request, Solving, Logging, Simulating, Checking, Upgrading, Showing, Replanning, ReplanLogging, CheckingReplan, Estimating, Says, HasNoForm}
 use Rattle.plant_text.specs.declared.fault.PlantFault.{PlantFault}
 use Rattle.stn_model.specs.declared.answer.Answer.{Answer}
 use Rattle.stn_model.specs.declared.answer.Answer.TheVariants.{Optimal, Infeasible, BudgetSpent}
@@ -23,6 +23,7 @@ use Rattle.stn_top.specs.Solving.{Solved, status_of}
 use Rattle.stn_top.specs.Simulation.{Simulated}
 use Rattle.stn_top.specs.Checking.{Checked}
 use Rattle.stn_top.specs.Upgrading.{Upgraded}
+use Rattle.stn_top.specs.Estimating.{Estimated, OnBytes}
 use Rattle.stn_top.specs.Requests.{IsAnswer, content}
 use Rattle.stn_top.specs.Replies.{IsReply, IsCutOff, IsUnwritten}
 
@@ -46,6 +47,11 @@ told_both None name bytes name2 bytes2 told told2 = tt
 told_both (Some m) name bytes name2 bytes2 told told2 =
     ap (λ (b : List ℕ). b ∷ bytes2 ∷ []) told ∙ ap (λ (b : List ℕ). file_of m name ∷ b ∷ []) told2
 
+-- bytes of a file that may be told
+told_bytes : (files : Option FileMap) (name bytes : List ℕ) → MatchOption (option_map (λ m. file_of m name) files) (Unit {0}) (λ file. bytes ≡ file) → IfSome files (λ m. bytes ≡ file_of m name)
+told_bytes None name bytes are = tt
+told_bytes (Some m) name bytes are = are
+
 -- ---- refused inputs
 
 -- the reply is the refusal of a request's plant file; a request without one has none
@@ -59,6 +65,7 @@ RefusesPlant files (Showing seed) reply = ⊥
 RefusesPlant files (Replanning plant plan period budget) reply = Refuses reading IsPlantRefusal files plant reply
 RefusesPlant files (ReplanLogging plant plan period budget log) reply = Refuses reading IsPlantRefusal files plant reply
 RefusesPlant files (CheckingReplan plant plan period log) reply = Refuses reading IsPlantRefusal files plant reply
+RefusesPlant files (Estimating plant log state step count) reply = Refuses reading IsPlantRefusal files plant reply
 
 -- the refusal of the plant is an answer to every request, where the files are as before
 refused-plant : (old new : Option FileMap) (request : Request) (reply : Reply) → new ≡ old → RefusesPlant old request reply
@@ -112,6 +119,12 @@ refused-plant old new (CheckingReplan plant plan period log) reply same is = rec
   answers = rw is.read.is is.refusal;
   kept = λ _. same;
 }
+refused-plant old new (Estimating plant log state step count) reply same is = record {
+  contents = is.read.bytes ∷ told_or_empty old log ∷ [];
+  told = told_first old plant is.read.bytes (log ∷ []) is.read.told;
+  answers = rw is.read.is is.refusal;
+  kept = λ _. same;
+}
 
 -- a fact of a refusal's reply from another
 pub IfRefusal-weaker : (stopped : Stopped) (P Q : Reply → Type 0) → ((reply : Reply) → P reply → Q reply) → IfRefusal stopped P → IfRefusal stopped Q
@@ -155,11 +168,12 @@ solving_answer old new plant budget p status text same read is = record {
 }
 
 -- a status that is none of these
-written : (status : ℕ) → status ≢ 2 → status ≢ 3 → status ≢ 4 → status ≢ 7 → IsUnwritten status → ⊥
-written status two three four seven (inl is) = two is
-written status two three four seven (inr (inl is)) = three is
-written status two three four seven (inr (inr (inl is))) = four is
-written status two three four seven (inr (inr (inr is))) = seven is
+written : (status : ℕ) → status ≢ 2 → status ≢ 3 → status ≢ 4 → status ≢ 5 → status ≢ 7 → IsUnwritten status → ⊥
+written status two three four five seven (inl is) = two is
+written status two three four five seven (inr (inl is)) = three is
+written status two three four five seven (inr (inr (inl is))) = four is
+written status two three four five seven (inr (inr (inr (inl is)))) = five is
+written status two three four five seven (inr (inr (inr (inr is)))) = seven is
 
 -- the statuses of refused inputs are among those after which no file has changed
 pub of_refusal : (status : ℕ) → (status ≡ 3) ⊎ (status ≡ 4) → IsUnwritten status
@@ -168,9 +182,9 @@ of_refusal status (inr four) = inr (inr (inl four))
 
 -- the status of an answer of planning is that of no refusal
 pub solved-status : (answer : Answer) (status : ℕ) → status ≡ status_of answer → IsUnwritten status → ⊥
-solved-status (Optimal plan earned) status is none = written status (λ s. omega (arith, is, s)) (λ s. omega (arith, is, s)) (λ s. omega (arith, is, s)) (λ s. omega (arith, is, s)) none
-solved-status Infeasible status is none = written status (λ s. omega (arith, is, s)) (λ s. omega (arith, is, s)) (λ s. omega (arith, is, s)) (λ s. omega (arith, is, s)) none
-solved-status (BudgetSpent plan earned cap) status is none = written status (λ s. omega (arith, is, s)) (λ s. omega (arith, is, s)) (λ s. omega (arith, is, s)) (λ s. omega (arith, is, s)) none
+solved-status (Optimal plan earned) status is none = written status (λ s. omega (arith, is, s)) (λ s. omega (arith, is, s)) (λ s. omega (arith, is, s)) (λ s. omega (arith, is, s)) (λ s. omega (arith, is, s)) none
+solved-status Infeasible status is none = written status (λ s. omega (arith, is, s)) (λ s. omega (arith, is, s)) (λ s. omega (arith, is, s)) (λ s. omega (arith, is, s)) (λ s. omega (arith, is, s)) none
+solved-status (BudgetSpent plan earned cap) status is none = written status (λ s. omega (arith, is, s)) (λ s. omega (arith, is, s)) (λ s. omega (arith, is, s)) (λ s. omega (arith, is, s)) (λ s. omega (arith, is, s)) none
 
 -- of planning with a log
 logging_answer : (old new : Option FileMap) (plant : List ℕ) (budget : ℕ) (log : List ℕ) (p : Plant) (status : ℕ) (text : List ℕ) → IsReadOf reading old plant (Ok p) → Solved budget p (bytes_in log new) status text
@@ -251,6 +265,26 @@ upgrading_answer old new plant p status text same read is = record {
   answers = rw read.is is;
   kept = λ _. same;
 }
+
+-- of estimating
+estimating_answer : (old new : Option FileMap) (plant log state : List ℕ) (step : ℤ) (count : ℕ) (p : Plant) (status : ℕ) (text : List ℕ) → new ≡ old → IsReadOf reading old plant (Ok p)
+    → OnBytes (option_map (λ m. file_of m log) old) (λ bytes. Estimated state step count bytes p status text) → IsAnswer old new (Estimating plant log state step count) status text
+estimating_answer old new plant log state step count p status text same read is = record {
+  contents = read.bytes ∷ is.bytes ∷ [];
+  told = told_both old plant read.bytes log is.bytes read.told (told_bytes old log is.bytes is.are);
+  answers = rw read.is is.answers;
+  kept = λ _. same;
+}
+
+-- what an estimate by a log that may be read replies
+pub estimated_reply : (old new : Option FileMap) (plant log state : List ℕ) (step : ℤ) (count : ℕ) (p : Plant) (r : Result Reply Stopped) → new ≡ old → IsReadOf reading old plant (Ok p)
+    → IfOk r (λ reply. OnBytes (option_map (λ m. file_of m log) old) (λ bytes. Estimated state step count bytes p reply.status reply.text.items)) → IfRefused r (λ _. ⊥)
+    → IfReplied r (λ reply. IsAnswer old new (Estimating plant log state step count) reply.status reply.text.items)
+estimated_reply old new plant log state step count p (Ok reply) same read is none = estimating_answer old new plant log state step count p reply.status reply.text.items same read is
+estimated_reply old new plant log state step count p (Err (Refused reply)) same read is none = absurd none
+estimated_reply old new plant log state step count p (Err ReadFault) same read is none = tt
+estimated_reply old new plant log state step count p (Err WriteFault) same read is none = tt
+estimated_reply old new plant log state step count p (Err Memory) same read is none = tt
 
 -- ---- words and files
 

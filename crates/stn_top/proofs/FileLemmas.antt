@@ -8,7 +8,7 @@ use Rattle.stn_edge.specs.Files.{FileMap, OthersStay}
 use Rattle.stn_top.specs.declared.reply.Reply.{Reply}
 use Rattle.stn_top.specs.declared.stopped.Stopped.{Stopped}
 use Rattle.stn_top.specs.declared.stopped.Stopped.TheVariants.{Refused, ReadFault, WriteFault, Memory}
-use Rattle.stn_top.specs.Words.{Request, Solving, Logging, Simulating, Checking, Upgrading, Showing, Replanning, ReplanLogging, CheckingReplan, Says}
+use Rattle.stn_top.specs.Words.{Request, Solving, Logging, Simulating, Checking, Upgrading, Showing, Replanning, ReplanLogging, CheckingReplan, Estimating, Says}
 use Rattle.stn_top.specs.Sources.{IfReplied}
 use Rattle.stn_top.specs.Requests.{IsLeft, OthersKept}
 
@@ -33,6 +33,7 @@ left_same (Showing seed) old new same = same
 left_same (Replanning plant plan period budget) old new same = same
 left_same (ReplanLogging plant plan period budget log) old new same = inl same
 left_same (CheckingReplan plant plan period log) old new same = same
+left_same (Estimating plant log state step count) old new same = same
 
 -- what holds of every reply
 pub replied : (r : Result Reply Stopped) (P : Type 0) → P → IfReplied r (λ _. P)
@@ -72,6 +73,7 @@ leaves_log words plant budget log (Showing seed) old new says also is = (let sam
 leaves_log words plant budget log (Replanning plant2 plan2 period2 budget2) old new says also is = (let same = ap length (sym says.1.0 ∙ also.1.1.0) in absurd (omega (arith, same)))
 leaves_log words plant budget log (ReplanLogging plant2 plan2 period2 budget2 log2) old new says also is = (let same = ap length (sym says.1.0 ∙ also.1.1.0) in absurd (omega (arith, same)))
 leaves_log words plant budget log (CheckingReplan plant2 plan2 period2 log2) old new says also is = (let same = ap length (sym says.1.0 ∙ also.1.0) in absurd (omega (arith, same)))
+leaves_log words plant budget log (Estimating plant2 log2 state step count) old new says also is = (let same = ap length (sym says.1.0 ∙ also.1.1.0) in absurd (omega (arith, same)))
 leaves_log words plant budget log (Logging plant2 budget2 log2) old new says also is =
     let same : codes "solve" ∷ plant ∷ says.0 ∷ log ∷ [] ≡ codes "solve" ∷ plant2 ∷ also.0 ∷ log2 ∷ [] = sym says.1.0 ∙ also.1.0 in
     let same_plant : plant ≡ plant2 = ap (λ (ws : List (List ℕ)). get_or ws 1 []) same in
@@ -92,6 +94,8 @@ leaves_replan words plant plan period budget log (Upgrading plant2) old new says
 leaves_replan words plant plan period budget log (Showing seed) old new says also is = (let same = ap length (sym says.1.1.0 ∙ also.1.0) in absurd (omega (arith, same)))
 leaves_replan words plant plan period budget log (Replanning plant2 plan2 period2 budget2) old new says also is = (let same = ap length (sym says.1.1.0 ∙ also.1.1.0) in absurd (omega (arith, same)))
 leaves_replan words plant plan period budget log (CheckingReplan plant2 plan2 period2 log2) old new says also is = (let same = ap length (sym says.1.1.0 ∙ also.1.0) in absurd (omega (arith, same)))
+leaves_replan words plant plan period budget log (Estimating plant2 log2 state step count) old new says also is =
+    let first : 114 ≡ 119 = ap (λ (ws : List (List ℕ)). get_or (get_or ws 0 []) 0 0) (sym says.1.1.0 ∙ also.1.1.0) in absurd (omega (arith, first))
 leaves_replan words plant plan period budget log (ReplanLogging plant2 plan2 period2 budget2 log2) old new says also is =
     let same : codes "replan" ∷ plant ∷ plan ∷ says.0 ∷ says.1.0 ∷ log ∷ [] ≡ codes "replan" ∷ plant2 ∷ plan2 ∷ also.0 ∷ also.1.0 ∷ log2 ∷ [] = sym says.1.1.0 ∙ also.1.1.0 in
     let word = λ (k : ℕ). ap (λ (ws : List (List ℕ)). get_or ws k []) same in
@@ -116,6 +120,7 @@ leaves words (Showing seed) other old new says also is = leaves_same other old n
 leaves words (Replanning plant plan period budget) other old new says also is = leaves_same other old new is.left
 leaves words (ReplanLogging plant plan period budget log) other old new says also is = leaves_replan words plant plan period budget log other old new says also is
 leaves words (CheckingReplan plant plan period log) other old new says also is = leaves_same other old new is.left
+leaves words (Estimating plant log state step count) other old new says also is = leaves_same other old new is.left
 
 -- the two facts apart
 pub kept_all : (words : List (List ℕ)) (request : Request) (old new : Option FileMap) → Says words request → OthersKept request old new → IsLeft request old new → (other : Request) → Says words other → OthersKept other old new

@@ -1,9 +1,12 @@
 pub mod WordLemmas
+pub mod StepWords
 pub mod TextLemmas
 pub mod Named
 pub mod ReadFiles
+pub mod TankLines
 pub mod AnswerLemmas
 pub mod ReadBack
+pub mod TankAnswers
 pub mod DemoLemmas
 pub mod FileLemmas
 pub mod ReplanLemmas

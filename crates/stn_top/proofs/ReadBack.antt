@@ -162,7 +162,7 @@ are_remarks answer used small few =
 -- ---- the plan
 
 -- the starts of a point are no more than its slots
-length-point_starts : (plant : Plant) (grid : List (ℕ × ℕ)) (values : List ℕ) → length (point_starts plant grid values) ≤ length grid
+pub length-point_starts : (plant : Plant) (grid : List (ℕ × ℕ)) (values : List ℕ) → length (point_starts plant grid values) ≤ length grid
 length-point_starts plant [] values = omega arith
 length-point_starts plant (slot ∷ grid) [] = omega arith
 length-point_starts plant (slot ∷ grid) (value ∷ values) =

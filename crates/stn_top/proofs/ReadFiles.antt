@@ -35,7 +35,7 @@ refused_of reading_of IsRefusal files name bytes (Ok x) told is = tt
 refused_of reading_of IsRefusal files name bytes (Err stopped) told is = refusal_of reading_of IsRefusal files name bytes stopped told is
 
 -- bytes of every number
-some_bytes : (n : ℕ) → (bytes : List ℕ) × (length bytes ≡ n)
+pub some_bytes : (n : ℕ) → (bytes : List ℕ) × (length bytes ≡ n)
 some_bytes n = (replicate n 0, length-replicate n 0)
 
 -- a file that is longer than a limit has a fault which all longer bytes have

@@ -2,11 +2,11 @@
 use Rattle.std.specs.Cmp.Lexicographic.{same_text}
 use Rattle.std.specs.Prelude.{◌==◌, nat_eq}
 use lib.Pointwise.{pointwise}
-use Rattle.std.proofs.Common.{◌≡◌, true, false, ◌∙◌, ap, ℕ, ◌<◌, ◌≤◌, List, [], ◌∷◌, length, get_or, refl, arith, Bor}
+use Rattle.std.proofs.Common.{◌≡◌, true, false, ◌∙◌, ap, ℕ, ℤ, ◌<◌, ◌≤◌, List, [], ◌∷◌, length, get_or, refl, arith, Bor}
 use Rattle.std.specs.Prelude.{Option, Some, None, MatchOption}
 use Rattle.stn_top.specs.declared.command.Command.{Command}
 use Rattle.stn_top.specs.declared.command.PlanUse.TheVariants.{Simulate, Report, Picture}
-use Rattle.stn_top.specs.Words.{texts, Request, Says, HasNoForm, Solving, Logging, Simulating, Checking, Upgrading, Showing, Replanning, ReplanLogging, CheckingReplan, meaning}
+use Rattle.stn_top.specs.Words.{texts, Request, Says, HasNoForm, Solving, Logging, Simulating, Checking, Upgrading, Showing, Replanning, ReplanLogging, CheckingReplan, Estimating, meaning}
 
 -- three words are the list of their texts
 pub three_texts : (words : List (Bor (List ℕ))) (d : Bor (List ℕ)) → 3 ≤ length words → length words < 4 → texts words ≡ (get_or words 0 d).now ∷ (get_or words 1 d).now ∷ (get_or words 2 d).now ∷ []
@@ -101,26 +101,31 @@ pub record NoReplanning (words : List (List ℕ)) : Type 0 where
   pub log : (plant plan log : List ℕ) (period budget : ℕ) → ¬ Says words (ReplanLogging plant plan period budget log)
   pub check : (plant plan log : List ℕ) (period : ℕ) → ¬ Says words (CheckingReplan plant plan period log)
 
+-- the words say no estimate by an old log
+abbrev NoEstimate : List (List ℕ) → Type 0
+NoEstimate words = (plant log state : List ℕ) (step : ℤ) (count : ℕ) → ¬ Says words (Estimating plant log state step count)
+
 -- the words say nothing of a plant alone, and no seed
 abbrev NoOther : List (List ℕ) → Type 0
 NoOther words = ((plant : List ℕ) → ¬ Says words (Upgrading plant)) × ((seed : ℕ) → ¬ Says words (Showing seed))
 
 -- words that have none of the forms
-pub has_no_form : (words : List (List ℕ)) → NoPlanning words → NoFiles words (Simulating Simulate) → NoFiles words (Simulating Report) → NoFiles words (Simulating Picture) → NoFiles words Checking → NoReplanning words → NoOther words → HasNoForm words
-has_no_form words solve simulate report picture check replan other (Solving plant budget) = solve.0 plant budget
-has_no_form words solve simulate report picture check replan other (Logging plant budget log) = solve.1 plant log budget
-has_no_form words solve simulate report picture check replan other (Simulating Simulate plant plan) = simulate plant plan
-has_no_form words solve simulate report picture check replan other (Simulating Report plant plan) = report plant plan
-has_no_form words solve simulate report picture check replan other (Simulating Picture plant plan) = picture plant plan
-has_no_form words solve simulate report picture check replan other (Checking plant log) = check plant log
-has_no_form words solve simulate report picture check replan other (Upgrading plant) = other.0 plant
-has_no_form words solve simulate report picture check replan other (Showing seed) = other.1 seed
-has_no_form words solve simulate report picture check replan other (Replanning plant plan period budget) = replan.replan plant plan period budget
-has_no_form words solve simulate report picture check replan other (ReplanLogging plant plan period budget log) = replan.log plant plan log period budget
-has_no_form words solve simulate report picture check replan other (CheckingReplan plant plan period log) = replan.check plant plan log period
+pub has_no_form : (words : List (List ℕ)) → NoPlanning words → NoFiles words (Simulating Simulate) → NoFiles words (Simulating Report) → NoFiles words (Simulating Picture) → NoFiles words Checking → NoReplanning words → NoEstimate words → NoOther words → HasNoForm words
+has_no_form words solve simulate report picture check replan estimate other (Solving plant budget) = solve.0 plant budget
+has_no_form words solve simulate report picture check replan estimate other (Logging plant budget log) = solve.1 plant log budget
+has_no_form words solve simulate report picture check replan estimate other (Simulating Simulate plant plan) = simulate plant plan
+has_no_form words solve simulate report picture check replan estimate other (Simulating Report plant plan) = report plant plan
+has_no_form words solve simulate report picture check replan estimate other (Simulating Picture plant plan) = picture plant plan
+has_no_form words solve simulate report picture check replan estimate other (Checking plant log) = check plant log
+has_no_form words solve simulate report picture check replan estimate other (Upgrading plant) = other.0 plant
+has_no_form words solve simulate report picture check replan estimate other (Showing seed) = other.1 seed
+has_no_form words solve simulate report picture check replan estimate other (Replanning plant plan period budget) = replan.replan plant plan period budget
+has_no_form words solve simulate report picture check replan estimate other (ReplanLogging plant plan period budget log) = replan.log plant plan log period budget
+has_no_form words solve simulate report picture check replan estimate other (CheckingReplan plant plan period log) = replan.check plant plan log period
+has_no_form words solve simulate report picture check replan estimate other (Estimating plant log state step count) = estimate plant log state step count
 
 -- the last form decides
-pub last_form : (words : List (List ℕ)) (command : Option Command) → NoPlanning words → NoFiles words (Simulating Simulate) → NoFiles words (Simulating Report) → NoFiles words (Simulating Picture) → NoFiles words Checking → NoReplanning words → ((plant : List ℕ) → ¬ Says words (Upgrading plant))
+pub last_form : (words : List (List ℕ)) (command : Option Command) → NoPlanning words → NoFiles words (Simulating Simulate) → NoFiles words (Simulating Report) → NoFiles words (Simulating Picture) → NoFiles words Checking → NoReplanning words → NoEstimate words → ((plant : List ℕ) → ¬ Says words (Upgrading plant))
     → MatchOption command ((seed : ℕ) → ¬ Says words (Showing seed)) (λ c. Says words (meaning c)) → MatchOption command (HasNoForm words) (λ c. Says words (meaning c))
-last_form words None solve simulate report picture check replan upgrade show = has_no_form words solve simulate report picture check replan (upgrade, show)
-last_form words (Some command) solve simulate report picture check replan upgrade show = show
+last_form words None solve simulate report picture check replan estimate upgrade show = has_no_form words solve simulate report picture check replan estimate (upgrade, show)
+last_form words (Some command) solve simulate report picture check replan estimate upgrade show = show

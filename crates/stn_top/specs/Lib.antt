@@ -7,5 +7,6 @@ pub mod Checking
 pub mod Upgrading
 pub mod Demo
 pub mod Replanning
+pub mod Estimating
 pub mod Requests
 pub mod Replies

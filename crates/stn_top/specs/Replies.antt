@@ -45,4 +45,4 @@ LogFailed words files old new = Rose old new × ((request : Request) × (Says wo
 
 -- the statuses of refusals, and that of a file that could not be read
 abbrev pub IsUnwritten : ℕ → Type 0
-IsUnwritten status = (status ≡ 2) ⊎ ((status ≡ 3) ⊎ ((status ≡ 4) ⊎ (status ≡ 7)))
+IsUnwritten status = (status ≡ 2) ⊎ ((status ≡ 3) ⊎ ((status ≡ 4) ⊎ ((status ≡ 5) ⊎ (status ≡ 7))))

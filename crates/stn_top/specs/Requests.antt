@@ -11,13 +11,14 @@ use Rattle.plan_text.specs.PlanText.{plan_of_text}
 use Rattle.frozen_plan.specs.Frozen.{kept_starts}
 use Rattle.frozen_plan.specs.Keeping.{StandTogether}
 use Rattle.stn_solve.specs.Proofs.{HasPlantProof, IsLeftOf, bytes_in}
-use Rattle.stn_top.specs.Words.{Request, Solving, Logging, Simulating, Checking, Upgrading, Showing, Replanning, ReplanLogging, CheckingReplan}
+use Rattle.stn_top.specs.Words.{Request, Solving, Logging, Simulating, Checking, Upgrading, Showing, Replanning, ReplanLogging, CheckingReplan, Estimating}
 use Rattle.stn_top.specs.Sources.{IsReadOf, OnPlant, OnPlan}
 use Rattle.stn_top.specs.Solving.{Solved}
 use Rattle.stn_top.specs.Simulation.{Simulated}
 use Rattle.stn_top.specs.Checking.{Checked}
 use Rattle.stn_top.specs.Upgrading.{Upgraded}
 use Rattle.stn_top.specs.Demo.{Shown}
+use Rattle.stn_top.specs.Estimating.{Estimated}
 use Rattle.stn_top.specs.Replanning.{Replanned, ReplanChecked, LeavesReplan}
 
 -- the names of the files that a request reads, in the order of its words: the plant, then the plan, or the log to check
@@ -31,6 +32,7 @@ read_names (Showing seed) = []
 read_names (Replanning plant plan period budget) = plant ∷ plan ∷ []
 read_names (ReplanLogging plant plan period budget log) = plant ∷ plan ∷ []
 read_names (CheckingReplan plant plan period log) = plant ∷ plan ∷ log ∷ []
+read_names (Estimating plant log state step count) = plant ∷ log ∷ []
 
 -- the names of the files that a request writes: the log of a planning
 abbrev pub written_names : Request → List (List ℕ)
@@ -43,6 +45,7 @@ written_names (Showing seed) = []
 written_names (Replanning plant plan period budget) = []
 written_names (ReplanLogging plant plan period budget log) = log ∷ []
 written_names (CheckingReplan plant plan period log) = []
+written_names (Estimating plant log state step count) = []
 
 -- the files that a request reads may be read
 abbrev pub MayRead : (List ℕ → Bool) → Request → Type 0
@@ -77,6 +80,7 @@ AnswersTo old new contents (ReplanLogging plant plan period budget log) status t
     OnPlant (reading (content contents 0)) (λ p. OnPlan (plan_of_text p (content contents 1)) (λ starts. Replanned budget p period (kept_starts period starts) (bytes_in log new) (new ≡ old))) status text
 AnswersTo old new contents (CheckingReplan plant plan period log) status text =
     OnPlant (reading (content contents 0)) (λ p. OnPlan (plan_of_text p (content contents 1)) (λ starts. ReplanChecked (bytes_in log old) p period (kept_starts period starts) (new ≡ old))) status text
+AnswersTo old new contents (Estimating plant log state step count) status text = OnPlant (reading (content contents 0)) (Estimated state step count (content contents 1)) status text
 
 -- The answer to a request, with the files before and after: there are contents of the files that it reads, which are those of
 -- the files before where the store tells them, and it is the answer over these contents. A refusal of the plant or of the plan
@@ -120,6 +124,7 @@ IsLeft (Showing seed) old new = new ≡ old
 IsLeft (Replanning plant plan period budget) old new = new ≡ old
 IsLeft (ReplanLogging plant plan period budget log) old new = (new ≡ old) ⊎ HoldsReplan old new plant plan period log
 IsLeft (CheckingReplan plant plan period log) old new = new ≡ old
+IsLeft (Estimating plant log state step count) old new = new ≡ old
 
 -- a request gets to writing a file: it names a log, and its plant was read, and its plan where it has one, of which the kept starts stand together
 abbrev pub GetsToWriting : Option FileMap → Request → Type 0
@@ -132,3 +137,4 @@ GetsToWriting files (Showing seed) = ⊥
 GetsToWriting files (Replanning plant plan period budget) = ⊥
 GetsToWriting files (ReplanLogging plant plan period budget log) = CanReplan files plant plan period
 GetsToWriting files (CheckingReplan plant plan period log) = ⊥
+GetsToWriting files (Estimating plant log state step count) = ⊥

@@ -1,5 +1,6 @@
 -- The words of a command.
-use Rattle.std.specs.Prelude.{◌≡◌, ◌≢◌, ℕ, ◌<◌, ◌≤◌, ◌^◌, List, [], ◌∷◌, map, codes, decimal}
+use Rattle.std.specs.Prelude.{◌≡◌, ◌≢◌, ℕ, ℤ, ◌<◌, ◌≤◌, ◌^◌, unsigned_abs, List, [], ◌∷◌, map, codes, decimal}
+use Rattle.std.specs.Fmt.{signed_decimal}
 use Rattle.std.specs.Borrow.{Bor}
 use Rattle.stn_top.specs.declared.command.PlanUse.{PlanUse}
 use Rattle.stn_top.specs.declared.command.PlanUse.TheVariants.{Simulate, Report, Picture}
@@ -17,6 +18,7 @@ pub data Request : Type 0 where
   Replanning : (plant plan : List ℕ) (period budget : ℕ) → Request
   ReplanLogging : (plant plan : List ℕ) (period budget : ℕ) (log : List ℕ) → Request
   CheckingReplan : (plant plan : List ℕ) (period : ℕ) (log : List ℕ) → Request
+  Estimating : (plant log state : List ℕ) (step : ℤ) (count : ℕ) → Request
 
 -- the first word of a command that simulates a plan
 abbrev pub use_word : PlanUse → List ℕ
@@ -44,6 +46,17 @@ pub record IsPeriod (word : List ℕ) (period : ℕ) : Type 0 where
   pub digits : word ≡ decimal period
   pub most : period ≤ 336
 
+-- the word is a step: decimal digits without leading zeros, after a minus where it is below 0
+pub record IsStep (word : List ℕ) (step : ℤ) : Type 0 where
+  pub digits : word ≡ signed_decimal step
+  pub most : unsigned_abs step ≤ 1000000000
+
+-- the word is a number of steps in decimal digits, without sign and leading zeros
+pub record IsStepCount (word : List ℕ) (count : ℕ) : Type 0 where
+  pub digits : word ≡ decimal count
+  pub some : 1 ≤ count
+  pub most : count ≤ 50
+
 -- the words say the request; no file has an empty name, and a log is not written over a file that is read
 abbrev pub Says : List (List ℕ) → Request → Type 0
 Says words (Solving plant budget) = (word : List ℕ) × ((words ≡ codes "solve" ∷ plant ∷ word ∷ []) × (plant ≢ []) × IsBudget word budget)
@@ -60,6 +73,8 @@ Says words (ReplanLogging plant plan period budget log) =
     × (plant ≢ []) × (plan ≢ []) × (log ≢ []) × (log ≢ plant) × (log ≢ plan) × IsPeriod from period × IsBudget most budget))
 Says words (CheckingReplan plant plan period log) =
     (from : List ℕ) × ((words ≡ codes "check-replan" ∷ plant ∷ plan ∷ from ∷ log ∷ []) × (plant ≢ []) × (plan ≢ []) × (log ≢ []) × IsPeriod from period)
+Says words (Estimating plant log state step count) =
+    (by : List ℕ) × ((times : List ℕ) × ((words ≡ codes "whatif" ∷ plant ∷ log ∷ state ∷ by ∷ times ∷ []) × (plant ≢ []) × (log ≢ []) × IsStep by step × IsStepCount times count))
 
 -- the words have the form of no command
 abbrev pub HasNoForm : List (List ℕ) → Type 0
@@ -76,3 +91,4 @@ meaning (variants.Demo seed) = Showing seed
 meaning (variants.Replan plant plan period budget) = Replanning plant.now plan.now period.number budget.boxes
 meaning (variants.LogReplan plant plan period budget log) = ReplanLogging plant.now plan.now period.number budget.boxes log.now
 meaning (variants.CheckReplan plant plan period log) = CheckingReplan plant.now plan.now period.number log.now
+meaning (variants.Estimate plant log state steps) = Estimating plant.now log.now state.now steps.step steps.count

@@ -1,9 +1,10 @@
 //! The words of a command.
-ghost use Rattle.std.specs.Prelude.{◌≡◌, ◌≢◌, ◌↔◌, true, ℕ, List, MatchOption};
-ghost use Rattle.stn_top.specs.Words.{Says, HasNoForm, IsBudget, IsPeriod, IsSeed, Solving, Logging, Simulating, Checking, Upgrading, Showing, Replanning, ReplanLogging, CheckingReplan, texts, meaning, use_word};
+ghost use Rattle.std.specs.Prelude.{◌≡◌, ◌≢◌, ◌↔◌, ◌∷◌, true, ℕ, ℤ, List, MatchOption};
+ghost use Rattle.stn_top.specs.Words.{Says, HasNoForm, IsBudget, IsPeriod, IsSeed, IsStep, IsStepCount, Solving, Logging, Simulating, Checking, Upgrading, Showing, Replanning, ReplanLogging, CheckingReplan, Estimating, texts, meaning, use_word};
 
 use crate::budget::{Budget, MAX_BUDGET};
 use crate::period::Period;
+use crate::steps::{MAX_STEP, MAX_STEPS, Steps};
 use stn_model::limits::MAX_PERIODS;
 use text_words::read_number;
 
@@ -73,6 +74,13 @@ pub enum Command<'a> {
         period: Period,
         log: &'a str,
     },
+    /// `whatif PLANT LOG STATE STEP COUNT`: say what a larger or a smaller tank would be worth at most.
+    Estimate {
+        plant: &'a str,
+        log: &'a str,
+        state: &'a str,
+        steps: Steps,
+    },
 }
 
 /// The command that the words say, if they have the form of one. It takes no memory.
@@ -108,6 +116,9 @@ pub fn command_of<'a>(words: &[&'a str]) -> Option<Command<'a>>
         return Some(command);
     }
     if let Some(command) = check_replan_of(words) {
+        return Some(command);
+    }
+    if let Some(command) = estimate_of(words) {
         return Some(command);
     }
     demo_of(words)
@@ -312,6 +323,77 @@ fn period_of(word: &str) -> Option<Period>
             number: number as u32,
         }),
         None => None,
+    }
+}
+
+fn estimate_of<'a>(words: &[&'a str]) -> Option<Command<'a>>
+    ensures { MatchOption result ((plant log state : List ℕ) (step : ℤ) (count : ℕ)
+        → ¬ Says (texts words.now) (Estimating plant log state step count))
+        (λ command. Says (texts words.now) (meaning command)) }
+{
+    match words {
+        [first, plant, log, state, step, count]
+            if *first == "whatif" && !plant.is_empty() && !log.is_empty() => {
+            match steps_of(step, count) {
+                Some(steps) => Some(Command::Estimate {
+                    plant,
+                    log,
+                    state,
+                    steps,
+                }),
+                None => None,
+            }
+        }
+        _ => None,
+    }
+}
+
+// The steps that two words say.
+fn steps_of(step: &str, count: &str) -> Option<Steps>
+    ensures { MatchOption result ((n : ℤ) (m : ℕ) → IsStep step.now n → ¬ IsStepCount count.now m)
+        (λ steps. IsStep step.now steps.step × IsStepCount count.now steps.count) }
+{
+    match (step_of(step.as_bytes()), count_of(count)) {
+        (Some(step), Some(count)) => Some(Steps { step, count }),
+        _ => None,
+    }
+}
+
+fn step_of(word: &[u8]) -> Option<i64>
+    ensures { MatchOption result ((n : ℤ) → ¬ IsStep word.now n) (λ step. IsStep word.now step) }
+{
+    match word {
+        [b'-', digits @ ..] => fall_of(digits),
+        _ => match read_number(word, MAX_STEP + 1) {
+            Some(number) => Some(number as i64),
+            None => None,
+        },
+    }
+}
+
+// The step that a minus and the digits are.
+fn fall_of(digits: &[u8]) -> Option<i64>
+    ensures { MatchOption result ((n : ℤ) → ¬ IsStep (45 ∷ digits.now) n)
+        (λ step. IsStep (45 ∷ digits.now) step) }
+{
+    match read_number(digits, MAX_STEP + 1) {
+        Some(number) => {
+            if number == 0 {
+                None
+            } else {
+                Some(-(number as i64))
+            }
+        }
+        None => None,
+    }
+}
+
+fn count_of(word: &str) -> Option<u32>
+    ensures { MatchOption result ((n : ℕ) → ¬ IsStepCount word.now n) (λ count. IsStepCount word.now count) }
+{
+    match read_number(word.as_bytes(), MAX_STEPS as u64 + 1) {
+        Some(number) if 0 < number => Some(number as u32),
+        _ => None,
     }
 }
 

@@ -56,8 +56,8 @@ pub fn simulate_file<F: Shelf>(
     Ok(simulate_plan(alloc, usage, &plant, plan.as_slice())?)
 }
 
-// The answer of simulating a plan on a plant.
-fn simulate_plan(
+/// The answer of simulating a plan on a plant.
+pub fn simulate_plan(
     alloc: Global,
     usage: PlanUse,
     plant: &Plant,

@@ -11,6 +11,7 @@ ghost use Rattle.stn_top.specs.Replies.{IsReply, Answered, IsCutOff, MayReadAll,
 use crate::checking::check_file;
 use crate::command::{Command, command_of};
 use crate::demo::show;
+use crate::estimating::estimate_file;
 use crate::replanning::{check_replan_file, log_replan_file, replan_file};
 use crate::reply::Reply;
 use crate::simulation::simulate_file;
@@ -34,9 +35,10 @@ use stn_edge::{Shelf, Sink, Stop};
 /// | `replan PLANT PLAN PERIOD BUDGET` | keeps the starts of the plan before the period, and plans what comes after as `solve` does; where one of them does not fit or two meet, says so |
 /// | `replan PLANT PLAN PERIOD BUDGET LOG` | the same, and writes the log of the proof; LOG is neither the word PLANT nor PLAN |
 /// | `check-replan PLANT PLAN PERIOD LOG` | checks the proof log of such a planning, and says its claim or its first defect |
+/// | `whatif PLANT LOG STATE STEP COUNT` | says by an old log, without a search, what no plan earns more than where the limits of the state are raised by no step, by one, and so on, and what the log's plan then comes to |
 ///
-/// Statuses: 0 optimal, feasible, reported, upgraded or valid; 1 no plan is feasible, the plan is not or what is kept of it can't be, or the log is not valid; 2 the words have no
-/// form; 3 the plant file has a fault; 4 the plan file has one; 6 the budget was spent; 7 a file could not be read; 8 the log could not be written or
+/// Statuses: 0 optimal, feasible, reported, upgraded, valid or estimated; 1 no plan is feasible, the plan is not or what is kept of it can't be, or the log is not valid; 2 the words have no
+/// form; 3 the plant file has a fault; 4 the plan file has one; 5 STATE is not the name of a state with limits; 6 the budget was spent; 7 a file could not be read; 8 the log could not be written or
 /// the answer could not be put; 9 no memory. The answer is put at once, after all work. No file changes but the log that the words name.
 pub fn run<F: Shelf, K: Sink>(alloc: Global, words: &[&str], files: &mut F, out: &mut K) -> u8
     requires may_read { MayReadAll (F.may_read files.old) (texts words.now) }
@@ -59,7 +61,7 @@ pub fn run<F: Shelf, K: Sink>(alloc: Global, words: &[&str], files: &mut F, out:
     ensures known { result ≤ 9 }
 
     // Only the log that the request writes may have changed, and it holds a log, begun or whole. After
-    // 2, 3, 4 and 7 no file has.
+    // 2, 3, 4, 5 and 7 no file has.
     ensures files { (request : Request) → Says (texts words.now) request
         → OthersKept request (F.files files.old) (F.files files.new) }
     ensures left { (request : Request) → Says (texts words.now) request
@@ -175,5 +177,11 @@ fn reply_to<F: Shelf>(alloc: Global, command: Command, files: &mut F) -> Result<
             period,
             log,
         } => check_replan_file(alloc, files, plant, plan, period, log),
+        Command::Estimate {
+            plant,
+            log,
+            state,
+            steps,
+        } => estimate_file(alloc, files, plant, log, state, steps),
     }
 }

@@ -1,0 +1,9 @@
+-- A log that is too long is answered so, whatever its bytes are.
+use Rattle.std.proofs.Common.{Err, ap}
+use Rattle.stn_top.proofs.TankAnswers.{too_long_answer}
+use Rattle.stn_top.proofs.estimating.estimate_tank.Goals as goal
+
+pub returns-in-Err-TooLong-clause-answer : goal.returns-in-Err-TooLong-clause-answer
+returns-in-Err-TooLong-clause-answer g c =
+    let reply = c.in_ok-long_log-in-Err-TooLong.field-0 in
+    too_long_answer (g.F.Shelf.files c.args.files.now) c.args.log.now c.args.plant c.args.number c.args.steps.step c.args.steps.count reply.status reply.text.items (c.in-Err-TooLong.ensures.too_long (ap Err c.in-Err-TooLong.field-0-is)) c.in_ok-long_log-in-Err-TooLong.ensures

@@ -1,0 +1,28 @@
+-- The loose cap is defined, bounds the worths of lawful points, and is the proof's own cap where that is defined.
+use Rattle.std.proofs.Common.{sym, subst, ◌∙◌}
+use Rattle.row_kit.specs.Point.{IsLawful, worth_of}
+use Rattle.proof_tree.specs.Cap.{Bounds}
+use Rattle.proof_tree.specs.Tree.{tree_of}
+use Rattle.row_relax.specs.View.{IsIn}
+use Rattle.what_if.specs.Loose.{shown}
+use Rattle.what_if.proofs.Bounding.{loose_cap-bounds}
+use Rattle.what_if.proofs.Same.{loose_cap-defined, loose_cap-same}
+use Rattle.what_if.proofs.Shown.{same_marks}
+use Rattle.what_if.proofs.loosening.loose.Goals as goal
+
+pub number_of-requires : goal.number_of-requires
+number_of-requires c = λ is. loose_cap-defined c.args.rows.now.program (tree_of c.args.proof.now) (shown c.args.area.now) (sym c.node_cap.ensures.cap ∙ is)
+
+pub returns-clause-bounds : goal.returns-clause-bounds
+returns-clause-bounds c =
+    let program = c.args.rows.now.program in
+    let v = shown c.args.area.now in
+    subst (Bounds (IsIn v) (IsLawful program) (worth_of program)) (sym (c.number_of.ensures ∙ c.node_cap.ensures.cap)) (loose_cap-bounds program (tree_of c.args.proof.now) v c.requires.fits)
+
+pub returns-clause-own : goal.returns-clause-own
+returns-clause-own c = λ defined.
+    let program = c.args.rows.now.program in
+    c.number_of.ensures ∙ c.node_cap.ensures.cap ∙ loose_cap-same program (tree_of c.args.proof.now) (shown c.args.area.now) c.requires.fits defined
+
+pub returns-clause-same : goal.returns-clause-same
+returns-clause-same c = same_marks c.args.area.now c.node_cap.new.area c.node_cap.ensures.same

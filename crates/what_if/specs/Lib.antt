@@ -1,0 +1,5 @@
+pub mod Loose
+pub mod Estimate
+pub mod OldLogs
+pub mod Raised
+pub mod laws

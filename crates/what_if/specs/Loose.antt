@@ -1,0 +1,54 @@
+-- The cap that a proof still gives where the rows are no longer those that it was made for.
+use Rattle.std.specs.Prelude.{ℤ, if◌then◌else◌, List, [], map, Option, Some, None, unwrap_or, fold}
+use Rattle.row_kit.specs.declared.domain.Domain.{Domain}
+use Rattle.row_kit.specs.declared.program.Program.{Program}
+use Rattle.range_prop.specs.declared.row_cut.RowCut.{RowCut}
+use Rattle.dual_bound.specs.declared.cert.Cert.{Cert}
+use Rattle.proof_tree.specs.declared.capped.Capped.{Capped}
+use Rattle.proof_tree.specs.declared.capped.Capped.TheVariants.{AtMost, NoPoint, Bad}
+use Rattle.proof_tree.specs.Cap.{greater}
+use Rattle.proof_tree.specs.Tree.{leaf, split, cap_if, leaf_cap}
+use Rattle.proof_tree.specs.Views.{View, present}
+use Rattle.row_relax.specs.RowProofs.{RowTree}
+use Rattle.row_relax.specs.Steps.{row_steps}
+use Rattle.row_relax.specs.View.{view_of}
+
+-- what an area shows at its own mark
+abbrev pub shown : List (List Domain) → View
+shown marks = present (map view_of marks)
+
+-- the view after a cut; a cut of a row or a slot that is not there changes nothing
+abbrev pub after_cut : Program → View → RowCut → View
+after_cut program v cut = unwrap_or ((row_steps program).cut v cut) v
+
+-- the view after cuts, made one after another
+abbrev pub after_all : Program → View → List RowCut → View
+after_all program v cuts = fold (after_cut program) v cuts
+
+-- the certificate of scale 1 without multipliers
+abbrev pub no_mults : Cert
+no_mults = record { scale = 1; mults = [] }
+
+-- a cap that is defined, else another one
+abbrev pub or_else : Capped → Capped → Capped
+or_else Bad other = other
+or_else NoPoint other = NoPoint
+or_else (AtMost n) other = AtMost n
+
+-- what an end gives over a view: no point where some domain is empty, else its own cap where that is defined, else the cap of scale 1 without multipliers
+abbrev pub loosened : Program → View → Capped → Capped
+loosened program v own = if (row_steps program).empty v then NoPoint else or_else own ((row_steps program).cap v no_mults)
+
+-- the loose cap of a proof over a view: what its end gives after its cuts, where a split has the greater of its two parts' loose caps
+abbrev pub loose_cap : Program → View → RowTree → Capped
+loose_cap program v (leaf cuts found end) =
+    loosened program (after_all program v cuts) (leaf_cap (row_steps program) (after_all program v cuts) end)
+loose_cap program v (split cuts found pick cert a b) =
+    loosened program (after_all program v cuts)
+    (greater (cap_if ((row_steps program).left (after_all program v cuts) pick) (λ x. loose_cap program x a))
+    (cap_if ((row_steps program).right (after_all program v cuts) pick) (λ x. loose_cap program x b)))
+
+-- a number as a cap: none says that there is no point
+abbrev pub said : Option ℤ → Capped
+said None = NoPoint
+said (Some n) = AtMost n

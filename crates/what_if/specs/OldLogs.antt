@@ -1,0 +1,36 @@
+-- An old log of a plant: when it is valid, and the plan of its claim.
+use Rattle.std.specs.Prelude.{◌≡◌, ℕ, List, Option, None, IsSomeAnd}
+use Rattle.stn_model.specs.declared.plant.Plant.{Plant}
+use Rattle.stn_model.specs.declared.start.Start.{Start}
+use Rattle.time_grid.specs.PlanPoint.{IsPlanOf}
+use Rattle.row_kit.specs.declared.program.Program.{Program}
+use Rattle.proof_tree.specs.Tree.{tree_of}
+use Rattle.row_relax.specs.RowProofs.{RowTree}
+use Rattle.proof_log.specs.declared.claim.Claim.{Claim}
+use Rattle.proof_log.specs.declared.claim.Claim.TheVariants.{Optimal, Infeasible, Between, Below}
+use Rattle.log_check.specs.declared.verdict.LogVerdict.TheVariants.{No}
+use Rattle.log_check.specs.Verdict.{IsLog, IsSoundLog}
+use Rattle.plant_check.specs.Claims.{IsChecked, IsOfPlant, Says}
+use Rattle.what_if.specs.declared.reading.OldLog.{OldLog}
+use Rattle.what_if.specs.declared.reading.OldLog.TheVariants.{Valid, Defective}
+
+-- The bytes are the text of the log of this proof and this claim, without a defect over the plant's program; what the claim
+-- says holds of all plans.
+pub record IsValidFor (plant : Plant) (bytes : List ℕ) (proof : RowTree) (claim : Claim) : Type 0 where
+  pub program : Program
+  pub of_plant : IsOfPlant plant program
+  pub is_log : IsLog program bytes proof claim
+  pub sound_log : IsSoundLog program proof claim
+  pub says : Says plant claim
+
+-- the bytes are the text of this valid log, or have this first defect
+abbrev pub IsOldLog : Plant → List ℕ → OldLog → Type 0
+IsOldLog plant bytes (Valid log) = IsValidFor plant bytes (tree_of log.tree) log.claim
+IsOldLog plant bytes (Defective defect) = IsChecked plant bytes (No defect)
+
+-- the plan of a claim: that of its point, where it has one
+abbrev pub HasPlan : Plant → Claim → Option (List Start) → Type 0
+HasPlan plant (Optimal earned point) plan = IsSomeAnd plan (IsPlanOf plant point)
+HasPlan plant Infeasible plan = plan ≡ None
+HasPlan plant (Between earned most point) plan = IsSomeAnd plan (IsPlanOf plant point)
+HasPlan plant (Below most) plan = plan ≡ None

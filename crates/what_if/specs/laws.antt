@@ -1,0 +1,3 @@
+-- What the language wants in specs/, and no public clause cites.
+pub mod Judged
+pub mod Own

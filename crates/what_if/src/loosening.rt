@@ -1,0 +1,190 @@
+ghost use Rattle.std.specs.Prelude.{◌≡◌, ◌≢◌, [], map, None, false};
+ghost use Rattle.row_kit.specs.Point.{IsLawful, worth_of};
+ghost use Rattle.proof_tree.specs.declared.capped.Capped.TheVariants.{Bad};
+ghost use Rattle.proof_tree.specs.Cap.{Bounds};
+ghost use Rattle.proof_tree.specs.Tree.{cap_if, leaf_cap, no_point, tree_at, tree_cap, tree_of};
+ghost use Rattle.proof_tree.specs.Views.{KeepsViews};
+ghost use Rattle.row_relax.specs.Steps.{row_steps};
+ghost use Rattle.row_relax.specs.View.{Fits, IsIn, view_of};
+ghost use Rattle.what_if.specs.Loose.{after_all, after_cut, loose_cap, loosened, no_mults, said, shown};
+ghost use Rattle.what_if.specs.laws.Own.{own_cap};
+
+use dual_bound::Cert;
+use proof_tree::{Capped, End, Relaxation, greater_cap};
+use range_prop::RowCut;
+use row_kit::{Area, Found, List};
+use row_relax::{RowPick, RowProof, Rows};
+use std::alloc::Global;
+
+/// The most that a lawful point of the area can be worth, by a proof that may be of other rows: none says that the area has no
+/// lawful point. The cuts are made, and a cut of a row or a slot that is not there is no cut. Where some domain is then empty
+/// there is no point. Else a split gives the greater of its parts' answers. Any other end gives its cap where it has one, and
+/// where it has none the cap of scale 1 without multipliers, as a split of a slot that is not there does.
+///
+/// It takes no memory: what it is passed serves the empty list of multipliers. It costs what the proof's cap costs.
+pub fn loose(alloc: Global, rows: &Rows, area: &mut Area, proof: &RowProof) -> Option<i128>
+    requires fits { Fits rows.now.program (shown area.old) }
+    ensures cap { said result ≡ loose_cap rows.now.program (shown area.old) (tree_of proof.now) }
+
+    // No lawful point of the area is worth more, and where it is none the area has no lawful point.
+    ensures bounds { Bounds (IsIn (shown area.old)) (IsLawful rows.now.program) (worth_of rows.now.program)
+        (said result) }
+
+    // It is the proof's own cap, where that is defined.
+    ensures own { tree_cap (row_steps rows.now.program) (shown area.old) (tree_of proof.now) ≢ Bad
+        → said result ≡ tree_cap (row_steps rows.now.program) (shown area.old) (tree_of proof.now) }
+    ensures same { area.new ≡ area.old }
+{
+    let plain = no_mults(alloc);
+    number_of(node_cap(rows, area, &plain, proof))
+}
+
+// A cap that is defined, as a number.
+fn number_of(cap: Capped) -> Option<i128>
+    requires { cap ≢ Bad }
+    ensures { said result ≡ cap }
+{
+    match cap {
+        Capped::AtMost(most) => Some(most),
+        Capped::NoPoint => None,
+        Capped::Bad => unreachable!(),
+    }
+}
+
+// The certificate of scale 1 without multipliers.
+fn no_mults(alloc: Global) -> Cert
+    ensures { result ≡ no_mults }
+{
+    Cert {
+        scale: 1,
+        mults: List::new(alloc),
+    }
+}
+
+// The loose cap of a node over the area.
+#[cycle(loose)]
+fn node_cap(rows: &Rows, area: &mut Area, plain: &Cert, proof: &RowProof) -> Capped
+    requires fits { Fits rows.now.program (shown area.old) }
+    requires plain { plain.now ≡ no_mults }
+    ensures cap { result ≡ loose_cap rows.now.program (shown area.old) (tree_of proof.now) }
+    ensures same { map view_of area.new ≡ map view_of area.old }
+{
+    let mark = rows.mark(area);
+    cut_down(rows, area, proof.cuts.as_slice());
+    let cap = if rows.empty(area) {
+        Capped::NoPoint
+    } else {
+        let own = end_cap(rows, area, plain, &proof.end);
+        or_plain(rows, area, plain, own)
+    };
+    rows.back(area, mark);
+    cap
+}
+
+// The cap of an end over the area after its node's cuts, `Bad` where it has none.
+#[cycle(loose)]
+fn end_cap(
+    rows: &Rows,
+    area: &mut Area,
+    plain: &Cert,
+    end: &End<RowCut, Cert, RowPick, Found>,
+) -> Capped
+    requires fits { Fits rows.now.program (shown area.old) }
+    requires plain { plain.now ≡ no_mults }
+    ensures cap { result ≡ own_cap rows.now.program (shown area.old) (tree_at [] None end.now) }
+    ensures same { map view_of area.new ≡ map view_of area.old }
+{
+    match end {
+        End::Empty => empty_cap(rows, area),
+        End::Dual(cert) => rows.cap(area, cert),
+        End::Point => rows.settle(area),
+        End::Pending(cert) => rows.cap(area, cert),
+        End::Split(pick, _, left, right) => {
+            let left_cap = left_cap(rows, area, plain, pick, left);
+            greater_cap(left_cap, right_cap(rows, area, plain, pick, right))
+        }
+    }
+}
+
+// The loose cap of a left part, `Bad` where the pick names none.
+#[cycle(loose)]
+fn left_cap(rows: &Rows, area: &mut Area, plain: &Cert, pick: &RowPick, part: &RowProof) -> Capped
+    requires fits { Fits rows.now.program (shown area.old) }
+    requires plain { plain.now ≡ no_mults }
+    ensures cap { result ≡ cap_if ((row_steps rows.now.program).left (shown area.old) pick.now)
+        (λ view. loose_cap rows.now.program view (tree_of part.now)) }
+    ensures same { map view_of area.new ≡ map view_of area.old }
+{
+    let mark = rows.mark(area);
+    if !rows.left(area, pick) {
+        return Capped::Bad;
+    }
+    let cap = node_cap(rows, area, plain, part);
+    rows.back(area, mark);
+    cap
+}
+
+// The loose cap of a right part, `Bad` where the pick names none.
+#[cycle(loose)]
+fn right_cap(rows: &Rows, area: &mut Area, plain: &Cert, pick: &RowPick, part: &RowProof) -> Capped
+    requires fits { Fits rows.now.program (shown area.old) }
+    requires plain { plain.now ≡ no_mults }
+    ensures cap { result ≡ cap_if ((row_steps rows.now.program).right (shown area.old) pick.now)
+        (λ view. loose_cap rows.now.program view (tree_of part.now)) }
+    ensures same { map view_of area.new ≡ map view_of area.old }
+{
+    let mark = rows.mark(area);
+    if !rows.right(area, pick) {
+        return Capped::Bad;
+    }
+    let cap = node_cap(rows, area, plain, part);
+    rows.back(area, mark);
+    cap
+}
+
+// Makes the cuts that are there.
+fn cut_down(rows: &Rows, area: &mut Area, cuts: &[RowCut])
+    requires fits { Fits rows.now.program (shown area.old) }
+    ensures fits { Fits rows.now.program (shown area.new) }
+    ensures cuts { shown area.new ≡ after_all rows.now.program (shown area.old) cuts.now }
+    ensures keeps { KeepsViews (map view_of area.old) (map view_of area.new) }
+{
+    for cut in cuts {
+        cut_if_there(rows, area, cut);
+    }
+}
+
+// Makes a cut, where its row and its slot are there.
+fn cut_if_there(rows: &Rows, area: &mut Area, cut: &RowCut)
+    requires fits { Fits rows.now.program (shown area.old) }
+    ensures fits { Fits rows.now.program (shown area.new) }
+    ensures cut { shown area.new ≡ after_cut rows.now.program (shown area.old) cut.now }
+    ensures keeps { KeepsViews (map view_of area.old) (map view_of area.new) }
+{
+    let _ = rows.cut(area, cut);
+}
+
+// The cap of an end that says that the area has no point.
+fn empty_cap(rows: &Rows, area: &Area) -> Capped
+    requires { Fits rows.now.program (shown area.now) }
+    ensures { result ≡ leaf_cap (row_steps rows.now.program) (shown area.now) no_point }
+{
+    if rows.empty(area) {
+        Capped::NoPoint
+    } else {
+        Capped::Bad
+    }
+}
+
+// A cap over an area without an empty domain, or that of scale 1 without multipliers where it is `Bad`.
+fn or_plain(rows: &Rows, area: &Area, plain: &Cert, own: Capped) -> Capped
+    requires fits { Fits rows.now.program (shown area.now) }
+    requires plain { plain.now ≡ no_mults }
+    requires open_ { (row_steps rows.now.program).empty (shown area.now) ≡ false }
+    ensures { result ≡ loosened rows.now.program (shown area.now) own }
+{
+    match own {
+        Capped::Bad => rows.cap(area, plain),
+        cap => cap,
+    }
+}
