@@ -3,15 +3,20 @@
 
     python3 bench/bounds.py ../shared/plants                    # prints a table as docs/performance.md has it
     python3 bench/bounds.py ../shared/plants ../shared/search   # and the trial's root cap, pivots and seconds beside
+    python3 bench/bounds.py ../shared/plants --try              # without proofs, with checks: caps and pivots count, times do not
+    python3 bench/bounds.py ../shared/plants --built PROGRAM    # with a program that was built before
 
-The program is bench/bounds_program.txt, which becomes a crate in a copy of the repository. There `rt run` proves and builds it;
-where that fails, as with a crate below whose proof is not done, `rt try` builds it with checks and without proofs, and the table
-says so. Times are processor time, the least of five. 'from the root' is the mean of the pivots of a bound from the root's basis,
-of both parts of a split of each slot that the root starts in part.
+The program is bench/bounds_program.txt, which becomes a crate in a copy of the repository. There `rt run` proves it and what it
+stands on, and builds it: some twenty minutes of processor time on a plain checkout. The program that was built is kept as
+bounds_program in the folder for files of a time, and its path is printed. Where it is not proved, `rt try` builds it with checks
+and without proofs, and the table says so. Times are processor time, the least of five. 'from the root' is the mean of the pivots
+of a bound from the root's basis, of both parts of a split of each slot that the root starts in part, and 'share' is it over the
+root's pivots; 'again' are the pivots of the root itself from there. The trial is built from a copy in which it prints microseconds.
 """
-import datetime, os, platform, re, shutil, subprocess, sys, tempfile
+import argparse, datetime, os, platform, re, shutil, subprocess, tempfile
 
 top = os.path.dirname(os.path.dirname(os.path.abspath(__file__)))
+TIMES = 3
 BELOW = "row_kit range_prop dual_bound dual_climb dual_simplex proof_tree row_set plant_text anyhow"
 
 
@@ -34,12 +39,22 @@ def figures(text):
     return {name: int(number) for name, number in re.findall(r"^([a-z-]+) (-?\d+)$", text, re.M)}
 
 
-def run_built(crate, plants):
+def build(crate, plant):
+    """The program that is proved and built, kept in a folder of its own; nothing where it is not proved."""
+    with open(plant) as file:
+        done = subprocess.run(["rt", "run"], cwd=crate, stdin=file, stdout=subprocess.DEVNULL)
+    if done.returncode:
+        return None
+    program = os.path.join(tempfile.mkdtemp(prefix="bounds-"), "bounds_program")
+    shutil.copy2(os.path.join(crate, "out", "bounds_program"), program)
+    return program
+
+
+def run_built(program, plants):
     """The figures of each plant by the built program."""
     for plant in plants:
         with open(plant) as file:
-            done = subprocess.run([os.path.join(crate, "out", "bounds_program")], stdin=file, capture_output=True, text=True)
-        yield figures(done.stdout)
+            yield figures(subprocess.run([os.path.abspath(program)], stdin=file, capture_output=True, text=True).stdout)
 
 
 def run_tried(crate, plants):
@@ -57,17 +72,21 @@ def run_tried(crate, plants):
 def trial(folder, names):
     """The trial's root bound of each plant: value, seconds and pivots."""
     room = tempfile.mkdtemp(prefix="trial-")
-    subprocess.run([os.path.join(folder, "build.sh"), room], check=True, capture_output=True)
+    source = shutil.copytree(folder, os.path.join(room, "source"))
+    main_file = os.path.join(source, "src", "main.rs")
+    with open(main_file) as it:
+        text = it.read()
+    os.chmod(main_file, 0o644)
+    with open(main_file, "w") as it:
+        it.write(text.replace("lp {:.3} {:.3}s piv", "lp {:.3} {:.6}s piv"))
+    subprocess.run([os.path.join(source, "build.sh"), room], check=True, capture_output=True)
     found = {}
     for name in names:
-        best = None
-        for _ in range(5):
+        for _ in range(TIMES):
             text = subprocess.run([os.path.join(room, "trial"), name, "--caps"], cwd=room, capture_output=True, text=True).stdout
             seen = re.search(r"lp (-?[\d.]+) ([\d.]+)s piv (\d+)", text)
-            if seen and (best is None or float(seen[2]) < best[1]):
-                best = (float(seen[1]), float(seen[2]), int(seen[3]))
-        if best:
-            found[name] = best
+            if seen and (name not in found or float(seen[2]) < found[name][1]):
+                found[name] = (float(seen[1]), float(seen[2]), int(seen[3]))
     shutil.rmtree(room)
     return found
 
@@ -75,26 +94,32 @@ def trial(folder, names):
 def line(name, got, other):
     """A row of the table."""
     mean = got["part-pivots"] / got["parts"] if got.get("parts") else 0.0
-    cells = [name, got.get("slots", "-"), got.get("rows", "-"), got.get("root-cap", "-"), f"{got.get('root-time', 0) / 1e6:.3f}"]
-    cells += [got.get("root-pivots", "-"), f"{mean:.1f}", f"{got.get('polish-time', 0) / 1e3:.2f}"]
-    cells += [f"{other[0]:.2f}", f"{other[1]:.3f}", other[2]] if other else []
+    share = mean / got["root-pivots"] if got.get("root-pivots") else 0.0
+    cells = [name, got.get("slots", "-"), got.get("rows", "-"), got.get("root-cap", "-"), f"{got.get('root-time', 0) / 1e6:.4f}"]
+    cells += [got.get("root-pivots", "-"), got.get("again-pivots", "-"), got.get("parts", "-"), f"{mean:.1f}", f"{share:.2f}", f"{got.get('polish-time', 0) / 1e3:.2f}"]
+    cells += [f"{other[0]:.2f}", f"{other[1]:.4f}", other[2]] if other else []
     return "| " + " | ".join(str(it) for it in cells) + " |"
 
 
 def main():
-    plants = sorted(os.path.join(sys.argv[1], it) for it in os.listdir(sys.argv[1]) if it.endswith(".toml"))
+    given = argparse.ArgumentParser()
+    given.add_argument("plants")
+    given.add_argument("trial", nargs="?")
+    given.add_argument("--try", action="store_true", dest="unproved")
+    given.add_argument("--built")
+    given = given.parse_args()
+    plants = sorted(os.path.join(given.plants, it) for it in os.listdir(given.plants) if it.endswith(".toml"))
     names = [os.path.basename(it)[: -len(".toml")] for it in plants]
-    others = trial(os.path.abspath(sys.argv[2]), names) if len(sys.argv) > 2 and sys.argv[2] != "--try" else {}
+    others = trial(os.path.abspath(given.trial), names) if given.trial else {}
     room = tempfile.mkdtemp(prefix="bounds-")
     crate = repository(room)
-    with open(plants[0]) as file:
-        proved = subprocess.run(["rt", "run"], cwd=crate, stdin=file, capture_output=True).returncode == 0 if "--try" not in sys.argv else False
-    how = "proved and built by LLVM" if proved else "built with checks, without proofs"
+    program = given.built or (None if given.unproved else build(crate, plants[0]))
+    how = f"built by LLVM after its proof: {program}" if program else "built with checks, without proofs"
     print(f"{datetime.date.today()}, {platform.machine()}, {os.cpu_count()} processors, load {os.getloadavg()[0]:.0f}; {how}\n", flush=True)
-    head = ["plant", "slots", "rows", "root cap", "seconds", "pivots", "from the root", "polish ms"]
+    head = ["plant", "slots", "rows", "root cap", "seconds", "pivots", "again", "parts", "from the root", "share", "polish ms"]
     head += ["trial's cap", "seconds", "pivots"] if others else []
     print("| " + " | ".join(head) + " |\n" + "|---" * len(head) + "|", flush=True)
-    for name, got in zip(names, run_built(crate, plants) if proved else run_tried(crate, plants)):
+    for name, got in zip(names, run_built(program, plants) if program else run_tried(crate, plants)):
         print(line(name, got, others.get(name)), flush=True)
     shutil.rmtree(room)
 

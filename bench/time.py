@@ -1,5 +1,5 @@
 #!/usr/bin/env python3
-"""Times the built program on example plants: seconds and peak memory of each run.
+"""Times the built program on example plants: seconds on the clock, processor seconds and peak memory of each run.
 
 Run `./stn` once before, so that the program is built:  python3 bench/time.py [MORE.toml ..]
 """
@@ -9,20 +9,25 @@ top = os.path.dirname(os.path.dirname(os.path.abspath(__file__)))
 program = os.path.join(top, "crates", "stn", "out", "stn")
 
 
+def peak_of(child):
+    """The peak memory of a process in MiB as the system last told it, once the process has ended: runs of a few milliseconds show less."""
+    peak = 0
+    while child.poll() is None:
+        with open(f"/proc/{child.pid}/status") as it:
+            peak = max([peak, *(int(line.split()[1]) for line in it if line.startswith("VmHWM"))])
+        time.sleep(0.002)
+    return peak / 1024
+
+
 def timed(words):
-    """The status, the first line, the seconds and the peak memory in MiB of one run, in a process of its own."""
-    reader, writer = os.pipe()
-    if os.fork() == 0:
-        begun = time.monotonic()
-        done = subprocess.run([program] + words, capture_output=True)
-        seconds = time.monotonic() - begun
-        peak = resource.getrusage(resource.RUSAGE_CHILDREN).ru_maxrss / 1024
-        first = done.stdout.split(b"\n")[0].decode()
-        os.write(writer, f"{done.returncode}\t{first}\t{seconds:.3f}\t{peak:.1f}".encode())
-        os._exit(0)
-    os.wait()
-    os.close(writer)
-    return os.read(reader, 4096).decode().split("\t")
+    """The status, the first line, both kinds of seconds and the peak memory of one run."""
+    before, begun = resource.getrusage(resource.RUSAGE_CHILDREN), time.monotonic()
+    child = subprocess.Popen([program] + words, stdout=subprocess.PIPE, stderr=subprocess.DEVNULL)
+    peak = peak_of(child)
+    seconds, after = time.monotonic() - begun, resource.getrusage(resource.RUSAGE_CHILDREN)
+    used = after.ru_utime + after.ru_stime - before.ru_utime - before.ru_stime
+    first = child.stdout.read().split(b"\n")[0].decode()
+    return child.returncode, first, seconds, used, peak
 
 
 def tables(table, prefix, count, *keys):
@@ -83,6 +88,27 @@ def cuts(size):
     return "stn-log 2\nnode\n" + "cut 0 0\n" * (size // 8) + "dual 1 0\nclaim optimal 60 2\nvalue 0 3\nvalue 1 3\nend\n"
 
 
+def founds(size, worth):
+    """A log of about this many bytes, most of them found groups: in each of its boxes doing nothing is found, which is worth this."""
+    group, split = f"node\nfound {worth} 0\n", "split 0 0 1 0\n"
+    empty, first, second = group + "empty\n", group + "dual 1 0\n", group + "dual 1 0\n"
+    while 3 * len(empty) < size:
+        # Slot 0 is split at 0 again and again: a part of the first part is it or empty, and so is one of the second.
+        empty, first, second = group + split + 2 * empty, group + split + first + empty, group + split + empty + second
+    return "stn-log 2\n" + group + split + first + second + "claim below 1000000000000\nend\n"
+
+
+def found_runs(folder, plants):
+    """The check of a log of found groups over each plant, of about so many bytes."""
+    for number, (plant, size) in enumerate(plants):
+        said = subprocess.run([program, "simulate", plant, os.devnull], capture_output=True, text=True).stdout
+        text = founds(size, said.split()[-1])
+        path = os.path.join(folder, f"found{number}-of-{len(text)}-bytes.log")
+        with open(path, "w") as out:
+            out.write(text)
+        yield ["check", plant, path]
+
+
 def plan(starts):
     """A start in each of the 512 slots, and then the last one again and again."""
     slots = [(period, unit) for period in range(64) for unit in range(8)]
@@ -106,12 +132,14 @@ def main():
         runs += [["simulate", plant, full], ["simulate", plant, late]]
         # The check makes the plant's program before it reads the log.
         runs += [["check", entries, no_log], ["check", os.path.join(top, "examples", "tiny.toml"), cut_log]]
+        tiny, five = (os.path.join(top, "examples", name + ".toml") for name in ("tiny", "five"))
+        runs += found_runs(folder, [(tiny, 1_000_000), (tiny, 10_000_000), (tiny, 100_000_000), (five, 1_000_000), (five, 10_000_000), (plant, 1_000_000), (entries, 50_000)])
         runs += [["solve", p, "1000"] for p in sys.argv[1:]]
-        print(f"{'seconds':>8} {'MiB':>7} status  words: first line")
+        print(f"{'seconds':>8} {'of cpu':>8} {'MiB':>7} status  words: first line")
         for words in runs:
-            status, first, seconds, peak = timed(words)
+            status, first, seconds, used, peak = timed(words)
             shown = " ".join(os.path.basename(w) for w in words)
-            print(f"{seconds:>8} {peak:>7} {status:>6}  {shown}: {first}")
+            print(f"{seconds:8.3f} {used:8.3f} {peak:7.1f} {status:6}  {shown}: {first}", flush=True)
 
 
 main()

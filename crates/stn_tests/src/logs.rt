@@ -12,7 +12,7 @@ use row_relax::Rows;
 use row_set::program_of;
 use std::alloc::Global;
 use std::test::Fail;
-use stn_edge::{FixedShelf, FixedSink, MemShelf, MemSink};
+use stn_edge::{FixedShelf, FixedSink, MemShelf};
 use stn_model::Plant;
 use stn_top::{checked, run};
 
@@ -340,23 +340,6 @@ fn logs_are_read_as_streams(rt: HostRuntime) -> Result<(), Fail> {
             assert_eq!(rt; defect, Defect { line: 1, kind: 1 });
         }
         _ => return Err(Fail::from("no defect")),
-    }
-    Ok(())
-}
-
-// Whichever call of the store fails while plant and log are read, nothing is put.
-#[test]
-fn failing_reads_of_a_check_put_nothing(rt: HostRuntime) -> Result<(), Fail> {
-    let plant = edited(rt.alloc(), TINY, ODD)?;
-    for call in 1..5 {
-        let mut files = MemShelf::new(rt.alloc());
-        files.put_file("plant", plant.as_bytes())?;
-        files.put_file("log", TWO_BOXES.as_bytes())?;
-        files.fail_call(call, 0)?;
-        let mut out = MemSink::new(rt.alloc());
-        let status = run(rt.alloc(), &["check", "plant", "log"], &mut files, &mut out);
-        assert_eq!(rt; status, 7);
-        assert_eq!(rt; out.written(), "".as_bytes());
     }
     Ok(())
 }

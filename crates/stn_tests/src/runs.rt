@@ -1,6 +1,6 @@
-//! Words and files that are refused, and reads and puts that fail.
+//! Words and files that are refused, and answers that are put at once.
 use crate::answers::answer;
-use crate::plants::{ODD, TINY, edited, repeated, widened};
+use crate::plants::{TINY, repeated, widened};
 use std::alloc::{AllocError, Global};
 use std::test::Fail;
 use stn_edge::{MemShelf, MemSink};
@@ -82,30 +82,6 @@ fn starts_are_limited(rt: HostRuntime) -> Result<(), Fail> {
     let plan = repeated(rt.alloc(), "0 U make 1\n", 2049)?;
     let refused = (4, "refused plan 3 2049\n");
     assert!(rt; answers(rt.alloc(), (TINY, plan.as_str()), SIMULATE, refused)?);
-    Ok(())
-}
-
-#[test]
-fn a_failing_sink_gets_a_first_part(rt: HostRuntime) -> Result<(), Fail> {
-    let mut files = MemShelf::new(rt.alloc());
-    files.put_file("plant", TINY.as_bytes())?;
-    let mut out = MemSink::new(rt.alloc());
-    out.fail_call(1, 5)?;
-    let status = run(rt.alloc(), &["solve", "plant", "31"], &mut files, &mut out);
-    assert_eq!(rt; status, 8);
-    assert_eq!(rt; out.written(), "# opt".as_bytes());
-    Ok(())
-}
-
-#[test]
-fn a_failing_read_puts_nothing(rt: HostRuntime) -> Result<(), Fail> {
-    let mut files = MemShelf::new(rt.alloc());
-    files.put_file("plant", TINY.as_bytes())?;
-    files.fail_call(1, 0)?;
-    let mut out = MemSink::new(rt.alloc());
-    let status = run(rt.alloc(), &["solve", "plant", "31"], &mut files, &mut out);
-    assert_eq!(rt; status, 7);
-    assert_eq!(rt; out.written(), "".as_bytes());
     Ok(())
 }
 

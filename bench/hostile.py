@@ -1,0 +1,189 @@
+#!/usr/bin/env python3
+"""Runs the built program on what a hostile or broken surrounding gives it, and compares each exit status.
+
+    python3 bench/hostile.py            # a line for each case that went wrong, and a count
+    python3 bench/hostile.py --table    # and a row for each case, with processor seconds and peak memory
+
+Run `./stn` or the gate once before, so that the program is built; where it is not, this says 'skipped'. Each run has 10 seconds of
+processor time, 100 on the clock, 600 MiB of address space and no core file. Large files are made in a folder of their own, as empty
+stretches where that does, and go with it.
+"""
+import os, resource, shutil, signal, subprocess, sys, tempfile
+
+top = os.path.dirname(os.path.dirname(os.path.abspath(__file__)))
+BUILT = os.path.join(top, "crates", "stn", "out", "stn")
+SECONDS, ON_THE_CLOCK, MEMORY = 10, 100, 600 << 20
+NOBODY = 65534
+TINY = ["dual 1 0", "claim optimal 60 2", "value 0 3", "value 1 3", "end"]
+
+
+class Case:
+    """A run: what it is, its words, the wanted status and text, and how it is started."""
+
+    def __init__(self, what, words, status, text=None, out=None, **how):
+        self.what, self.words, self.status, self.text, self.out, self.how = what, words, status, text, out, how
+
+    def limits(self):
+        """What is set in the process before the program starts."""
+        resource.setrlimit(resource.RLIMIT_AS, (MEMORY, MEMORY))
+        resource.setrlimit(resource.RLIMIT_CPU, (SECONDS, SECONDS))
+        resource.setrlimit(resource.RLIMIT_CORE, (0, 0))
+        if "size" in self.how:
+            signal.signal(signal.SIGXFSZ, signal.SIG_IGN)
+            resource.setrlimit(resource.RLIMIT_FSIZE, (self.how["size"],) * 2)
+        if self.how.get("closed"):
+            os.close(1)
+        if self.how.get("nobody") and os.geteuid() == 0:
+            os.setgid(NOBODY)
+            os.setuid(NOBODY)
+
+    def run(self, room):
+        """What went wrong, or nothing; with the status, the processor seconds and the peak memory in MiB, this script's at least."""
+        out = open(self.out, "wb") if self.out else subprocess.PIPE
+        child = subprocess.Popen([os.path.join(room, "stn"), *self.words], cwd=room, stdin=subprocess.DEVNULL,
+                                 stdout=out, stderr=subprocess.PIPE, preexec_fn=self.limits)
+        signal.signal(signal.SIGALRM, lambda *_: child.kill())
+        signal.alarm(ON_THE_CLOCK)
+        text = b"" if self.out else child.stdout.read(1 << 16)
+        _, status, used = os.wait4(child.pid, 0)
+        signal.alarm(0)
+        child.returncode = os.WEXITSTATUS(status) if os.WIFEXITED(status) else -os.WTERMSIG(status)
+        return self.wrong(child.returncode, text), child.returncode, used.ru_utime + used.ru_stime, used.ru_maxrss / 1024
+
+    def wrong(self, status, text):
+        """What is not as it should be."""
+        if status < 0:
+            return f"signal {-status}, which is 9 after {SECONDS} seconds of processor time"
+        if status != self.status:
+            return f"status {status}, and not {self.status}"
+        if self.text is not None and text != self.text.encode():
+            return f"it put {text[:80]!r}, and not {self.text!r}"
+        return None
+
+
+def write(room, name, *parts):
+    """A file of texts, each of which may come many times."""
+    with open(os.path.join(room, name), "w") as out:
+        for text, times in parts:
+            out.write(text * times)
+    return name
+
+
+def zeros(room, name, size):
+    """A file of zero bytes, which takes no room on the disk."""
+    with open(os.path.join(room, name), "wb") as out:
+        out.truncate(size)
+    return name
+
+
+def log(room, name, *lines):
+    """A log of Tiny with these lines after its first one."""
+    return write(room, name, ("\n".join(["stn-log 2", *lines]) + "\n", 1))
+
+
+def of_devices(room):
+    """Devices that are full, closed or without end, and folders."""
+    answers = [["solve", "tiny", "31"], ["solve", "tiny", "31", "written"], ["simulate", "tiny", "plan"], ["report", "tiny", "plan"],
+               ["check", "tiny", "proof"], ["upgrade", "tiny"], ["demo", "1"], ["no", "words"]]
+    for words in answers:
+        yield Case(f"{' '.join(words)}: standard output on a full device", words, 8, out="/dev/full")
+    yield Case("standard output closed", ["simulate", "tiny", "plan"], 8, closed=True)
+    yield Case("LOG on a full device", ["solve", "tiny", "31", "/dev/full"], 8, "")
+    yield Case("LOG cut off after 4,096 bytes", ["solve", "five", "2000", "cut"], 8, "", size=4096)
+    yield Case("LOG in no folder", ["solve", "tiny", "31", "none/log"], 8, "")
+    yield Case("LOG a folder", ["solve", "tiny", "31", "folder"], 8, "")
+    for words in (["solve", "folder", "31"], ["simulate", "tiny", "folder"], ["check", "tiny", "folder"]):
+        yield Case(f"{' '.join(words)}: a folder to read", words, 7, "")
+    for words in (["solve", "none", "31"], ["solve", "none", "31", "kept"], ["report", "tiny", "none"], ["check", "tiny", "none"]):
+        yield Case(f"{' '.join(words)}: a file that is not there", words, 7, "")
+    yield Case("a plant that may not be read", ["upgrade", "locked"], 7, "", nobody=True)
+    yield Case("a plant without end", ["solve", "/dev/zero", "31"], 3, "refused plant 1 top 0 0 -\n")
+    yield Case("a plan without end", ["simulate", "tiny", "/dev/zero"], 4, "refused plan 4 0\n")
+    yield Case("a log without end", ["check", "tiny", "/dev/zero"], 1, "no 1 1\n")
+    yield Case("an empty log", ["check", "tiny", "/dev/null"], 1, "no 1 2\n")
+
+
+def of_words(room):
+    """Words of no form."""
+    for what, words in (("a word that is no text", [b"upgrade", b"\xff"]), ("100,000 words", ["solve"] * 100_000),
+                        ("a word of 100,000 letters", ["x" * 100_000]), ("LOG is PLANT", ["solve", "tiny", "31", "tiny"])):
+        yield Case(what, words, 2, "refused words\n")
+
+
+def of_files(room):
+    """Large and malformed plants and plans."""
+    plants = (("200 MB of zeros", zeros(room, "p1", 200_000_000), 1), ("a MiB of open brackets", write(room, "p2", ("a=", 1), ("[", 1_048_574)), 2),
+              ("a MiB of open tables", write(room, "p3", ("a={", 349_000)), 2), ("a MiB of one name", write(room, "p4", ("a.", 524_000), ("a=1\n", 1)), 2),
+              ("a MiB of keys", write(room, "p5", *((f"k{i}=1\n", 1) for i in range(100_000))), 3))
+    for what, name, kind in plants:
+        yield Case(f"a plant: {what}", ["upgrade", name], 3, f"refused plant {kind} top 0 0 -\n")
+    yield Case("a plan of 200 MB of zeros", ["simulate", "tiny", zeros(room, "z2", 200_000_000)], 4, "refused plan 4 0\n")
+    yield Case("a plan of 131,072 comments", ["simulate", "tiny", write(room, "z3", ("#\n", 131_072))], 0, "feasible 12\n")
+
+
+def of_logs(room):
+    """Logs that are long, deep, or promise what does not come."""
+    head, tail = ("stn-log 2\n", 1), ("\n".join(TINY) + "\n", 1)
+    yield Case("a log of 200 MB of zeros", ["check", "tiny", zeros(room, "l1", 200_000_000)], 1, "no 1 1\n")
+    yield Case("a log of three million nested splits", ["check", "tiny", write(room, "l2", head, ("node\nsplit 0 0 1 0\n", 3_000_000))], 1, "no 9220 9\n")
+    comb = write(room, "l3", head, ("node\nsplit 0 0 1 0\nnode\nempty\n", 2_000_000))
+    yield Case("a log of two million splits in second boxes", ["check", "tiny", comb], 1)
+    yield Case("eight million cuts of one box", ["check", "tiny", write(room, "l4", head, ("node\n", 1), ("cut 0 0\n", 8_000_000), tail)], 0, "yes optimal 60\n")
+    count = 2 ** 64 - 1
+    promises = ((f"found 60 {count}", 1), (f"dual 1 {count}", 8), ("dual 1 50000", 1), ("split 0 0 1 50000", 1),
+                (f"dual 1 0\nclaim optimal 60 {count}", 1), (f"found 60 {'9' * 30}", 1), (f"found 60 {'9' * 31}", 1))
+    for number, (line, kind) in enumerate(promises):
+        place = 4 + line.count("\n") - (kind == 8 or "9" * 31 in line)
+        yield Case(f"a log that promises: {line}".replace("\n", ", "), ["check", "tiny", log(room, f"c{number}", "node", line, "end")], 1, f"no {place} {kind}\n")
+
+
+def files(room):
+    """The files of the runs: Tiny, Five, a plan, a log, one that may not be read, and a folder."""
+    for name, text in (("plan", "0 U make 3\n"), ("kept", "old"), ("locked", "version = 1\n")):
+        write(room, name, (text, 1))
+    log(room, "proof", "node", *TINY)
+    for name in ("tiny", "five"):
+        shutil.copyfile(os.path.join(top, "examples", name + ".toml"), os.path.join(room, name))
+    shutil.copyfile(BUILT, os.path.join(room, "stn"))
+    os.chmod(os.path.join(room, "stn"), 0o755)
+    os.chmod(os.path.join(room, "locked"), 0)
+    os.mkdir(os.path.join(room, "folder"))
+    os.chmod(room, 0o711)
+
+
+def left(room):
+    """What is wrong with the files that runs left: a log that was not to be written, or one that was cut off."""
+    whole = os.path.join(room, "whole")
+    subprocess.run([os.path.join(room, "stn"), "solve", "five", "2000", whole], cwd=room, stdout=subprocess.DEVNULL)
+    read = lambda name: open(os.path.join(room, name), "rb").read()
+    if read("kept") != b"old":
+        yield "a log changed though its plant could not be read"
+    if not read("whole").startswith(read("cut")) or len(read("cut")) > 4096:
+        yield "a log that was cut off is no first part of the whole one"
+    said = subprocess.run([os.path.join(room, "stn"), "check", "tiny", "written"], cwd=room, capture_output=True, text=True).stdout
+    if said != "yes optimal 60\n":
+        yield f"the log before an answer that could not be put: {said!r}"
+
+
+def main():
+    if not os.access(BUILT, os.X_OK):
+        print("hostile: skipped, since the program is not built")
+        return
+    room, bad, count = tempfile.mkdtemp(prefix="hostile-"), [], 0
+    try:
+        files(room)
+        for cases in (of_devices, of_words, of_files, of_logs):
+            for case in cases(room):
+                why, status, seconds, peak = case.run(room)
+                count += 1
+                bad += [f"{case.what}: {why}"] * bool(why)
+                if "--table" in sys.argv:
+                    print(f"| {case.what} | {status} | {seconds:.2f} | {peak:.0f} |", flush=True)
+        bad += left(room)
+    finally:
+        shutil.rmtree(room)
+    print(*(f"hostile: {it}" for it in bad), f"hostile: {count} runs, {len(bad)} faults", sep="\n")
+    sys.exit(bool(bad))
+
+
+main()
