@@ -1,5 +1,5 @@
 -- Words that are a step.
-use Rattle.std.proofs.Common.{◌≡◌, ℕ, ℤ, pos, negsuc, suc, ◌≤◌, false, eqb, List, ◌∷◌, drop, get_or, decimal, sym, ap, arith}
+use Rattle.std.proofs.Common.{◌≡◌, ℕ, ℤ, pos, negsuc, suc, ◌≤◌, List, ◌∷◌, drop, get_or, decimal, sym, ap, arith}
 use Rattle.std.proofs.lemmas.Bool.Decides.{nat_tests}
 use Rattle.log_lines.proofs.SignedNumbers.{plain_first}
 use Rattle.stn_top.specs.Words.{IsStep}

@@ -1,6 +1,6 @@
 -- The answers of `whatif` over the bytes of a log.
-use Rattle.std.proofs.Common.{◌≡◌, ℕ, ◌+◌, ◌<◌, ◌≤◌, ◌^◌, Bool, true, false, List, [], length, Option, Some, None, Ok, Err, nat_lt, refl, sym, ap, ◌∙◌, subst, inr, arith, ℤ}
-use Rattle.std.specs.Prelude.{IfOk, IfSome, MatchBool, MatchOption, Result, codes}
+use Rattle.std.proofs.Common.{◌≡◌, ℕ, ◌+◌, ◌<◌, ◌≤◌, ◌^◌, true, false, List, [], length, Option, Some, None, Ok, Err, nat_lt, refl, inr, arith, ℤ}
+use Rattle.std.specs.Prelude.{IfOk, IfSome, Result, codes}
 use Rattle.std.specs.Option.{option_map}
 use Rattle.std.proofs.lemmas.Bool.{lt-ltb, le-ltb}
 use Rattle.std.proofs.lemmas.List.Sorted.{length_permutation}

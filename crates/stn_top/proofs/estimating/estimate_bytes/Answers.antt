@@ -1,6 +1,4 @@
 -- The log is not too long, and is valid.
-use Rattle.std.proofs.Common.{arith}
-use Rattle.std.proofs.lemmas.Grind.{common_steps}
 use Rattle.proof_tree.specs.Tree.{tree_of}
 use Rattle.what_if.specs.OldLogs.{IsOldLog}
 use Rattle.std.proofs.Common.{subst}

@@ -1,5 +1,5 @@
 -- A name that is not that of a state with limits is refused, whatever the log is.
-use Rattle.std.proofs.Common.{arith, sym, ◌∙◌}
+use Rattle.std.proofs.Common.{arith}
 use Rattle.std.proofs.lemmas.Grind.{common_steps}
 use Rattle.std.specs.Option.{option_map}
 use Rattle.stn_edge.specs.Files.{file_of}

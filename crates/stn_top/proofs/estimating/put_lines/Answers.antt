@@ -1,5 +1,5 @@
 -- Each plant is the raised one, so each line is its line.
-use Rattle.std.proofs.Common.{◌≡◌, ℕ, ◌+◌, List, [], ◌++◌, refl, sym, subst, arith, pos, ◌*ℤ◌, ◌∙◌, ap, ℤ, to_z, of_z}
+use Rattle.std.proofs.Common.{◌≡◌, ℕ, ◌+◌, [], refl, sym, subst, arith, pos, ◌*ℤ◌, ◌∙◌, ap, ℤ, to_z, of_z}
 use Rattle.std.proofs.lemmas.Int.{ints}
 use Rattle.std.proofs.lemmas.Grind.{common_steps}
 use Rattle.std.proofs.lemmas.List.{append-nil}
