@@ -1,5 +1,7 @@
 //! Certificates and bounds of the dual simplex over small programs.
-use crate::tables::{CHAIN, CHAIN_ROWS, CROSS, CROSS_ROWS, Slots, TORN, TORN_ROWS, Table, program};
+use crate::tables::{
+    CHAIN, CHAIN_ROWS, CROSS, CROSS_ROWS, RING, RING_ROWS, Slots, TORN, TORN_ROWS, Table, program,
+};
 use dual_bound::cap;
 use dual_simplex::{Basis, Outcome, Side, Trial, Workspace, solve_dual};
 use proof_tree::Capped;
@@ -17,11 +19,13 @@ fn solved(alloc: Global, program: &Program) -> Result<(Capped, u32), AllocError>
     Ok((cap(program, &area, &cert), cert.scale))
 }
 
-const SOLVED: [(Slots, Table, Capped, u32); 4] = [
+// The last one cycles without the spread of reduced profits: then 2,000 pivots pass and the cap is that of no multipliers, 0.
+const SOLVED: [(Slots, Table, Capped, u32); 5] = [
     (CROSS, CROSS_ROWS, Capped::AtMost(4), 16_384),
     (CHAIN, CHAIN_ROWS, Capped::AtMost(40), 16_384),
     (CHAIN, &[], Capped::AtMost(48), 1),
     (TORN, TORN_ROWS, Capped::NoPoint, 0),
+    (RING, RING_ROWS, Capped::NoPoint, 0),
 ];
 
 #[test]

@@ -178,3 +178,32 @@ pub const GOLD_ROWS: Table = &[(3, &[]), (3, &[])];
 pub const TORN: Slots = &[(1, 5, 1)];
 
 pub const TORN_ROWS: Table = &[(2, &[(0, 0, 1)]), (-3, &[(0, 0, -1)])];
+
+/// Nine slots that bring nothing, and rows that no point keeps: a dual simplex that never moves its reduced profits apart
+/// comes back to the same basis again and again.
+pub const RING: Slots = &[
+    (1, 1, 0),
+    (1, 1, 0),
+    (1, 1, 0),
+    (1, 1, 0),
+    (1, 1, 0),
+    (1, 1, 0),
+    (1, 1, 0),
+    (1, 1, 0),
+    (1, 1, 0),
+];
+
+pub const RING_ROWS: Table = &[
+    (-1, &[(1, 0, 3), (6, 0, -15), (8, 0, -2)]),
+    (
+        -3,
+        &[(0, 0, 1), (1, 0, -3), (3, 0, 8), (6, 0, -5), (8, 0, -1)],
+    ),
+    (-3, &[(0, 0, 2), (4, 0, -5), (5, 0, 8), (6, 0, 5)]),
+    (-1, &[(2, 0, -4), (7, 0, -2), (8, 0, 8)]),
+    (1, &[(3, 0, -3), (4, 0, 2)]),
+    (
+        -4,
+        &[(1, 0, -4), (2, 0, 10), (3, 0, 2), (4, 0, 4), (6, 0, -13)],
+    ),
+];

@@ -1,7 +1,6 @@
 //! Stores and sinks, in memory and real ones.
 ghost use Rattle.std.specs.Prelude.{◌<◌};
 
-use crate::texts::same_bytes;
 use std::alloc::{AllocError, Global};
 use std::fs;
 use std::test::Fail;
@@ -55,15 +54,43 @@ fn reads_files_up_to_the_limit(rt: HostRuntime) -> Result<(), Fail> {
     Ok(())
 }
 
+/// Writes to the file `log` of a store whose calls 5 and 6 are to fail, the first of them after 3 bytes: what is appended, or
+/// none where the file is cleared, what comes of it, and what the file is then.
+const WRITES: [(Option<&[u8]>, Result<(), Stop>, &[u8]); 7] = [
+    (Some(b"one"), Ok(()), b"one"),
+    (Some(b", two"), Ok(()), b"one, two"),
+    (None, Ok(()), b""),
+    (Some(b"3"), Ok(()), b"3"),
+    (Some(b"45678"), Err(Stop::Failed), b"3456"),
+    (None, Err(Stop::Failed), b"3456"),
+    (Some(b"9"), Ok(()), b"34569"),
+];
+
+#[test]
+fn writes_to_memory_and_fails_where_it_is_to(rt: HostRuntime) -> Result<(), Fail> {
+    let mut shelf = MemShelf::new(rt.alloc());
+    shelf.fail_call(5, 3)?;
+    shelf.fail_call(6, 0)?;
+    for (bytes, ends, after) in WRITES {
+        let ended = match bytes {
+            Some(bytes) => shelf.append("log", bytes),
+            None => shelf.clear("log"),
+        };
+        assert!(rt; ended == ends && shelf.file("log") == Some(after));
+    }
+    Ok(())
+}
+
 #[test]
 fn keeps_files_in_memory(rt: HostRuntime) -> Result<(), Fail> {
     let mut shelf = FixedShelf::new(rt.alloc());
-    assert!(rt; shelf.file("log").is_none());
-    shelf.append("log", b"one")?;
-    shelf.append("log", b", two")?;
-    assert_eq!(rt; shelf.file("log"), Some(b"one, two".as_slice()));
-    shelf.clear("log")?;
-    assert_eq!(rt; shelf.file("log"), Some(b"".as_slice()));
+    for (bytes, _, after) in &WRITES[..4] {
+        match bytes {
+            Some(bytes) => shelf.append("log", bytes)?,
+            None => shelf.clear("log")?,
+        }
+        assert!(rt; shelf.file("log") == Some(*after));
+    }
     Ok(())
 }
 
@@ -84,10 +111,6 @@ fn keeps_text_in_memory(rt: HostRuntime) -> Result<(), Fail> {
     Ok(())
 }
 
-fn log(shelf: &MemShelf) -> &[u8] {
-    shelf.file("log").unwrap_or(b"no log".as_slice())
-}
-
 // How many bytes are read of a plan of 10,000 bytes, or why there are none.
 fn read_plan(alloc: Global, shelf: &mut MemShelf) -> Result<usize, ReadStop> {
     let plan = read_all(alloc, shelf, "plan", 10_000)?;
@@ -106,50 +129,40 @@ fn fails_the_reads_that_are_to_fail(rt: HostRuntime) -> Result<(), Fail> {
     Ok(())
 }
 
-#[test]
-fn fails_the_appends_that_are_to_fail(rt: HostRuntime) -> Result<(), Fail> {
-    let mut shelf = MemShelf::new(rt.alloc());
-    shelf.fail_call(1, 3)?;
-    shelf.fail_call(2, 0)?;
-    assert!(rt; shelf.append("log", b"12345") == Err(Stop::Failed));
-    assert_eq!(rt; log(&shelf), b"123".as_slice());
-    assert!(rt; shelf.clear("log") == Err(Stop::Failed));
-    assert_eq!(rt; log(&shelf), b"123".as_slice());
-    Ok(())
-}
-
-#[test]
-fn appends_and_clears_in_memory(rt: HostRuntime) -> Result<(), Fail> {
-    let mut shelf = MemShelf::new(rt.alloc());
-    shelf.append("log", b"123")?;
-    shelf.append("log", b"67")?;
-    assert_eq!(rt; log(&shelf), b"12367".as_slice());
-    shelf.clear("log")?;
-    assert_eq!(rt; log(&shelf), b"".as_slice());
-    Ok(())
-}
+/// Puts to a sink whose call 2 is to fail after 5 bytes, what comes of them, and what was put then.
+const PUTS: [(&[u8], Result<(), Stop>, &[u8]); 3] = [
+    (b"one ", Ok(()), b"one "),
+    (b"# optimal", Err(Stop::Failed), b"one # opt"),
+    (b"!", Ok(()), b"one # opt!"),
+];
 
 #[test]
 fn puts_a_first_part_where_a_put_is_to_fail(rt: HostRuntime) -> Result<(), Fail> {
     let mut sink = MemSink::new(rt.alloc());
     sink.fail_call(2, 5)?;
-    sink.put(b"one ")?;
-    assert_eq!(rt; sink.put(b"# optimal"), Err(Stop::Failed));
-    assert_eq!(rt; sink.written(), b"one # opt".as_slice());
-    sink.put(b"!")?;
-    assert_eq!(rt; sink.written(), b"one # opt!".as_slice());
+    for (text, ends, after) in PUTS {
+        let ended = sink.put(text);
+        assert!(rt; ended == ends && sink.written() == after);
+    }
     Ok(())
 }
 
 const PATH: &str = "stn_edge_test_file";
 
-// Whether the real file has so many bytes a and then these.
-fn is_real_file(rt: &HostRuntime, count: usize, rest: &[u8]) -> Result<bool, Fail> {
-    let mut shelf = FileShelf::new(rt);
-    let whole = read_all(rt.alloc(), &mut shelf, PATH, 20_006)?;
-    let (front, back) = whole.as_slice().split_at(whole.len().min(count));
-    let first = same_bytes(rt.alloc(), b'a', count)?;
-    Ok(front == first.as_slice() && back == rest)
+const LONG: [u8; 20_000] = [b'a'; 20_000];
+
+// Writes to the real file, clears it, and appends to it twice.
+fn write_real_file(shelf: &mut FileShelf<HostRuntime>) -> Result<(), Stop> {
+    shelf.append(PATH, b"old")?;
+    shelf.clear(PATH)?;
+    shelf.append(PATH, LONG.as_slice())?;
+    shelf.append(PATH, b"second")
+}
+
+// Whether bytes are those that were appended last.
+fn is_real_text(bytes: &[u8]) -> bool {
+    let (front, back) = bytes.split_at(bytes.len().min(LONG.len()));
+    front == LONG.as_slice() && back == b"second".as_slice()
 }
 
 #[test]
@@ -157,13 +170,10 @@ fn clears_appends_to_and_reads_a_real_file(rt: HostRuntime) -> Result<(), Fail> 
     let _ = fs::remove_file(&rt, PATH);
     let mut shelf = FileShelf::new(&rt);
     let absent = read_all(rt.alloc(), &mut shelf, PATH, 0).err();
-    assert!(rt; absent == Some(ReadStop::Fault));
-    shelf.append(PATH, b"old")?;
-    shelf.clear(PATH)?;
-    let first = same_bytes(rt.alloc(), b'a', 20_000)?;
-    shelf.append(PATH, first.as_slice())?;
-    shelf.append(PATH, b"second")?;
-    assert!(rt; is_real_file(&rt, 20_000, b"second")?);
+    let written = write_real_file(&mut shelf);
+    let text = read_all(rt.alloc(), &mut shelf, PATH, 20_006)?;
+    assert!(rt; absent == Some(ReadStop::Fault) && written.is_ok());
+    assert!(rt; is_real_text(text.as_slice()));
     fs::remove_file(&rt, PATH)?;
     Ok(())
 }
