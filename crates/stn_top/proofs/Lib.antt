@@ -6,3 +6,5 @@ pub mod AnswerLemmas
 pub mod ReadBack
 pub mod DemoLemmas
 pub mod FileLemmas
+pub mod Horizons
+pub mod LogWords

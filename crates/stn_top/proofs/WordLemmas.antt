@@ -6,7 +6,7 @@ use Rattle.std.proofs.Common.{◌≡◌, true, false, ◌∙◌, ap, ℕ, ◌<�
 use Rattle.std.specs.Prelude.{Option, Some, None, MatchOption}
 use Rattle.stn_top.specs.declared.command.Command.{Command}
 use Rattle.stn_top.specs.declared.command.PlanUse.TheVariants.{Simulate, Report}
-use Rattle.stn_top.specs.Words.{texts, Request, Says, HasNoForm, Solving, Logging, Simulating, Checking, Upgrading, Showing, meaning}
+use Rattle.stn_top.specs.Words.{texts, Request, Says, HasNoForm, Solving, Logging, Simulating, Checking, Upgrading, Showing, Seeking, Tracing, Auditing, NoHorizons, meaning}
 
 -- three words are the list of their texts
 pub three_texts : (words : List (Bor (List ℕ))) (d : Bor (List ℕ)) → 3 ≤ length words → length words < 4 → texts words ≡ (get_or words 0 d).now ∷ (get_or words 1 d).now ∷ (get_or words 2 d).now ∷ []
@@ -64,17 +64,26 @@ abbrev NoOther : List (List ℕ) → Type 0
 NoOther words = ((plant : List ℕ) → ¬ Says words (Upgrading plant)) × ((seed : ℕ) → ¬ Says words (Showing seed))
 
 -- words that have none of the forms
-pub has_no_form : (words : List (List ℕ)) → NoPlanning words → NoFiles words (Simulating Simulate) → NoFiles words (Simulating Report) → NoFiles words Checking → NoOther words → HasNoForm words
-has_no_form words solve simulate report check other (Solving plant budget) = solve.0 plant budget
-has_no_form words solve simulate report check other (Logging plant budget log) = solve.1 plant log budget
-has_no_form words solve simulate report check other (Simulating Simulate plant plan) = simulate plant plan
-has_no_form words solve simulate report check other (Simulating Report plant plan) = report plant plan
-has_no_form words solve simulate report check other (Checking plant log) = check plant log
-has_no_form words solve simulate report check other (Upgrading plant) = other.0 plant
-has_no_form words solve simulate report check other (Showing seed) = other.1 seed
+pub has_no_form : (words : List (List ℕ)) → NoPlanning words → NoFiles words (Simulating Simulate) → NoFiles words (Simulating Report) → NoFiles words Checking → NoOther words → NoHorizons words → HasNoForm words
+has_no_form words solve simulate report check other least (Solving plant budget) = solve.0 plant budget
+has_no_form words solve simulate report check other least (Logging plant budget log) = solve.1 plant log budget
+has_no_form words solve simulate report check other least (Simulating Simulate plant plan) = simulate plant plan
+has_no_form words solve simulate report check other least (Simulating Report plant plan) = report plant plan
+has_no_form words solve simulate report check other least (Checking plant log) = check plant log
+has_no_form words solve simulate report check other least (Upgrading plant) = other.0 plant
+has_no_form words solve simulate report check other least (Showing seed) = other.1 seed
+has_no_form words solve simulate report check other least (Seeking plant budget) = least.seeking plant budget
+has_no_form words solve simulate report check other least (Tracing plant budget stem) = least.tracing plant stem budget
+has_no_form words solve simulate report check other least (Auditing plant horizon stem) = least.auditing plant stem horizon
 
 -- the last form decides
-pub last_form : (words : List (List ℕ)) (command : Option Command) → NoPlanning words → NoFiles words (Simulating Simulate) → NoFiles words (Simulating Report) → NoFiles words Checking → ((plant : List ℕ) → ¬ Says words (Upgrading plant))
-    → MatchOption command ((seed : ℕ) → ¬ Says words (Showing seed)) (λ c. Says words (meaning c)) → MatchOption command (HasNoForm words) (λ c. Says words (meaning c))
-last_form words None solve simulate report check upgrade show = has_no_form words solve simulate report check (upgrade, show)
-last_form words (Some command) solve simulate report check upgrade show = show
+pub last_form : (words : List (List ℕ)) (command : Option Command) → NoPlanning words → NoFiles words (Simulating Simulate) → NoFiles words (Simulating Report) → NoFiles words Checking → NoOther words
+    → MatchOption command (NoHorizons words) (λ c. Says words (meaning c)) → MatchOption command (HasNoForm words) (λ c. Says words (meaning c))
+last_form words None solve simulate report check other least = has_no_form words solve simulate report check other least
+last_form words (Some command) solve simulate report check other least = least
+
+-- the last form of those that try one horizon after another
+pub last_horizon_form : (words : List (List ℕ)) (command : Option Command) → ((plant : List ℕ) (budget : ℕ) → ¬ Says words (Seeking plant budget)) → ((plant stem : List ℕ) (budget : ℕ) → ¬ Says words (Tracing plant budget stem))
+    → MatchOption command ((plant stem : List ℕ) (horizon : ℕ) → ¬ Says words (Auditing plant horizon stem)) (λ c. Says words (meaning c)) → MatchOption command (NoHorizons words) (λ c. Says words (meaning c))
+last_horizon_form words None seek trace audit = record { seeking = seek; tracing = trace; auditing = audit }
+last_horizon_form words (Some command) seek trace audit = audit

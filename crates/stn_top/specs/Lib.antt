@@ -6,5 +6,7 @@ pub mod Simulation
 pub mod Checking
 pub mod Upgrading
 pub mod Demo
+pub mod Seeking
+pub mod Auditing
 pub mod Requests
 pub mod Replies

@@ -8,15 +8,21 @@ use Rattle.stn_model.specs.declared.answer.Outcome.{Outcome}
 use Rattle.plant_text.specs.Reading.{reading}
 use Rattle.plan_text.specs.PlanText.{plan_of_text}
 use Rattle.stn_solve.specs.Proofs.{HasPlantProof, IsLeftOf, bytes_in}
-use Rattle.stn_top.specs.Words.{Request, Solving, Logging, Simulating, Checking, Upgrading, Showing}
+use Rattle.least_horizon.specs.declared.answer.LeastAnswer.{LeastAnswer}
+use Rattle.least_horizon.specs.LogNames.{logs_in}
+use Rattle.least_horizon.specs.Least.{IsLeast, IsStopped}
+use Rattle.stn_top.specs.Words.{Request, Solving, Logging, Simulating, Checking, Upgrading, Showing, Seeking, Tracing, Auditing}
 use Rattle.stn_top.specs.Sources.{IsReadOf, OnPlant, OnPlan}
 use Rattle.stn_top.specs.Solving.{Solved}
 use Rattle.stn_top.specs.Simulation.{Simulated}
 use Rattle.stn_top.specs.Checking.{Checked}
 use Rattle.stn_top.specs.Upgrading.{Upgraded}
 use Rattle.stn_top.specs.Demo.{Shown}
+use Rattle.stn_top.specs.Seeking.{Sought, log_names}
+use Rattle.stn_top.specs.Auditing.{Audited}
 
--- the names of the files that a request reads, in the order of its words: the plant, then the plan, or the log to check
+-- the names of the files that a request reads, in the order of its words: the plant, then the plan, or the log to check, or the
+-- logs of the shorter horizons
 abbrev pub read_names : Request → List (List ℕ)
 read_names (Solving plant budget) = plant ∷ []
 read_names (Logging plant budget log) = plant ∷ []
@@ -24,8 +30,11 @@ read_names (Simulating usage plant plan) = plant ∷ plan ∷ []
 read_names (Checking plant log) = plant ∷ log ∷ []
 read_names (Upgrading plant) = plant ∷ []
 read_names (Showing seed) = []
+read_names (Seeking plant budget) = plant ∷ []
+read_names (Tracing plant budget stem) = plant ∷ []
+read_names (Auditing plant horizon stem) = plant ∷ log_names stem horizon
 
--- the names of the files that a request writes: the log of a planning
+-- the names of the files that a request writes: the log of a planning, or those of all horizons that a plant may have
 abbrev pub written_names : Request → List (List ℕ)
 written_names (Solving plant budget) = []
 written_names (Logging plant budget log) = log ∷ []
@@ -33,6 +42,9 @@ written_names (Simulating usage plant plan) = []
 written_names (Checking plant log) = []
 written_names (Upgrading plant) = []
 written_names (Showing seed) = []
+written_names (Seeking plant budget) = []
+written_names (Tracing plant budget stem) = log_names stem 337
+written_names (Auditing plant horizon stem) = []
 
 -- the files that a request reads may be read
 abbrev pub MayRead : (List ℕ → Bool) → Request → Type 0
@@ -61,6 +73,9 @@ AnswersTo old new contents (Simulating usage plant plan) status text =
 AnswersTo old new contents (Checking plant log) status text = OnPlant (reading (content contents 0)) (Checked (bytes_in log old)) status text
 AnswersTo old new contents (Upgrading plant) status text = OnPlant (reading (content contents 0)) Upgraded status text
 AnswersTo old new contents (Showing seed) status text = Shown seed status text
+AnswersTo old new contents (Seeking plant budget) status text = OnPlant (reading (content contents 0)) (λ p. Sought budget p (λ _. None)) status text
+AnswersTo old new contents (Tracing plant budget stem) status text = OnPlant (reading (content contents 0)) (λ p. Sought budget p (logs_in stem new)) status text
+AnswersTo old new contents (Auditing plant horizon stem) status text = OnPlant (reading (content contents 0)) (Audited old horizon stem) status text
 
 -- The answer to a request, with the files before and after: there are contents of the files that it reads, which are those of
 -- the files before where the store tells them, and it is the answer over these contents. A refusal of the plant leaves every
@@ -77,7 +92,13 @@ pub record HoldsLog (old new : Option FileMap) (name log : List ℕ) : Type 0 wh
   pub read : IsReadOf reading old name (Ok plant)
   pub holds : IsLeftOf plant log old new ⊎ ((outcome : Outcome) × HasPlantProof plant (bytes_in log new) outcome)
 
--- what a request leaves, however it ends: the files as they were, or, where it writes a log, a log in its file
+-- the plant in a file was read, and the logs of a stem are those of its horizons: where the last was stopped, or of an answer
+pub record HoldsLogs (budget : ℕ) (old new : Option FileMap) (name stem : List ℕ) : Type 0 where
+  pub plant : Plant
+  pub read : IsReadOf reading old name (Ok plant)
+  pub holds : IsStopped plant budget stem old new ⊎ ((said : LeastAnswer) × IsLeast plant budget (logs_in stem new) said)
+
+-- what a request leaves, however it ends: the files as they were, or, where it writes logs, logs in their files
 abbrev pub IsLeft : Request → Option FileMap → Option FileMap → Type 0
 IsLeft (Solving plant budget) old new = new ≡ old
 IsLeft (Logging plant budget log) old new = (new ≡ old) ⊎ HoldsLog old new plant log
@@ -85,6 +106,9 @@ IsLeft (Simulating usage plant plan) old new = new ≡ old
 IsLeft (Checking plant log) old new = new ≡ old
 IsLeft (Upgrading plant) old new = new ≡ old
 IsLeft (Showing seed) old new = new ≡ old
+IsLeft (Seeking plant budget) old new = new ≡ old
+IsLeft (Tracing plant budget stem) old new = (new ≡ old) ⊎ HoldsLogs budget old new plant stem
+IsLeft (Auditing plant horizon stem) old new = new ≡ old
 
 -- a request gets to writing a file: it names a log, and its plant was read
 abbrev pub GetsToWriting : Option FileMap → Request → Type 0
@@ -94,3 +118,6 @@ GetsToWriting files (Simulating usage plant plan) = ⊥
 GetsToWriting files (Checking plant log) = ⊥
 GetsToWriting files (Upgrading plant) = ⊥
 GetsToWriting files (Showing seed) = ⊥
+GetsToWriting files (Seeking plant budget) = ⊥
+GetsToWriting files (Tracing plant budget stem) = (p : Plant) × IsReadOf reading files plant (Ok p)
+GetsToWriting files (Auditing plant horizon stem) = ⊥

@@ -1,5 +1,6 @@
 -- The words of a command.
 use Rattle.std.specs.Prelude.{◌≡◌, ◌≢◌, ℕ, ◌<◌, ◌≤◌, ◌^◌, List, [], ◌∷◌, map, codes, decimal}
+use Rattle.least_horizon.specs.LogNames.{log_name}
 use Rattle.std.specs.Borrow.{Bor}
 use Rattle.stn_top.specs.declared.command.PlanUse.{PlanUse}
 use Rattle.stn_top.specs.declared.command.PlanUse.TheVariants.{Simulate, Report}
@@ -14,6 +15,9 @@ pub data Request : Type 0 where
   Checking : (plant log : List ℕ) → Request
   Upgrading : (plant : List ℕ) → Request
   Showing : (seed : ℕ) → Request
+  Seeking : (plant : List ℕ) (budget : ℕ) → Request
+  Tracing : (plant : List ℕ) (budget : ℕ) (stem : List ℕ) → Request
+  Auditing : (plant : List ℕ) (horizon : ℕ) (stem : List ℕ) → Request
 
 -- the first word of a command that simulates a plan
 abbrev pub use_word : PlanUse → List ℕ
@@ -35,6 +39,16 @@ pub record IsSeed (word : List ℕ) (seed : ℕ) : Type 0 where
   pub digits : word ≡ decimal seed
   pub most : seed < 2 ^ 32
 
+-- the word is a horizon, or the number after the last, in decimal digits, without sign and leading zeros
+pub record IsHorizon (word : List ℕ) (horizon : ℕ) : Type 0 where
+  pub digits : word ≡ decimal horizon
+  pub some : 1 ≤ horizon
+  pub most : horizon ≤ 337
+
+-- the file is the log of no horizon of the stem
+abbrev pub IsNoLog : List ℕ → List ℕ → Type 0
+IsNoLog file stem = (g : ℕ) → 1 ≤ g → g ≤ 336 → file ≢ log_name stem g
+
 -- the words say the request; no file has an empty name, and a log is not written over its plant
 abbrev pub Says : List (List ℕ) → Request → Type 0
 Says words (Solving plant budget) = (word : List ℕ) × ((words ≡ codes "solve" ∷ plant ∷ word ∷ []) × (plant ≢ []) × IsBudget word budget)
@@ -44,10 +58,21 @@ Says words (Simulating usage plant plan) = (words ≡ use_word usage ∷ plant �
 Says words (Checking plant log) = (words ≡ codes "check" ∷ plant ∷ log ∷ []) × (plant ≢ []) × (log ≢ [])
 Says words (Upgrading plant) = (words ≡ codes "upgrade" ∷ plant ∷ []) × (plant ≢ [])
 Says words (Showing seed) = (word : List ℕ) × ((words ≡ codes "demo" ∷ word ∷ []) × IsSeed word seed)
+Says words (Seeking plant budget) = (word : List ℕ) × ((words ≡ codes "least" ∷ plant ∷ word ∷ []) × (plant ≢ []) × IsBudget word budget)
+Says words (Tracing plant budget stem) =
+    (word : List ℕ) × ((words ≡ codes "least" ∷ plant ∷ word ∷ stem ∷ []) × (plant ≢ []) × (stem ≢ []) × IsNoLog plant stem × IsBudget word budget)
+Says words (Auditing plant horizon stem) =
+    (word : List ℕ) × ((words ≡ codes "check-least" ∷ plant ∷ word ∷ stem ∷ []) × (plant ≢ []) × (stem ≢ []) × IsNoLog plant stem × IsHorizon word horizon)
 
 -- the words have the form of no command
 abbrev pub HasNoForm : List (List ℕ) → Type 0
 HasNoForm words = (request : Request) → ¬ Says words request
+
+-- the words say no request that tries one horizon after another
+pub record NoHorizons (words : List (List ℕ)) : Type 0 where
+  pub seeking : (plant : List ℕ) (budget : ℕ) → ¬ Says words (Seeking plant budget)
+  pub tracing : (plant stem : List ℕ) (budget : ℕ) → ¬ Says words (Tracing plant budget stem)
+  pub auditing : (plant stem : List ℕ) (horizon : ℕ) → ¬ Says words (Auditing plant horizon stem)
 
 -- what a command asks for
 abbrev pub meaning : declared.Command → Request
@@ -57,3 +82,6 @@ meaning (variants.Simulate usage plant plan) = Simulating usage plant.now plan.n
 meaning (variants.Check plant log) = Checking plant.now log.now
 meaning (variants.Upgrade plant) = Upgrading plant.now
 meaning (variants.Demo seed) = Showing seed
+meaning (variants.Least plant budget) = Seeking plant.now budget.boxes
+meaning (variants.LeastLogs plant budget stem) = Tracing plant.now budget.boxes stem.now
+meaning (variants.CheckLeast plant horizon stem) = Auditing plant.now horizon stem.now

@@ -4,12 +4,14 @@
 //! and puts its whole answer at once. Each command is a room of its own: a module with one function.
 #![tactic(auto)]
 
+mod auditing;
 pub mod budget;
 pub mod checking;
 pub mod command;
 mod demo;
 mod lines;
 pub mod reply;
+mod seeking;
 mod simulation;
 mod solving;
 mod sources;

@@ -8,10 +8,12 @@ ghost use Rattle.stn_top.specs.Sources.{IfReplied};
 ghost use Rattle.stn_top.specs.Requests.{MayRead, MayWrite, OthersKept, IsAnswer, IsLeft, GetsToWriting};
 ghost use Rattle.stn_top.specs.Replies.{IsReply, Answered, IsCutOff, MayReadAll, MayWriteAll, LogFailed, IsUnwritten};
 
+use crate::auditing::audit_file;
 use crate::checking::check_file;
 use crate::command::{Command, command_of};
 use crate::demo::show;
 use crate::reply::Reply;
+use crate::seeking::{seek_file, trace_file};
 use crate::simulation::simulate_file;
 use crate::solving::{log_file, solve_file};
 use crate::stopped::Stopped;
@@ -30,8 +32,11 @@ use stn_edge::{Shelf, Sink, Stop};
 /// | `check PLANT LOG` | checks a proof log, and says its claim or its first defect |
 /// | `upgrade PLANT` | prints the plant as a plant file of version 2 |
 /// | `demo SEED` | makes a plant of the seed, plans it with 500 boxes, and checks the log; no file is touched |
+/// | `least PLANT BUDGET` | finds the least horizon within which all deliveries can be met, with at most BUDGET boxes for each |
+/// | `least PLANT BUDGET STEM` | the same, and writes the log of each horizon g that it tries to the file STEM.g; none of STEM.1 to STEM.336 is PLANT |
+/// | `check-least PLANT H STEM` | checks the logs STEM.1, STEM.2 and so on of the horizons below H (1 to 337), and says that none of these has a feasible plan, or what speaks against the first log that doesn't show it |
 ///
-/// Statuses: 0 optimal, feasible, reported, upgraded or valid; 1 no plan is feasible, the plan is not, or the log is not valid; 2 the words have no
+/// Statuses: 0 optimal, feasible, reported, upgraded or valid; 1 no plan is feasible, the plan is not, or a log is not valid; 2 the words have no
 /// form; 3 the plant file has a fault; 4 the plan file has one; 6 the budget was spent; 7 a file could not be read; 8 the log could not be written or
 /// the answer could not be put; 9 no memory. The answer is put at once, after all work. No file changes but the log that the words name.
 pub fn run<F: Shelf, K: Sink>(alloc: Global, words: &[&str], files: &mut F, out: &mut K) -> u8
@@ -152,5 +157,16 @@ fn reply_to<F: Shelf>(alloc: Global, command: Command, files: &mut F) -> Result<
         Command::Check { plant, log } => check_file(alloc, files, plant, log),
         Command::Upgrade { plant } => upgrade_file(alloc, files, plant),
         Command::Demo { seed } => Ok(show(alloc, seed)?),
+        Command::Least { plant, budget } => seek_file(alloc, files, plant, budget),
+        Command::LeastLogs {
+            plant,
+            budget,
+            stem,
+        } => trace_file(alloc, files, plant, budget, stem),
+        Command::CheckLeast {
+            plant,
+            horizon,
+            stem,
+        } => audit_file(alloc, files, plant, horizon, stem),
     }
 }
