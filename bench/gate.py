@@ -3,6 +3,7 @@
 
     python3 bench/gate.py            # runs the gate at the top, prints its last line and the table
     python3 bench/gate.py --markdown # the table as docs/gate.md has it
+    python3 bench/gate.py NAME..     # the same for these crates and those below them
 
 A check is a process of the prover; what it took is read off /proc while it runs, twice a second, so a row may lack half a
 second for each of its checks. 'edits' counts the must-fail edits of the crate.
@@ -85,7 +86,8 @@ def table(taken, markdown):
 
 def main():
     begun, taken, done = time.monotonic(), {}, threading.Event()
-    gate = subprocess.Popen(["rt", "ci"], cwd=top, stdout=subprocess.PIPE, stderr=subprocess.STDOUT, text=True)
+    names = [it for it in sys.argv[1:] if not it.startswith("--")]
+    gate = subprocess.Popen(["rt", "ci", *names], cwd=top, stdout=subprocess.PIPE, stderr=subprocess.STDOUT, text=True)
     watcher = threading.Thread(target=watch, args=(gate.pid, taken, done))
     watcher.start()
     last = ""
