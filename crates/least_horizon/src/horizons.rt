@@ -45,13 +45,16 @@ pub fn least_to<F: Shelf>(
     requires budget { (1 ≤ budget) × (budget ≤ 100000) }
     requires allowed { AreAllowed (F.may_write files.old) stem.now (plant.now.periods + 1) }
     ensures least { IfOk result (IsLeast plant.now budget (logs_in stem.now (F.files files.new))) }
-    ensures others { IfOk result (λ answer. OthersStayBelow stem.now (untried plant.now answer) (F.files files.old) (F.files files.new)) }
-    ensures err { OnErr result (IsStopped plant.now budget stem.now (F.files files.old) (F.files files.new)) }
+    ensures others { IfOk result (λ answer. OthersStayBelow stem.now (untried plant.now answer)
+        (F.files files.old) (F.files files.new)) }
+    ensures err { OnErr result (IsStopped plant.now budget stem.now
+        (F.files files.old) (F.files files.new)) }
     ensures readable { F.may_read files.new ≡ F.may_read files.old }
     ensures writable { F.may_write files.new ≡ F.may_write files.old }
     ensures no_read { F.read_faults files.new ≡ F.read_faults files.old }
     ensures later { F.write_faults files.old ≤ F.write_faults files.new }
-    ensures failed { result ≡ Err Stop.Failed → Rose (F.write_faults files.old) (F.write_faults files.new) }
+    ensures failed { result ≡ Err Stop.Failed
+        → Rose (F.write_faults files.old) (F.write_faults files.new) }
 {
     for horizon in 1..plant.periods + 1 {
         if let Some(answer) = log_at(alloc, plant, budget, horizon, files, stem)? {
@@ -91,14 +94,18 @@ fn log_at<F: Shelf>(
     requires budget { (1 ≤ budget) × (budget ≤ 100000) }
     requires within { Within 1 plant.now.periods horizon }
     requires allowed { IsTrue (F.may_write files.old (log_name stem.now horizon)) }
-    ensures settled { IfOk result (IsSettled plant.now budget (logs_in stem.now (F.files files.new)) horizon) }
-    ensures err { OnErr result (IsLeftOf (plant_at plant.now horizon) (log_name stem.now horizon) (F.files files.old) (F.files files.new)) }
-    ensures others { OthersStay (log_name stem.now horizon) (F.files files.old) (F.files files.new) }
+    ensures settled { IfOk result (IsSettled plant.now budget
+        (logs_in stem.now (F.files files.new)) horizon) }
+    ensures err { OnErr result (IsLeftOf (plant_at plant.now horizon) (log_name stem.now horizon)
+        (F.files files.old) (F.files files.new)) }
+    ensures others { OthersStay (log_name stem.now horizon)
+        (F.files files.old) (F.files files.new) }
     ensures readable { F.may_read files.new ≡ F.may_read files.old }
     ensures writable { F.may_write files.new ≡ F.may_write files.old }
     ensures no_read { F.read_faults files.new ≡ F.read_faults files.old }
     ensures later { F.write_faults files.old ≤ F.write_faults files.new }
-    ensures failed { result ≡ Err Stop.Failed → Rose (F.write_faults files.old) (F.write_faults files.new) }
+    ensures failed { result ≡ Err Stop.Failed
+        → Rose (F.write_faults files.old) (F.write_faults files.new) }
 {
     let short = plant_at(alloc, plant, horizon)?;
     let name = log_name(alloc, stem, horizon)?;

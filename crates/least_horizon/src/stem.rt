@@ -37,13 +37,17 @@ pub fn check_least<F: Shelf>(
     stem: &str,
 ) -> Result<StemVerdict, CheckStop>
     requires sound { Sound plant.now }
-    requires allowed { AreAllowed (F.may_read files.old) stem.now (min horizon (plant.now.periods + 1)) }
+    requires allowed { AreAllowed (F.may_read files.old) stem.now
+        (min horizon (plant.now.periods + 1)) }
     ensures checked { IfOk result (λ verdict. IfSome (F.files files.old)
-        (λ m. IsStemVerdict plant.now (λ g. file_of m (log_name stem.now g)) (min horizon (plant.now.periods + 1)) verdict)) }
+        (λ m. IsStemVerdict plant.now (λ g. file_of m (log_name stem.now g))
+        (min horizon (plant.now.periods + 1)) verdict)) }
 
     // After a yes no plan is feasible within any of these horizons, whether the files are told or not.
-    ensures says { IfOk result (λ verdict. verdict ≡ StemVerdict.Yes → NoneBelow plant.now (min horizon (plant.now.periods + 1))) }
-    ensures fault { result ≡ Err CheckStop.Fault → Rose (F.read_faults files.old) (F.read_faults files.new) }
+    ensures says { IfOk result (λ verdict. verdict ≡ StemVerdict.Yes
+        → NoneBelow plant.now (min horizon (plant.now.periods + 1))) }
+    ensures fault { result ≡ Err CheckStop.Fault
+        → Rose (F.read_faults files.old) (F.read_faults files.new) }
     ensures same { F.files files.new ≡ F.files files.old }
     ensures readable { F.may_read files.new ≡ F.may_read files.old }
     ensures writable { F.may_write files.new ≡ F.may_write files.old }
@@ -76,7 +80,8 @@ fn judge<F: Shelf>(
     ensures judged { IfOk result (λ found. IfSome (F.files files.old)
         (λ m. IsJudged (plant_at plant.now horizon) (file_of m (log_name stem.now horizon)) found)) }
     ensures says { IfOk result (λ found. found ≡ None → NoPlan (plant_at plant.now horizon)) }
-    ensures fault { result ≡ Err CheckStop.Fault → Rose (F.read_faults files.old) (F.read_faults files.new) }
+    ensures fault { result ≡ Err CheckStop.Fault
+        → Rose (F.read_faults files.old) (F.read_faults files.new) }
     ensures same { F.files files.new ≡ F.files files.old }
     ensures readable { F.may_read files.new ≡ F.may_read files.old }
     ensures writable { F.may_write files.new ≡ F.may_write files.old }

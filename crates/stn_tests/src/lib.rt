@@ -8,6 +8,8 @@ mod answers;
 #[cfg(test)]
 mod demos;
 #[cfg(test)]
+mod horizons;
+#[cfg(test)]
 mod kept_starts;
 #[cfg(test)]
 mod logs;

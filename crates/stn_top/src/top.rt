@@ -38,7 +38,7 @@ use stn_edge::{Shelf, Sink, Stop};
 ///
 /// Statuses: 0 optimal, feasible, reported, upgraded or valid; 1 no plan is feasible, the plan is not, or a log is not valid; 2 the words have no
 /// form; 3 the plant file has a fault; 4 the plan file has one; 6 the budget was spent; 7 a file could not be read; 8 the log could not be written or
-/// the answer could not be put; 9 no memory. The answer is put at once, after all work. No file changes but the log that the words name.
+/// the answer could not be put; 9 no memory. The answer is put at once, after all work. No file changes but the logs that the words name.
 pub fn run<F: Shelf, K: Sink>(alloc: Global, words: &[&str], files: &mut F, out: &mut K) -> u8
     requires may_read { MayReadAll (F.may_read files.old) (texts words.now) }
     requires may_write { MayWriteAll (F.may_write files.old) (texts words.now) }
@@ -59,7 +59,7 @@ pub fn run<F: Shelf, K: Sink>(alloc: Global, words: &[&str], files: &mut F, out:
         (K.written out.old) (K.written out.new) }
     ensures known { result ≤ 9 }
 
-    // Only the log that the request writes may have changed, and it holds a log, begun or whole. After
+    // Only the logs that the request writes may have changed, and they hold logs, begun or whole. After
     // 2, 3, 4 and 7 no file has.
     ensures files { (request : Request) → Says (texts words.now) request
         → OthersKept request (F.files files.old) (F.files files.new) }
