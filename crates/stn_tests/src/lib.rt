@@ -10,6 +10,8 @@ mod demos;
 #[cfg(test)]
 mod faults;
 #[cfg(test)]
+mod horizons;
+#[cfg(test)]
 mod kept_starts;
 #[cfg(test)]
 mod logs;

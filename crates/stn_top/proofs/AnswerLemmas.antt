@@ -13,7 +13,10 @@ use Rattle.stn_top.specs.declared.reply.Reply.{Reply}
 use Rattle.stn_top.specs.declared.stopped.Stopped.{Stopped}
 use Rattle.stn_top.specs.declared.stopped.Stopped.TheVariants.{Refused, ReadFault, WriteFault, Memory}
 use Rattle.stn_top.specs.declared.command.PlanUse.{PlanUse}
-use Rattle.stn_top.specs.Words.{Request, Solving, Logging, Simulating, Checking, Upgrading, Showing, Replanning, ReplanLogging, CheckingReplan, Estimating, Says, HasNoForm}
+use Rattle.least_horizon.specs.declared.answer.LeastAnswer.{LeastAnswer}
+use Rattle.least_horizon.specs.declared.answer.LeastAnswer.TheVariants.{At, Nowhere, Open}
+use Rattle.least_horizon.specs.LogNames.{logs_in}
+use Rattle.stn_top.specs.Words.{Request, Solving, Logging, Simulating, Checking, Upgrading, Showing, Replanning, ReplanLogging, CheckingReplan, Estimating, Seeking, Tracing, Auditing, Says, HasNoForm}
 use Rattle.plant_text.specs.declared.fault.PlantFault.{PlantFault}
 use Rattle.stn_model.specs.declared.answer.Answer.{Answer}
 use Rattle.stn_model.specs.declared.answer.Answer.TheVariants.{Optimal, Infeasible, BudgetSpent}
@@ -24,6 +27,8 @@ use Rattle.stn_top.specs.Simulation.{Simulated}
 use Rattle.stn_top.specs.Checking.{Checked}
 use Rattle.stn_top.specs.Upgrading.{Upgraded}
 use Rattle.stn_top.specs.Estimating.{Estimated, OnBytes}
+use Rattle.stn_top.specs.Seeking.{Sought, least_status, log_names}
+use Rattle.stn_top.specs.Auditing.{Audited}
 use Rattle.stn_top.specs.Requests.{IsAnswer, content}
 use Rattle.stn_top.specs.Replies.{IsReply, IsCutOff, IsUnwritten}
 
@@ -66,6 +71,9 @@ RefusesPlant files (Replanning plant plan period budget) reply = Refuses reading
 RefusesPlant files (ReplanLogging plant plan period budget log) reply = Refuses reading IsPlantRefusal files plant reply
 RefusesPlant files (CheckingReplan plant plan period log) reply = Refuses reading IsPlantRefusal files plant reply
 RefusesPlant files (Estimating plant log state step count) reply = Refuses reading IsPlantRefusal files plant reply
+RefusesPlant files (Seeking plant budget) reply = Refuses reading IsPlantRefusal files plant reply
+RefusesPlant files (Tracing plant budget stem) reply = Refuses reading IsPlantRefusal files plant reply
+RefusesPlant files (Auditing plant horizon stem) reply = Refuses reading IsPlantRefusal files plant reply
 
 -- the refusal of the plant is an answer to every request, where the files are as before
 refused-plant : (old new : Option FileMap) (request : Request) (reply : Reply) → new ≡ old → RefusesPlant old request reply
@@ -122,6 +130,24 @@ refused-plant old new (CheckingReplan plant plan period log) reply same is = rec
 refused-plant old new (Estimating plant log state step count) reply same is = record {
   contents = is.read.bytes ∷ told_or_empty old log ∷ [];
   told = told_first old plant is.read.bytes (log ∷ []) is.read.told;
+  answers = rw is.read.is is.refusal;
+  kept = λ _. same;
+}
+refused-plant old new (Seeking plant budget) reply same is = record {
+  contents = is.read.bytes ∷ [];
+  told = told_first old plant is.read.bytes [] is.read.told;
+  answers = rw is.read.is is.refusal;
+  kept = λ _. same;
+}
+refused-plant old new (Tracing plant budget stem) reply same is = record {
+  contents = is.read.bytes ∷ [];
+  told = told_first old plant is.read.bytes [] is.read.told;
+  answers = rw is.read.is is.refusal;
+  kept = λ _. same;
+}
+refused-plant old new (Auditing plant horizon stem) reply same is = record {
+  contents = is.read.bytes ∷ map (told_or_empty old) (log_names stem horizon);
+  told = told_first old plant is.read.bytes (log_names stem horizon) is.read.told;
   answers = rw is.read.is is.refusal;
   kept = λ _. same;
 }
@@ -285,6 +311,83 @@ estimated_reply old new plant log state step count p (Err (Refused reply)) same 
 estimated_reply old new plant log state step count p (Err ReadFault) same read is none = tt
 estimated_reply old new plant log state step count p (Err WriteFault) same read is none = tt
 estimated_reply old new plant log state step count p (Err Memory) same read is none = tt
+
+-- ---- horizons
+
+-- of finding the least horizon
+pub seeking_answer : (old new : Option FileMap) (plant : List ℕ) (budget : ℕ) (p : Plant) (status : ℕ) (text : List ℕ) → new ≡ old → IsReadOf reading old plant (Ok p) → Sought budget p (λ _. None) status text
+    → IsAnswer old new (Seeking plant budget) status text
+seeking_answer old new plant budget p status text same read is = record {
+  contents = read.bytes ∷ [];
+  told = told_first old plant read.bytes [] read.told;
+  answers = rw read.is is;
+  kept = λ _. same;
+}
+
+-- the status of a least horizon is that of no refusal
+sought-status : (said : LeastAnswer) (status : ℕ) → status ≡ least_status said → IsUnwritten status → ⊥
+sought-status (At horizon earned plan) status is none = written status (λ s. omega (arith, is, s)) (λ s. omega (arith, is, s)) (λ s. omega (arith, is, s)) (λ s. omega (arith, is, s)) none
+sought-status Nowhere status is none = written status (λ s. omega (arith, is, s)) (λ s. omega (arith, is, s)) (λ s. omega (arith, is, s)) (λ s. omega (arith, is, s)) none
+sought-status (Open horizon) status is none = written status (λ s. omega (arith, is, s)) (λ s. omega (arith, is, s)) (λ s. omega (arith, is, s)) (λ s. omega (arith, is, s)) none
+
+-- of finding it with logs
+tracing_answer : (old new : Option FileMap) (plant : List ℕ) (budget : ℕ) (stem : List ℕ) (p : Plant) (status : ℕ) (text : List ℕ) → IsReadOf reading old plant (Ok p) → Sought budget p (logs_in stem new) status text
+    → IsAnswer old new (Tracing plant budget stem) status text
+tracing_answer old new plant budget stem p status text read is = record {
+  contents = read.bytes ∷ [];
+  told = told_first old plant read.bytes [] read.told;
+  answers = rw read.is is;
+  kept = λ three. absurd (sought-status is.said status is.status_is (inr (inl three)));
+}
+
+-- what finding it with logs replies
+pub traced_reply : (old new : Option FileMap) (plant : List ℕ) (budget : ℕ) (stem : List ℕ) (p : Plant) (r : Result Reply Stopped) → IsReadOf reading old plant (Ok p)
+    → IfOk r (λ reply. Sought budget p (logs_in stem new) reply.status reply.text.items) → IfRefused r (λ _. ⊥)
+    → IfReplied r (λ reply. IsAnswer old new (Tracing plant budget stem) reply.status reply.text.items)
+traced_reply old new plant budget stem p (Ok reply) read is none = tracing_answer old new plant budget stem p reply.status reply.text.items read is
+traced_reply old new plant budget stem p (Err (Refused reply)) read is none = absurd none
+traced_reply old new plant budget stem p (Err ReadFault) read is none = tt
+traced_reply old new plant budget stem p (Err WriteFault) read is none = tt
+traced_reply old new plant budget stem p (Err Memory) read is none = tt
+
+-- an answer to finding it with logs whose status is that of a refusal is one
+refused-tracing : (budget : ℕ) (logs : ℕ → Option (List ℕ)) (read : Result Plant PlantFault) (status : ℕ) (text : List ℕ) → OnPlant read (λ p. Sought budget p logs) status text → IsUnwritten status → status ≡ 3
+refused-tracing budget logs (Ok p) status text is none = absurd (sought-status is.said status is.status_is none)
+refused-tracing budget logs (Err fault) status text is none = is.0
+
+-- no log was written where the reply is a refusal
+tracing-unwritten : (old new : Option FileMap) (plant : List ℕ) (budget : ℕ) (stem : List ℕ) (status : ℕ) (text : List ℕ) → IsAnswer old new (Tracing plant budget stem) status text → IsUnwritten status → new ≡ old
+tracing-unwritten old new plant budget stem status text is none =
+    is.kept (refused-tracing budget (logs_in stem new) (reading (content is.contents 0)) status text is.answers none)
+
+-- the same of what is replied
+pub tracing_unwritten : (old new : Option FileMap) (plant : List ℕ) (budget : ℕ) (stem : List ℕ) (r : Result Reply Stopped) → IfReplied r (λ reply. IsAnswer old new (Tracing plant budget stem) reply.status reply.text.items)
+    → IfReplied r (λ reply. IsUnwritten reply.status → new ≡ old)
+tracing_unwritten old new plant budget stem (Ok reply) is = tracing-unwritten old new plant budget stem reply.status reply.text.items is
+tracing_unwritten old new plant budget stem (Err (Refused reply)) is = tracing-unwritten old new plant budget stem reply.status reply.text.items is
+tracing_unwritten old new plant budget stem (Err ReadFault) is = tt
+tracing_unwritten old new plant budget stem (Err WriteFault) is = tt
+tracing_unwritten old new plant budget stem (Err Memory) is = tt
+
+-- of checking the logs of a stem
+auditing_answer : (old new : Option FileMap) (plant : List ℕ) (horizon : ℕ) (stem : List ℕ) (p : Plant) (status : ℕ) (text : List ℕ) → new ≡ old → IsReadOf reading old plant (Ok p)
+    → Audited old horizon stem p status text → IsAnswer old new (Auditing plant horizon stem) status text
+auditing_answer old new plant horizon stem p status text same read is = record {
+  contents = read.bytes ∷ map (told_or_empty old) (log_names stem horizon);
+  told = told_first old plant read.bytes (log_names stem horizon) read.told;
+  answers = rw read.is is;
+  kept = λ _. same;
+}
+
+-- what checking them replies
+pub audited_reply : (old new : Option FileMap) (plant : List ℕ) (horizon : ℕ) (stem : List ℕ) (p : Plant) (r : Result Reply Stopped) → new ≡ old → IsReadOf reading old plant (Ok p)
+    → IfOk r (λ reply. Audited old horizon stem p reply.status reply.text.items) → IfRefused r (λ _. ⊥)
+    → IfReplied r (λ reply. IsAnswer old new (Auditing plant horizon stem) reply.status reply.text.items)
+audited_reply old new plant horizon stem p (Ok reply) same read is none = auditing_answer old new plant horizon stem p reply.status reply.text.items same read is
+audited_reply old new plant horizon stem p (Err (Refused reply)) same read is none = absurd none
+audited_reply old new plant horizon stem p (Err ReadFault) same read is none = tt
+audited_reply old new plant horizon stem p (Err WriteFault) same read is none = tt
+audited_reply old new plant horizon stem p (Err Memory) same read is none = tt
 
 -- ---- words and files
 

@@ -1,5 +1,5 @@
 -- What a run leaves in its files, for whatever request its words say.
-use Rattle.std.proofs.Common.{◌≡◌, ℕ, List, [], ◌∷◌, length, get_or, Option, Ok, Err, inl, sym, ap, ◌∙◌, subst, arith}
+use Rattle.std.proofs.Common.{◌≡◌, ◌≢◌, ℕ, List, [], ◌∷◌, length, get_or, Option, Ok, Err, inl, sym, ap, ◌∙◌, subst, arith}
 use Rattle.std.specs.Prelude.{Result, codes}
 use Rattle.std.specs.Option.{option_map}
 use Rattle.std.specs.FinMap.{get}
@@ -8,9 +8,11 @@ use Rattle.stn_edge.specs.Files.{FileMap, OthersStay}
 use Rattle.stn_top.specs.declared.reply.Reply.{Reply}
 use Rattle.stn_top.specs.declared.stopped.Stopped.{Stopped}
 use Rattle.stn_top.specs.declared.stopped.Stopped.TheVariants.{Refused, ReadFault, WriteFault, Memory}
-use Rattle.stn_top.specs.Words.{Request, Solving, Logging, Simulating, Checking, Upgrading, Showing, Replanning, ReplanLogging, CheckingReplan, Estimating, Says}
+use Rattle.least_horizon.specs.LogNames.{OthersStayBelow}
+use Rattle.stn_top.specs.Words.{Request, Solving, Logging, Simulating, Checking, Upgrading, Showing, Replanning, ReplanLogging, CheckingReplan, Estimating, Seeking, Tracing, Auditing, Says}
 use Rattle.stn_top.specs.Sources.{IfReplied}
 use Rattle.stn_top.specs.Requests.{IsLeft, OthersKept}
+use Rattle.stn_top.proofs.Horizons.{each_log}
 
 -- ---- files that are as before
 
@@ -34,6 +36,9 @@ left_same (Replanning plant plan period budget) old new same = same
 left_same (ReplanLogging plant plan period budget log) old new same = inl same
 left_same (CheckingReplan plant plan period log) old new same = same
 left_same (Estimating plant log state step count) old new same = same
+left_same (Seeking plant budget) old new same = same
+left_same (Tracing plant budget stem) old new same = inl same
+left_same (Auditing plant horizon stem) old new same = same
 
 -- what holds of every reply
 pub replied : (r : Result Reply Stopped) (P : Type 0) → P → IfReplied r (λ _. P)
@@ -53,6 +58,14 @@ kept_log plant budget log old new stay = λ name others. stay name (others 0 [] 
 pub kept_replan : (plant plan : List ℕ) (period budget : ℕ) (log : List ℕ) (old new : Option FileMap) → OthersStay log old new → OthersKept (ReplanLogging plant plan period budget log) old new
 kept_replan plant plan period budget log old new stay = λ name others. stay name (others 0 [] (omega arith))
 
+-- every file but the logs of a stem is as before
+pub kept_logs : (plant : List ℕ) (budget : ℕ) (stem : List ℕ) (old new : Option FileMap) → OthersStayBelow stem 337 old new → OthersKept (Tracing plant budget stem) old new
+kept_logs plant budget stem old new stay = λ name others. stay name (λ g some below. each_log (λ written. name ≢ written) stem 337 others g some below)
+
+-- and so is every file but them where all are
+pub stay_below_same : (stem : List ℕ) (horizon : ℕ) (old new : Option FileMap) → new ≡ old → OthersStayBelow stem horizon old new
+stay_below_same stem horizon old new same = λ name others. ap (λ (files : Option FileMap). option_map (λ m. get m name) files) same
+
 -- what a request leaves
 record Leaves (request : Request) (old new : Option FileMap) : Type 0 where
   kept : OthersKept request old new
@@ -61,6 +74,10 @@ record Leaves (request : Request) (old new : Option FileMap) : Type 0 where
 -- where all files are as before
 leaves_same : (request : Request) (old new : Option FileMap) → new ≡ old → Leaves request old new
 leaves_same request old new same = record { kept = kept_same request old new same; left = left_same request old new same }
+
+-- the first byte of the first word
+abbrev first_byte : List (List ℕ) → ℕ
+first_byte words = get_or (get_or words 0 []) 0 0
 
 -- the words of a planning with a log say no other request
 leaves_log : (words : List (List ℕ)) (plant : List ℕ) (budget : ℕ) (log : List ℕ) (other : Request) (old new : Option FileMap) → Says words (Logging plant budget log) → Says words other
@@ -74,6 +91,9 @@ leaves_log words plant budget log (Replanning plant2 plan2 period2 budget2) old 
 leaves_log words plant budget log (ReplanLogging plant2 plan2 period2 budget2 log2) old new says also is = (let same = ap length (sym says.1.0 ∙ also.1.1.0) in absurd (omega (arith, same)))
 leaves_log words plant budget log (CheckingReplan plant2 plan2 period2 log2) old new says also is = (let same = ap length (sym says.1.0 ∙ also.1.0) in absurd (omega (arith, same)))
 leaves_log words plant budget log (Estimating plant2 log2 state step count) old new says also is = (let same = ap length (sym says.1.0 ∙ also.1.1.0) in absurd (omega (arith, same)))
+leaves_log words plant budget log (Seeking plant2 budget2) old new says also is = (let same = ap length (sym says.1.0 ∙ also.1.0) in absurd (omega (arith, same)))
+leaves_log words plant budget log (Tracing plant2 budget2 stem2) old new says also is = (let same = ap first_byte (sym says.1.0 ∙ also.1.0) in absurd (omega (arith, same)))
+leaves_log words plant budget log (Auditing plant2 horizon2 stem2) old new says also is = (let same = ap first_byte (sym says.1.0 ∙ also.1.0) in absurd (omega (arith, same)))
 leaves_log words plant budget log (Logging plant2 budget2 log2) old new says also is =
     let same : codes "solve" ∷ plant ∷ says.0 ∷ log ∷ [] ≡ codes "solve" ∷ plant2 ∷ also.0 ∷ log2 ∷ [] = sym says.1.0 ∙ also.1.0 in
     let same_plant : plant ≡ plant2 = ap (λ (ws : List (List ℕ)). get_or ws 1 []) same in
@@ -109,6 +129,30 @@ leaves_replan words plant plan period budget log (ReplanLogging plant2 plan2 per
           (subst (λ (q : List ℕ). IsLeft (ReplanLogging q plan period budget2 log) old new) (word 1) is.left)));
     }
 
+-- the words of finding a least horizon with logs say no other request
+leaves_logs : (words : List (List ℕ)) (plant : List ℕ) (budget : ℕ) (stem : List ℕ) (other : Request) (old new : Option FileMap) → Says words (Tracing plant budget stem) → Says words other
+    → Leaves (Tracing plant budget stem) old new → Leaves other old new
+leaves_logs words plant budget stem (Solving plant2 budget2) old new says also is = (let same = ap length (sym says.1.0 ∙ also.1.0) in absurd (omega (arith, same)))
+leaves_logs words plant budget stem (Logging plant2 budget2 log2) old new says also is = (let same = ap first_byte (sym says.1.0 ∙ also.1.0) in absurd (omega (arith, same)))
+leaves_logs words plant budget stem (Simulating usage plant2 plan2) old new says also is = (let same = ap length (sym says.1.0 ∙ also.0) in absurd (omega (arith, same)))
+leaves_logs words plant budget stem (Checking plant2 log2) old new says also is = (let same = ap length (sym says.1.0 ∙ also.0) in absurd (omega (arith, same)))
+leaves_logs words plant budget stem (Upgrading plant2) old new says also is = (let same = ap length (sym says.1.0 ∙ also.0) in absurd (omega (arith, same)))
+leaves_logs words plant budget stem (Showing seed) old new says also is = (let same = ap length (sym says.1.0 ∙ also.1.0) in absurd (omega (arith, same)))
+leaves_logs words plant budget stem (Seeking plant2 budget2) old new says also is = (let same = ap length (sym says.1.0 ∙ also.1.0) in absurd (omega (arith, same)))
+leaves_logs words plant budget stem (Auditing plant2 horizon2 stem2) old new says also is = (let same = ap first_byte (sym says.1.0 ∙ also.1.0) in absurd (omega (arith, same)))
+leaves_logs words plant budget stem (Tracing plant2 budget2 stem2) old new says also is =
+    let same : codes "least" ∷ plant ∷ says.0 ∷ stem ∷ [] ≡ codes "least" ∷ plant2 ∷ also.0 ∷ stem2 ∷ [] = sym says.1.0 ∙ also.1.0 in
+    let same_plant : plant ≡ plant2 = ap (λ (ws : List (List ℕ)). get_or ws 1 []) same in
+    let same_word : says.0 ≡ also.0 = ap (λ (ws : List (List ℕ)). get_or ws 2 []) same in
+    let same_stem : stem ≡ stem2 = ap (λ (ws : List (List ℕ)). get_or ws 3 []) same in
+    let same_budget : budget ≡ budget2 =
+    decimal_injective budget budget2 (omega (arith, says.1.4.most)) (omega (arith, also.1.4.most)) (sym says.1.4.digits ∙ (same_word ∙ also.1.4.digits)) in
+    record {
+      kept = subst (λ (s : List ℕ). OthersKept (Tracing plant2 budget2 s) old new) same_stem is.kept;
+      left = subst (λ (s : List ℕ). IsLeft (Tracing plant2 budget2 s) old new) same_stem
+          (subst (λ (b : ℕ). IsLeft (Tracing plant2 b stem) old new) same_budget (subst (λ (p : List ℕ). IsLeft (Tracing p budget stem) old new) same_plant is.left));
+    }
+
 -- what one request leaves that the words say, each leaves that they say
 leaves : (words : List (List ℕ)) (request other : Request) (old new : Option FileMap) → Says words request → Says words other → Leaves request old new → Leaves other old new
 leaves words (Solving plant budget) other old new says also is = leaves_same other old new is.left
@@ -121,6 +165,9 @@ leaves words (Replanning plant plan period budget) other old new says also is = 
 leaves words (ReplanLogging plant plan period budget log) other old new says also is = leaves_replan words plant plan period budget log other old new says also is
 leaves words (CheckingReplan plant plan period log) other old new says also is = leaves_same other old new is.left
 leaves words (Estimating plant log state step count) other old new says also is = leaves_same other old new is.left
+leaves words (Seeking plant budget) other old new says also is = leaves_same other old new is.left
+leaves words (Tracing plant budget stem) other old new says also is = leaves_logs words plant budget stem other old new says also is
+leaves words (Auditing plant horizon stem) other old new says also is = leaves_same other old new is.left
 
 -- the two facts apart
 pub kept_all : (words : List (List ℕ)) (request : Request) (old new : Option FileMap) → Says words request → OthersKept request old new → IsLeft request old new → (other : Request) → Says words other → OthersKept other old new

@@ -10,3 +10,5 @@ pub mod TankAnswers
 pub mod DemoLemmas
 pub mod FileLemmas
 pub mod ReplanLemmas
+pub mod Horizons
+pub mod LogWords

@@ -8,5 +8,7 @@ pub mod Upgrading
 pub mod Demo
 pub mod Replanning
 pub mod Estimating
+pub mod Seeking
+pub mod Auditing
 pub mod Requests
 pub mod Replies

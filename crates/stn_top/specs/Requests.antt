@@ -11,7 +11,10 @@ use Rattle.plan_text.specs.PlanText.{plan_of_text}
 use Rattle.frozen_plan.specs.Frozen.{kept_starts}
 use Rattle.frozen_plan.specs.Keeping.{StandTogether}
 use Rattle.stn_solve.specs.Proofs.{HasPlantProof, IsLeftOf, bytes_in}
-use Rattle.stn_top.specs.Words.{Request, Solving, Logging, Simulating, Checking, Upgrading, Showing, Replanning, ReplanLogging, CheckingReplan, Estimating}
+use Rattle.least_horizon.specs.declared.answer.LeastAnswer.{LeastAnswer}
+use Rattle.least_horizon.specs.LogNames.{logs_in}
+use Rattle.least_horizon.specs.Least.{IsLeast, IsStopped}
+use Rattle.stn_top.specs.Words.{Request, Solving, Logging, Simulating, Checking, Upgrading, Showing, Replanning, ReplanLogging, CheckingReplan, Estimating, Seeking, Tracing, Auditing}
 use Rattle.stn_top.specs.Sources.{IsReadOf, OnPlant, OnPlan}
 use Rattle.stn_top.specs.Solving.{Solved}
 use Rattle.stn_top.specs.Simulation.{Simulated}
@@ -20,8 +23,11 @@ use Rattle.stn_top.specs.Upgrading.{Upgraded}
 use Rattle.stn_top.specs.Demo.{Shown}
 use Rattle.stn_top.specs.Estimating.{Estimated}
 use Rattle.stn_top.specs.Replanning.{Replanned, ReplanChecked, LeavesReplan}
+use Rattle.stn_top.specs.Seeking.{Sought, log_names}
+use Rattle.stn_top.specs.Auditing.{Audited}
 
--- the names of the files that a request reads, in the order of its words: the plant, then the plan, or the log to check
+-- the names of the files that a request reads, in the order of its words: the plant, then the plan, or the log to check, or the
+-- logs of the shorter horizons
 abbrev pub read_names : Request → List (List ℕ)
 read_names (Solving plant budget) = plant ∷ []
 read_names (Logging plant budget log) = plant ∷ []
@@ -33,8 +39,11 @@ read_names (Replanning plant plan period budget) = plant ∷ plan ∷ []
 read_names (ReplanLogging plant plan period budget log) = plant ∷ plan ∷ []
 read_names (CheckingReplan plant plan period log) = plant ∷ plan ∷ log ∷ []
 read_names (Estimating plant log state step count) = plant ∷ log ∷ []
+read_names (Seeking plant budget) = plant ∷ []
+read_names (Tracing plant budget stem) = plant ∷ []
+read_names (Auditing plant horizon stem) = plant ∷ log_names stem horizon
 
--- the names of the files that a request writes: the log of a planning
+-- the names of the files that a request writes: the log of a planning, or those of all horizons that a plant may have
 abbrev pub written_names : Request → List (List ℕ)
 written_names (Solving plant budget) = []
 written_names (Logging plant budget log) = log ∷ []
@@ -46,6 +55,9 @@ written_names (Replanning plant plan period budget) = []
 written_names (ReplanLogging plant plan period budget log) = log ∷ []
 written_names (CheckingReplan plant plan period log) = []
 written_names (Estimating plant log state step count) = []
+written_names (Seeking plant budget) = []
+written_names (Tracing plant budget stem) = log_names stem 337
+written_names (Auditing plant horizon stem) = []
 
 -- the files that a request reads may be read
 abbrev pub MayRead : (List ℕ → Bool) → Request → Type 0
@@ -81,6 +93,9 @@ AnswersTo old new contents (ReplanLogging plant plan period budget log) status t
 AnswersTo old new contents (CheckingReplan plant plan period log) status text =
     OnPlant (reading (content contents 0)) (λ p. OnPlan (plan_of_text p (content contents 1)) (λ starts. ReplanChecked (bytes_in log old) p period (kept_starts period starts) (new ≡ old))) status text
 AnswersTo old new contents (Estimating plant log state step count) status text = OnPlant (reading (content contents 0)) (Estimated state step count (content contents 1)) status text
+AnswersTo old new contents (Seeking plant budget) status text = OnPlant (reading (content contents 0)) (λ p. Sought budget p (λ _. None)) status text
+AnswersTo old new contents (Tracing plant budget stem) status text = OnPlant (reading (content contents 0)) (λ p. Sought budget p (logs_in stem new)) status text
+AnswersTo old new contents (Auditing plant horizon stem) status text = OnPlant (reading (content contents 0)) (Audited old horizon stem) status text
 
 -- The answer to a request, with the files before and after: there are contents of the files that it reads, which are those of
 -- the files before where the store tells them, and it is the answer over these contents. A refusal of the plant or of the plan
@@ -113,7 +128,13 @@ pub record CanReplan (files : Option FileMap) (name plan : List ℕ) (period : �
   pub read_plan : IsReadOf (plan_of_text plant) files plan (Ok starts)
   pub together : StandTogether plant (kept_starts period starts)
 
--- what a request leaves, however it ends: the files as they were, or, where it writes a log, a log in its file
+-- the plant in a file was read, and the logs of a stem are those of its horizons: where the last was stopped, or of an answer
+pub record HoldsLogs (budget : ℕ) (old new : Option FileMap) (name stem : List ℕ) : Type 0 where
+  pub plant : Plant
+  pub read : IsReadOf reading old name (Ok plant)
+  pub holds : IsStopped plant budget stem old new ⊎ ((said : LeastAnswer) × IsLeast plant budget (logs_in stem new) said)
+
+-- what a request leaves, however it ends: the files as they were, or, where it writes logs, logs in their files
 abbrev pub IsLeft : Request → Option FileMap → Option FileMap → Type 0
 IsLeft (Solving plant budget) old new = new ≡ old
 IsLeft (Logging plant budget log) old new = (new ≡ old) ⊎ HoldsLog old new plant log
@@ -125,6 +146,9 @@ IsLeft (Replanning plant plan period budget) old new = new ≡ old
 IsLeft (ReplanLogging plant plan period budget log) old new = (new ≡ old) ⊎ HoldsReplan old new plant plan period log
 IsLeft (CheckingReplan plant plan period log) old new = new ≡ old
 IsLeft (Estimating plant log state step count) old new = new ≡ old
+IsLeft (Seeking plant budget) old new = new ≡ old
+IsLeft (Tracing plant budget stem) old new = (new ≡ old) ⊎ HoldsLogs budget old new plant stem
+IsLeft (Auditing plant horizon stem) old new = new ≡ old
 
 -- a request gets to writing a file: it names a log, and its plant was read, and its plan where it has one, of which the kept starts stand together
 abbrev pub GetsToWriting : Option FileMap → Request → Type 0
@@ -138,3 +162,6 @@ GetsToWriting files (Replanning plant plan period budget) = ⊥
 GetsToWriting files (ReplanLogging plant plan period budget log) = CanReplan files plant plan period
 GetsToWriting files (CheckingReplan plant plan period log) = ⊥
 GetsToWriting files (Estimating plant log state step count) = ⊥
+GetsToWriting files (Seeking plant budget) = ⊥
+GetsToWriting files (Tracing plant budget stem) = (p : Plant) × IsReadOf reading files plant (Ok p)
+GetsToWriting files (Auditing plant horizon stem) = ⊥

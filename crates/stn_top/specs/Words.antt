@@ -1,6 +1,7 @@
 -- The words of a command.
 use Rattle.std.specs.Prelude.{◌≡◌, ◌≢◌, ℕ, ℤ, ◌<◌, ◌≤◌, ◌^◌, unsigned_abs, List, [], ◌∷◌, map, codes, decimal}
 use Rattle.std.specs.Fmt.{signed_decimal}
+use Rattle.least_horizon.specs.LogNames.{log_name}
 use Rattle.std.specs.Borrow.{Bor}
 use Rattle.stn_top.specs.declared.command.PlanUse.{PlanUse}
 use Rattle.stn_top.specs.declared.command.PlanUse.TheVariants.{Simulate, Report, Picture}
@@ -19,6 +20,9 @@ pub data Request : Type 0 where
   ReplanLogging : (plant plan : List ℕ) (period budget : ℕ) (log : List ℕ) → Request
   CheckingReplan : (plant plan : List ℕ) (period : ℕ) (log : List ℕ) → Request
   Estimating : (plant log state : List ℕ) (step : ℤ) (count : ℕ) → Request
+  Seeking : (plant : List ℕ) (budget : ℕ) → Request
+  Tracing : (plant : List ℕ) (budget : ℕ) (stem : List ℕ) → Request
+  Auditing : (plant : List ℕ) (horizon : ℕ) (stem : List ℕ) → Request
 
 -- the first word of a command that simulates a plan
 abbrev pub use_word : PlanUse → List ℕ
@@ -57,6 +61,16 @@ pub record IsStepCount (word : List ℕ) (count : ℕ) : Type 0 where
   pub some : 1 ≤ count
   pub most : count ≤ 50
 
+-- the word is a horizon, or the number after the last, in decimal digits, without sign and leading zeros
+pub record IsHorizon (word : List ℕ) (horizon : ℕ) : Type 0 where
+  pub digits : word ≡ decimal horizon
+  pub some : 1 ≤ horizon
+  pub most : horizon ≤ 337
+
+-- the file is the log of no horizon of the stem
+abbrev pub IsNoLog : List ℕ → List ℕ → Type 0
+IsNoLog file stem = (g : ℕ) → 1 ≤ g → g ≤ 336 → file ≢ log_name stem g
+
 -- the words say the request; no file has an empty name, and a log is not written over a file that is read
 abbrev pub Says : List (List ℕ) → Request → Type 0
 Says words (Solving plant budget) = (word : List ℕ) × ((words ≡ codes "solve" ∷ plant ∷ word ∷ []) × (plant ≢ []) × IsBudget word budget)
@@ -75,10 +89,21 @@ Says words (CheckingReplan plant plan period log) =
     (from : List ℕ) × ((words ≡ codes "check-replan" ∷ plant ∷ plan ∷ from ∷ log ∷ []) × (plant ≢ []) × (plan ≢ []) × (log ≢ []) × IsPeriod from period)
 Says words (Estimating plant log state step count) =
     (by : List ℕ) × ((times : List ℕ) × ((words ≡ codes "whatif" ∷ plant ∷ log ∷ state ∷ by ∷ times ∷ []) × (plant ≢ []) × (log ≢ []) × IsStep by step × IsStepCount times count))
+Says words (Seeking plant budget) = (word : List ℕ) × ((words ≡ codes "least" ∷ plant ∷ word ∷ []) × (plant ≢ []) × IsBudget word budget)
+Says words (Tracing plant budget stem) =
+    (word : List ℕ) × ((words ≡ codes "least" ∷ plant ∷ word ∷ stem ∷ []) × (plant ≢ []) × (stem ≢ []) × IsNoLog plant stem × IsBudget word budget)
+Says words (Auditing plant horizon stem) =
+    (word : List ℕ) × ((words ≡ codes "check-least" ∷ plant ∷ word ∷ stem ∷ []) × (plant ≢ []) × (stem ≢ []) × IsNoLog plant stem × IsHorizon word horizon)
 
 -- the words have the form of no command
 abbrev pub HasNoForm : List (List ℕ) → Type 0
 HasNoForm words = (request : Request) → ¬ Says words request
+
+-- the words say no request that tries one horizon after another
+pub record NoHorizons (words : List (List ℕ)) : Type 0 where
+  pub seeking : (plant : List ℕ) (budget : ℕ) → ¬ Says words (Seeking plant budget)
+  pub tracing : (plant stem : List ℕ) (budget : ℕ) → ¬ Says words (Tracing plant budget stem)
+  pub auditing : (plant stem : List ℕ) (horizon : ℕ) → ¬ Says words (Auditing plant horizon stem)
 
 -- what a command asks for
 abbrev pub meaning : declared.Command → Request
@@ -92,3 +117,6 @@ meaning (variants.Replan plant plan period budget) = Replanning plant.now plan.n
 meaning (variants.LogReplan plant plan period budget log) = ReplanLogging plant.now plan.now period.number budget.boxes log.now
 meaning (variants.CheckReplan plant plan period log) = CheckingReplan plant.now plan.now period.number log.now
 meaning (variants.Estimate plant log state steps) = Estimating plant.now log.now state.now steps.step steps.count
+meaning (variants.Least plant budget) = Seeking plant.now budget.boxes
+meaning (variants.LeastLogs plant budget stem) = Tracing plant.now budget.boxes stem.now
+meaning (variants.CheckLeast plant horizon stem) = Auditing plant.now horizon stem.now

@@ -1,6 +1,6 @@
 //! The words of a command.
 ghost use Rattle.std.specs.Prelude.{◌≡◌, ◌≢◌, ◌↔◌, ◌∷◌, true, ℕ, ℤ, List, MatchOption};
-ghost use Rattle.stn_top.specs.Words.{Says, HasNoForm, IsBudget, IsPeriod, IsSeed, IsStep, IsStepCount, Solving, Logging, Simulating, Checking, Upgrading, Showing, Replanning, ReplanLogging, CheckingReplan, Estimating, texts, meaning, use_word};
+ghost use Rattle.stn_top.specs.Words.{Says, HasNoForm, IsBudget, IsPeriod, IsSeed, IsStep, IsStepCount, Solving, Logging, Simulating, Checking, Upgrading, Showing, Replanning, ReplanLogging, CheckingReplan, Estimating, texts, meaning, Seeking, Tracing, Auditing, NoHorizons, IsHorizon, IsNoLog, use_word};
 
 use crate::budget::{Budget, MAX_BUDGET};
 use crate::period::Period;
@@ -81,6 +81,23 @@ pub enum Command<'a> {
         state: &'a str,
         steps: Steps,
     },
+    /// `least PLANT BUDGET`: find the least horizon, with at most this many boxes for each.
+    Least {
+        plant: &'a str,
+        budget: Budget,
+    },
+    /// `least PLANT BUDGET STEM`: the same, and write the log of each horizon.
+    LeastLogs {
+        plant: &'a str,
+        budget: Budget,
+        stem: &'a str,
+    },
+    /// `check-least PLANT H STEM`: check the logs of the horizons that are shorter than H.
+    CheckLeast {
+        plant: &'a str,
+        horizon: u32,
+        stem: &'a str,
+    },
 }
 
 /// The command that the words say, if they have the form of one. It takes no memory.
@@ -121,7 +138,24 @@ pub fn command_of<'a>(words: &[&'a str]) -> Option<Command<'a>>
     if let Some(command) = estimate_of(words) {
         return Some(command);
     }
-    demo_of(words)
+    if let Some(command) = demo_of(words) {
+        return Some(command);
+    }
+    horizon_form(words)
+}
+
+// The command that tries one horizon after another.
+fn horizon_form<'a>(words: &[&'a str]) -> Option<Command<'a>>
+    ensures { MatchOption result (NoHorizons (texts words.now))
+        (λ command. Says (texts words.now) (meaning command)) }
+{
+    if let Some(command) = least_of(words) {
+        return Some(command);
+    }
+    if let Some(command) = least_logs_of(words) {
+        return Some(command);
+    }
+    check_least_of(words)
 }
 
 fn solve_of<'a>(words: &[&'a str]) -> Option<Command<'a>>
@@ -392,6 +426,102 @@ fn count_of(word: &str) -> Option<u32>
     ensures { MatchOption result ((n : ℕ) → ¬ IsStepCount word.now n) (λ count. IsStepCount word.now count) }
 {
     match read_number(word.as_bytes(), MAX_STEPS as u64 + 1) {
+        Some(number) if 0 < number => Some(number as u32),
+        _ => None,
+    }
+}
+
+fn least_of<'a>(words: &[&'a str]) -> Option<Command<'a>>
+    ensures { MatchOption result ((plant : List ℕ) (budget : ℕ)
+        → ¬ Says (texts words.now) (Seeking plant budget))
+        (λ command. Says (texts words.now) (meaning command)) }
+{
+    match words {
+        [first, plant, budget] if *first == "least" && !plant.is_empty() => {
+            match budget_of(budget) {
+                Some(budget) => Some(Command::Least { plant, budget }),
+                None => None,
+            }
+        }
+        _ => None,
+    }
+}
+
+fn least_logs_of<'a>(words: &[&'a str]) -> Option<Command<'a>>
+    ensures { MatchOption result ((plant stem : List ℕ) (budget : ℕ)
+        → ¬ Says (texts words.now) (Tracing plant budget stem))
+        (λ command. Says (texts words.now) (meaning command)) }
+{
+    match words {
+        [first, plant, budget, stem]
+            if *first == "least"
+                && !plant.is_empty()
+                && !stem.is_empty()
+                && is_no_log(plant, stem) => {
+            match budget_of(budget) {
+                Some(budget) => Some(Command::LeastLogs {
+                    plant,
+                    budget,
+                    stem,
+                }),
+                None => None,
+            }
+        }
+        _ => None,
+    }
+}
+
+fn check_least_of<'a>(words: &[&'a str]) -> Option<Command<'a>>
+    ensures { MatchOption result ((plant stem : List ℕ) (horizon : ℕ)
+        → ¬ Says (texts words.now) (Auditing plant horizon stem))
+        (λ command. Says (texts words.now) (meaning command)) }
+{
+    match words {
+        [first, plant, horizon, stem]
+            if *first == "check-least"
+                && !plant.is_empty()
+                && !stem.is_empty()
+                && is_no_log(plant, stem) => {
+            match horizon_of(horizon) {
+                Some(horizon) => Some(Command::CheckLeast {
+                    plant,
+                    horizon,
+                    stem,
+                }),
+                None => None,
+            }
+        }
+        _ => None,
+    }
+}
+
+// The file is the log of no horizon of the stem.
+fn is_no_log(file: &str, stem: &str) -> bool
+    ensures { (result ≡ true) ↔ IsNoLog file.now stem.now }
+{
+    let name = file.as_bytes();
+    let at = stem.len();
+    if name.len() <= at || !same_bytes(&name[..at], stem.as_bytes()) || name[at] != b'.' {
+        return true;
+    }
+    match read_number(&name[at + 1..], 337) {
+        Some(number) => number == 0,
+        None => true,
+    }
+}
+
+// The bytes are the same.
+fn same_bytes(first: &[u8], second: &[u8]) -> bool
+    ensures { (result ≡ true) ↔ (first.now ≡ second.now) }
+{
+    first == second
+}
+
+fn horizon_of(word: &str) -> Option<u32>
+    ensures { MatchOption result ((n : ℕ)
+        → ¬ IsHorizon word.now n) (λ horizon. IsHorizon word.now horizon) }
+{
+    match read_number(word.as_bytes(), 338) {
         Some(number) if 0 < number => Some(number as u32),
         _ => None,
     }

@@ -4,6 +4,7 @@
 //! and puts its whole answer at once. Each command is a room of its own: a module with one function.
 #![tactic(auto)]
 
+mod auditing;
 pub mod budget;
 pub mod checking;
 pub mod command;
@@ -13,6 +14,7 @@ mod lines;
 pub mod period;
 mod replanning;
 pub mod reply;
+mod seeking;
 mod simulation;
 mod solving;
 mod sources;

@@ -243,7 +243,7 @@ fn spent_head(alloc: Global, profit: &i128, cap: &i128, boxes: u32) -> Result<St
 }
 
 // The head, followed by the lines of the plan.
-fn with_plan(
+pub fn with_plan(
     alloc: Global,
     plant: &Plant,
     head: &str,

@@ -8,12 +8,14 @@ ghost use Rattle.stn_top.specs.Sources.{IfReplied};
 ghost use Rattle.stn_top.specs.Requests.{MayRead, MayWrite, OthersKept, IsAnswer, IsLeft, GetsToWriting};
 ghost use Rattle.stn_top.specs.Replies.{IsReply, Answered, IsCutOff, MayReadAll, MayWriteAll, LogFailed, IsUnwritten};
 
+use crate::auditing::audit_file;
 use crate::checking::check_file;
 use crate::command::{Command, command_of};
 use crate::demo::show;
 use crate::estimating::estimate_file;
 use crate::replanning::{check_replan_file, log_replan_file, replan_file};
 use crate::reply::Reply;
+use crate::seeking::{seek_file, trace_file};
 use crate::simulation::simulate_file;
 use crate::solving::{log_file, solve_file};
 use crate::stopped::Stopped;
@@ -36,10 +38,13 @@ use stn_edge::{Shelf, Sink, Stop};
 /// | `replan PLANT PLAN PERIOD BUDGET LOG` | the same, and writes the log of the proof; LOG is neither the word PLANT nor PLAN |
 /// | `check-replan PLANT PLAN PERIOD LOG` | checks the proof log of such a planning, and says its claim or its first defect |
 /// | `whatif PLANT LOG STATE STEP COUNT` | says by an old log, without a search, what no plan earns more than where the limits of the state are raised by no step, by one, and so on, and what the log's plan then comes to |
+/// | `least PLANT BUDGET` | finds the least horizon within which all deliveries can be met, with at most BUDGET boxes for each |
+/// | `least PLANT BUDGET STEM` | the same, and writes the log of each horizon g that it tries to the file STEM.g; none of STEM.1 to STEM.336 is PLANT |
+/// | `check-least PLANT H STEM` | checks the logs STEM.1, STEM.2 and so on of the horizons below H (1 to 337), and says that none of these has a feasible plan, or what speaks against the first log that doesn't show it |
 ///
-/// Statuses: 0 optimal, feasible, reported, upgraded, valid or estimated; 1 no plan is feasible, the plan is not or what is kept of it can't be, or the log is not valid; 2 the words have no
+/// Statuses: 0 optimal, feasible, reported, upgraded, valid or estimated; 1 no plan is feasible, the plan is not or what is kept of it can't be, or a log is not valid; 2 the words have no
 /// form; 3 the plant file has a fault; 4 the plan file has one; 5 STATE is not the name of a state with limits; 6 the budget was spent; 7 a file could not be read; 8 the log could not be written or
-/// the answer could not be put; 9 no memory. The answer is put at once, after all work. No file changes but the log that the words name.
+/// the answer could not be put; 9 no memory. The answer is put at once, after all work. No file changes but the logs that the words name.
 pub fn run<F: Shelf, K: Sink>(alloc: Global, words: &[&str], files: &mut F, out: &mut K) -> u8
     requires may_read { MayReadAll (F.may_read files.old) (texts words.now) }
     requires may_write { MayWriteAll (F.may_write files.old) (texts words.now) }
@@ -60,7 +65,7 @@ pub fn run<F: Shelf, K: Sink>(alloc: Global, words: &[&str], files: &mut F, out:
         (K.written out.old) (K.written out.new) }
     ensures known { result ≤ 9 }
 
-    // Only the log that the request writes may have changed, and it holds a log, begun or whole. After
+    // Only the logs that the request writes may have changed, and they hold logs, begun or whole. After
     // 2, 3, 4, 5 and 7 no file has.
     ensures files { (request : Request) → Says (texts words.now) request
         → OthersKept request (F.files files.old) (F.files files.new) }
@@ -183,5 +188,16 @@ fn reply_to<F: Shelf>(alloc: Global, command: Command, files: &mut F) -> Result<
             state,
             steps,
         } => estimate_file(alloc, files, plant, log, state, steps),
+        Command::Least { plant, budget } => seek_file(alloc, files, plant, budget),
+        Command::LeastLogs {
+            plant,
+            budget,
+            stem,
+        } => trace_file(alloc, files, plant, budget, stem),
+        Command::CheckLeast {
+            plant,
+            horizon,
+            stem,
+        } => audit_file(alloc, files, plant, horizon, stem),
     }
 }

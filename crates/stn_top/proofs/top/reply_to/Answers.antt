@@ -1,6 +1,7 @@
-use Rattle.stn_top.proofs.AnswerLemmas.{logging_unwritten}
+use Rattle.stn_top.proofs.AnswerLemmas.{logging_unwritten, tracing_unwritten}
 use Rattle.stn_top.proofs.ReplanLemmas.{replan_unwritten}
-use Rattle.stn_top.proofs.FileLemmas.{kept_log, kept_replan}
+use Rattle.stn_top.proofs.FileLemmas.{kept_log, kept_replan, kept_logs}
+use Rattle.stn_top.proofs.Horizons.{logs_allowed, all_logs_allowed}
 use Rattle.stn_top.proofs.top.reply_to.Goals as goal
 
 pub returns-in-Log-clause-unwritten : goal.returns-in-Log-clause-unwritten
@@ -20,3 +21,23 @@ pub returns-in-LogReplan-clause-files : goal.returns-in-LogReplan-clause-files
 returns-in-LogReplan-clause-files g c =
     rw c.in-LogReplan.is (kept_replan c.in-LogReplan.plant.now c.in-LogReplan.plan.now c.in-LogReplan.period.number c.in-LogReplan.budget.boxes c.in-LogReplan.log.now
     (g.F.Shelf.files c.args.files.now) (g.F.Shelf.files c.log_replan_file.new.files) c.log_replan_file.ensures.others)
+
+pub trace_file-requires-clause-logs_writable : goal.trace_file-requires-clause-logs_writable
+trace_file-requires-clause-logs_writable g c =
+    let may = g.F.Shelf.may_write c.args.files.now in
+    let is = c.in-LeastLogs.is in
+    all_logs_allowed may c.in-LeastLogs.stem.now 337 (rw is at c.requires.may_write)
+
+pub returns-in-LeastLogs-clause-unwritten : goal.returns-in-LeastLogs-clause-unwritten
+returns-in-LeastLogs-clause-unwritten g c =
+    tracing_unwritten (g.F.Shelf.files c.args.files.now) (g.F.Shelf.files c.trace_file.new.files) c.in-LeastLogs.plant.now c.in-LeastLogs.budget.boxes c.in-LeastLogs.stem.now c.trace_file.result c.trace_file.ensures.answer
+
+pub returns-in-LeastLogs-clause-files : goal.returns-in-LeastLogs-clause-files
+returns-in-LeastLogs-clause-files g c =
+    rw c.in-LeastLogs.is (kept_logs c.in-LeastLogs.plant.now c.in-LeastLogs.budget.boxes c.in-LeastLogs.stem.now (g.F.Shelf.files c.args.files.now) (g.F.Shelf.files c.trace_file.new.files) c.trace_file.ensures.others)
+
+pub audit_file-requires-clause-logs_readable : goal.audit_file-requires-clause-logs_readable
+audit_file-requires-clause-logs_readable g c =
+    let may = g.F.Shelf.may_read c.args.files.now in
+    let is = c.in-CheckLeast.is in
+    logs_allowed may c.in-CheckLeast.plant.now c.in-CheckLeast.stem.now c.in-CheckLeast.horizon (rw is at c.requires.may_read)

@@ -1,0 +1,5 @@
+pub mod Longer
+pub mod ShorterSound
+pub mod Steps
+pub mod LogFiles
+pub mod Judged

@@ -1,0 +1,4 @@
+pub mod PlantAt
+pub mod LogNames
+pub mod Least
+pub mod Stems

@@ -1,0 +1,41 @@
+-- The answer of `least`: its text, and when it is right.
+use Rattle.std.specs.Prelude.{◌≡◌, ◌-◌, ℕ, List, ◌++◌, All, map, codes, decimal, Option}
+use Rattle.std.specs.Fmt.{signed_decimal}
+use Rattle.std.specs.List.{range_with_len}
+use Rattle.stn_model.specs.declared.plant.Plant.{Plant}
+use Rattle.plan_text.specs.PlanLines.{plan_lines, IsNamed}
+use Rattle.least_horizon.specs.declared.answer.LeastAnswer.{LeastAnswer}
+use Rattle.least_horizon.specs.declared.answer.LeastAnswer.TheVariants.{At, Nowhere, Open}
+use Rattle.least_horizon.specs.LogNames.{log_name}
+use Rattle.least_horizon.specs.Least.{IsLeast}
+
+-- the names of the logs of a stem for the horizons from 1 on that are shorter than this one
+unfoldable pub log_names : List ℕ → ℕ → List (List ℕ)
+log_names stem horizon = map (log_name stem) (range_with_len 1 (horizon - 1))
+
+-- the text of an answer: the least horizon and the plan with its profit, that there is none, or the one that is open
+unfoldable pub least_text : Plant → LeastAnswer → List ℕ
+least_text plant (At horizon earned plan) =
+    codes "# least " ++ (decimal horizon ++ (codes "\n# feasible " ++ (signed_decimal earned ++ (codes "\n" ++ plan_lines plant plan))))
+least_text plant Nowhere = codes "# no-horizon\n"
+least_text plant (Open horizon) = codes "# open " ++ (decimal horizon ++ codes "\n")
+
+-- the exit status of an answer
+abbrev pub least_status : LeastAnswer → ℕ
+least_status (At horizon earned plan) = 0
+least_status Nowhere = 1
+least_status (Open horizon) = 6
+
+-- the starts of the answer's plan name units and tasks of the plant
+abbrev pub NamesItems : Plant → LeastAnswer → Type 0
+NamesItems plant (At horizon earned plan) = All (IsNamed plant) plan
+NamesItems plant Nowhere = Unit {0}
+NamesItems plant (Open horizon) = Unit {0}
+
+-- The answer of `least`: the right least horizon, which is found by solving one horizon after another, with its status and its
+-- text. Where the bytes of logs are told, they are the logs of the horizons that were solved.
+pub record Sought (budget : ℕ) (plant : Plant) (logs : ℕ → Option (List ℕ)) (status : ℕ) (text : List ℕ) : Type 0 where
+  pub said : LeastAnswer
+  pub right : IsLeast plant budget logs said
+  pub status_is : status ≡ least_status said
+  pub text_is : text ≡ least_text plant said
