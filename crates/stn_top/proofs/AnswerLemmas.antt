@@ -326,9 +326,9 @@ seeking_answer old new plant budget p status text same read is = record {
 
 -- the status of a least horizon is that of no refusal
 sought-status : (said : LeastAnswer) (status : ℕ) → status ≡ least_status said → IsUnwritten status → ⊥
-sought-status (At horizon earned plan) status is none = written status (λ s. omega (arith, is, s)) (λ s. omega (arith, is, s)) (λ s. omega (arith, is, s)) (λ s. omega (arith, is, s)) none
-sought-status Nowhere status is none = written status (λ s. omega (arith, is, s)) (λ s. omega (arith, is, s)) (λ s. omega (arith, is, s)) (λ s. omega (arith, is, s)) none
-sought-status (Open horizon) status is none = written status (λ s. omega (arith, is, s)) (λ s. omega (arith, is, s)) (λ s. omega (arith, is, s)) (λ s. omega (arith, is, s)) none
+sought-status (At horizon earned plan) status is none = written status (λ s. omega (arith, is, s)) (λ s. omega (arith, is, s)) (λ s. omega (arith, is, s)) (λ s. omega (arith, is, s)) (λ s. omega (arith, is, s)) none
+sought-status Nowhere status is none = written status (λ s. omega (arith, is, s)) (λ s. omega (arith, is, s)) (λ s. omega (arith, is, s)) (λ s. omega (arith, is, s)) (λ s. omega (arith, is, s)) none
+sought-status (Open horizon) status is none = written status (λ s. omega (arith, is, s)) (λ s. omega (arith, is, s)) (λ s. omega (arith, is, s)) (λ s. omega (arith, is, s)) (λ s. omega (arith, is, s)) none
 
 -- of finding it with logs
 tracing_answer : (old new : Option FileMap) (plant : List ℕ) (budget : ℕ) (stem : List ℕ) (p : Plant) (status : ℕ) (text : List ℕ) → IsReadOf reading old plant (Ok p) → Sought budget p (logs_in stem new) status text
@@ -337,7 +337,7 @@ tracing_answer old new plant budget stem p status text read is = record {
   contents = read.bytes ∷ [];
   told = told_first old plant read.bytes [] read.told;
   answers = rw read.is is;
-  kept = λ three. absurd (sought-status is.said status is.status_is (inr (inl three)));
+  kept = λ refused. absurd (sought-status is.said status is.status_is (of_refusal status refused));
 }
 
 -- what finding it with logs replies
@@ -358,7 +358,7 @@ refused-tracing budget logs (Err fault) status text is none = is.0
 -- no log was written where the reply is a refusal
 tracing-unwritten : (old new : Option FileMap) (plant : List ℕ) (budget : ℕ) (stem : List ℕ) (status : ℕ) (text : List ℕ) → IsAnswer old new (Tracing plant budget stem) status text → IsUnwritten status → new ≡ old
 tracing-unwritten old new plant budget stem status text is none =
-    is.kept (refused-tracing budget (logs_in stem new) (reading (content is.contents 0)) status text is.answers none)
+    is.kept (inl (refused-tracing budget (logs_in stem new) (reading (content is.contents 0)) status text is.answers none))
 
 -- the same of what is replied
 pub tracing_unwritten : (old new : Option FileMap) (plant : List ℕ) (budget : ℕ) (stem : List ℕ) (r : Result Reply Stopped) → IfReplied r (λ reply. IsAnswer old new (Tracing plant budget stem) reply.status reply.text.items)

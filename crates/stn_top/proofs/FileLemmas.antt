@@ -114,6 +114,9 @@ leaves_replan words plant plan period budget log (Upgrading plant2) old new says
 leaves_replan words plant plan period budget log (Showing seed) old new says also is = (let same = ap length (sym says.1.1.0 ∙ also.1.0) in absurd (omega (arith, same)))
 leaves_replan words plant plan period budget log (Replanning plant2 plan2 period2 budget2) old new says also is = (let same = ap length (sym says.1.1.0 ∙ also.1.1.0) in absurd (omega (arith, same)))
 leaves_replan words plant plan period budget log (CheckingReplan plant2 plan2 period2 log2) old new says also is = (let same = ap length (sym says.1.1.0 ∙ also.1.0) in absurd (omega (arith, same)))
+leaves_replan words plant plan period budget log (Seeking plant2 budget2) old new says also is = (let same = ap length (sym says.1.1.0 ∙ also.1.0) in absurd (omega (arith, same)))
+leaves_replan words plant plan period budget log (Tracing plant2 budget2 stem2) old new says also is = (let same = ap length (sym says.1.1.0 ∙ also.1.0) in absurd (omega (arith, same)))
+leaves_replan words plant plan period budget log (Auditing plant2 horizon2 stem2) old new says also is = (let same = ap length (sym says.1.1.0 ∙ also.1.0) in absurd (omega (arith, same)))
 leaves_replan words plant plan period budget log (Estimating plant2 log2 state step count) old new says also is =
     let first : 114 ≡ 119 = ap (λ (ws : List (List ℕ)). get_or (get_or ws 0 []) 0 0) (sym says.1.1.0 ∙ also.1.1.0) in absurd (omega (arith, first))
 leaves_replan words plant plan period budget log (ReplanLogging plant2 plan2 period2 budget2 log2) old new says also is =
@@ -138,6 +141,10 @@ leaves_logs words plant budget stem (Simulating usage plant2 plan2) old new says
 leaves_logs words plant budget stem (Checking plant2 log2) old new says also is = (let same = ap length (sym says.1.0 ∙ also.0) in absurd (omega (arith, same)))
 leaves_logs words plant budget stem (Upgrading plant2) old new says also is = (let same = ap length (sym says.1.0 ∙ also.0) in absurd (omega (arith, same)))
 leaves_logs words plant budget stem (Showing seed) old new says also is = (let same = ap length (sym says.1.0 ∙ also.1.0) in absurd (omega (arith, same)))
+leaves_logs words plant budget stem (Replanning plant2 plan2 period2 budget2) old new says also is = (let same = ap length (sym says.1.0 ∙ also.1.1.0) in absurd (omega (arith, same)))
+leaves_logs words plant budget stem (ReplanLogging plant2 plan2 period2 budget2 log2) old new says also is = (let same = ap length (sym says.1.0 ∙ also.1.1.0) in absurd (omega (arith, same)))
+leaves_logs words plant budget stem (CheckingReplan plant2 plan2 period2 log2) old new says also is = (let same = ap length (sym says.1.0 ∙ also.1.0) in absurd (omega (arith, same)))
+leaves_logs words plant budget stem (Estimating plant2 log2 state step count) old new says also is = (let same = ap length (sym says.1.0 ∙ also.1.1.0) in absurd (omega (arith, same)))
 leaves_logs words plant budget stem (Seeking plant2 budget2) old new says also is = (let same = ap length (sym says.1.0 ∙ also.1.0) in absurd (omega (arith, same)))
 leaves_logs words plant budget stem (Auditing plant2 horizon2 stem2) old new says also is = (let same = ap first_byte (sym says.1.0 ∙ also.1.0) in absurd (omega (arith, same)))
 leaves_logs words plant budget stem (Tracing plant2 budget2 stem2) old new says also is =
