@@ -17,6 +17,7 @@ use Rattle.proof_log.specs.declared.claim.Claim.{Claim}
 use Rattle.proof_log.specs.declared.claim.Claim.TheVariants.{Optimal, Infeasible, Between, Below}
 use Rattle.proof_log.specs.ClaimSays.{HasWorth, NoneAbove}
 use Rattle.plant_check.specs.Claims.{SaysOf, Says}
+use Rattle.log_parts.specs.declared.joining.ClaimedPlan.{ClaimedPlan}
 use Rattle.log_parts.specs.PlantParts.{IsOfPart}
 use Rattle.log_parts.specs.Joining.{plan_of, cap_of, EarnsAtMost, EarnsBelow, IsCapped, IsBestOf, IsGreatestCap, IsBestPlan, IsBestCap, claim_with, IsJoined, EachSays, better, greater}
 use Rattle.log_parts.proofs.Meaning.{of-some}
@@ -30,7 +31,7 @@ by-less a b P x y less least =
 
 -- what a claim's plan is, where the claim holds
 plan-holds : (plant : Plant) (admits : List Start → Type 0) (claim : Claim) → SaysOf plant admits claim →
-    IfSome (plan_of claim) (λ plan. HasWorth admits (profit plant) (plan_of_values plant plan.1) plan.0)
+    IfSome (plan_of claim) (λ plan. HasWorth admits (profit plant) (plan_of_values plant plan.point) plan.profit)
 plan-holds plant admits (Optimal worth point) says = says.0
 plan-holds plant admits Infeasible says = tt
 plan-holds plant admits (Between worth most point) says = says.0
@@ -48,15 +49,15 @@ seam : (xs : List Claim) (y : Claim) (ys : List Claim) → get_or (xs ++ y ∷ y
 seam xs y ys = get_or-append_seam xs y ys Infeasible
 
 -- the best plan is a feasible one of that profit
-best-holds : (plant : Plant) (levels : ℕ) (claims : List Claim) (plan : ℤ × List ℕ) → EachSays plant levels claims → IsBestOf claims plan →
-    HasWorth (Feasible plant) (profit plant) (plan_of_values plant plan.1) plan.0
+best-holds : (plant : Plant) (levels : ℕ) (claims : List Claim) (plan : ClaimedPlan) → EachSays plant levels claims → IsBestOf claims plan →
+    HasWorth (Feasible plant) (profit plant) (plan_of_values plant plan.point) plan.profit
 best-holds plant levels claims plan each best =
     let place = length best.before in
     let there : place < length claims = omega (arith, ap length best.are, length-append best.before (best.claim ∷ best.after)) in
     let here : get_or claims place Infeasible ≡ best.claim = ap (λ (xs : List Claim). get_or xs place Infeasible) best.are ∙ seam best.before best.claim best.after in
     let says : SaysOf plant (IsOfPart plant levels place) best.claim = subst (SaysOf plant (IsOfPart plant levels place)) here (each place there) in
-    let worth : HasWorth (IsOfPart plant levels place) (profit plant) (plan_of_values plant plan.1) plan.0 =
-    subst (λ (o : Option (ℤ × List ℕ)). IfSome o (λ own. HasWorth (IsOfPart plant levels place) (profit plant) (plan_of_values plant own.1) own.0)) best.has
+    let worth : HasWorth (IsOfPart plant levels place) (profit plant) (plan_of_values plant plan.point) plan.profit =
+    subst (λ (o : Option ClaimedPlan). IfSome o (λ own. HasWorth (IsOfPart plant levels place) (profit plant) (plan_of_values plant own.point) own.profit)) best.has
     (plan-holds plant (IsOfPart plant levels place) best.claim says) in
     (worth.0.feasible, worth.1)
 
@@ -85,12 +86,12 @@ none-feasible plant levels claims long each none plan feasible =
     false≢true (sym (ap is_some (none found.0 Infeasible found.1.0)) ∙ ap is_some found.1.1.1.0)
 
 -- what the best plan and the greatest cap claim holds
-with-says : (plant : Plant) (levels : ℕ) (claims : List Claim) (plan : Option (ℤ × List ℕ)) (cap : Option ℤ) → length claims ≡ 2 ^ levels → EachSays plant levels claims →
+with-says : (plant : Plant) (levels : ℕ) (claims : List Claim) (plan : Option ClaimedPlan) (cap : Option ℤ) → length claims ≡ 2 ^ levels → EachSays plant levels claims →
     IsBestPlan claims plan → IsBestCap claims cap → Says plant (claim_with plan cap)
 with-says plant levels claims (Some plan) (Some cap) long each best greatest =
     let holds = best-holds plant levels claims plan each best in
     let above = none-above plant levels claims cap long each greatest in
-    by-less plan.0 cap (Says plant) (Between plan.0 cap plan.1) (Optimal plan.0 plan.1)
+    by-less plan.profit cap (Says plant) (Between plan.profit cap plan.point) (Optimal plan.profit plan.point)
     (λ less. (holds, above))
     (λ least. (holds, λ other feasible. let most = above other feasible in omega (arith, ints, least, most)))
 with-says plant levels claims (Some plan) None long each best none =
@@ -104,26 +105,26 @@ joined-says plant levels claims claim is long each =
     subst (Says plant) (sym is.is) (with-says plant levels claims is.plan is.cap long each is.best_plan is.best_cap)
 
 -- what is below a number is below a greater one
-raised : (o : Option (ℤ × List ℕ)) (a b : ℤ) → a <ℤ b → IfSome o (λ plan. plan.0 ≤ℤ a) → IfSome o (λ plan. plan.0 <ℤ b)
+raised : (o : Option ClaimedPlan) (a b : ℤ) → a <ℤ b → IfSome o (λ plan. plan.profit ≤ℤ a) → IfSome o (λ plan. plan.profit <ℤ b)
 raised None a b less is = tt
 raised (Some plan) a b less is = omega (arith, ints, less, is)
 
-weakened : (o : Option (ℤ × List ℕ)) (a : ℤ) → IfSome o (λ plan. plan.0 <ℤ a) → IfSome o (λ plan. plan.0 ≤ℤ a)
+weakened : (o : Option ClaimedPlan) (a : ℤ) → IfSome o (λ plan. plan.profit <ℤ a) → IfSome o (λ plan. plan.profit ≤ℤ a)
 weakened None a is = tt
 weakened (Some plan) a is = omega (arith, ints, is)
 
 -- all claims earn below what is above the best
-all-below : (claims : List Claim) (plan : ℤ × List ℕ) (more : ℤ) → IsBestOf claims plan → plan.0 <ℤ more → All (EarnsBelow more) claims
+all-below : (claims : List Claim) (plan : ClaimedPlan) (more : ℤ) → IsBestOf claims plan → plan.profit <ℤ more → All (EarnsBelow more) claims
 all-below claims plan more best less =
     subst (All (EarnsBelow more)) (sym best.are)
     (All-append (EarnsBelow more) best.before (best.claim ∷ best.after)
-    (λ k d l. raised (plan_of (get_or best.before k d)) plan.0 more less (weakened (plan_of (get_or best.before k d)) plan.0 (best.more k d l)))
+    (λ k d l. raised (plan_of (get_or best.before k d)) plan.profit more less (weakened (plan_of (get_or best.before k d)) plan.profit (best.more k d l)))
     (All-cons (EarnsBelow more) best.claim best.after
-    (subst (λ (o : Option (ℤ × List ℕ)). IfSome o (λ own. own.0 <ℤ more)) (sym best.has) less)
-    (λ k d l. raised (plan_of (get_or best.after k d)) plan.0 more less (best.no_less k d l))))
+    (subst (λ (o : Option ClaimedPlan). IfSome o (λ own. own.profit <ℤ more)) (sym best.has) less)
+    (λ k d l. raised (plan_of (get_or best.after k d)) plan.profit more less (best.no_less k d l))))
 
 -- the best plan stays best
-stays : (claims : List Claim) (claim : Claim) (plan : ℤ × List ℕ) → IsBestOf claims plan → EarnsAtMost plan.0 claim → IsBestOf (claims ++ claim ∷ []) plan
+stays : (claims : List Claim) (claim : Claim) (plan : ClaimedPlan) → IsBestOf claims plan → EarnsAtMost plan.profit claim → IsBestOf (claims ++ claim ∷ []) plan
 stays claims claim plan best most = record {
   before = best.before;
   claim = best.claim;
@@ -131,26 +132,26 @@ stays claims claim plan best most = record {
   are = ap (λ (xs : List Claim). xs ++ claim ∷ []) best.are ∙ append_assoc best.before (best.claim ∷ best.after) (claim ∷ []);
   has = best.has;
   more = best.more;
-  no_less = All-push (EarnsAtMost plan.0) best.after claim best.no_less most;
+  no_less = All-push (EarnsAtMost plan.profit) best.after claim best.no_less most;
 }
 
 -- the last plan is best
-last-best : (claims : List Claim) (claim : Claim) (plan : ℤ × List ℕ) → plan_of claim ≡ Some plan → All (EarnsBelow plan.0) claims → IsBestOf (claims ++ claim ∷ []) plan
+last-best : (claims : List Claim) (claim : Claim) (plan : ClaimedPlan) → plan_of claim ≡ Some plan → All (EarnsBelow plan.profit) claims → IsBestOf (claims ++ claim ∷ []) plan
 last-best claims claim plan has more = record { before = claims; claim = claim; after = []; are = refl; has = has; more = more; no_less = λ k d l. absurd (omega arith) }
 
-plan-step : (claims : List Claim) (claim : Claim) (first second : Option (ℤ × List ℕ)) → plan_of claim ≡ second → IsBestPlan claims first → IsBestPlan (claims ++ claim ∷ []) (better first second)
+plan-step : (claims : List Claim) (claim : Claim) (first second : Option ClaimedPlan) → plan_of claim ≡ second → IsBestPlan claims first → IsBestPlan (claims ++ claim ∷ []) (better first second)
 plan-step claims claim None None e best = All-push (λ own. plan_of own ≡ None) claims claim best e
 plan-step claims claim None (Some b) e best =
-    last-best claims claim b e (λ k d l. subst (λ (o : Option (ℤ × List ℕ)). IfSome o (λ own. own.0 <ℤ b.0)) (sym (best k d l)) tt)
+    last-best claims claim b e (λ k d l. subst (λ (o : Option ClaimedPlan). IfSome o (λ own. own.profit <ℤ b.profit)) (sym (best k d l)) tt)
 plan-step claims claim (Some a) None e best =
-    stays claims claim a best (subst (λ (o : Option (ℤ × List ℕ)). IfSome o (λ own. own.0 ≤ℤ a.0)) (sym e) tt)
+    stays claims claim a best (subst (λ (o : Option ClaimedPlan). IfSome o (λ own. own.profit ≤ℤ a.profit)) (sym e) tt)
 plan-step claims claim (Some a) (Some b) e best =
-    by-less a.0 b.0 (IsBestPlan (claims ++ claim ∷ [])) (Some b) (Some a)
-    (λ less. last-best claims claim b e (all-below claims a b.0 best less))
-    (λ least. stays claims claim a best (subst (λ (o : Option (ℤ × List ℕ)). IfSome o (λ own. own.0 ≤ℤ a.0)) (sym e) least))
+    by-less a.profit b.profit (IsBestPlan (claims ++ claim ∷ [])) (Some b) (Some a)
+    (λ less. last-best claims claim b e (all-below claims a b.profit best less))
+    (λ least. stays claims claim a best (subst (λ (o : Option ClaimedPlan). IfSome o (λ own. own.profit ≤ℤ a.profit)) (sym e) least))
 
 -- the better plan of one more claim
-pub plan-next : (claims : List Claim) (claim : Claim) (first : Option (ℤ × List ℕ)) → IsBestPlan claims first → IsBestPlan (claims ++ claim ∷ []) (better first (plan_of claim))
+pub plan-next : (claims : List Claim) (claim : Claim) (first : Option ClaimedPlan) → IsBestPlan claims first → IsBestPlan (claims ++ claim ∷ []) (better first (plan_of claim))
 plan-next claims claim first best = plan-step claims claim first (plan_of claim) refl best
 
 -- the greatest cap stays greatest

@@ -5,13 +5,14 @@ use Rattle.stn_model.specs.declared.plant.Plant.{Plant}
 use Rattle.proof_log.specs.declared.claim.Claim.{Claim}
 use Rattle.proof_log.specs.declared.claim.Claim.TheVariants.{Optimal, Infeasible, Between, Below}
 use Rattle.plant_check.specs.Claims.{SaysOf}
+use Rattle.log_parts.specs.declared.joining.ClaimedPlan.{ClaimedPlan}
 use Rattle.log_parts.specs.PlantParts.{IsOfPart}
 
--- the profit and the values of a claim's plan
-abbrev pub plan_of : Claim → Option (ℤ × List ℕ)
-plan_of (Optimal profit point) = Some (profit, point)
+-- the plan of a claim: its profit, and its values
+abbrev pub plan_of : Claim → Option ClaimedPlan
+plan_of (Optimal profit point) = Some (record { profit = profit; point = point })
 plan_of Infeasible = None
-plan_of (Between profit most point) = Some (profit, point)
+plan_of (Between profit most point) = Some (record { profit = profit; point = point })
 plan_of (Below most) = None
 
 -- the cap of a claim, above which no plan earns
@@ -23,25 +24,25 @@ cap_of (Below most) = Some most
 
 -- a claim's plan, where it has one, has a profit of at most this
 abbrev pub EarnsAtMost : ℤ → Claim → Type 0
-EarnsAtMost most claim = IfSome (plan_of claim) (λ plan. plan.0 ≤ℤ most)
+EarnsAtMost most claim = IfSome (plan_of claim) (λ plan. plan.profit ≤ℤ most)
 
 -- a claim's plan, where it has one, has a profit below this
 abbrev pub EarnsBelow : ℤ → Claim → Type 0
-EarnsBelow profit claim = IfSome (plan_of claim) (λ plan. plan.0 <ℤ profit)
+EarnsBelow profit claim = IfSome (plan_of claim) (λ plan. plan.profit <ℤ profit)
 
 -- a claim's cap, where it has one, is at most this
 abbrev pub IsCapped : ℤ → Claim → Type 0
 IsCapped most claim = IfSome (cap_of claim) (λ cap. cap ≤ℤ most)
 
 -- the plan of greatest profit among those of the claims, the first of equals
-pub record IsBestOf (claims : List Claim) (plan : ℤ × List ℕ) : Type 0 where
+pub record IsBestOf (claims : List Claim) (plan : ClaimedPlan) : Type 0 where
   pub before : List Claim
   pub claim : Claim
   pub after : List Claim
   pub are : claims ≡ before ++ claim ∷ after
   pub has : plan_of claim ≡ Some plan
-  pub more : All (EarnsBelow plan.0) before
-  pub no_less : All (EarnsAtMost plan.0) after
+  pub more : All (EarnsBelow plan.profit) before
+  pub no_less : All (EarnsAtMost plan.profit) after
 
 -- the greatest of the claims' caps
 pub record IsGreatestCap (claims : List Claim) (cap : ℤ) : Type 0 where
@@ -51,7 +52,7 @@ pub record IsGreatestCap (claims : List Claim) (cap : ℤ) : Type 0 where
   pub most : All (IsCapped cap) claims
 
 -- the plan of greatest profit, or none where no claim has a plan
-abbrev pub IsBestPlan : List Claim → Option (ℤ × List ℕ) → Type 0
+abbrev pub IsBestPlan : List Claim → Option ClaimedPlan → Type 0
 IsBestPlan claims (Some plan) = IsBestOf claims plan
 IsBestPlan claims None = All (λ claim. plan_of claim ≡ None) claims
 
@@ -61,15 +62,15 @@ IsBestCap claims (Some cap) = IsGreatestCap claims cap
 IsBestCap claims None = All (λ claim. cap_of claim ≡ None) claims
 
 -- what a plan and a cap claim: that the plan is best where no plan earns more than it, and else both, or what there is of them
-abbrev pub claim_with : Option (ℤ × List ℕ) → Option ℤ → Claim
-claim_with (Some plan) (Some cap) = if int_lt plan.0 cap then Between plan.0 cap plan.1 else Optimal plan.0 plan.1
-claim_with (Some plan) None = Optimal plan.0 plan.1
+abbrev pub claim_with : Option ClaimedPlan → Option ℤ → Claim
+claim_with (Some plan) (Some cap) = if int_lt plan.profit cap then Between plan.profit cap plan.point else Optimal plan.profit plan.point
+claim_with (Some plan) None = Optimal plan.profit plan.point
 claim_with None (Some cap) = Below cap
 claim_with None None = Infeasible
 
 -- the joined claim is made of the plan of greatest profit and of the greatest cap
 pub record IsJoined (claims : List Claim) (claim : Claim) : Type 0 where
-  pub plan : Option (ℤ × List ℕ)
+  pub plan : Option ClaimedPlan
   pub cap : Option ℤ
   pub best_plan : IsBestPlan claims plan
   pub best_cap : IsBestCap claims cap
@@ -80,10 +81,10 @@ abbrev pub EachSays : Plant → ℕ → List Claim → Type 0
 EachSays plant levels claims = (part : ℕ) → part < length claims → SaysOf plant (IsOfPart plant levels part) (slice_index_or claims part Infeasible)
 
 -- the second where it has the greater profit or is the only one, and else the first
-abbrev pub better : Option (ℤ × List ℕ) → Option (ℤ × List ℕ) → Option (ℤ × List ℕ)
+abbrev pub better : Option ClaimedPlan → Option ClaimedPlan → Option ClaimedPlan
 better None second = second
 better (Some a) None = Some a
-better (Some a) (Some b) = if int_lt a.0 b.0 then Some b else Some a
+better (Some a) (Some b) = if int_lt a.profit b.profit then Some b else Some a
 
 -- the greater of two caps, or the only one
 abbrev pub greater : Option ℤ → Option ℤ → Option ℤ

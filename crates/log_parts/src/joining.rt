@@ -7,6 +7,13 @@ ghost use Rattle.log_parts.specs.Joining.{plan_of, cap_of, better, greater, clai
 use proof_log::Claim;
 use row_kit::List;
 
+// The plan of a claim: its profit, and its values.
+#[derive(Drop)]
+struct ClaimedPlan {
+    profit: i128,
+    point: List<u8>,
+}
+
 /// What the claims of the parts come to, in the order of the parts: the plan of greatest profit among theirs, the first of
 /// equals, and the greatest of their caps. The plan is claimed to be best where that cap is no greater than its profit. Where
 /// each claim holds of its part, the joined claim holds of all feasible plans of the plant. It takes no memory.
@@ -24,14 +31,14 @@ pub fn joined(claims: Vec<Claim>) -> Claim
     claim_with(plan, cap)
 }
 
-// The profit and the values of a claim's plan.
-fn plan_of(claim: Claim) -> Option<(i128, List<u8>)>
+// The plan of a claim.
+fn plan_of(claim: Claim) -> Option<ClaimedPlan>
     ensures { result ≡ plan_of claim }
 {
     match claim {
-        Claim::Optimal { profit, point } => Some((profit, point)),
+        Claim::Optimal { profit, point } => Some(ClaimedPlan { profit, point }),
         Claim::Infeasible => None,
-        Claim::Between { profit, point, .. } => Some((profit, point)),
+        Claim::Between { profit, point, .. } => Some(ClaimedPlan { profit, point }),
         Claim::Below { .. } => None,
     }
 }
@@ -49,17 +56,20 @@ fn cap_of(claim: &Claim) -> Option<i128>
 }
 
 // The plan of greater profit, and the first where they are equal.
-fn better(
-    first: Option<(i128, List<u8>)>,
-    second: Option<(i128, List<u8>)>,
-) -> Option<(i128, List<u8>)>
+fn better(first: Option<ClaimedPlan>, second: Option<ClaimedPlan>) -> Option<ClaimedPlan>
     ensures { result ≡ better first second }
 {
     match first {
         None => second,
         Some(a) => match second {
             None => Some(a),
-            Some(b) => { if a.0 < b.0 { Some(b) } else { Some(a) } }
+            Some(b) => {
+                if a.profit < b.profit {
+                    Some(b)
+                } else {
+                    Some(a)
+                }
+            }
         },
     }
 }
@@ -78,11 +88,11 @@ fn greater(first: Option<i128>, second: Option<i128>) -> Option<i128>
 }
 
 // What a plan and a cap claim.
-fn claim_with(plan: Option<(i128, List<u8>)>, cap: Option<i128>) -> Claim
+fn claim_with(plan: Option<ClaimedPlan>, cap: Option<i128>) -> Claim
     ensures { result ≡ claim_with plan cap }
 {
     match plan {
-        Some((profit, point)) => match cap {
+        Some(ClaimedPlan { profit, point }) => match cap {
             Some(cap) => {
                 if profit < cap {
                     Claim::Between { profit, cap, point }
