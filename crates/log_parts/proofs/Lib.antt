@@ -1,0 +1,4 @@
+pub mod Digits
+pub mod Cutting
+pub mod JoinedClaims
+pub mod Meaning

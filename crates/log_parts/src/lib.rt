@@ -1,0 +1,12 @@
+//! A plant cut into parts that are planned by runs of their own.
+//!
+//! The parts of so many levels are told apart by where batches start in as many first slots of the plant. `part_rows` gives the
+//! rows whose admitted plans are exactly the feasible plans of one part. Each feasible plan is of exactly one part (`parts_law`).
+//! `joined` makes of the claims of all parts one claim of the plant.
+#![tactic(auto)]
+
+mod joining;
+mod parting;
+
+pub use joining::joined;
+pub use parting::{part_rows, parts_law};
