@@ -11,7 +11,7 @@ use Rattle.log_check.specs.declared.verdict.LogVerdict.TheVariants as log
 use Rattle.plant_check.specs.Claims.{YesSays}
 use Rattle.proof_log.specs.declared.log.Defect.{Defect}
 use Rattle.least_horizon.specs.PlantAt.{plant_at}
-use Rattle.least_horizon.specs.LogNames.{log_name}
+use Rattle.proof_log.specs.LogNames.{log_name}
 use Rattle.least_horizon.specs.Stems.{objection, AreClear, IsJudged}
 
 -- a verdict against which nothing speaks says that no plan is feasible

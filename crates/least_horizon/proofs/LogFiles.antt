@@ -8,7 +8,8 @@ use Rattle.stn_edge.specs.Files.{FileMap, OthersStay}
 use Rattle.stn_model.specs.declared.plant.Plant.{Plant}
 use Rattle.stn_solve.specs.Proofs.{HasPlantProof, IsLeftOf, bytes_in}
 use Rattle.least_horizon.specs.PlantAt.{plant_at}
-use Rattle.least_horizon.specs.LogNames.{log_name, logs_in, OthersStayBelow}
+use Rattle.proof_log.specs.LogNames.{log_name}
+use Rattle.least_horizon.specs.LogNames.{logs_in, OthersStayBelow}
 use Rattle.least_horizon.specs.Least.{AreInfeasible}
 
 -- two horizons have two names

@@ -14,7 +14,8 @@ use Rattle.stn_solve.specs.Proofs.{HasPlantProof, IsLeftOf}
 use Rattle.least_horizon.specs.declared.answer.LeastAnswer.{LeastAnswer}
 use Rattle.least_horizon.specs.declared.answer.LeastAnswer.TheVariants.{At, Nowhere, Open}
 use Rattle.least_horizon.specs.PlantAt.{plant_at}
-use Rattle.least_horizon.specs.LogNames.{log_name, logs_in, OthersStayBelow}
+use Rattle.proof_log.specs.LogNames.{log_name}
+use Rattle.least_horizon.specs.LogNames.{logs_in, OthersStayBelow}
 
 -- no plan is feasible within a horizon from 1 on that is shorter than this one
 abbrev pub NoneBelow : Plant → ℕ → Type 0

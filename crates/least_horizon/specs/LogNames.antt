@@ -1,13 +1,10 @@
 -- The files of the logs of the horizons.
-use Rattle.std.specs.Prelude.{◌≡◌, ◌≢◌, ◌<◌, ◌≤◌, ℕ, Bool, IsTrue, List, ◌++◌, codes, decimal, Option}
+use Rattle.std.specs.Prelude.{◌≡◌, ◌≢◌, ◌<◌, ◌≤◌, ℕ, Bool, IsTrue, List, Option}
 use Rattle.std.specs.Option.{option_map}
 use Rattle.std.specs.FinMap.{get}
 use Rattle.stn_edge.specs.Files.{FileMap}
+use Rattle.proof_log.specs.LogNames.{log_name}
 use Rattle.stn_solve.specs.Proofs.{bytes_in}
-
--- the name of the log of a horizon: the stem, a dot and the horizon
-unfoldable pub log_name : List ℕ → ℕ → List ℕ
-log_name stem horizon = stem ++ (codes "." ++ decimal horizon)
 
 -- the bytes of the logs of a stem, by their horizons, where files are told
 abbrev pub logs_in : List ℕ → Option FileMap → ℕ → Option (List ℕ)

@@ -5,12 +5,13 @@ ghost use Rattle.stn_edge.specs.Files.{OthersStay};
 ghost use Rattle.stn_model.specs.Sound.{Sound, Within};
 ghost use Rattle.stn_solve.specs.Proofs.{IsLeftOf};
 ghost use Rattle.least_horizon.specs.PlantAt.{plant_at};
-ghost use Rattle.least_horizon.specs.LogNames.{log_name, logs_in, AreAllowed, OthersStayBelow};
+ghost use Rattle.proof_log.specs.LogNames.{log_name};
+ghost use Rattle.least_horizon.specs.LogNames.{logs_in, AreAllowed, OthersStayBelow};
 ghost use Rattle.least_horizon.specs.Least.{settled, untried, IsLeast, IsSettled, IsStopped};
 
 use crate::answer::LeastAnswer;
-use crate::naming::log_name;
 use crate::shorter::plant_at;
+use proof_log::log_name;
 use std::alloc::{AllocError, Global};
 use stn_edge::{Shelf, Stop};
 use stn_model::{Answer, Outcome, Plant};

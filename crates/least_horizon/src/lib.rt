@@ -7,7 +7,6 @@
 mod answer;
 mod copies;
 mod horizons;
-mod naming;
 mod shorter;
 mod stem;
 

@@ -5,15 +5,15 @@ ghost use Rattle.stn_edge.specs.Files.{file_of};
 ghost use Rattle.stn_model.specs.Best.{NoPlan};
 ghost use Rattle.stn_model.specs.Sound.{Sound, Within};
 ghost use Rattle.least_horizon.specs.PlantAt.{plant_at};
-ghost use Rattle.least_horizon.specs.LogNames.{log_name, AreAllowed};
+ghost use Rattle.proof_log.specs.LogNames.{log_name};
+ghost use Rattle.least_horizon.specs.LogNames.{AreAllowed};
 ghost use Rattle.least_horizon.specs.Least.{NoneBelow};
 ghost use Rattle.least_horizon.specs.Stems.{objection, IsJudged, IsStemVerdict};
 
-use crate::naming::log_name;
 use crate::shorter::plant_at;
 use log_check::{CheckStop, LogVerdict};
 use plant_check::check_stream;
-use proof_log::{Claim, Defect};
+use proof_log::{Claim, Defect, log_name};
 use std::alloc::Global;
 use stn_edge::Shelf;
 use stn_model::Plant;

@@ -1,5 +1,5 @@
 -- The answer on a log that has come to its end.
-use Rattle.std.proofs.Common.{◌≡◌, ◌≢◌, inl, inr, ⊎_elim, ℕ, ℤ, ◌≤ℤ◌, List, Option, Some, None, IfSome, refl, ap, sym, ◌∙◌, subst, arith}
+use Rattle.std.proofs.Common.{◌≡◌, ◌≢◌, inl, inr, ℕ, ℤ, ◌≤ℤ◌, List, Option, Some, None, IfSome, refl, ap, sym, ◌∙◌, subst, arith}
 use Rattle.std.specs.Prelude.{◌<ℤ◌}
 use Rattle.std.specs.List.{All}
 use Rattle.std.proofs.lemmas.Int.{ints}
@@ -39,20 +39,10 @@ use Rattle.log_check.specs.declared.course.Course.{Course}
 use Rattle.log_check.specs.declared.course.Course.TheVariants.{Going, Ended, Faulty}
 use Rattle.log_check.specs.declared.verdict.LogVerdict.{LogVerdict}
 use Rattle.log_check.specs.declared.verdict.LogVerdict.TheVariants.{Yes, No}
-use Rattle.log_check.proofs.Items.{worth-sound}
+use Rattle.log_check.proofs.FoundSound.{claim_sound}
 use Rattle.log_check.specs.Course.{RowWalk, StandsAt}
-use Rattle.log_check.specs.Meaning.{RowSteps, IsWorth, Holds, CappedDefect, ClaimDefect, IsSoundClaim, IsAbove, AllowsPoint, IsProved}
+use Rattle.log_check.specs.Meaning.{RowSteps, Holds, ClaimDefect, IsSoundClaim, IsAbove, AllowsPoint, IsProved}
 use Rattle.log_check.specs.Verdict.{IsLog, IsMeaningVerdict, IsVerdictGiven, IsVerdict, YesHolds, IsEndVerdict, limits_of}
-
-no_capped : (program : Program) (proof_cap : Capped) (value most : ℤ) (point : List ℕ) → IsWorth program value point × (¬ IsAbove proof_cap most) → (kind : ℕ) → ¬ CappedDefect program proof_cap value most point kind
-no_capped program proof_cap value most point sound kind = ⊎_elim (worth-sound program value point sound.0 kind) (λ x. sound.1 x.2)
-
--- a sound claim has no defect
-no_defect : (program : Program) (proof_cap : Capped) (claim : Claim) → IsSoundClaim program proof_cap claim → (kind : ℕ) → ¬ ClaimDefect program proof_cap claim kind
-no_defect program proof_cap (Optimal profit point) sound kind = no_capped program proof_cap profit profit point sound kind
-no_defect program proof_cap Infeasible sound kind = λ x. sound x.1
-no_defect program proof_cap (Between profit most point) sound kind = no_capped program proof_cap profit most point sound kind
-no_defect program proof_cap (Below most) sound kind = λ x. sound x.1
 
 root_point : (program : Program) (p : List ℕ) → IsLawful program p → IsIn (view_of program.root) p
 root_point program p lawful = subst (λ (ds : List Domain). LiesIn ds p) (sym (domains_of-view_of program.root)) lawful.lies
@@ -112,7 +102,7 @@ meant_of program depth bytes version tree claim (Faulty defect) walk views began
 meant_of program depth bytes version tree claim (Ended proof_cap) walk views began (Yes own) clean stand at answer = record {
   tree = tree;
   is_log = subst (IsLog program bytes tree) (sym answer.0) (log_of program depth bytes version tree claim clean);
-  sound_log = record { proof_cap = proof_cap; proved = stand; sound = subst (λ c. (kind : ℕ) → ¬ ClaimDefect program proof_cap c kind) (sym answer.0) (no_defect program proof_cap claim answer.1) };
+  sound_log = record { proof_cap = proof_cap; proved = stand; sound = subst (λ c. (kind : ℕ) → ¬ ClaimDefect program proof_cap c kind) (sym answer.0) (claim_sound program proof_cap claim answer.1) };
 }
 meant_of program depth bytes version tree claim (Ended proof_cap) walk views began (No defect) clean stand at answer = record {
   tree = tree;

@@ -1,3 +1,4 @@
+pub mod FoundSound
 pub mod Items
 pub mod Judging
 pub mod OwnLog

@@ -37,9 +37,9 @@ part_says_if plant part (Ok verdict) sound is holds = part_yes_says plant part v
 part_says_if plant part (Err e) sound is holds = tt
 
 -- what a check over a part answers is right of its plans, where the files are told
-pub part_checked_in : {E : Type 0} (plant : Plant) (part : Program) (files : Option FileMap) (name : List ℕ) (r : Result LogVerdict E) → Sound plant → IsPartOf plant part
-    → IfOk r (λ verdict. IfSome files (λ m. IsVerdict part 4608 (file_of m name) verdict)) → IfOk r (YesHolds part)
-    → IfOk r (λ verdict. IfSome files (λ m. IsPartChecked plant part (file_of m name) verdict))
-part_checked_in plant part None name (Ok verdict) sound is right holds = tt
-part_checked_in plant part (Some m) name (Ok verdict) sound is right holds = record { right = right; holds = part_yes_says plant part verdict sound is holds }
-part_checked_in plant part files name (Err e) sound is right holds = tt
+pub part_checked_in : {E : Type 0} (plant : Plant) (part : Program) (depth : ℕ) (files : Option FileMap) (name : List ℕ) (r : Result LogVerdict E) → Sound plant → IsPartOf plant part
+    → IfOk r (λ verdict. IfSome files (λ m. IsVerdict part depth (file_of m name) verdict)) → IfOk r (YesHolds part)
+    → IfOk r (λ verdict. IfSome files (λ m. IsPartChecked plant part depth (file_of m name) verdict))
+part_checked_in plant part depth None name (Ok verdict) sound is right holds = tt
+part_checked_in plant part depth (Some m) name (Ok verdict) sound is right holds = record { right = right; holds = part_yes_says plant part verdict sound is holds }
+part_checked_in plant part depth files name (Err e) sound is right holds = tt

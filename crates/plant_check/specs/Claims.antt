@@ -45,8 +45,8 @@ pub record IsChecked (plant : Plant) (log : List ℕ) (verdict : LogVerdict) : T
   pub right : IsVerdict program 4608 log verdict
   pub holds : YesSays plant verdict
 
--- The verdict on a log is right of a part of the plant's choices: it is right over the part's program, where at most 4,608 splits
+-- The verdict on a log is right of a part of the plant's choices: it is right over the part's program, where at most so many splits
 -- may be open, and the claim of a log that is valid holds of all plans that the part admits.
-pub record IsPartChecked (plant : Plant) (part : Program) (log : List ℕ) (verdict : LogVerdict) : Type 0 where
-  pub right : IsVerdict part 4608 log verdict
+pub record IsPartChecked (plant : Plant) (part : Program) (depth : ℕ) (log : List ℕ) (verdict : LogVerdict) : Type 0 where
+  pub right : IsVerdict part depth log verdict
   pub holds : YesSaysOf plant part verdict

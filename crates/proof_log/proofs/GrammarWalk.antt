@@ -31,18 +31,18 @@ use Rattle.proof_log.specs.Log.{started, value_lines, mult_line, item_lines, tre
 use Rattle.proof_log.specs.Accepted.{unless, leads, IsFitItem, IsFitClaim, LogsAreAccepted}
 
 -- all of two lists
-front : {X : Type 0} (P : X → Type 0) (xs ys : List X) → All P (xs ++ ys) → All P xs
+pub front : {X : Type 0} (P : X → Type 0) (xs ys : List X) → All P (xs ++ ys) → All P xs
 front P xs ys all = All-same P xs (take (length xs) (xs ++ ys)) (sym (take-append_seam xs ys)) (All-take P (length xs) (xs ++ ys) all)
 
-back : {X : Type 0} (P : X → Type 0) (xs ys : List X) → All P (xs ++ ys) → All P ys
+pub back : {X : Type 0} (P : X → Type 0) (xs ys : List X) → All P (xs ++ ys) → All P ys
 back P xs ys all = All-same P ys (drop (length xs) (xs ++ ys)) (sym (drop-append_seam xs ys)) (All-drop P (length xs) (xs ++ ys) all)
 
 -- where lines of this version stand
-abbrev at : ℕ → Place → List Bool → Standing
+abbrev pub at : ℕ → Place → List Bool → Standing
 at version place sides = record { version = version; place = place; sides = sides }
 
 -- where they stand after a part
-abbrev closed : ℕ → List Bool → Standing
+abbrev pub closed : ℕ → List Bool → Standing
 closed version sides = at version (part_place (after_part sides)) (after_part sides)
 
 -- a number that is not too large
@@ -122,25 +122,25 @@ alike f g go same (Some later) = same later
 
 module _ (limits : Limits) where
   -- where a line leads
-  abbrev on : Standing → Line → Option Standing
+  abbrev pub on : Standing → Line → Option Standing
   on standing line = unless (line_defect limits standing line) (next standing line)
 
   -- a line that may stand here and whose numbers are not too large leads on by its step
-  on-step : (standing : Standing) (line : Line) (step : Step) → step_of standing.version standing.place line ≡ Some step → over limits standing line ≡ None → on standing line ≡ Some (after_step standing step)
+  pub on-step : (standing : Standing) (line : Line) (step : Step) → step_of standing.version standing.place line ≡ Some step → over limits standing line ≡ None → on standing line ≡ Some (after_step standing step)
   on-step standing line step is clean =
       let there : next standing line ≡ Some (after_step standing step) = ap (option_map (after_step standing)) is in
       let none : line_defect limits standing line ≡ None = ap (λ (later : Option Standing). option_map_or (λ _. over limits standing line) later (Some 1)) there ∙ clean in
       ap (λ (kind : Option ℕ). unless kind (next standing line)) none ∙ there
 
   -- lines and then others
-  leads-append : (standing : Standing) (xs ys : List Line) → leads limits standing (xs ++ ys) ≡ option_and_then (λ later. leads limits later ys) (leads limits standing xs)
+  pub leads-append : (standing : Standing) (xs ys : List Line) → leads limits standing (xs ++ ys) ≡ option_and_then (λ later. leads limits later ys) (leads limits standing xs)
   leads-append standing [] ys = refl
   leads-append standing (x ∷ xs) ys = alike (λ later. leads limits later (xs ++ ys)) (λ later. leads limits later xs) (λ later. leads limits later ys) (λ later. leads-append later xs ys) (on standing x)
 
-  leads-then : (standing later : Standing) (xs ys : List Line) → leads limits standing xs ≡ Some later → leads limits standing (xs ++ ys) ≡ leads limits later ys
+  pub leads-then : (standing later : Standing) (xs ys : List Line) → leads limits standing xs ≡ Some later → leads limits standing (xs ++ ys) ≡ leads limits later ys
   leads-then standing later xs ys is = leads-append standing xs ys ∙ ap (option_and_then (λ later. leads limits later ys)) is
 
-  leads-cons : (standing later : Standing) (x : Line) (xs : List Line) → on standing x ≡ Some later → leads limits standing (x ∷ xs) ≡ leads limits later xs
+  pub leads-cons : (standing later : Standing) (x : Line) (xs : List Line) → on standing x ≡ Some later → leads limits standing (x ∷ xs) ≡ leads limits later xs
   leads-cons standing later x xs is = ap (option_and_then (λ later. leads limits later xs)) is
 
   -- the lines of values
@@ -320,7 +320,7 @@ module _ (limits : Limits) where
       ∙ tree_lead version b (true ∷ sides) (back Fit (tree_items a) (tree_items b) parts) deep_b)
 
   -- the lines of a claim
-  claim_lead : (version : ℕ) (claim : Claim) (sides : List Bool) → IsFitClaim limits claim → leads limits (at version AtClaim sides) (claim_lines claim) ≡ Some (at version AtEnd sides)
+  pub claim_lead : (version : ℕ) (claim : Claim) (sides : List Bool) → IsFitClaim limits claim → leads limits (at version AtClaim sides) (claim_lines claim) ≡ Some (at version AtEnd sides)
   unfolding claim_lines
   claim_lead version (Optimal profit point) sides fit =
       leads-cons (at version AtClaim sides) (after_step (at version AtClaim sides) (values_step (started point) None true)) (ClaimOptimal profit (started point)) (value_lines 0 point) refl

@@ -19,7 +19,7 @@ use Rattle.proof_log.specs.Accepted.{unless, leads, LogsHaveNoDefect}
 use Rattle.proof_log.proofs.GrammarWalk.{logs_lead}
 
 -- a line that leads on has no defect
-leads_on : (defect : Option ℕ) (after : Option Standing) (go : Standing → Option Standing) (end : Standing) → option_and_then go (unless defect after) ≡ Some end → (later : Standing) × (defect ≡ None) × (after ≡ Some later) × (go later ≡ Some end)
+pub leads_on : (defect : Option ℕ) (after : Option Standing) (go : Standing → Option Standing) (end : Standing) → option_and_then go (unless defect after) ≡ Some end → (later : Standing) × (defect ≡ None) × (after ≡ Some later) × (go later ≡ Some end)
 leads_on None None go end is = cc
 leads_on None (Some later) go end is = (later, refl, refl, is)
 leads_on (Some kind) after go end is = cc
@@ -48,7 +48,7 @@ parts_of line lines is =
     ap (slice_split (λ byte. eqb byte 10)) (append_assoc (line_text line) (10 ∷ []) (lines_text lines))
     ∙ slice_split_at (λ byte. eqb byte 10) (line_text line) 10 (lines_text lines) (All-weaker (λ b. b ≢ 10) (λ b. eqb b 10 ≡ false) (λ b other. ne_eqb b 10 other) (line_text line) (HasNoFeed-line_text line is)) refl
 
-no_defect : (limits : Limits) (standing end : Standing) (number : ℕ) (lines : List Line) → All IsLine lines → is_done end.place ≡ true → leads limits standing lines ≡ Some end → text_defect limits standing number (slice_split (λ byte. eqb byte 10) (lines_text lines)) ≡ None
+pub no_defect : (limits : Limits) (standing end : Standing) (number : ℕ) (lines : List Line) → All IsLine lines → is_done end.place ≡ true → leads limits standing lines ≡ Some end → text_defect limits standing number (slice_split (λ byte. eqb byte 10) (lines_text lines)) ≡ None
 unfolding lines_text text_defect
 no_defect limits standing end number [] of_lines over leading =
     let same : standing ≡ end = cc in

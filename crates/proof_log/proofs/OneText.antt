@@ -12,7 +12,7 @@ use Rattle.proof_tree.specs.Items.{tree_items}
 use Rattle.proof_tree.specs.declared.item.Item.TheVariants.{Node, Cut, Found as FoundItem, Empty, Dual, Point, Pending, Split}
 use Rattle.row_relax.specs.declared.RowPick.{RowPick}
 use Rattle.log_lines.specs.declared.line.Line.{Line}
-use Rattle.log_lines.specs.declared.line.Line.TheVariants.{Value as ValueLine, ClaimOptimal, ClaimInfeasible, ClaimBetween, ClaimBelow, End as EndLine}
+use Rattle.log_lines.specs.declared.line.Line.TheVariants.{Header, Value as ValueLine, ClaimOptimal, ClaimInfeasible, ClaimBetween, ClaimBelow, End as EndLine}
 use Rattle.log_lines.specs.Line.{IsLine, line_text}
 use Rattle.log_lines.specs.Reader.{HasNoFeed}
 use Rattle.log_lines.proofs.LineBytes.{HasNoFeed-line_text}
@@ -308,3 +308,29 @@ logs_same slots v w s t c d rest over_s over_t same =
     let alike : log_lines v (tree_items s) c ≡ log_lines w (tree_items t) d = lines.1 ∙ ap (λ (more : List Line). log_lines w (tree_items t) d ++ more) logs.no_rest ∙ append-nil (log_lines w (tree_items t) d) in
     let ends : lines_text (log_lines w (tree_items t) d) ++ [] ≡ lines_text (log_lines w (tree_items t) d) ++ rest = append-nil (lines_text (log_lines w (tree_items t) d)) ∙ sym (ap lines_text alike) ∙ same in
     record { version_same = logs.version; tree_same = logs.tree; claim_same = logs.claim; no_rest = sym (append_cancel_left (lines_text (log_lines w (tree_items t) d)) [] rest ends) }
+
+-- items whose lines stand in front of others, all before those of a claim, are first items
+items_front : (slots : ℕ) (is js : List RowItem) (a b : List Line) → All (IsOver slots) is → All (IsOver slots) js → is_claim b ≡ true → flat_map item_lines is ++ a ≡ flat_map item_lines js ++ b → (later : List RowItem) × (js ≡ is ++ later)
+items_front slots [] js a b over_i over_j of_b same = (js, refl)
+items_front slots (i ∷ is) [] a b over_i over_j of_b same =
+    let parts : b ≡ item_lines i ++ (flat_map item_lines is ++ a) = sym same ∙ append_assoc (item_lines i) (flat_map item_lines is) a in
+    let wrong : true ≡ false = sym of_b ∙ ap is_claim parts ∙ item_first i (flat_map item_lines is ++ a) in
+    absurd cc
+items_front slots (i ∷ is) (j ∷ js) a b over_i over_j of_b same =
+    let parts : item_lines i ++ (flat_map item_lines is ++ a) ≡ item_lines j ++ (flat_map item_lines js ++ b) = sym (append_assoc (item_lines i) (flat_map item_lines is) a) ∙ same ∙ append_assoc (item_lines j) (flat_map item_lines js) b in
+    let first = item_same slots i j (flat_map item_lines is ++ a) (flat_map item_lines js ++ b) (All-head (IsOver slots) i is over_i) (All-head (IsOver slots) j js over_j) parts in
+    let others = items_front slots is js a b (All-tail (IsOver slots) i is over_i) (All-tail (IsOver slots) j js over_j) of_b first.1 in
+    let head : i ≡ j = first.0 in
+    let tail : js ≡ is ++ others.0 = others.1 in
+    (others.0, cc)
+
+-- items whose lines were read of the text of a log, from its front on, are the first items of the log
+pub items_read : (slots v w : ℕ) (tree : RowTree) (claim : Claim) (items : List RowItem) (tail : List Line) (rest : List ℕ) → IsLogOver slots v tree claim → All (IsOver slots) items → All IsLine (Header w ∷ (flat_map item_lines items ++ tail))
+    → log_text v (tree_items tree) claim ≡ lines_text (Header w ∷ (flat_map item_lines items ++ tail)) ++ rest → (later : List RowItem) × (tree_items tree ≡ items ++ later)
+unfolding log_text log_lines
+items_read slots v w tree claim items tail rest over over_items written same =
+    let last : List Line = EndLine ∷ [] in
+    let lines = lines_same (log_lines v (tree_items tree) claim) (Header w ∷ (flat_map item_lines items ++ tail)) rest over.lines written same in
+    let behind : flat_map item_lines (tree_items tree) ++ (claim_lines claim ++ last) ≡ (flat_map item_lines items ++ tail) ++ lines.0 = cc in
+    items_front slots items (tree_items tree) (tail ++ lines.0) (claim_lines claim ++ last) over_items over.items (claim_first claim last)
+    (sym (append_assoc (flat_map item_lines items) tail lines.0) ∙ sym behind)

@@ -16,18 +16,19 @@ use Rattle.proof_log.specs.declared.claim.Claim.{Claim}
 use Rattle.proof_log.specs.declared.claim.Claim.TheVariants.{Optimal, Infeasible, Between, Below}
 use Rattle.row_relax.specs.RowProofs.{RowItem}
 use Rattle.proof_log.specs.Log.{started, value_lines, mult_line, item_lines, claim_lines, log_lines}
+use Rattle.proof_log.specs.OneText.{IsClaimOver}
 use Rattle.proof_log.specs.Accepted.{IsFitItem, IsFitClaim, AreBytes, IsShortItem, IsShortClaim, LogsMayBeWritten}
 use Rattle.proof_log.proofs.GrammarWalk.{value_lines-zero, value_lines-more}
 use Rattle.std.proofs.lemmas.List.Sums.{count_by-le-length}
 
 -- so many short numbers
-none : All IsShort []
+pub none : All IsShort []
 none = All-nil IsShort
 
-more : (number : ℤ) (numbers : List ℤ) → IsShort number → All IsShort numbers → All IsShort (number ∷ numbers)
+pub more : (number : ℤ) (numbers : List ℤ) → IsShort number → All IsShort numbers → All IsShort (number ∷ numbers)
 more number numbers first others = All-cons IsShort number numbers first others
 
-natural : (n : ℕ) → n < 10 ^ 30 → IsShort (pos n)
+pub natural : (n : ℕ) → n < 10 ^ 30 → IsShort (pos n)
 natural n low = low
 
 -- the lines of values
@@ -78,7 +79,7 @@ cert_sizes rows cert fit =
     let count : length cert.mults ≤ 50000 = leb-true (length cert.mults) 50000 q.1 in
     record { scale = omega arith; count = omega arith; mults = p.1 }
 
-one_line_of : (line : Line) → IsLine line → All IsLine (line ∷ [])
+pub one_line_of : (line : Line) → IsLine line → All IsLine (line ∷ [])
 one_line_of line is = All-cons IsLine line [] is (All-nil IsLine)
 
 item_written : (limits : Limits) (version : ℕ) (item : RowItem) → limits.rows < 2 ^ 32 → limits.slots < 2 ^ 32 → IsFitItem limits version item → IsShortItem item → All IsLine (item_lines item)
@@ -122,6 +123,13 @@ items_written limits version (item ∷ items) rows slots fit short =
     All-append IsLine (item_lines item) (flat_map item_lines items)
     (item_written limits version item rows slots (All-head (IsFitItem limits version) item items fit) (All-head IsShortItem item items short))
     (items_written limits version items rows slots (All-tail (IsFitItem limits version) item items fit) (All-tail IsShortItem item items short))
+
+-- a claim over the slots is fit
+pub claim_fits : (limits : Limits) (claim : Claim) → IsClaimOver limits.slots claim → IsFitClaim limits claim
+claim_fits limits (Optimal profit point) over = omega (arith, over)
+claim_fits limits Infeasible over = tt
+claim_fits limits (Between profit most point) over = omega (arith, over)
+claim_fits limits (Below most) over = tt
 
 claim_written : (limits : Limits) (claim : Claim) → limits.slots < 2 ^ 32 → IsFitClaim limits claim → IsShortClaim claim → All IsLine (claim_lines claim)
 unfolding claim_lines

@@ -11,3 +11,4 @@ pub mod Step
 pub mod LogReading
 pub mod Reached
 pub mod CleanTexts
+pub mod LogNames

@@ -18,6 +18,7 @@ mod items;
 mod laws;
 mod log;
 mod log_reader;
+mod naming;
 mod nodes;
 mod parts;
 mod read;
@@ -33,6 +34,7 @@ pub use laws::{
 };
 pub use log::{Defect, Log};
 pub use log_reader::{LogPart, LogReader};
+pub use naming::log_name;
 pub use nodes::put_proof;
 pub use read::{LogStop, read_log};
 pub use whole::put_log;

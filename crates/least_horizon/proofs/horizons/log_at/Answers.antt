@@ -2,7 +2,7 @@
 use Rattle.std.proofs.Common.{◌∙◌}
 use Rattle.stn_solve.specs.Proofs.{IsLeftOf}
 use Rattle.least_horizon.specs.PlantAt.{plant_at}
-use Rattle.least_horizon.specs.LogNames.{log_name}
+use Rattle.proof_log.specs.LogNames.{log_name}
 use Rattle.least_horizon.proofs.LogFiles.{after_err, left_moved}
 use Rattle.least_horizon.proofs.horizons.log_at.Goals as goal
 

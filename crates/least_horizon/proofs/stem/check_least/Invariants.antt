@@ -1,6 +1,6 @@
 use Rattle.std.proofs.Common.{◌≡◌, ◌≤◌, IfSome}
 use Rattle.stn_edge.specs.Files.{file_of}
-use Rattle.least_horizon.specs.LogNames.{log_name}
+use Rattle.proof_log.specs.LogNames.{log_name}
 use Rattle.least_horizon.specs.Least.{NoneBelow}
 use Rattle.least_horizon.specs.Stems.{AreClear}
 use Rattle.least_horizon.proofs.stem.check_least.Given as goal
