@@ -35,8 +35,8 @@ pub fn list_fractional(workspace: &Workspace, area: &Area, candidates: &mut Vec<
     }
 }
 
-// The value at which the search splits a domain with two values or more: 0 where it holds 0, else the middle.
-fn split_value(domain: &Domain) -> u8 {
+/// The value at which the search splits a domain with two values or more: 0 where it holds 0, else the middle.
+pub fn split_value(domain: &Domain) -> u8 {
     if domain.zero {
         0
     } else {

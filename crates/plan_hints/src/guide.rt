@@ -1,9 +1,14 @@
 //! The guide of the search.
+ghost use Rattle.std.specs.Prelude.{◌≡◌, length};
+ghost use Rattle.std.specs.List.{All};
+ghost use Rattle.row_kit.specs.Area.{present};
+ghost use Rattle.row_kit.specs.Domain.{IsOpen};
+
 use crate::bounding::bound_box;
 use crate::path::Path;
 use crate::picking::Picker;
 use branch_tree::{Advice, Guide};
-use dual_simplex::Workspace;
+use dual_simplex::{Basis, Workspace};
 use row_kit::{Area, Program};
 use std::alloc::{AllocError, Global};
 
@@ -25,6 +30,35 @@ impl PlanGuide {
             workspace: Workspace::new(alloc, program)?,
             path: Path::new(alloc, program)?,
             picker: Picker::new(alloc, program)?,
+        })
+    }
+
+    /// What it advises on a box whose bound begins from a basis. Where the box stays open, that is afterwards where its bound has
+    /// ended. The rounded solution is left in the point.
+    pub fn advise_from(
+        &mut self,
+        alloc: Global,
+        program: &Program,
+        area: &Area,
+        basis: &mut Basis,
+        best: Option<i128>,
+        point: &mut [u8],
+    ) -> Result<Advice, AllocError>
+        requires slots { length (present area.now) ≡ length program.now.root }
+        requires places { length point.old ≡ length program.now.root }
+        requires each_open { All IsOpen (present area.now) }
+    {
+        let bounded = bound_box(alloc, &mut self.workspace, program, area, basis, best)?;
+        self.workspace.round(area, point);
+        let slot = if bounded.closes {
+            None
+        } else {
+            self.workspace.save(program, basis);
+            self.picker.pick(&mut self.workspace, program, area)
+        };
+        Ok(Advice {
+            cert: Some(bounded.cert),
+            slot,
         })
     }
 

@@ -26,5 +26,8 @@ mod trying;
 mod waiting;
 mod weights;
 
+pub use candidates::split_value;
 pub use guide::PlanGuide;
 pub use hinter::PlanHinter;
+pub use kept::Kept;
+pub use reserved::{copy, numbered};

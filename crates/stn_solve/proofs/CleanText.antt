@@ -16,7 +16,7 @@ use Rattle.proof_log.specs.Accepted.{IsFitItem as MayBeItem, IsFitClaim, IsShort
 use Rattle.proof_log.specs.Log.{log_lines, log_text}
 use Rattle.proof_log.specs.OneText.{IsOver, IsClaimOver, IsLogOver}
 use Rattle.proof_log.proofs.NoDefect.{logs_clean}
-use Rattle.proof_log.proofs.WrittenLines.{logs_written}
+use Rattle.proof_log.proofs.WrittenLines.{claim_fits, logs_written}
 use Rattle.log_check.specs.Meaning.{IsSoundClaim}
 use Rattle.log_check.specs.Verdict.{limits_of}
 use Rattle.stn_solve.specs.Proofs.{depth_over}
@@ -63,12 +63,6 @@ claim_over program proof_cap Infeasible sound = tt
 claim_over program proof_cap (Between profit most point) sound = sound.0.0.lies.same_length
 claim_over program proof_cap (Below most) sound = tt
 
-claim_fits : (program : Program) (depth : ℕ) (claim : Claim) → IsClaimOver (length program.root) claim → IsFitClaim (limits_of program depth) claim
-claim_fits program depth (Optimal profit point) long = omega (arith, long)
-claim_fits program depth Infeasible long = tt
-claim_fits program depth (Between profit most point) long = omega (arith, long)
-claim_fits program depth (Below most) long = tt
-
 claim_short : (program : Program) (proof_cap : Capped) (claim : Claim) → IsSoundClaim program proof_cap claim → IsSmallClaim claim → IsShortClaim claim
 claim_short program proof_cap (Optimal profit point) sound small = (subst IsShort sound.0.1 (worth_short program point sound.0.0), lawful_bytes program point sound.0.0)
 claim_short program proof_cap Infeasible sound small = tt
@@ -80,7 +74,7 @@ module _ (program : Program) (tree : RowTree) (claim : Claim) (proof_cap : Cappe
   fit = All-weaker (IsFitItem program) (MayBeItem (limits_of program (depth_over program.root)) 2) (item_fits program (depth_over program.root)) (tree_items tree) writable.fit
 
   fits : IsFitClaim (limits_of program (depth_over program.root)) claim
-  fits = claim_fits program (depth_over program.root) claim (claim_over program proof_cap claim sound)
+  fits = claim_fits (limits_of program (depth_over program.root)) claim (claim_over program proof_cap claim sound)
 
   -- the lines may be written
   pub lines_written : All IsLine (log_lines 2 (tree_items tree) claim)

@@ -11,10 +11,11 @@ use Rattle.proof_log.specs.Log.{log_text}
 use Rattle.log_check.specs.declared.verdict.LogVerdict.TheVariants.{Yes}
 use Rattle.log_check.specs.Meaning.{IsSoundClaim}
 use Rattle.log_check.specs.Verdict.{IsVerdict, IsVerdictGiven}
+use Rattle.log_check.proofs.FoundSound.{claim_sound}
 use Rattle.stn_solve.specs.Proofs.{depth_over}
 use Rattle.stn_solve.proofs.CapShort.{root_short}
 use Rattle.stn_solve.proofs.CleanText.{log_over, text_clean}
-use Rattle.stn_solve.proofs.NoDefect.{claim_sound, search_proved}
+use Rattle.stn_solve.proofs.NoDefect.{search_proved}
 pub use Rattle.stn_solve.proofs.SmallClaim.{IsSmallClaim}
 
 -- the cap of a search, where it is a number, has at most 30 digits: at `AtMost n` this is `IsShort n`

@@ -6,8 +6,8 @@ ghost use Rattle.proof_log.specs.Writer.{Keeps, writing};
 ghost use Rattle.stn_solve.specs.Proofs.{IsLeft};
 ghost use Rattle.stn_solve.specs.laws.Logging.{IsLogged, stored};
 
+use best_first::Advisers;
 use branch_tree::{Ended, Guide, Hinter, search_guided_to, search_to};
-use plan_hints::{PlanGuide, PlanHinter};
 use proof_log::LogWriter;
 use proof_tree::TakeStop;
 use row_relax::Rows;
@@ -40,8 +40,10 @@ pub fn search_logged<F: Shelf>(
     ensures later { F.write_faults files.old ≤ F.write_faults files.new }
     ensures failed { result ≡ Err Stop.Failed → Rose (F.write_faults files.old) (F.write_faults files.new) }
 {
-    let mut hinter = PlanHinter::new(alloc, &rows.program)?;
-    let mut guide = PlanGuide::new(alloc, &rows.program)?;
+    let Advisers {
+        mut guide,
+        mut hinter,
+    } = Advisers::new(alloc, &rows.program, budget)?;
     let (logged, exact) = log_guided(alloc, rows, budget, &mut hinter, &mut guide, files, name)?;
     if exact {
         return Ok(logged);

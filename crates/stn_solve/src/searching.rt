@@ -5,8 +5,8 @@ ghost use Rattle.branch_tree.specs.Searched.{ended_of};
 ghost use Rattle.stn_solve.specs.laws.Ended.{IsSearchOf, IsSearched};
 
 use crate::item_dropper::ItemDropper;
+use best_first::Advisers;
 use branch_tree::{Ended, Searched, search, search_guided, search_guided_to, search_to};
-use plan_hints::{PlanGuide, PlanHinter};
 use row_relax::Rows;
 use std::alloc::{AllocError, Global};
 
@@ -15,8 +15,10 @@ pub fn search_only(alloc: Global, rows: &Rows, budget: u32) -> Result<Ended, All
     requires budget { (1 ≤ budget) × (budget ≤ 100000) }
     ensures { IfOk result (IsSearched rows.now.program budget) }
 {
-    let mut hinter = PlanHinter::new(alloc, &rows.program)?;
-    let mut guide = PlanGuide::new(alloc, &rows.program)?;
+    let Advisers {
+        mut guide,
+        mut hinter,
+    } = Advisers::new(alloc, &rows.program, budget)?;
     let mut taker = ItemDropper;
     let Ok(guided) = search_guided_to(
         alloc,
@@ -43,8 +45,10 @@ pub fn search_built(alloc: Global, rows: &Rows, budget: u32) -> Result<Searched,
     requires budget { (1 ≤ budget) × (budget ≤ 100000) }
     ensures { IfOk result (λ searched. IsSearchOf rows.now.program budget (ended_of searched) (tree_of searched.tree)) }
 {
-    let mut hinter = PlanHinter::new(alloc, &rows.program)?;
-    let mut guide = PlanGuide::new(alloc, &rows.program)?;
+    let Advisers {
+        mut guide,
+        mut hinter,
+    } = Advisers::new(alloc, &rows.program, budget)?;
     let (searched, exact) = search_guided(alloc, rows, budget, &mut hinter, &mut guide)?;
     if exact {
         return Ok(searched);

@@ -1,0 +1,101 @@
+ghost use Rattle.std.specs.Prelude.{◌≡◌, length};
+ghost use Rattle.std.specs.List.{All};
+ghost use Rattle.row_kit.specs.Area.{present};
+ghost use Rattle.row_kit.specs.Domain.{IsOpen};
+
+use crate::explorer::{Explored, explore};
+use crate::kept_guide::KeptGuide;
+use crate::kept_hinter::KeptHinter;
+use branch_tree::{Advice, Guide, Hinter};
+use plan_hints::{PlanGuide, PlanHinter};
+use row_kit::{Area, Program};
+use std::alloc::{AllocError, Global};
+
+/// A guide of a search: one that is asked as the search goes on, or one that leads it through boxes explored before.
+#[derive(Drop)]
+pub enum SearchGuide {
+    Depth(PlanGuide),
+    Best(KeptGuide),
+}
+
+/// A hinter of a search: one that looks for plans as the search goes on, or one that offers the plan that was found before.
+#[derive(Drop)]
+pub enum SearchHinter {
+    Depth(PlanHinter),
+    Best(KeptHinter),
+}
+
+/// The guide and the hinter of a search.
+#[derive(Drop)]
+pub struct Advisers {
+    pub guide: SearchGuide,
+    pub hinter: SearchHinter,
+}
+
+// Roots with more points are explored best first.
+const MOST_POINTS: u64 = 50_000;
+
+impl Advisers {
+    /// The advisers of a search of at most so many boxes: of more than 50,000 points best first, else depth first.
+    pub fn new(alloc: Global, program: &Program, budget: u32) -> Result<Advisers, AllocError> {
+        if point_count(program) > MOST_POINTS {
+            return Advisers::explored(alloc, program, budget);
+        }
+        Ok(Advisers {
+            guide: SearchGuide::Depth(PlanGuide::new(alloc, program)?),
+            hinter: SearchHinter::Depth(PlanHinter::new(alloc, program)?),
+        })
+    }
+
+    // The advisers of a search that is explored first.
+    fn explored(alloc: Global, program: &Program, budget: u32) -> Result<Advisers, AllocError> {
+        let Explored { tree, best } = explore(alloc, program, budget)?;
+        let guide = KeptGuide::new(alloc, program, tree.nodes, best.worth, budget)?;
+        Ok(Advisers {
+            guide: SearchGuide::Best(guide),
+            hinter: SearchHinter::Best(KeptHinter::new(best)),
+        })
+    }
+}
+
+// The number of points of a root, or the greatest number of 64 bits.
+fn point_count(program: &Program) -> u64 {
+    let mut count = 1u64;
+    for domain in program.root.as_slice() {
+        count = count.saturating_mul(u64::from(domain.count()));
+    }
+    count
+}
+
+impl Guide for SearchGuide {
+    fn leaves(&mut self, program: &Program, area: &Area, depth: u32) -> bool {
+        match self {
+            SearchGuide::Depth(guide) => guide.leaves(program, area, depth),
+            SearchGuide::Best(guide) => guide.leaves(program, area, depth),
+        }
+    }
+
+    fn advise(
+        &mut self,
+        alloc: Global,
+        program: &Program,
+        area: &Area,
+        depth: u32,
+        best: Option<i128>,
+        point: &mut [u8],
+    ) -> Result<Advice, AllocError> {
+        match self {
+            SearchGuide::Depth(guide) => guide.advise(alloc, program, area, depth, best, point),
+            SearchGuide::Best(guide) => guide.advise(alloc, program, area, depth, best, point),
+        }
+    }
+}
+
+impl Hinter for SearchHinter {
+    fn offer(&mut self, program: &Program, area: &Area, point: &mut [u8]) -> bool {
+        match self {
+            SearchHinter::Depth(hinter) => hinter.offer(program, area, point),
+            SearchHinter::Best(hinter) => hinter.offer(program, area, point),
+        }
+    }
+}

@@ -1,0 +1,201 @@
+ghost use Rattle.std.specs.Prelude.{◌≡◌, length, OnOk, IfOk};
+ghost use Rattle.std.specs.List.{All};
+ghost use Rattle.row_kit.specs.Area.{present};
+ghost use Rattle.row_kit.specs.Domain.{IsOpen};
+ghost use Rattle.range_prop.specs.Index.{IsIndex};
+
+use crate::caps::exceeds;
+use crate::tree::{Tree, cap_of};
+use branch_tree::{Advice, Hinter};
+use dual_simplex::Basis;
+use plan_hints::{Kept, PlanGuide, PlanHinter, split_value};
+use range_prop::{RowIndex, cut_by_index};
+use row_kit::{Area, Domain, Program};
+use std::alloc::{AllocError, Global};
+
+/// What a search in memory has come to: the boxes, and the best plan.
+#[derive(Drop)]
+pub struct Explored {
+    pub tree: Tree,
+    pub best: Kept,
+}
+
+// A search in memory.
+#[derive(Drop)]
+struct Explorer {
+    alloc: Global,
+    tree: Tree,
+    guide: PlanGuide,
+    hinter: PlanHinter,
+    best: Kept,
+    counted: u32,
+}
+
+// How many boxes are explored at most for each that may be counted.
+const MOST_LOOKS: u32 = 4;
+
+/// Searches a program best first, until the tree that is left counts so many boxes, or is closed.
+pub fn explore(alloc: Global, program: &Program, budget: u32) -> Result<Explored, AllocError> {
+    let index = RowIndex::new(alloc, program)?;
+    let mut explorer = Explorer {
+        alloc,
+        tree: Tree::new(alloc, program)?,
+        guide: PlanGuide::new(alloc, program)?,
+        hinter: PlanHinter::new(alloc, program)?,
+        best: Kept::new(alloc, program)?,
+        counted: 0,
+    };
+    for _ in 0..budget.saturating_mul(MOST_LOOKS) {
+        if explorer.counted >= budget || !explorer.step(program, &index)? {
+            break;
+        }
+    }
+    let Explorer { tree, best, .. } = explorer;
+    Ok(Explored { tree, best })
+}
+
+impl Explorer {
+    // Explores the next box; false where none is left.
+    fn step(&mut self, program: &Program, index: &RowIndex) -> Result<bool, AllocError>
+        requires index { IsIndex program.now.rows index.now }
+        requires lists { length index.now ≡ length program.now.root }
+    {
+        let Some(number) = self.tree.next(self.best.worth) else {
+            return Ok(false);
+        };
+        let domains = self.tree.begin(self.alloc, number);
+        self.counted = self.counted.saturating_add(1);
+        let mut area = Area::new(self.alloc, program)?;
+        put_domains(&mut area, domains.as_slice());
+        let mut cuts = Vec::new(self.alloc);
+        cut_by_index(self.alloc, program, index, &mut area, &mut cuts)?;
+        if !area.has_empty() {
+            self.look(program, &mut area, number)?;
+        }
+        Ok(true)
+    }
+
+    // Looks at a box that has points after its cuts.
+    fn look(&mut self, program: &Program, area: &mut Area, number: u32) -> Result<(), AllocError>
+        requires slots { length (present area.old) ≡ length program.now.root }
+        requires each_open { All IsOpen (present area.old) }
+    {
+        let mut point = vec![in self.alloc; 0u8; program.root.len()]?;
+        if area.is_point() {
+            self.hint(program, area, point.as_mut_slice());
+            return Ok(());
+        }
+        let mut basis = self.tree.start_of(self.alloc, program, number)?;
+        let advice = self.guide.advise_from(
+            self.alloc,
+            program,
+            area,
+            &mut basis,
+            self.best.worth,
+            point.as_mut_slice(),
+        )?;
+        self.hint(program, area, point.as_mut_slice());
+        self.settle(program, area, number, advice, basis)
+    }
+
+    // Asks the hinter at a box. Where the plan is better, the boxes are counted anew.
+    fn hint(&mut self, program: &Program, area: &Area, point: &mut [u8])
+        requires slots { length (present area.now) ≡ length program.now.root }
+        requires places { length point.old ≡ length program.now.root }
+        requires each_open { All IsOpen (present area.now) }
+    {
+        if self.hinter.offer(program, area, point) && self.best.take(program, point) {
+            self.counted = self.tree.count(self.best.worth);
+        }
+    }
+
+    // Notes what is advised on a box, and splits it where its cap leaves something above the best plan.
+    fn settle(
+        &mut self,
+        program: &Program,
+        area: &mut Area,
+        number: u32,
+        advice: Advice,
+        basis: Basis,
+    ) -> Result<(), AllocError>
+        requires slots { length (present area.old) ≡ length program.now.root }
+    {
+        let Advice { cert, slot } = advice;
+        let held = self.tree.cap_above(program, area, number);
+        let own = cap_of(program, area, &cert);
+        if own < held {
+            self.tree.put_cert(number, cert);
+        }
+        match slot_of(area, slot) {
+            Some(slot) if exceeds(own.min(held), self.best.worth) => {
+                self.tree.put_split(number, slot, basis);
+                self.split(program, area, number, slot)
+            }
+            _ => Ok(()),
+        }
+    }
+
+    // Puts the parts of a box that is split at a slot.
+    fn split(
+        &mut self,
+        program: &Program,
+        area: &mut Area,
+        number: u32,
+        slot: u32,
+    ) -> Result<(), AllocError>
+        requires slots { length (present area.old) ≡ length program.now.root }
+    {
+        if slot >= area.slot_count() {
+            return Ok(());
+        }
+        let max = split_value(&area.domain(slot));
+        let mark = area.mark();
+        area.at_most(slot, max);
+        self.tree.put_part(self.alloc, program, area, number)?;
+        back_to(area, mark);
+        area.above(slot, max);
+        self.tree.put_part(self.alloc, program, area, number)
+    }
+}
+
+// The slot that is split: the advised one where its domain has two values, else the first that has.
+fn slot_of(area: &Area, advised: Option<u32>) -> Option<u32> {
+    if let Some(slot) = advised {
+        if has_two(area, slot) {
+            return advised;
+        }
+    }
+    for slot in 0..area.slot_count() {
+        if has_two(area, slot) {
+            return Some(slot);
+        }
+    }
+    None
+}
+
+// Whether a slot is there, and its domain has two values or more.
+fn has_two(area: &Area, slot: u32) -> bool {
+    slot < area.slot_count() && area.domain(slot).count() >= 2
+}
+
+// Keeps the values of domains, one for each slot.
+fn put_domains(area: &mut Area, domains: &[Domain])
+    ensures { length (present area.new) ≡ length (present area.old) }
+{
+    for slot in 0..area.slot_count() {
+        if let Some(domain) = domains.get(slot as usize) {
+            if domain.lo >= 1 {
+                area.keep(slot, domain.zero, domain.lo, domain.hi);
+            }
+        }
+    }
+}
+
+// Goes back to a mark.
+fn back_to(area: &mut Area, mark: u32)
+    ensures { length (present area.new) ≡ length (present area.old) }
+{
+    if mark <= area.mark() {
+        area.back(mark);
+    }
+}

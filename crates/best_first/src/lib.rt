@@ -1,0 +1,14 @@
+//! A search that is explored in memory first, best first, and then handed to the loop of `branch_tree` box by box.
+//!
+//! It promises to be safe and to end, and nothing else: `branch_tree` tests each piece of advice before it is used.
+#![tactic(auto)]
+
+mod advisers;
+mod caps;
+mod explorer;
+mod kept_guide;
+mod kept_hinter;
+mod node;
+mod tree;
+
+pub use advisers::{Advisers, SearchGuide, SearchHinter};
