@@ -1,5 +1,5 @@
 -- The domains of a part's slots, one and all.
-use Rattle.std.proofs.Common.{◌≡◌, ◌≢◌, ℕ, zero, suc, ◌+◌, ◌<◌, ◌≤◌, true, false, List, [], ◌∷◌, ◌++◌, length, get_or, map, refl, sym, ap, ◌∙◌, subst, inl, inr, arith}
+use Rattle.std.proofs.Common.{◌≡◌, ◌≢◌, ℕ, suc, ◌+◌, ◌<◌, ◌≤◌, true, List, [], ◌∷◌, ◌++◌, length, get_or, map, refl, sym, ap, ◌∙◌, subst, inl, inr, arith}
 use Rattle.std.specs.Prelude.{◌↔◌}
 use Rattle.std.specs.List.{All, AllZip, range_with_len}
 use Rattle.std.proofs.lemmas.Bool.{cases_eq, cases_lt, eq-eqb, ne_eqb, lt-ltb, le-ltb, cond-true, cond-false, false≢true}
@@ -11,13 +11,13 @@ use Rattle.row_set.specs.Parts.{IsWithin}
 use Rattle.log_parts.specs.PlantParts.{digit, kept_off, kept_on, cut_domain, cut_root}
 use Rattle.log_parts.proofs.Digits.{digit-below}
 
-cut-off : (levels part place : ℕ) (own : Domain) → place < levels → digit levels part place ≡ 0 → cut_domain levels part place own ≡ kept_off
+pub cut-off : (levels part place : ℕ) (own : Domain) → place < levels → digit levels part place ≡ 0 → cut_domain levels part place own ≡ kept_off
 cut-off levels part place own l e = cond-true _ _ _ (lt-ltb place levels l) ∙ cond-true _ _ _ (eq-eqb (digit levels part place) 0 e)
 
-cut-on : (levels part place : ℕ) (own : Domain) → place < levels → digit levels part place ≢ 0 → cut_domain levels part place own ≡ kept_on own
+pub cut-on : (levels part place : ℕ) (own : Domain) → place < levels → digit levels part place ≢ 0 → cut_domain levels part place own ≡ kept_on own
 cut-on levels part place own l n = cond-true _ _ _ (lt-ltb place levels l) ∙ cond-false _ _ _ (ne_eqb (digit levels part place) 0 n)
 
-cut-rest : (levels part place : ℕ) (own : Domain) → levels ≤ place → cut_domain levels part place own ≡ own
+pub cut-rest : (levels part place : ℕ) (own : Domain) → levels ≤ place → cut_domain levels part place own ≡ own
 cut-rest levels part place own m = cond-false _ _ _ (le-ltb place levels m)
 
 -- what holds of each domain that a slot can have in a part holds of the one that it has

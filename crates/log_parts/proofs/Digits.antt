@@ -10,13 +10,13 @@ pub digit-below : (levels part place : ℕ) → digit levels part place < 2
 digit-below levels part place = mod_below (part / 2 ^ (levels - 1 - place)) 2 (omega arith)
 
 -- a digit before the last is that of half the number
-digit-half : (levels part place : ℕ) → place < levels → digit (suc levels) part place ≡ digit levels (part / 2) place
+pub digit-half : (levels part place : ℕ) → place < levels → digit (suc levels) part place ≡ digit levels (part / 2) place
 digit-half levels part place l =
     let weight : suc levels - 1 - place ≡ 1 + (levels - 1 - place) = omega (arith, l) in
     ap (λ n. part / 2 ^ n % 2) weight ∙ ap (λ n. n % 2) (sym (shr-shr part 1 (levels - 1 - place)))
 
 -- the last digit is what halving leaves
-digit-last : (levels part : ℕ) → digit (suc levels) part levels ≡ part % 2
+pub digit-last : (levels part : ℕ) → digit (suc levels) part levels ≡ part % 2
 digit-last levels part =
     let weight : suc levels - 1 - levels ≡ 0 = omega arith in
     let whole : part / 1 ≡ part = omega arith in

@@ -1,5 +1,5 @@
 -- What joined claims say, and how one more claim is joined.
-use Rattle.std.proofs.Common.{◌≡◌, ℕ, ℤ, ◌+◌, ◌<◌, ◌^◌, true, false, Option, Some, None, List, [], ◌∷◌, ◌++◌, length, get_or, refl, sym, ap, ◌∙◌, subst, arith, append_assoc}
+use Rattle.std.proofs.Common.{◌≡◌, ℕ, ℤ, ◌<◌, ◌^◌, true, false, Option, Some, None, List, [], ◌∷◌, ◌++◌, length, get_or, refl, sym, ap, ◌∙◌, subst, arith, append_assoc}
 use Rattle.std.specs.Prelude.{◌≤ℤ◌, ◌<ℤ◌, int_lt, if◌then◌else◌, is_some, IfSome}
 use Rattle.std.specs.List.{All}
 use Rattle.std.proofs.lemmas.Bool.{cond-true, cond-false, false≢true}
@@ -23,7 +23,7 @@ use Rattle.log_parts.specs.Joining.{plan_of, cap_of, EarnsAtMost, EarnsBelow, Is
 use Rattle.log_parts.proofs.Meaning.{of-some}
 
 -- what holds of both numbers of a test holds of the one that it takes
-by-less : {X : Type 0} (a b : ℤ) (P : X → Type 0) (x y : X) → (a <ℤ b → P x) → (b ≤ℤ a → P y) → P (if int_lt a b then x else y)
+pub by-less : {X : Type 0} (a b : ℤ) (P : X → Type 0) (x y : X) → (a <ℤ b → P x) → (b ≤ℤ a → P y) → P (if int_lt a b then x else y)
 by-less a b P x y less least =
     by_lt_z a b
     (λ l. let e : int_lt a b ≡ true = grind (arith, ints) in subst P (sym (cond-true _ _ _ e)) (less l))
@@ -45,7 +45,7 @@ cap-holds plant admits Infeasible plan says is = absurd (says plan is)
 cap-holds plant admits (Between worth most point) plan says is = (most, (refl, says.1 plan is))
 cap-holds plant admits (Below most) plan says is = (most, (refl, says plan is))
 
-seam : (xs : List Claim) (y : Claim) (ys : List Claim) → get_or (xs ++ y ∷ ys) (length xs) Infeasible ≡ y
+pub seam : (xs : List Claim) (y : Claim) (ys : List Claim) → get_or (xs ++ y ∷ ys) (length xs) Infeasible ≡ y
 seam xs y ys = get_or-append_seam xs y ys Infeasible
 
 -- the best plan is a feasible one of that profit

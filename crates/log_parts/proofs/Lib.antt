@@ -2,3 +2,16 @@ pub mod Digits
 pub mod Cutting
 pub mod JoinedClaims
 pub mod Meaning
+pub mod PartCaps
+pub mod FinePoints
+pub mod RootSplits
+pub mod JoinedSound
+pub mod PartTexts
+pub mod JoinedTexts
+pub mod JoinedValid
+mod Writes
+mod Copies
+mod PartsChecked
+mod PartsCopied
+mod JoinWritten
+mod JoinAnswers

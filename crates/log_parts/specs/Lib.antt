@@ -1,2 +1,4 @@
 pub mod Joining
 pub mod PlantParts
+pub mod PartLogs
+pub mod laws

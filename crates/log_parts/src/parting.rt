@@ -76,8 +76,8 @@ fn cut_domain(own: Domain, levels: u32, part: u32, place: usize) -> Domain
     }
 }
 
-// The digit of the part's number that stands for the slot of this place.
-fn digit(levels: u32, part: u32, place: u32) -> u32
+/// The digit of the part's number that stands for the slot of this place: 0 where no batch starts there, 1 where one does.
+pub fn digit(levels: u32, part: u32, place: u32) -> u32
     requires most { levels ≤ 8 }
     requires place { place < levels }
     ensures { result ≡ digit levels part place }

@@ -1,0 +1,218 @@
+-- The caps of trees over a part's rows are those over the whole's.
+use Rattle.std.proofs.Common.{◌≡◌, ℕ, ℤ, ◌<◌, Bool, true, false, ◌&&◌, cond, ltb, List, [], ◌∷◌, length, set, Option, Some, None, option_and_then, refl, sym, ap, ◌∙◌, subst}
+use Rattle.std.specs.Prelude.{◌+ℤ◌, ◌-ℤ◌, ◌*ℤ◌, pos, if◌then◌else◌}
+use Rattle.std.specs.List.{All, AllZip, list_all, list_any}
+use Rattle.std.proofs.lemmas.Bool.{and_parts, ltb-true}
+use Rattle.row_kit.specs.declared.domain.Domain.{Domain}
+use Rattle.row_kit.specs.declared.program.Program.{Program}
+use Rattle.row_kit.specs.declared.row.Entry.{Entry}
+use Rattle.row_kit.specs.declared.row.Row.{Row}
+use Rattle.row_kit.specs.Domain.{Holds, count_of, domain_at, no_values, up_to, over, shared}
+use Rattle.row_kit.specs.Point.{IsLawful, LiesIn, worth_of}
+use Rattle.row_kit.specs.Row.{IsKept, entry_at, row_at}
+use Rattle.row_kit.specs.Points.{kept_at}
+use Rattle.row_kit.proofs.Marks.{LiesIn-from_set}
+use Rattle.row_kit.proofs.Parts.{shared_within}
+use Rattle.range_prop.specs.declared.row_cut.RowCut.{RowCut}
+use Rattle.range_prop.specs.Cut.{cut_domain, cut_domains, is_bare}
+use Rattle.range_prop.proofs.CutLaws.{cut_within}
+use Rattle.dual_bound.specs.declared.cert.Cert.{Cert}
+use Rattle.dual_bound.specs.Cap.{scaled_cap}
+use Rattle.dual_bound.specs.Total.{is_fit, limits_sum, rows_at, slots_total}
+use Rattle.proof_tree.specs.declared.capped.Capped.{Capped}
+use Rattle.proof_tree.specs.declared.capped.Capped.TheVariants.{AtMost, NoPoint, Bad}
+use Rattle.proof_tree.specs.Cap.{greater}
+use Rattle.proof_tree.specs.Relaxation.{Steps}
+use Rattle.proof_tree.specs.Tree.{Leaf, no_point, dual, one_point, pending, Tree, leaf, split, tree_cap, leaf_cap, after_cuts, cap_if}
+use Rattle.proof_tree.specs.Views.{View}
+use Rattle.row_relax.specs.declared.pick.RowPick.{RowPick}
+use Rattle.row_relax.specs.RowProofs.{RowTree}
+use Rattle.row_relax.specs.Settle.{are_single, is_lawful, only_point, settled}
+use Rattle.row_relax.specs.Steps.{row_steps, shown_if}
+use Rattle.row_relax.specs.View.{Fits, IsIn, domains_of, view_of}
+use Rattle.row_relax.specs.laws.Laws.{rows_sound}
+use Rattle.row_relax.specs.laws.Lawful.{lawful_true, true_lawful}
+use Rattle.row_relax.specs.laws.Shown.{domains_of-view_of, domains_there, fits_of, shown_there}
+use Rattle.row_relax.specs.laws.Singles.{single_point}
+use Rattle.row_set.specs.Parts.{IsButRoot, IsWithin}
+use Rattle.row_set.proofs.PartPoints.{lies-within, worth-part}
+
+-- ---- steps that settle otherwise
+
+-- the same steps, but that a view is settled otherwise
+abbrev resettled : {U C P : Type 0} → Steps U C P → (View → Capped) → Steps U C P
+resettled s settle = record { cut = s.cut; left = s.left; right = s.right; empty = s.empty; cap = s.cap; settle = settle }
+
+if_same : (next : Option View) (f g : View → Capped) → ((w : View) → next ≡ Some w → f w ≡ g w) → cap_if next f ≡ cap_if next g
+if_same None f g each = refl
+if_same (Some w) f g each = each w refl
+
+next_same : (next : Option View) (f g : View → Option View) → ((w : View) → f w ≡ g w) → option_and_then f next ≡ option_and_then g next
+next_same None f g each = refl
+next_same (Some w) f g each = each w
+
+cuts_same : {U C P : Type 0} (s : Steps U C P) (settle : View → Capped) (cuts : List U) (v : View) → after_cuts s v cuts ≡ after_cuts (resettled s settle) v cuts
+cuts_same s settle [] v = refl
+cuts_same s settle (u ∷ us) v = next_same (s.cut v u) (λ w. after_cuts s w us) (λ w. after_cuts (resettled s settle) w us) (cuts_same s settle us)
+
+-- views that the steps of a proof do not leave, and on which settling is the same
+record AreGood {U C P : Type 0} (s : Steps U C P) (settle : View → Capped) (good : View → Type 0) : Type 0 where
+  cut_good : (v w : View) (u : U) → good v → s.cut v u ≡ Some w → good w
+  left_good : (v w : View) (k : P) → good v → s.left v k ≡ Some w → good w
+  right_good : (v w : View) (k : P) → good v → s.right v k ≡ Some w → good w
+  same : (v : View) → good v → s.settle v ≡ settle v
+
+leaf_same : {U C P : Type 0} (s : Steps U C P) (settle : View → Capped) (good : View → Type 0) → AreGood s settle good → (v : View) (end : Leaf C) → good v → leaf_cap s v end ≡ leaf_cap (resettled s settle) v end
+leaf_same s settle good are v no_point is = refl
+leaf_same s settle good are v (dual cert) is = refl
+leaf_same s settle good are v one_point is = are.same v is
+leaf_same s settle good are v (pending cert) is = refl
+
+cuts_good : {U C P : Type 0} (s : Steps U C P) (settle : View → Capped) (good : View → Type 0) → AreGood s settle good → (cuts : List U) (v w : View) → good v → after_cuts s v cuts ≡ Some w → good w
+cuts_good s settle good are [] v w is e = subst good (some_same v w e) is
+  where
+    some_same : (v w : View) → Some v ≡ Some w → v ≡ w
+    some_same v w e = cc
+cuts_good s settle good are (u ∷ us) v w is e = first (s.cut v u) refl e (λ x. cuts_good s settle good are us x w)
+  where
+    first : (next : Option View) → s.cut v u ≡ next → option_and_then (λ x. after_cuts s x us) next ≡ Some w → ((x : View) → good x → after_cuts s x us ≡ Some w → good w) → good w
+    first None cut leads rest = absurd (cc)
+    first (Some x) cut leads rest = rest x (are.cut_good v x u is cut) leads
+
+tree_same : {U C P F : Type 0} (s : Steps U C P) (settle : View → Capped) (good : View → Type 0) → AreGood s settle good → (tree : Tree U C P F) (v : View) → good v → tree_cap s v tree ≡ tree_cap (resettled s settle) v tree
+tree_same s settle good are (leaf cuts found end) v is =
+    if_same (after_cuts s v cuts) (λ w. leaf_cap s w end) (λ w. leaf_cap (resettled s settle) w end) (λ w e. leaf_same s settle good are w end (cuts_good s settle good are cuts v w is e))
+    ∙ ap (λ (next : Option View). cap_if next (λ w. leaf_cap (resettled s settle) w end)) (cuts_same s settle cuts v)
+tree_same s settle good are (split cuts found pick cert a b) v is =
+    let other = resettled s settle in
+    if_same (after_cuts s v cuts)
+    (λ w. greater (cap_if (s.left w pick) (λ x. tree_cap s x a)) (cap_if (s.right w pick) (λ x. tree_cap s x b)))
+    (λ w. greater (cap_if (s.left w pick) (λ x. tree_cap other x a)) (cap_if (s.right w pick) (λ x. tree_cap other x b)))
+    (λ w e.
+    let here = cuts_good s settle good are cuts v w is e in
+    let first = if_same (s.left w pick) (λ x. tree_cap s x a) (λ x. tree_cap other x a) (λ x f. tree_same s settle good are a x (are.left_good w x pick here f)) in
+    let second = if_same (s.right w pick) (λ x. tree_cap s x b) (λ x. tree_cap other x b) (λ x f. tree_same s settle good are b x (are.right_good w x pick here f)) in
+    ap (λ (c : Capped). greater c (cap_if (s.right w pick) (λ x. tree_cap s x b))) first
+    ∙ ap (λ (c : Capped). greater (cap_if (s.left w pick) (λ x. tree_cap other x a)) c) second)
+    ∙ ap (λ (next : Option View). cap_if next (λ w. greater (cap_if (s.left w pick) (λ x. tree_cap other x a)) (cap_if (s.right w pick) (λ x. tree_cap other x b)))) (cuts_same s settle cuts v)
+
+-- ---- views within a root
+
+-- a view fits, and its points lie in the root
+record IsInside (program : Program) (v : View) : Type 0 where
+  fits : Fits program v
+  lies : (p : List ℕ) → IsIn v p → LiesIn program.root p
+
+-- a step that narrows one slot's domain stays inside
+one_inside : (program : Program) (v w : View) (there : Bool) (slot : ℕ) (d : Domain) → IsInside program v → Fits program w → slot < length (domains_of v)
+    → ((x : ℕ) → Holds d x → Holds (domain_at (domains_of v) slot) x) → shown_if there (set (domains_of v) slot d) ≡ Some w → IsInside program w
+one_inside program v w there slot d is fits low within shows = record {
+  fits = fits;
+  lies = λ p lies. is.lies p (LiesIn-from_set (domains_of v) p slot d low within (subst (λ (ds : List Domain). LiesIn ds p) (domains_there there _ w shows) lies));
+}
+
+cut_inside : (program : Program) (v w : View) (u : RowCut) → IsInside program v → (row_steps program).cut v u ≡ Some w → IsInside program w
+unfolding row_steps
+cut_inside program v w u is shows =
+    let ds = domains_of v in
+    let row = row_at program.rows u.row in
+    let there = ltb u.row (length program.rows) && ltb u.slot (length ds) in
+    let low = ltb-true u.slot (length ds) (and_parts (ltb u.row (length program.rows)) (ltb u.slot (length ds)) (shown_there there (cut_domains row u.slot ds) w shows).0).1 in
+    one_inside program v w there u.slot (cut_domain row u.slot ds) is ((rows_sound program).cut_fits v w u is.fits shows) low
+    (λ x. cut_within row u.slot ds x (is.fits.normal u.slot no_values low).positive) shows
+
+left_inside : (program : Program) (v w : View) (k : RowPick) → IsInside program v → (row_steps program).left v k ≡ Some w → IsInside program w
+unfolding row_steps
+left_inside program v w k is shows =
+    let ds = domains_of v in
+    let there = ltb k.slot (length ds) in
+    let low = ltb-true k.slot (length ds) (shown_there there (kept_at ds k.slot (up_to k.max)) w shows).0 in
+    one_inside program v w there k.slot (shared (domain_at ds k.slot) (up_to k.max)) is ((rows_sound program).left_fits v w k is.fits shows) low
+    (λ x. shared_within (domain_at ds k.slot) (up_to k.max) x) shows
+
+right_inside : (program : Program) (v w : View) (k : RowPick) → IsInside program v → (row_steps program).right v k ≡ Some w → IsInside program w
+unfolding row_steps
+right_inside program v w k is shows =
+    let ds = domains_of v in
+    let there = ltb k.slot (length ds) in
+    let low = ltb-true k.slot (length ds) (shown_there there (kept_at ds k.slot (over k.max)) w shows).0 in
+    one_inside program v w there k.slot (shared (domain_at ds k.slot) (over k.max)) is ((rows_sound program).right_fits v w k is.fits shows) low
+    (λ x. shared_within (domain_at ds k.slot) (over k.max) x) shows
+
+-- ---- a part and the whole
+
+-- a part of a whole: its rows, and a root within the whole's
+pub record IsPart (whole part : Program) : Type 0 where
+  pub but_root : IsButRoot whole part
+  pub within : AllZip IsWithin part.root whole.root
+
+-- what is lawful in a part is so in the whole
+pub lawful-part : (whole part : Program) (point : List ℕ) → IsPart whole part → IsLawful part point → IsLawful whole point
+lawful-part whole part point is lawful = record {
+  lies = lies-within part.root whole.root point is.within lawful.lies;
+  keeps = subst (All (IsKept point)) is.but_root.rows lawful.keeps;
+}
+
+-- two tests are alike where one holds exactly where the other does
+alike : (a b : Bool) → (a ≡ true → b ≡ true) → (b ≡ true → a ≡ true) → a ≡ b
+alike true true there back = refl
+alike true false there back = sym (there refl)
+alike false true there back = back refl
+alike false false there back = refl
+
+-- a point of the part's root is lawful in the part exactly where it is in the whole
+lawful-same : (whole part : Program) (point : List ℕ) → IsPart whole part → LiesIn part.root point → is_lawful part point ≡ is_lawful whole point
+lawful-same whole part point is lies =
+    alike (is_lawful part point) (is_lawful whole point)
+    (λ h. lawful_true whole point (lawful-part whole part point is (true_lawful part point h)))
+    (λ h. lawful_true part point (record { lies = lies; keeps = subst (All (IsKept point)) (sym is.but_root.rows) (true_lawful whole point h).keeps }))
+
+settle-same : (whole part : Program) → IsPart whole part → (v : View) → IsInside part v → (row_steps part).settle v ≡ settled whole (domains_of v)
+unfolding row_steps settled
+settle-same whole part is v inside = by_single (are_single (domains_of v)) refl
+  where
+    by_single : (single : Bool) → are_single (domains_of v) ≡ single
+        → cond single (cond (is_lawful part (only_point (domains_of v))) (AtMost (worth_of part (only_point (domains_of v)))) NoPoint) Bad
+        ≡ cond single (cond (is_lawful whole (only_point (domains_of v))) (AtMost (worth_of whole (only_point (domains_of v)))) NoPoint) Bad
+    by_single false e = refl
+    by_single true e =
+        let lies = inside.lies (only_point (domains_of v)) (single_point (domains_of v) inside.fits.normal e).0 in
+        ap (λ (test : Bool). cond test (AtMost (worth_of part (only_point (domains_of v)))) NoPoint) (lawful-same whole part (only_point (domains_of v)) is lies)
+        ∙ ap (λ (worth : ℤ). cond (is_lawful whole (only_point (domains_of v))) (AtMost worth) NoPoint) (worth-part whole part (only_point (domains_of v)) is.but_root)
+
+-- the calls of rows, of which the settling is given
+abbrev steps_of : List Row → List Entry → ℤ → (View → Capped) → Steps RowCut Cert RowPick
+steps_of rows profit base settle = record {
+  cut = λ view cut. let ds = domains_of view in shown_if (ltb cut.row (length rows) && ltb cut.slot (length ds)) (cut_domains (row_at rows cut.row) cut.slot ds);
+  left = λ view pick. let ds = domains_of view in shown_if (ltb pick.slot (length ds)) (kept_at ds pick.slot (up_to pick.max));
+  right = λ view pick. let ds = domains_of view in shown_if (ltb pick.slot (length ds)) (kept_at ds pick.slot (over pick.max));
+  empty = λ view. list_any is_bare (domains_of view);
+  cap = λ view cert.
+      scaled_cap cert.scale
+      (if is_fit (length rows) cert && list_all (λ domain. ltb 0 (count_of domain)) (domains_of view)
+      then Some (((pos cert.scale *ℤ base) +ℤ limits_sum rows cert.mults)
+      +ℤ slots_total (λ slot value. (pos cert.scale *ℤ entry_at profit slot value) -ℤ rows_at rows cert.mults slot value) 0 (domains_of view))
+      else None);
+  settle = settle;
+}
+
+-- the part's calls are the whole's, but for settling
+steps-same : (whole part : Program) → IsButRoot whole part → resettled (row_steps part) (λ v. settled whole (domains_of v)) ≡ row_steps whole
+unfolding row_steps
+steps-same whole part but =
+    let settle : View → Capped = λ v. settled whole (domains_of v) in
+    let one : steps_of part.rows part.profit part.base settle ≡ steps_of whole.rows part.profit part.base settle = ap (λ (rows : List Row). steps_of rows part.profit part.base settle) but.rows in
+    let two : steps_of whole.rows part.profit part.base settle ≡ steps_of whole.rows whole.profit part.base settle = ap (λ (profit : List Entry). steps_of whole.rows profit part.base settle) but.profit in
+    let three : steps_of whole.rows whole.profit part.base settle ≡ steps_of whole.rows whole.profit whole.base settle = ap (λ (base : ℤ). steps_of whole.rows whole.profit base settle) but.base in
+    one ∙ two ∙ three
+
+-- the cap of a tree over the root of a part is the same over the part's rows and over the whole's
+pub cap-same : (whole part : Program) (tree : RowTree) → IsPart whole part → tree_cap (row_steps part) (view_of part.root) tree ≡ tree_cap (row_steps whole) (view_of part.root) tree
+cap-same whole part tree is =
+    tree_same (row_steps part) (λ v. settled whole (domains_of v)) (IsInside part)
+    (record { cut_good = cut_inside part; left_good = left_inside part; right_good = right_inside part; same = settle-same whole part is }) tree (view_of part.root)
+    (record {
+      fits = fits_of part part.root refl part.root_normal;
+      lies = λ p lies. subst (λ (ds : List Domain). LiesIn ds p) (domains_of-view_of part.root) lies;
+    })
+    ∙ ap (λ (s : Steps RowCut Cert RowPick). tree_cap s (view_of part.root) tree) (steps-same whole part is.but_root)

@@ -1,0 +1,61 @@
+-- What a writer of a log has after more items.
+use Rattle.std.proofs.Common.{◌≡◌, ◌≢◌, inl, inr, refl, ℕ, List, [], ◌∷◌, ◌++◌, flat_map, Option, None, Some, IfSome, sym, ap, ◌∙◌, subst}
+use Rattle.std.specs.Option.{option_map}
+use Rattle.std.proofs.lemmas.Grind.{flat_map-append}
+use Rattle.std.specs.FinMap.{get}
+use Rattle.stn_edge.specs.Files.{FileMap, file_of, cleared, MayClear, OthersStay}
+use Rattle.stn_edge.proofs.FileLemmas.{get-cleared_other}
+use Rattle.row_relax.specs.RowProofs.{RowItem}
+use Rattle.log_lines.specs.declared.line.Line.{Line}
+use Rattle.log_lines.specs.declared.line.Line.TheVariants.{Header, End}
+use Rattle.proof_log.specs.declared.claim.Claim.{Claim}
+use Rattle.proof_log.specs.Log.{item_lines, claim_lines, lines_text, log_text}
+use Rattle.proof_log.specs.Writer.{Writing, IsWhole, Took, Broke, whole}
+use Rattle.proof_log.proofs.Lines.{lines_text-append, log_text-parts}
+use Rattle.proof_log.proofs.Writing.{IsWhole-took}
+use Rattle.log_parts.specs.laws.Copying.{begun_text, IsBegun, IsFinishedInPart}
+
+-- the text of items is followed by that of more
+pub text_more : (items added : List RowItem) → begun_text items ++ lines_text (flat_map item_lines added) ≡ begun_text (items ++ added)
+text_more items added =
+    sym (lines_text-append (Header 2 ∷ flat_map item_lines items) (flat_map item_lines added))
+    ∙ ap (λ (lines : List Line). lines_text (Header 2 ∷ lines)) (sym (flat_map-append item_lines items added))
+
+-- a writer that took more items has them too
+pub has_more : (before after : Writing) (items added : List RowItem) → IsWhole before (begun_text items) → Took before after (lines_text (flat_map item_lines added)) → IsWhole after (begun_text (items ++ added))
+has_more before after items added is took =
+    subst (IsWhole after) (text_more items added) (IsWhole-took before after (begun_text items) (lines_text (flat_map item_lines added)) is took)
+
+-- a file whose text and a rest are what was there and more
+pub begun_at : (name : List ℕ) (files : Option FileMap) (rest text first all_text : List ℕ) (old : Option (List ℕ)) → option_map (λ (m : FileMap). file_of m name ++ rest) files ≡ option_map (λ (all : List ℕ). all ++ text) old
+    → IfSome old (λ all. all ≡ first) → first ++ text ≡ all_text → IfSome files (λ m. (later : List ℕ) × (file_of m name ++ later ≡ all_text))
+begun_at name None rest text first all_text old same is more = tt
+begun_at name (Some m) rest text first all_text None same is more = absurd cc
+begun_at name (Some m) rest text first all_text (Some all) same is more =
+    let here : file_of m name ++ rest ≡ all ++ text = cc in
+    (rest, here ∙ ap (λ (a : List ℕ). a ++ text) is ∙ more)
+
+-- where more items were not taken, or in part, the file is a first part of them
+pub begun_more : (before after : Writing) (items added : List RowItem) → IsWhole before (begun_text items) → Broke before after (lines_text (flat_map item_lines added)) → IsBegun before.name after.files (items ++ added)
+begun_more before after items added is broke =
+    subst (λ (name : List ℕ). IsBegun name after.files (items ++ added)) broke.keeps.name
+    (begun_at after.name after.files broke.part.0 (lines_text (flat_map item_lines added)) (begun_text items) (begun_text (items ++ added)) (whole before) broke.part.1 is (text_more items added))
+
+others_cleared : (name other : List ℕ) (files : Option FileMap) → other ≢ name → option_map (λ (m : FileMap). get m other) (option_map (cleared name) files) ≡ option_map (λ (m : FileMap). get m other) files
+others_cleared name other None apart = refl
+others_cleared name other (Some files) apart = ap Some (get-cleared_other name files other apart)
+
+-- a file that may have been cleared leaves the others
+pub clear_stays : (name : List ℕ) (old new : Option FileMap) → MayClear name old new → OthersStay name old new
+clear_stays name old new (inl same) other apart = ap (option_map (λ (m : FileMap). get m other)) same
+clear_stays name old new (inr is) other apart = ap (option_map (λ (m : FileMap). get m other)) is ∙ others_cleared name other old apart
+
+-- a file that was cleared
+pub cleared_stays : (name : List ℕ) (old new : Option FileMap) → new ≡ option_map (cleared name) old → OthersStay name old new
+cleared_stays name old new is = clear_stays name old new (inr is)
+
+-- where the claim was not written, or in part, the file is a first part of the log
+pub finish_broken : (before after : Writing) (items : List RowItem) (claim : Claim) → IsWhole before (begun_text items) → Broke before after (lines_text (claim_lines claim ++ End ∷ [])) → IsFinishedInPart before.name items claim after.files
+finish_broken before after items claim is broke =
+    subst (λ (name : List ℕ). IsFinishedInPart name items claim after.files) broke.keeps.name
+    (begun_at after.name after.files broke.part.0 (lines_text (claim_lines claim ++ End ∷ [])) (begun_text items) (log_text 2 items claim) (whole before) broke.part.1 is (log_text-parts 2 items claim))

@@ -1,0 +1,100 @@
+-- The items that are read are put, one after another.
+use Rattle.std.proofs.Common.{◌∙◌, [], Option, None, Some, refl, sym, ap, subst, arith}
+use Rattle.std.specs.FinMap.{get}
+use Rattle.std.specs.Option.{option_map}
+use Rattle.stn_edge.specs.Files.{FileMap, OthersStay}
+use Rattle.proof_log.specs.declared.log.Defect.{Defect}
+use Rattle.proof_log.specs.LogReading.{IsPartAfter}
+use Rattle.log_parts.specs.laws.Copying.{name_of, HasCopied, HasItems}
+use Rattle.log_parts.proofs.Copies.{HasReadOn, same_file, err_of, none_broken, on_broken, item_broken, copied_end, copied_bad, item_copied, claim_read, read_on}
+use Rattle.log_parts.proofs.copying.copy_log.Goals as goal
+use Rattle.log_parts.proofs.copying.copy_log.Goals.{in-Item+in_ok-put_item-in-Item, in-Claim}
+
+pub parts-init : goal.parts-init
+parts-init g c = record {
+  on = read_on c.args.limits c.args.name.now (g.F.Shelf.files c.args.files.now) c.args.writer.now c.in_ok-reader.reader (c.in_ok-reader.ensures (g.F.Shelf.files c.args.files.now) c.args.name.now);
+  named = refl;
+  others = λ other apart. refl;
+  readable = refl;
+  writable = refl;
+  reads = omega arith;
+  writes = omega arith;
+}
+
+pub returns-in_err-reader-clause-err : goal.returns-in_err-reader-clause-err
+returns-in_err-reader-clause-err g c =
+    err_of c.from_residual.result (none_broken c.args.limits c.args.name.now (g.F.Shelf.files c.args.files.now) c.args.writer.now)
+
+pub returns-in_err-item-clause-err : goal.returns-in_err-item-clause-err
+returns-in_err-item-clause-err g c =
+    let inv = c.parts.invariant in
+    err_of c.from_residual-in_err-item.result
+    (on_broken c.args.limits c.args.name.now (g.F.Shelf.files c.args.files.now) (g.F.Shelf.files c.parts.files) (g.F.Shelf.files c.next.new.files) c.args.writer.now c.parts.writer c.parts.reader inv.named c.in_err-item.ensures.same inv.on)
+
+pub returns-in_err-put_item-in-Item-clause-err : goal.returns-in_err-put_item-in-Item-clause-err
+returns-in_err-put_item-in-Item-clause-err g c =
+    let inv = c.parts.invariant in
+    let on = inv.on in
+    let still = c.in_ok-item.ensures.same in
+    err_of c.from_residual-in_err-put_item-in-Item.result
+    (item_broken c.args.limits c.args.name.now (g.F.Shelf.files c.args.files.now) (g.F.Shelf.files c.parts.files) (g.F.Shelf.files c.next.new.files) (g.F.Shelf.files c.put_item.new.files) c.args.writer.now c.parts.writer c.parts.reader c.next.new.self c.in-Item.line c.in-Item.item on inv.named still
+    (subst (IsPartAfter (g.F.Shelf.files c.parts.files) c.args.name.now c.args.limits on.items on.claim c.next.new.self) c.in-Item.is (c.in_ok-item.ensures.part c.args.limits on.items on.claim on.read))
+    c.in_err-put_item-in-Item.ensures.err)
+
+pub returns-in-End-clause-copied : goal.returns-in-End-clause-copied
+returns-in-End-clause-copied g c =
+    let on = c.parts.invariant.on in
+    subst (λ (told : Option FileMap). HasCopied c.args.limits c.args.name.now (g.F.Shelf.files c.args.files.now) c.args.writer.now told c.parts.writer {D = Defect} None) (sym c.in_ok-item.ensures.same)
+    (copied_end c.args.limits c.args.name.now (g.F.Shelf.files c.args.files.now) (g.F.Shelf.files c.parts.files) c.args.writer.now c.parts.writer c.parts.reader c.next.new.self c.in-End.version on
+    (subst (IsPartAfter (g.F.Shelf.files c.parts.files) c.args.name.now c.args.limits on.items on.claim c.next.new.self) c.in-End.is (c.in_ok-item.ensures.part c.args.limits on.items on.claim on.read)))
+
+pub returns-in-Bad-clause-copied : goal.returns-in-Bad-clause-copied
+returns-in-Bad-clause-copied g c =
+    let on = c.parts.invariant.on in
+    subst (λ (told : Option FileMap). HasCopied c.args.limits c.args.name.now (g.F.Shelf.files c.args.files.now) c.args.writer.now told c.parts.writer (Some c.in-Bad.defect)) (sym c.in_ok-item.ensures.same)
+    (copied_bad c.args.limits c.args.name.now (g.F.Shelf.files c.args.files.now) (g.F.Shelf.files c.parts.files) c.args.writer.now c.parts.writer c.parts.reader c.next.new.self c.in-Bad.defect on
+    (subst (IsPartAfter (g.F.Shelf.files c.parts.files) c.args.name.now c.args.limits on.items on.claim c.next.new.self) c.in-Bad.is (c.in_ok-item.ensures.part c.args.limits on.items on.claim on.read)))
+
+pub parts-preserved : goal.parts-preserved
+parts-preserved g c =
+    let inv = c.parts.invariant in
+    let on = inv.on in
+    let still = c.in_ok-item.ensures.same in
+    let old = g.F.Shelf.files c.args.files.now in
+    let now = g.F.Shelf.files c.parts.files in
+    let part = c.in_ok-item.ensures.part c.args.limits on.items on.claim on.read in
+    elim c.match-branch-3.branch [
+      | in-Item+in_ok-put_item-in-Item w ↦
+          let took = w.in_ok-put_item-in-Item.ensures in
+          let next = g.F.Shelf.files w.put_item.new.files in
+          let stays : OthersStay (name_of c.args.writer.now) now next = λ other apart. took.others other (λ is. apart (is ∙ inv.named)) ∙ ap (option_map (λ (m : FileMap). get m other)) still in
+          rw (w.writer-is, w.files-is) (record {
+            on = item_copied c.args.limits c.args.name.now old now next c.args.writer.now c.parts.writer w.put_item.new.writer c.parts.reader c.next.new.self w.in-Item.line w.in-Item.item on
+                (subst (IsPartAfter now c.args.name.now c.args.limits on.items on.claim c.next.new.self) w.in-Item.is part)
+                (same_file c.args.name.now now next (stays c.args.name.now (λ is. c.requires.apart (sym is))))
+                (λ items has. took.ok items (subst (λ (told : Option FileMap). HasItems c.parts.writer told items) (sym still) has));
+            named = took.named ∙ inv.named;
+            others = λ other apart. stays other apart ∙ inv.others other apart;
+            readable = took.readable ∙ c.in_ok-item.ensures.readable ∙ inv.readable;
+            writable = took.writable ∙ c.in_ok-item.ensures.writable ∙ inv.writable;
+            reads = omega (arith, took.reads, c.in_ok-item.ensures.later, inv.reads);
+            writes = omega (arith, took.writes, c.in_ok-item.ensures.no_write, inv.writes);
+          })
+      | in-Claim w ↦
+          rw (w.writer-is, w.files-is) (record {
+            on = subst (λ (told : Option FileMap). HasReadOn c.args.limits c.args.name.now old c.args.writer.now told c.parts.writer c.next.new.self) (sym still)
+                (claim_read c.args.limits c.args.name.now old now c.args.writer.now c.parts.writer c.parts.reader c.next.new.self w.in-Claim.line w.in-Claim.claim on
+                (subst (IsPartAfter now c.args.name.now c.args.limits on.items on.claim c.next.new.self) w.in-Claim.is part));
+            named = inv.named;
+            others = λ other apart. ap (option_map (λ (m : FileMap). get m other)) still ∙ inv.others other apart;
+            readable = c.in_ok-item.ensures.readable ∙ inv.readable;
+            writable = c.in_ok-item.ensures.writable ∙ inv.writable;
+            reads = omega (arith, c.in_ok-item.ensures.later, inv.reads);
+            writes = omega (arith, c.in_ok-item.ensures.no_write, inv.writes);
+          })
+    ]
+
+pub returns-clause-err : goal.returns-clause-err
+returns-clause-err g c =
+    let inv = c.parts.invariant in
+    on_broken c.args.limits c.args.name.now (g.F.Shelf.files c.args.files.now) (g.F.Shelf.files c.parts.files) (g.F.Shelf.files c.parts.files) c.args.writer.now c.parts.writer c.parts.reader inv.named refl inv.on

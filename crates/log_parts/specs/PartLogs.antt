@@ -1,0 +1,111 @@
+-- The logs of a plant's parts, and the log that is joined of them.
+use Rattle.std.specs.Prelude.{◌≡◌, ◌⊎◌, ℕ, ◌+◌, ◌-◌, ◌^◌, ◌<◌, zero, suc, ⊤, List, [], ◌++◌, length, take, drop, slice_index_or, Option, None, IfSome}
+use Rattle.std.specs.Option.{option_map}
+use Rattle.stn_edge.specs.Files.{FileMap, file_of}
+use Rattle.stn_model.specs.declared.plant.Plant.{Plant}
+use Rattle.row_kit.specs.declared.program.Program.{Program}
+use Rattle.dual_bound.specs.declared.cert.Cert.{Cert}
+use Rattle.proof_tree.specs.Items.{tree_items}
+use Rattle.proof_tree.specs.Tree.{leaf, split, no_point}
+use Rattle.row_relax.specs.RowProofs.{RowTree}
+use Rattle.row_set.specs.Parts.{IsPartOf}
+use Rattle.proof_log.specs.declared.claim.Claim.{Claim}
+use Rattle.proof_log.specs.declared.claim.Claim.TheVariants.{Infeasible}
+use Rattle.proof_log.specs.Log.{log_text}
+use Rattle.proof_log.specs.LogNames.{log_name}
+use Rattle.log_check.specs.declared.verdict.LogVerdict.{LogVerdict}
+use Rattle.log_check.specs.declared.verdict.LogVerdict.TheVariants as verdict
+use Rattle.log_check.specs.Verdict.{IsLog}
+use Rattle.plant_check.specs.Claims.{IsChecked, IsPartChecked, Says}
+use Rattle.log_parts.specs.declared.joins.Joined.{Joined}
+use Rattle.log_parts.specs.declared.joins.Joined.TheVariants.{Done, No}
+use Rattle.log_parts.specs.Joining.{IsJoined}
+use Rattle.log_parts.specs.PlantParts.{part_root}
+
+-- the program is that of a part of the plant
+pub record IsPartProgram (plant : Plant) (levels part : ℕ) (program : Program) : Type 0 where
+  pub is_part : IsPartOf plant program
+  pub root : program.root ≡ part_root plant levels part
+
+-- the verdict is right on the log of a part, in which at most 4,608 splits less one for each level may be open
+pub record IsPartVerdict (plant : Plant) (levels part : ℕ) (bytes : List ℕ) (said : LogVerdict) : Type 0 where
+  pub program : Program
+  pub of_part : IsPartProgram plant levels part program
+  pub right : IsPartChecked plant program (4608 - levels) bytes said
+
+-- each log of the first parts, so many, is valid
+abbrev pub AreValid : Plant → ℕ → (ℕ → List ℕ) → ℕ → Type 0
+AreValid plant levels logs count = (part : ℕ) → part < count → (claim : Claim) × IsPartVerdict plant levels part (logs part) (verdict.Yes claim)
+
+-- the bytes are a valid log of a part, of this tree and this claim
+pub record IsPartLog (plant : Plant) (levels part : ℕ) (bytes : List ℕ) (tree : RowTree) (claim : Claim) : Type 0 where
+  pub program : Program
+  pub of_part : IsPartProgram plant levels part program
+  pub right : IsPartChecked plant program (4608 - levels) bytes (verdict.Yes claim)
+  pub log : IsLog program bytes tree claim
+
+-- the certificate without multipliers
+abbrev pub no_mults : Cert
+no_mults = record { scale = 1; mults = [] }
+
+-- a tree of which nothing is known
+abbrev pub no_tree : RowTree
+no_tree = leaf [] None no_point
+
+-- the tree of splits at 0 on so many slots, from one on, in which the given trees stand in their order
+abbrev pub tree_over : ℕ → ℕ → List RowTree → RowTree
+tree_over slot zero trees = slice_index_or trees 0 no_tree
+tree_over slot (suc levels) trees =
+    split [] None (record { slot = slot; max = 0 }) no_mults (tree_over (slot + 1) levels (take (2 ^ levels) trees)) (tree_over (slot + 1) levels (drop (2 ^ levels) trees))
+
+-- The bytes are the joined log of the logs of all parts: each of these is valid, and the bytes are the text of the tree of splits in
+-- which the parts' trees stand, with the joined claim. They are a valid log of the plant.
+pub record IsJoinedLog (plant : Plant) (levels : ℕ) (logs : ℕ → List ℕ) (claim : Claim) (bytes : List ℕ) : Type 0 where
+  pub trees : List RowTree
+  pub claims : List Claim
+  pub all_trees : length trees ≡ 2 ^ levels
+  pub all_claims : length claims ≡ 2 ^ levels
+  pub each : (part : ℕ) → part < 2 ^ levels → IsPartLog plant levels part (logs part) (slice_index_or trees part no_tree) (slice_index_or claims part Infeasible)
+  pub joined : IsJoined claims claim
+  pub text : bytes ≡ log_text 2 (tree_items (tree_over 0 levels trees)) claim
+  pub valid : IsChecked plant bytes (verdict.Yes claim)
+
+-- What joining comes to: the joined log and its claim, or the first part whose log is not valid, with its first defect.
+abbrev pub IsJoining : Plant → ℕ → (ℕ → List ℕ) → List ℕ → Joined → Type 0
+IsJoining plant levels logs bytes (Done claim) = IsJoinedLog plant levels logs claim bytes
+IsJoining plant levels logs bytes (No part defect) =
+    (part < 2 ^ levels) × (AreValid plant levels logs part × IsPartVerdict plant levels part (logs part) (verdict.No defect))
+
+-- the bytes of the logs of a stem, by their numbers
+abbrev pub logs_of : FileMap → List ℕ → ℕ → List ℕ
+logs_of files stem part = file_of files (log_name stem part)
+
+-- what joining comes to is right of the files before and after, where they are told
+abbrev pub IsJoiningIn : Plant → ℕ → List ℕ → List ℕ → Option FileMap → Option FileMap → Joined → Type 0
+IsJoiningIn plant levels stem name old new said =
+    IfSome old (λ m. IfSome new (λ n. IsJoining plant levels (logs_of m stem) (file_of n name) said))
+
+-- what the joined claim says holds of all plans
+abbrev pub JoinSays : Plant → Joined → Type 0
+JoinSays plant (Done claim) = Says plant claim
+JoinSays plant (No part defect) = ⊤
+
+-- a part was named whose log is not valid
+abbrev pub IsNo : Joined → Type 0
+IsNo (Done claim) = ⊥
+IsNo (No part defect) = ⊤
+
+-- the bytes are a first part of the joined log
+pub record IsJoinBegun (plant : Plant) (levels : ℕ) (logs : ℕ → List ℕ) (bytes : List ℕ) : Type 0 where
+  pub claim : Claim
+  pub rest : List ℕ
+  pub begun : IsJoinedLog plant levels logs claim (bytes ++ rest)
+
+-- what joining leaves that did not end: the files as they were, or the file of this name holds a first part of the joined log
+abbrev pub LeavesJoin : Plant → ℕ → List ℕ → List ℕ → Option FileMap → Option FileMap → Type 0
+LeavesJoin plant levels stem name old new =
+    (new ≡ old) ⊎ IfSome old (λ m. IfSome new (λ n. IsJoinBegun plant levels (logs_of m stem) (file_of n name)))
+
+-- the logs of all parts are valid, where the files are told
+abbrev pub AllAreValid : Plant → ℕ → List ℕ → Option FileMap → Type 0
+AllAreValid plant levels stem files = IfSome files (λ m. AreValid plant levels (logs_of m stem) (2 ^ levels))
