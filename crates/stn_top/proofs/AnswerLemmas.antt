@@ -15,8 +15,8 @@ use Rattle.stn_top.specs.declared.stopped.Stopped.TheVariants.{Refused, ReadFaul
 use Rattle.stn_top.specs.declared.command.PlanUse.{PlanUse}
 use Rattle.least_horizon.specs.declared.answer.LeastAnswer.{LeastAnswer}
 use Rattle.least_horizon.specs.declared.answer.LeastAnswer.TheVariants.{At, Nowhere, Open}
-use Rattle.least_horizon.specs.LogNames.{logs_in}
-use Rattle.stn_top.specs.Words.{Request, Solving, Logging, Simulating, Checking, Upgrading, Showing, Replanning, ReplanLogging, CheckingReplan, Estimating, Seeking, Tracing, Auditing, Says, HasNoForm}
+use Rattle.least_horizon.specs.LogNames.{logs_in, OthersStayBelow}
+use Rattle.stn_top.specs.Words.{Request, Solving, Logging, Simulating, Checking, Upgrading, Showing, Replanning, ReplanLogging, CheckingReplan, Estimating, Seeking, Tracing, Auditing, Parting, PartSolving, Joining, Says, HasNoForm}
 use Rattle.plant_text.specs.declared.fault.PlantFault.{PlantFault}
 use Rattle.stn_model.specs.declared.answer.Answer.{Answer}
 use Rattle.stn_model.specs.declared.answer.Answer.TheVariants.{Optimal, Infeasible, BudgetSpent}
@@ -29,7 +29,7 @@ use Rattle.stn_top.specs.Upgrading.{Upgraded}
 use Rattle.stn_top.specs.Estimating.{Estimated, OnBytes}
 use Rattle.stn_top.specs.Seeking.{Sought, least_status, log_names}
 use Rattle.stn_top.specs.Auditing.{Audited}
-use Rattle.stn_top.specs.Requests.{IsAnswer, content}
+use Rattle.stn_top.specs.Requests.{IsAnswer, content, part_names}
 use Rattle.stn_top.specs.Replies.{IsReply, IsCutOff, IsUnwritten}
 
 -- ---- contents
@@ -40,7 +40,7 @@ told_or_empty None name = []
 told_or_empty (Some m) name = file_of m name
 
 -- the contents of a first file and of others
-told_first : (files : Option FileMap) (name bytes : List ℕ) (names : List (List ℕ)) → IfSome files (λ m. bytes ≡ file_of m name)
+pub told_first : (files : Option FileMap) (name bytes : List ℕ) (names : List (List ℕ)) → IfSome files (λ m. bytes ≡ file_of m name)
     → IfSome files (λ m. (bytes ∷ map (told_or_empty files) names) ≡ map (file_of m) (name ∷ names))
 told_first None name bytes names told = tt
 told_first (Some m) name bytes names told = ap (λ (b : List ℕ). b ∷ map (file_of m) names) told
@@ -74,6 +74,9 @@ RefusesPlant files (Estimating plant log state step count) reply = Refuses readi
 RefusesPlant files (Seeking plant budget) reply = Refuses reading IsPlantRefusal files plant reply
 RefusesPlant files (Tracing plant budget stem) reply = Refuses reading IsPlantRefusal files plant reply
 RefusesPlant files (Auditing plant horizon stem) reply = Refuses reading IsPlantRefusal files plant reply
+RefusesPlant files (Parting plant levels) reply = Refuses reading IsPlantRefusal files plant reply
+RefusesPlant files (PartSolving plant levels part budget log) reply = Refuses reading IsPlantRefusal files plant reply
+RefusesPlant files (Joining plant levels stem log) reply = Refuses reading IsPlantRefusal files plant reply
 
 -- the refusal of the plant is an answer to every request, where the files are as before
 refused-plant : (old new : Option FileMap) (request : Request) (reply : Reply) → new ≡ old → RefusesPlant old request reply
@@ -151,6 +154,24 @@ refused-plant old new (Auditing plant horizon stem) reply same is = record {
   answers = rw is.read.is is.refusal;
   kept = λ _. same;
 }
+refused-plant old new (Parting plant levels) reply same is = record {
+  contents = is.read.bytes ∷ [];
+  told = told_first old plant is.read.bytes [] is.read.told;
+  answers = rw is.read.is is.refusal;
+  kept = λ _. same;
+}
+refused-plant old new (PartSolving plant levels part budget log) reply same is = record {
+  contents = is.read.bytes ∷ [];
+  told = told_first old plant is.read.bytes [] is.read.told;
+  answers = rw is.read.is is.refusal;
+  kept = λ _. same;
+}
+refused-plant old new (Joining plant levels stem log) reply same is = record {
+  contents = is.read.bytes ∷ map (told_or_empty old) (part_names stem levels);
+  told = told_first old plant is.read.bytes (part_names stem levels) is.read.told;
+  answers = rw is.read.is is.refusal;
+  kept = λ _. same;
+}
 
 -- a fact of a refusal's reply from another
 pub IfRefusal-weaker : (stopped : Stopped) (P Q : Reply → Type 0) → ((reply : Reply) → P reply → Q reply) → IfRefusal stopped P → IfRefusal stopped Q
@@ -194,12 +215,11 @@ solving_answer old new plant budget p status text same read is = record {
 }
 
 -- a status that is none of these
-written : (status : ℕ) → status ≢ 2 → status ≢ 3 → status ≢ 4 → status ≢ 5 → status ≢ 7 → IsUnwritten status → ⊥
-written status two three four five seven (inl is) = two is
-written status two three four five seven (inr (inl is)) = three is
-written status two three four five seven (inr (inr (inl is))) = four is
-written status two three four five seven (inr (inr (inr (inl is)))) = five is
-written status two three four five seven (inr (inr (inr (inr is)))) = seven is
+pub written : (status : ℕ) → status ≢ 2 → status ≢ 3 → status ≢ 4 → status ≢ 5 → IsUnwritten status → ⊥
+written status two three four five (inl is) = two is
+written status two three four five (inr (inl is)) = three is
+written status two three four five (inr (inr (inl is))) = four is
+written status two three four five (inr (inr (inr is))) = five is
 
 -- the statuses of refused inputs are among those after which no file has changed
 pub of_refusal : (status : ℕ) → (status ≡ 3) ⊎ (status ≡ 4) → IsUnwritten status
@@ -208,9 +228,9 @@ of_refusal status (inr four) = inr (inr (inl four))
 
 -- the status of an answer of planning is that of no refusal
 pub solved-status : (answer : Answer) (status : ℕ) → status ≡ status_of answer → IsUnwritten status → ⊥
-solved-status (Optimal plan earned) status is none = written status (λ s. omega (arith, is, s)) (λ s. omega (arith, is, s)) (λ s. omega (arith, is, s)) (λ s. omega (arith, is, s)) (λ s. omega (arith, is, s)) none
-solved-status Infeasible status is none = written status (λ s. omega (arith, is, s)) (λ s. omega (arith, is, s)) (λ s. omega (arith, is, s)) (λ s. omega (arith, is, s)) (λ s. omega (arith, is, s)) none
-solved-status (BudgetSpent plan earned cap) status is none = written status (λ s. omega (arith, is, s)) (λ s. omega (arith, is, s)) (λ s. omega (arith, is, s)) (λ s. omega (arith, is, s)) (λ s. omega (arith, is, s)) none
+solved-status (Optimal plan earned) status is none = written status (λ s. omega (arith, is, s)) (λ s. omega (arith, is, s)) (λ s. omega (arith, is, s)) (λ s. omega (arith, is, s)) none
+solved-status Infeasible status is none = written status (λ s. omega (arith, is, s)) (λ s. omega (arith, is, s)) (λ s. omega (arith, is, s)) (λ s. omega (arith, is, s)) none
+solved-status (BudgetSpent plan earned cap) status is none = written status (λ s. omega (arith, is, s)) (λ s. omega (arith, is, s)) (λ s. omega (arith, is, s)) (λ s. omega (arith, is, s)) none
 
 -- of planning with a log
 logging_answer : (old new : Option FileMap) (plant : List ℕ) (budget : ℕ) (log : List ℕ) (p : Plant) (status : ℕ) (text : List ℕ) → IsReadOf reading old plant (Ok p) → Solved budget p (bytes_in log new) status text
@@ -315,7 +335,7 @@ estimated_reply old new plant log state step count p (Err Memory) same read is n
 -- ---- horizons
 
 -- of finding the least horizon
-pub seeking_answer : (old new : Option FileMap) (plant : List ℕ) (budget : ℕ) (p : Plant) (status : ℕ) (text : List ℕ) → new ≡ old → IsReadOf reading old plant (Ok p) → Sought budget p (λ _. None) status text
+pub seeking_answer : (old new : Option FileMap) (plant : List ℕ) (budget : ℕ) (p : Plant) (status : ℕ) (text : List ℕ) → new ≡ old → IsReadOf reading old plant (Ok p) → Sought budget p (λ _. None) (λ _. Unit {0}) status text
     → IsAnswer old new (Seeking plant budget) status text
 seeking_answer old new plant budget p status text same read is = record {
   contents = read.bytes ∷ [];
@@ -326,12 +346,12 @@ seeking_answer old new plant budget p status text same read is = record {
 
 -- the status of a least horizon is that of no refusal
 sought-status : (said : LeastAnswer) (status : ℕ) → status ≡ least_status said → IsUnwritten status → ⊥
-sought-status (At horizon earned plan) status is none = written status (λ s. omega (arith, is, s)) (λ s. omega (arith, is, s)) (λ s. omega (arith, is, s)) (λ s. omega (arith, is, s)) (λ s. omega (arith, is, s)) none
-sought-status Nowhere status is none = written status (λ s. omega (arith, is, s)) (λ s. omega (arith, is, s)) (λ s. omega (arith, is, s)) (λ s. omega (arith, is, s)) (λ s. omega (arith, is, s)) none
-sought-status (Open horizon) status is none = written status (λ s. omega (arith, is, s)) (λ s. omega (arith, is, s)) (λ s. omega (arith, is, s)) (λ s. omega (arith, is, s)) (λ s. omega (arith, is, s)) none
+sought-status (At horizon earned plan) status is none = written status (λ s. omega (arith, is, s)) (λ s. omega (arith, is, s)) (λ s. omega (arith, is, s)) (λ s. omega (arith, is, s)) none
+sought-status Nowhere status is none = written status (λ s. omega (arith, is, s)) (λ s. omega (arith, is, s)) (λ s. omega (arith, is, s)) (λ s. omega (arith, is, s)) none
+sought-status (Open horizon) status is none = written status (λ s. omega (arith, is, s)) (λ s. omega (arith, is, s)) (λ s. omega (arith, is, s)) (λ s. omega (arith, is, s)) none
 
 -- of finding it with logs
-tracing_answer : (old new : Option FileMap) (plant : List ℕ) (budget : ℕ) (stem : List ℕ) (p : Plant) (status : ℕ) (text : List ℕ) → IsReadOf reading old plant (Ok p) → Sought budget p (logs_in stem new) status text
+tracing_answer : (old new : Option FileMap) (plant : List ℕ) (budget : ℕ) (stem : List ℕ) (p : Plant) (status : ℕ) (text : List ℕ) → IsReadOf reading old plant (Ok p) → Sought budget p (logs_in stem new) (λ horizon. OthersStayBelow stem horizon old new) status text
     → IsAnswer old new (Tracing plant budget stem) status text
 tracing_answer old new plant budget stem p status text read is = record {
   contents = read.bytes ∷ [];
@@ -342,7 +362,7 @@ tracing_answer old new plant budget stem p status text read is = record {
 
 -- what finding it with logs replies
 pub traced_reply : (old new : Option FileMap) (plant : List ℕ) (budget : ℕ) (stem : List ℕ) (p : Plant) (r : Result Reply Stopped) → IsReadOf reading old plant (Ok p)
-    → IfOk r (λ reply. Sought budget p (logs_in stem new) reply.status reply.text.items) → IfRefused r (λ _. ⊥)
+    → IfOk r (λ reply. Sought budget p (logs_in stem new) (λ horizon. OthersStayBelow stem horizon old new) reply.status reply.text.items) → IfRefused r (λ _. ⊥)
     → IfReplied r (λ reply. IsAnswer old new (Tracing plant budget stem) reply.status reply.text.items)
 traced_reply old new plant budget stem p (Ok reply) read is none = tracing_answer old new plant budget stem p reply.status reply.text.items read is
 traced_reply old new plant budget stem p (Err (Refused reply)) read is none = absurd none
@@ -351,14 +371,14 @@ traced_reply old new plant budget stem p (Err WriteFault) read is none = tt
 traced_reply old new plant budget stem p (Err Memory) read is none = tt
 
 -- an answer to finding it with logs whose status is that of a refusal is one
-refused-tracing : (budget : ℕ) (logs : ℕ → Option (List ℕ)) (read : Result Plant PlantFault) (status : ℕ) (text : List ℕ) → OnPlant read (λ p. Sought budget p logs) status text → IsUnwritten status → status ≡ 3
-refused-tracing budget logs (Ok p) status text is none = absurd (sought-status is.said status is.status_is none)
-refused-tracing budget logs (Err fault) status text is none = is.0
+refused-tracing : (budget : ℕ) (logs : ℕ → Option (List ℕ)) (Untouched : ℕ → Type 0) (read : Result Plant PlantFault) (status : ℕ) (text : List ℕ) → OnPlant read (λ p. Sought budget p logs Untouched) status text → IsUnwritten status → status ≡ 3
+refused-tracing budget logs Untouched (Ok p) status text is none = absurd (sought-status is.said status is.status_is none)
+refused-tracing budget logs Untouched (Err fault) status text is none = is.0
 
 -- no log was written where the reply is a refusal
 tracing-unwritten : (old new : Option FileMap) (plant : List ℕ) (budget : ℕ) (stem : List ℕ) (status : ℕ) (text : List ℕ) → IsAnswer old new (Tracing plant budget stem) status text → IsUnwritten status → new ≡ old
 tracing-unwritten old new plant budget stem status text is none =
-    is.kept (inl (refused-tracing budget (logs_in stem new) (reading (content is.contents 0)) status text is.answers none))
+    is.kept (inl (refused-tracing budget (logs_in stem new) (λ horizon. OthersStayBelow stem horizon old new) (reading (content is.contents 0)) status text is.answers none))
 
 -- the same of what is replied
 pub tracing_unwritten : (old new : Option FileMap) (plant : List ℕ) (budget : ℕ) (stem : List ℕ) (r : Result Reply Stopped) → IfReplied r (λ reply. IsAnswer old new (Tracing plant budget stem) reply.status reply.text.items)

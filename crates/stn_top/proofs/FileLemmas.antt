@@ -9,10 +9,12 @@ use Rattle.stn_top.specs.declared.reply.Reply.{Reply}
 use Rattle.stn_top.specs.declared.stopped.Stopped.{Stopped}
 use Rattle.stn_top.specs.declared.stopped.Stopped.TheVariants.{Refused, ReadFault, WriteFault, Memory}
 use Rattle.least_horizon.specs.LogNames.{OthersStayBelow}
-use Rattle.stn_top.specs.Words.{Request, Solving, Logging, Simulating, Checking, Upgrading, Showing, Replanning, ReplanLogging, CheckingReplan, Estimating, Seeking, Tracing, Auditing, Says}
+use Rattle.stn_top.specs.Words.{Request, Solving, Logging, Simulating, Checking, Upgrading, Showing, Replanning, ReplanLogging, CheckingReplan, Estimating, Seeking, Tracing, Auditing, Parting, PartSolving, Joining, Says}
 use Rattle.stn_top.specs.Sources.{IfReplied}
 use Rattle.stn_top.specs.Requests.{IsLeft, OthersKept}
+use Rattle.stn_top.specs.Words.{IsLevels, IsPart}
 use Rattle.stn_top.proofs.Horizons.{each_log}
+use Rattle.stn_top.proofs.PartWords.{same_levels, same_part}
 
 -- ---- files that are as before
 
@@ -39,11 +41,14 @@ left_same (Estimating plant log state step count) old new same = same
 left_same (Seeking plant budget) old new same = same
 left_same (Tracing plant budget stem) old new same = inl same
 left_same (Auditing plant horizon stem) old new same = same
+left_same (Parting plant levels) old new same = same
+left_same (PartSolving plant levels part budget log) old new same = inl same
+left_same (Joining plant levels stem log) old new same = inl same
 
 -- what holds of every reply
-pub replied : (r : Result Reply Stopped) (P : Type 0) → P → IfReplied r (λ _. P)
-replied (Ok reply) P is = is
-replied (Err (Refused reply)) P is = is
+pub replied : (r : Result Reply Stopped) (P : Reply → Type 0) → ((reply : Reply) → P reply) → IfReplied r P
+replied (Ok reply) P is = is reply
+replied (Err (Refused reply)) P is = is reply
 replied (Err ReadFault) P is = tt
 replied (Err WriteFault) P is = tt
 replied (Err Memory) P is = tt
@@ -57,6 +62,14 @@ kept_log plant budget log old new stay = λ name others. stay name (others 0 [] 
 -- every file but the log of a replanning is as before
 pub kept_replan : (plant plan : List ℕ) (period budget : ℕ) (log : List ℕ) (old new : Option FileMap) → OthersStay log old new → OthersKept (ReplanLogging plant plan period budget log) old new
 kept_replan plant plan period budget log old new stay = λ name others. stay name (others 0 [] (omega arith))
+
+-- every file but the log of a part is as before
+pub kept_part : (plant : List ℕ) (levels part budget : ℕ) (log : List ℕ) (old new : Option FileMap) → OthersStay log old new → OthersKept (PartSolving plant levels part budget log) old new
+kept_part plant levels part budget log old new stay = λ name others. stay name (others 0 [] (omega arith))
+
+-- every file but the joined log is as before
+pub kept_joined : (plant : List ℕ) (levels : ℕ) (stem log : List ℕ) (old new : Option FileMap) → OthersStay log old new → OthersKept (Joining plant levels stem log) old new
+kept_joined plant levels stem log old new stay = λ name others. stay name (others 0 [] (omega arith))
 
 -- every file but the logs of a stem is as before
 pub kept_logs : (plant : List ℕ) (budget : ℕ) (stem : List ℕ) (old new : Option FileMap) → OthersStayBelow stem 337 old new → OthersKept (Tracing plant budget stem) old new
@@ -94,6 +107,9 @@ leaves_log words plant budget log (Estimating plant2 log2 state step count) old 
 leaves_log words plant budget log (Seeking plant2 budget2) old new says also is = (let same = ap length (sym says.1.0 ∙ also.1.0) in absurd (omega (arith, same)))
 leaves_log words plant budget log (Tracing plant2 budget2 stem2) old new says also is = (let same = ap first_byte (sym says.1.0 ∙ also.1.0) in absurd (omega (arith, same)))
 leaves_log words plant budget log (Auditing plant2 horizon2 stem2) old new says also is = (let same = ap first_byte (sym says.1.0 ∙ also.1.0) in absurd (omega (arith, same)))
+leaves_log words plant budget log (Parting plant2 levels2) old new says also is = (let same = ap length (sym says.1.0 ∙ also.1.0) in absurd (omega (arith, same)))
+leaves_log words plant budget log (PartSolving plant2 levels2 part2 budget2 log2) old new says also is = (let same = ap length (sym says.1.0 ∙ also.1.1.1.0) in absurd (omega (arith, same)))
+leaves_log words plant budget log (Joining plant2 levels2 stem2 log2) old new says also is = (let same = ap length (sym says.1.0 ∙ also.1.0) in absurd (omega (arith, same)))
 leaves_log words plant budget log (Logging plant2 budget2 log2) old new says also is =
     let same : codes "solve" ∷ plant ∷ says.0 ∷ log ∷ [] ≡ codes "solve" ∷ plant2 ∷ also.0 ∷ log2 ∷ [] = sym says.1.0 ∙ also.1.0 in
     let same_plant : plant ≡ plant2 = ap (λ (ws : List (List ℕ)). get_or ws 1 []) same in
@@ -117,6 +133,9 @@ leaves_replan words plant plan period budget log (CheckingReplan plant2 plan2 pe
 leaves_replan words plant plan period budget log (Seeking plant2 budget2) old new says also is = (let same = ap length (sym says.1.1.0 ∙ also.1.0) in absurd (omega (arith, same)))
 leaves_replan words plant plan period budget log (Tracing plant2 budget2 stem2) old new says also is = (let same = ap length (sym says.1.1.0 ∙ also.1.0) in absurd (omega (arith, same)))
 leaves_replan words plant plan period budget log (Auditing plant2 horizon2 stem2) old new says also is = (let same = ap length (sym says.1.1.0 ∙ also.1.0) in absurd (omega (arith, same)))
+leaves_replan words plant plan period budget log (Parting plant2 levels2) old new says also is = (let same = ap length (sym says.1.1.0 ∙ also.1.0) in absurd (omega (arith, same)))
+leaves_replan words plant plan period budget log (PartSolving plant2 levels2 part2 budget2 log2) old new says also is = (let same = ap first_byte (sym says.1.1.0 ∙ also.1.1.1.0) in absurd (omega (arith, same)))
+leaves_replan words plant plan period budget log (Joining plant2 levels2 stem2 log2) old new says also is = (let same = ap length (sym says.1.1.0 ∙ also.1.0) in absurd (omega (arith, same)))
 leaves_replan words plant plan period budget log (Estimating plant2 log2 state step count) old new says also is =
     let first : 114 ≡ 119 = ap (λ (ws : List (List ℕ)). get_or (get_or ws 0 []) 0 0) (sym says.1.1.0 ∙ also.1.1.0) in absurd (omega (arith, first))
 leaves_replan words plant plan period budget log (ReplanLogging plant2 plan2 period2 budget2 log2) old new says also is =
@@ -147,6 +166,9 @@ leaves_logs words plant budget stem (CheckingReplan plant2 plan2 period2 log2) o
 leaves_logs words plant budget stem (Estimating plant2 log2 state step count) old new says also is = (let same = ap length (sym says.1.0 ∙ also.1.1.0) in absurd (omega (arith, same)))
 leaves_logs words plant budget stem (Seeking plant2 budget2) old new says also is = (let same = ap length (sym says.1.0 ∙ also.1.0) in absurd (omega (arith, same)))
 leaves_logs words plant budget stem (Auditing plant2 horizon2 stem2) old new says also is = (let same = ap first_byte (sym says.1.0 ∙ also.1.0) in absurd (omega (arith, same)))
+leaves_logs words plant budget stem (Parting plant2 levels2) old new says also is = (let same = ap length (sym says.1.0 ∙ also.1.0) in absurd (omega (arith, same)))
+leaves_logs words plant budget stem (PartSolving plant2 levels2 part2 budget2 log2) old new says also is = (let same = ap length (sym says.1.0 ∙ also.1.1.1.0) in absurd (omega (arith, same)))
+leaves_logs words plant budget stem (Joining plant2 levels2 stem2 log2) old new says also is = (let same = ap length (sym says.1.0 ∙ also.1.0) in absurd (omega (arith, same)))
 leaves_logs words plant budget stem (Tracing plant2 budget2 stem2) old new says also is =
     let same : codes "least" ∷ plant ∷ says.0 ∷ stem ∷ [] ≡ codes "least" ∷ plant2 ∷ also.0 ∷ stem2 ∷ [] = sym says.1.0 ∙ also.1.0 in
     let same_plant : plant ≡ plant2 = ap (λ (ws : List (List ℕ)). get_or ws 1 []) same in
@@ -158,6 +180,65 @@ leaves_logs words plant budget stem (Tracing plant2 budget2 stem2) old new says 
       kept = subst (λ (s : List ℕ). OthersKept (Tracing plant2 budget2 s) old new) same_stem is.kept;
       left = subst (λ (s : List ℕ). IsLeft (Tracing plant2 budget2 s) old new) same_stem
           (subst (λ (b : ℕ). IsLeft (Tracing plant2 b stem) old new) same_budget (subst (λ (p : List ℕ). IsLeft (Tracing p budget stem) old new) same_plant is.left));
+    }
+
+-- the words of planning a part say no other request
+leaves_part : (words : List (List ℕ)) (plant : List ℕ) (levels part budget : ℕ) (log : List ℕ) (other : Request) (old new : Option FileMap) → Says words (PartSolving plant levels part budget log) → Says words other
+    → Leaves (PartSolving plant levels part budget log) old new → Leaves other old new
+leaves_part words plant levels part budget log (Solving plant2 budget2) old new says also is = (let same = ap length (sym says.1.1.1.0 ∙ also.1.0) in absurd (omega (arith, same)))
+leaves_part words plant levels part budget log (Logging plant2 budget2 log2) old new says also is = (let same = ap length (sym says.1.1.1.0 ∙ also.1.0) in absurd (omega (arith, same)))
+leaves_part words plant levels part budget log (Simulating usage plant2 plan2) old new says also is = (let same = ap length (sym says.1.1.1.0 ∙ also.0) in absurd (omega (arith, same)))
+leaves_part words plant levels part budget log (Checking plant2 log2) old new says also is = (let same = ap length (sym says.1.1.1.0 ∙ also.0) in absurd (omega (arith, same)))
+leaves_part words plant levels part budget log (Upgrading plant2) old new says also is = (let same = ap length (sym says.1.1.1.0 ∙ also.0) in absurd (omega (arith, same)))
+leaves_part words plant levels part budget log (Showing seed) old new says also is = (let same = ap length (sym says.1.1.1.0 ∙ also.1.0) in absurd (omega (arith, same)))
+leaves_part words plant levels part budget log (Replanning plant2 plan2 period2 budget2) old new says also is = (let same = ap length (sym says.1.1.1.0 ∙ also.1.1.0) in absurd (omega (arith, same)))
+leaves_part words plant levels part budget log (ReplanLogging plant2 plan2 period2 budget2 log2) old new says also is = (let same = ap first_byte (sym says.1.1.1.0 ∙ also.1.1.0) in absurd (omega (arith, same)))
+leaves_part words plant levels part budget log (CheckingReplan plant2 plan2 period2 log2) old new says also is = (let same = ap length (sym says.1.1.1.0 ∙ also.1.0) in absurd (omega (arith, same)))
+leaves_part words plant levels part budget log (Estimating plant2 log2 state step count) old new says also is = (let same = ap first_byte (sym says.1.1.1.0 ∙ also.1.1.0) in absurd (omega (arith, same)))
+leaves_part words plant levels part budget log (Seeking plant2 budget2) old new says also is = (let same = ap length (sym says.1.1.1.0 ∙ also.1.0) in absurd (omega (arith, same)))
+leaves_part words plant levels part budget log (Tracing plant2 budget2 stem2) old new says also is = (let same = ap length (sym says.1.1.1.0 ∙ also.1.0) in absurd (omega (arith, same)))
+leaves_part words plant levels part budget log (Auditing plant2 horizon2 stem2) old new says also is = (let same = ap length (sym says.1.1.1.0 ∙ also.1.0) in absurd (omega (arith, same)))
+leaves_part words plant levels part budget log (Parting plant2 levels2) old new says also is = (let same = ap length (sym says.1.1.1.0 ∙ also.1.0) in absurd (omega (arith, same)))
+leaves_part words plant levels part budget log (Joining plant2 levels2 stem2 log2) old new says also is = (let same = ap length (sym says.1.1.1.0 ∙ also.1.0) in absurd (omega (arith, same)))
+leaves_part words plant levels part budget log (PartSolving plant2 levels2 part2 budget2 log2) old new says also is =
+    let same : codes "solve-part" ∷ plant ∷ says.0 ∷ says.1.0 ∷ says.1.1.0 ∷ log ∷ [] ≡ codes "solve-part" ∷ plant2 ∷ also.0 ∷ also.1.0 ∷ also.1.1.0 ∷ log2 ∷ [] = sym says.1.1.1.0 ∙ also.1.1.1.0 in
+    let word = λ (k : ℕ). ap (λ (ws : List (List ℕ)). get_or ws k []) same in
+    let levels_is : levels ≡ levels2 = same_levels also.0 levels levels2 (subst (λ (w : List ℕ). IsLevels w levels) (word 2) says.1.1.1.4) also.1.1.1.4 in
+    let part_is : part ≡ part2 = same_part also.1.0 levels levels2 part part2 says.1.1.1.4.most also.1.1.1.4.most (subst (λ (w : List ℕ). IsPart w levels part) (word 3) says.1.1.1.5) also.1.1.1.5 in
+    record {
+      kept = subst (λ (l : List ℕ). OthersKept (PartSolving plant2 levels2 part2 budget2 l) old new) (word 5) is.kept;
+      left = subst (λ (l : List ℕ). IsLeft (PartSolving plant2 levels2 part2 budget2 l) old new) (word 5)
+          (subst (λ (n : ℕ). IsLeft (PartSolving plant2 levels2 n budget2 log) old new) part_is
+          (subst (λ (n : ℕ). IsLeft (PartSolving plant2 n part budget2 log) old new) levels_is (subst (λ (p : List ℕ). IsLeft (PartSolving p levels part budget2 log) old new) (word 1) is.left)));
+    }
+
+-- the words of joining logs say no other request
+leaves_join : (words : List (List ℕ)) (plant : List ℕ) (levels : ℕ) (stem log : List ℕ) (other : Request) (old new : Option FileMap) → Says words (Joining plant levels stem log) → Says words other
+    → Leaves (Joining plant levels stem log) old new → Leaves other old new
+leaves_join words plant levels stem log (Solving plant2 budget2) old new says also is = (let same = ap length (sym says.1.0 ∙ also.1.0) in absurd (omega (arith, same)))
+leaves_join words plant levels stem log (Logging plant2 budget2 log2) old new says also is = (let same = ap length (sym says.1.0 ∙ also.1.0) in absurd (omega (arith, same)))
+leaves_join words plant levels stem log (Simulating usage plant2 plan2) old new says also is = (let same = ap length (sym says.1.0 ∙ also.0) in absurd (omega (arith, same)))
+leaves_join words plant levels stem log (Checking plant2 log2) old new says also is = (let same = ap length (sym says.1.0 ∙ also.0) in absurd (omega (arith, same)))
+leaves_join words plant levels stem log (Upgrading plant2) old new says also is = (let same = ap length (sym says.1.0 ∙ also.0) in absurd (omega (arith, same)))
+leaves_join words plant levels stem log (Showing seed) old new says also is = (let same = ap length (sym says.1.0 ∙ also.1.0) in absurd (omega (arith, same)))
+leaves_join words plant levels stem log (Replanning plant2 plan2 period2 budget2) old new says also is = (let same = ap first_byte (sym says.1.0 ∙ also.1.1.0) in absurd (omega (arith, same)))
+leaves_join words plant levels stem log (ReplanLogging plant2 plan2 period2 budget2 log2) old new says also is = (let same = ap length (sym says.1.0 ∙ also.1.1.0) in absurd (omega (arith, same)))
+leaves_join words plant levels stem log (CheckingReplan plant2 plan2 period2 log2) old new says also is = (let same = ap first_byte (sym says.1.0 ∙ also.1.0) in absurd (omega (arith, same)))
+leaves_join words plant levels stem log (Estimating plant2 log2 state step count) old new says also is = (let same = ap length (sym says.1.0 ∙ also.1.1.0) in absurd (omega (arith, same)))
+leaves_join words plant levels stem log (Seeking plant2 budget2) old new says also is = (let same = ap length (sym says.1.0 ∙ also.1.0) in absurd (omega (arith, same)))
+leaves_join words plant levels stem log (Tracing plant2 budget2 stem2) old new says also is = (let same = ap length (sym says.1.0 ∙ also.1.0) in absurd (omega (arith, same)))
+leaves_join words plant levels stem log (Auditing plant2 horizon2 stem2) old new says also is = (let same = ap length (sym says.1.0 ∙ also.1.0) in absurd (omega (arith, same)))
+leaves_join words plant levels stem log (Parting plant2 levels2) old new says also is = (let same = ap length (sym says.1.0 ∙ also.1.0) in absurd (omega (arith, same)))
+leaves_join words plant levels stem log (PartSolving plant2 levels2 part2 budget2 log2) old new says also is = (let same = ap length (sym says.1.0 ∙ also.1.1.1.0) in absurd (omega (arith, same)))
+leaves_join words plant levels stem log (Joining plant2 levels2 stem2 log2) old new says also is =
+    let same : codes "join" ∷ plant ∷ says.0 ∷ stem ∷ log ∷ [] ≡ codes "join" ∷ plant2 ∷ also.0 ∷ stem2 ∷ log2 ∷ [] = sym says.1.0 ∙ also.1.0 in
+    let word = λ (k : ℕ). ap (λ (ws : List (List ℕ)). get_or ws k []) same in
+    let levels_is : levels ≡ levels2 = same_levels also.0 levels levels2 (subst (λ (w : List ℕ). IsLevels w levels) (word 2) says.1.6) also.1.6 in
+    record {
+      kept = subst (λ (l : List ℕ). OthersKept (Joining plant2 levels2 stem2 l) old new) (word 4) is.kept;
+      left = subst (λ (l : List ℕ). IsLeft (Joining plant2 levels2 stem2 l) old new) (word 4)
+          (subst (λ (s : List ℕ). IsLeft (Joining plant2 levels2 s log) old new) (word 3)
+          (subst (λ (n : ℕ). IsLeft (Joining plant2 n stem log) old new) levels_is (subst (λ (p : List ℕ). IsLeft (Joining p levels stem log) old new) (word 1) is.left)));
     }
 
 -- what one request leaves that the words say, each leaves that they say
@@ -175,6 +256,9 @@ leaves words (Estimating plant log state step count) other old new says also is 
 leaves words (Seeking plant budget) other old new says also is = leaves_same other old new is.left
 leaves words (Tracing plant budget stem) other old new says also is = leaves_logs words plant budget stem other old new says also is
 leaves words (Auditing plant horizon stem) other old new says also is = leaves_same other old new is.left
+leaves words (Parting plant levels) other old new says also is = leaves_same other old new is.left
+leaves words (PartSolving plant levels part budget log) other old new says also is = leaves_part words plant levels part budget log other old new says also is
+leaves words (Joining plant levels stem log) other old new says also is = leaves_join words plant levels stem log other old new says also is
 
 -- the two facts apart
 pub kept_all : (words : List (List ℕ)) (request : Request) (old new : Option FileMap) → Says words request → OthersKept request old new → IsLeft request old new → (other : Request) → Says words other → OthersKept other old new

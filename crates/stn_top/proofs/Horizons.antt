@@ -1,5 +1,5 @@
 -- The logs of a stem, their names, and the names in an answer.
-use Rattle.std.proofs.Common.{◌≡◌, ℕ, ◌-◌, ◌<◌, ◌≤◌, List, [], ◌∷◌, ◌++◌, All, Bool, IsTrue, Option, codes, decimal, arith, subst, ap, ◌∙◌, append_assoc}
+use Rattle.std.proofs.Common.{◌≡◌, ℕ, ◌-◌, ◌^◌, ◌<◌, ◌≤◌, List, [], ◌∷◌, ◌++◌, All, Bool, IsTrue, Option, codes, decimal, arith, subst, ap, ◌∙◌, append_assoc}
 use Rattle.std.specs.Prelude.{ℤ, Result, Ok, Err, IfOk}
 use Rattle.std.specs.Fmt.{signed_decimal}
 use Rattle.std.proofs.lemmas.List.Elements.{All-tail}
@@ -8,15 +8,19 @@ use Rattle.stn_model.specs.declared.plant.Plant.{Plant}
 use Rattle.stn_model.specs.declared.start.Start.{Start}
 use Rattle.stn_model.specs.Sound.{Sound}
 use Rattle.plan_text.specs.PlanLines.{plan_lines}
+use Rattle.plan_text.specs.PlanText.{plan_of_text}
 use Rattle.least_horizon.specs.declared.answer.LeastAnswer.{LeastAnswer}
 use Rattle.least_horizon.specs.declared.answer.LeastAnswer.TheVariants.{At, Nowhere, Open}
 use Rattle.least_horizon.specs.PlantAt.{plant_at}
-use Rattle.least_horizon.specs.LogNames.{log_name, AreAllowed, OthersStayBelow}
+use Rattle.proof_log.specs.LogNames.{log_name}
+use Rattle.least_horizon.specs.LogNames.{AreAllowed, OthersStayBelow}
 use Rattle.least_horizon.specs.Least.{IsRight, IsLeast, IsStopped, untried}
 use Rattle.least_horizon.proofs.ShorterSound.{shorter_sound}
 use Rattle.stn_edge.specs.Files.{FileMap}
 use Rattle.stn_top.specs.declared.reply.Reply.{Reply}
-use Rattle.stn_top.specs.Seeking.{log_names, least_status, least_text, NamesItems, Sought}
+use Rattle.stn_top.specs.Seeking.{log_names, least_status, least_text, EarnsMoney, NamesItems, Sought}
+use Rattle.stn_top.specs.Requests.{part_names}
+use Rattle.stn_top.proofs.LeastTexts.{least-reads-back}
 use Rattle.stn_top.proofs.Named.{named-Feasible}
 
 -- what holds of all names of logs holds of each
@@ -34,6 +38,14 @@ logs_allowed may first stem horizon all g some below =
 pub all_logs_allowed : (may : List ℕ → Bool) (stem : List ℕ) (horizon : ℕ) → All (λ name. IsTrue (may name)) (log_names stem horizon) → AreAllowed may stem horizon
 all_logs_allowed may stem horizon all g some below = each_log (λ name. IsTrue (may name)) stem horizon all g some below
 
+-- the same of the logs of parts
+pub parts_allowed : (may : List ℕ → Bool) (first stem : List ℕ) (levels : ℕ) → All (λ name. IsTrue (may name)) (first ∷ part_names stem levels) → (part : ℕ) → part < 2 ^ levels → IsTrue (may (log_name stem part))
+unfolding part_names
+parts_allowed may first stem levels all part below =
+    let rest = All-tail (λ name. IsTrue (may name)) first (part_names stem levels) all in
+    let long = length-map-range_with_len (log_name stem) 0 (2 ^ levels) in
+    subst (λ (name : List ℕ). IsTrue (may name)) (get_or-map-range_with_len (log_name stem) 0 (2 ^ levels) part part [] below (omega arith)) (rest part [] (omega (arith, long, below)))
+
 -- the plan within a shorter horizon names units and tasks of the plant
 pub named-least : (plant : Plant) (said : LeastAnswer) → Sound plant → IsRight plant said → NamesItems plant said
 unfolding plant_at
@@ -49,14 +61,22 @@ unfolding least_text
 found_text plant horizon earned plan head is = ap (λ (h : List ℕ). h ++ plan_lines plant plan) is ∙ simp append_assoc
 
 -- a right least horizon and its text are an answer of `least`
-pub sought_is : (plant : Plant) (budget : ℕ) (logs : ℕ → Option (List ℕ)) (said : LeastAnswer) (reply : Reply) → IsLeast plant budget logs said
-    → (reply.status ≡ least_status said) × (reply.text.items ≡ least_text plant said) → Sought budget plant logs reply.status reply.text.items
-sought_is plant budget logs said reply right is = record { said = said; right = right; status_is = is.0; text_is = is.1 }
+pub sought_is : (plant : Plant) (budget : ℕ) (logs : ℕ → Option (List ℕ)) (Untouched : ℕ → Type 0) (said : LeastAnswer) (reply : Reply) → Sound plant → IsLeast plant budget logs said
+    → Untouched (untried plant said) → EarnsMoney said → (reply.status ≡ least_status said) × (reply.text.items ≡ least_text plant said) → Sought budget plant logs Untouched reply.status reply.text.items
+sought_is plant budget logs Untouched said reply sound right untouched money is = record {
+  said = said;
+  right = right;
+  untouched = untouched;
+  status_is = is.0;
+  text_is = is.1;
+  reads_back = ap (plan_of_text plant) is.1 ∙ least-reads-back plant said sound right.right money;
+}
 
-pub sought : {E : Type 0} (plant : Plant) (budget : ℕ) (logs : ℕ → Option (List ℕ)) (said : LeastAnswer) (r : Result Reply E) → IsLeast plant budget logs said
-    → IfOk r (λ reply. (reply.status ≡ least_status said) × (reply.text.items ≡ least_text plant said)) → IfOk r (λ reply. Sought budget plant logs reply.status reply.text.items)
-sought plant budget logs said (Ok reply) right is = sought_is plant budget logs said reply right is
-sought plant budget logs said (Err e) right is = tt
+pub sought : {E : Type 0} (plant : Plant) (budget : ℕ) (logs : ℕ → Option (List ℕ)) (Untouched : ℕ → Type 0) (said : LeastAnswer) (r : Result Reply E) → Sound plant → IsLeast plant budget logs said
+    → Untouched (untried plant said) → EarnsMoney said → IfOk r (λ reply. (reply.status ≡ least_status said) × (reply.text.items ≡ least_text plant said))
+    → IfOk r (λ reply. Sought budget plant logs Untouched reply.status reply.text.items)
+sought plant budget logs Untouched said (Ok reply) sound right untouched money is = sought_is plant budget logs Untouched said reply sound right untouched money is
+sought plant budget logs Untouched said (Err e) sound right untouched money is = tt
 
 -- files that stay while shorter horizons are tried stay while more are
 stay_past : (stem : List ℕ) (n m : ℕ) (old new : Option FileMap) → n ≤ m → OthersStayBelow stem n old new → OthersStayBelow stem m old new

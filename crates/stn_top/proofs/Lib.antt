@@ -12,3 +12,10 @@ pub mod FileLemmas
 pub mod ReplanLemmas
 pub mod Horizons
 pub mod LogWords
+pub mod Ranges
+pub mod PartWords
+pub mod Deeper
+pub mod PartLemmas
+pub mod LevelReplies
+pub mod JoinLemmas
+mod LeastTexts

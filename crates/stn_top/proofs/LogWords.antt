@@ -1,10 +1,13 @@
--- When a name is that of the log of a horizon.
-use Rattle.std.proofs.Common.{◌≡◌, ℕ, ◌+◌, ◌-◌, ◌<◌, List, ◌∷◌, ◌++◌, length, get_or, take, drop, decimal, sym, ap, ◌∙◌, subst, arith, add-one, length-append, length-drop}
+-- When a name is that of a log with a number.
+use Rattle.std.proofs.Common.{◌≡◌, ℕ, ◌^◌, ◌+◌, ◌-◌, ◌<◌, List, ◌∷◌, ◌++◌, length, get_or, take, drop, decimal, sym, ap, ◌∙◌, subst, arith, add-one, length-append, length-drop}
 use Rattle.std.proofs.Math.Seq.{take-append_seam, get_or-append_seam, drop-append-add, drop-cons}
 use Rattle.std.proofs.lemmas.List.{take-append-drop, take_all}
-use Rattle.least_horizon.specs.LogNames.{log_name}
+use Rattle.std.specs.Prelude.{Option, Some, None, MatchOption, ◌≢◌}
+use Rattle.std.proofs.lemmas.Fmt.{decimal_injective}
+use Rattle.text_words.specs.Numbers.{IsNumberBelow}
+use Rattle.proof_log.specs.LogNames.{log_name}
 
--- the name begins with the stem and a dot, and ends in the horizon
+-- the name begins with the stem and a dot, and ends in the number
 pub record HasParts (name stem : List ℕ) (g : ℕ) : Type 0 where
   pub longer : length stem < length name
   pub front : take (length stem) name ≡ stem
@@ -40,3 +43,18 @@ of_parts name stem g parts =
 -- all that follows a place
 pub all_after : (name : List ℕ) (at : ℕ) → take (length name - at) (drop at name) ≡ drop at name
 all_after name at = take_all (length name - at) (drop at name) (omega (arith, length-drop at name))
+
+-- the number that a name has after the stem and a dot, if it has one
+pub number_after : (file name stem : List ℕ) (limit : ℕ) (r : Option ℕ) → name ≡ file → length stem < length name → take (length stem) name ≡ stem → get_or name (length stem) 0 ≡ 46
+    → IsNumberBelow limit (take (length name - (length stem + 1)) (drop (length stem + 1) name)) r
+    → MatchOption r ((n : ℕ) → n < limit → file ≢ log_name stem n) (λ number. (number < limit) × (file ≡ log_name stem number))
+number_after file name stem limit None same longer front dot none = λ n less is.
+    none n less (all_after name (length stem + 1) ∙ (parts_of name stem n (same ∙ is)).rest)
+number_after file name stem limit (Some number) same longer front dot printed = (
+  printed.0,
+  sym same ∙ of_parts name stem number (record { longer = longer; front = front; dot = dot; rest = sym (all_after name (length stem + 1)) ∙ printed.1 }),
+)
+
+-- one file is the log of one number
+pub one_number : (file stem : List ℕ) (a b : ℕ) → a < 2 ^ 32 → b < 2 ^ 32 → file ≡ log_name stem a → file ≡ log_name stem b → a ≡ b
+one_number file stem a b small_a small_b is_a is_b = decimal_injective a b (omega arith) (omega arith) (sym (parts_of file stem a is_a).rest ∙ (parts_of file stem b is_b).rest)

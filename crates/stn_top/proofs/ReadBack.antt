@@ -44,7 +44,7 @@ one_byte : (byte : ℕ) → byte ≢ 10 → IsRemark (byte ∷ [])
 one_byte byte differs = All-cons (λ b. b ≢ 10) byte [] differs (λ k d within. absurd (omega arith))
 
 -- what is printed of a number has no line feed
-decimal-remark : (n : ℕ) → n < 10 ^ 64 → IsRemark (decimal n)
+pub decimal-remark : (n : ℕ) → n < 10 ^ 64 → IsRemark (decimal n)
 decimal-remark n small =
     decimal_by_steps_wide (λ m digits. IsRemark digits)
     (λ m less. one_byte (48 + m) (λ same. omega arith))
@@ -52,7 +52,7 @@ decimal-remark n small =
     n small
 
 -- what is printed of an amount of money has no line feed, and at most 40 bytes
-money-remark : (amount : ℤ) → IsMoney amount → IsRemark (signed_decimal amount) × (length (signed_decimal amount) ≤ 40)
+pub money-remark : (amount : ℤ) → IsMoney amount → IsRemark (signed_decimal amount) × (length (signed_decimal amount) ≤ 40)
 money-remark (pos n) small = (decimal-remark n (omega arith), (let l = length-decimal-le_wide 39 n (omega arith) (omega arith) (omega arith) in omega arith))
 money-remark (negsuc n) small = (
   All-cons (λ b. b ≢ 10) 45 (decimal (suc n)) (λ same. omega arith) (decimal-remark (suc n) (omega arith)),
@@ -66,7 +66,7 @@ remark_line : (first second rest : List ℕ) → ((35 ∷ (first ++ second)) ++ 
 remark_line first second rest = ap (λ (x : List ℕ). 35 ∷ x) (append_assoc (first ++ second) (10 ∷ []) rest ∙ append_assoc first second (10 ∷ rest))
 
 -- two comments and a text
-two_lines : (a b e f text : List ℕ) → comment_lines ((a ++ b) ∷ (e ++ f) ∷ []) ++ text ≡ (35 ∷ a) ++ (b ++ (10 ∷ ((35 ∷ e) ++ (f ++ (10 ∷ text)))))
+pub two_lines : (a b e f text : List ℕ) → comment_lines ((a ++ b) ∷ (e ++ f) ∷ []) ++ text ≡ (35 ∷ a) ++ (b ++ (10 ∷ ((35 ∷ e) ++ (f ++ (10 ∷ text)))))
 two_lines a b e f text = simp append_assoc
 
 -- the comment on the answer
@@ -102,12 +102,22 @@ answer-lines plant used (BudgetSpent None earned bound) = spent_lines (codes "-"
 answer-lines plant used (BudgetSpent (Some plan) earned bound) = spent_lines (signed_decimal earned) (signed_decimal bound) used (plan_lines plant plan)
 
 -- the comments have no line feed, and are short
-record AreRemarks (lines : List (List ℕ)) : Type 0 where
-  plain : All IsRemark lines
-  short : length (comment_lines lines) ≤ 300
+pub record AreRemarks (lines : List (List ℕ)) : Type 0 where
+  pub plain : All IsRemark lines
+  pub short : length (comment_lines lines) ≤ 300
+
+-- a remark of at most 100 bytes
+pub one_remark : (a : List ℕ) → IsRemark a → length a ≤ 100 → AreRemarks (a ∷ [])
+one_remark a plain short = record {
+  plain = All-cons IsRemark a [] plain (λ k d within. absurd (omega arith));
+  short =
+      let l = length-append ((35 ∷ a) ++ 10 ∷ []) [] in
+      let m = length-append (35 ∷ a) (10 ∷ []) in
+      omega (arith, l, m, short);
+}
 
 -- two remarks of at most 100 bytes
-both_remarks : (a b : List ℕ) → IsRemark a → IsRemark b → length a ≤ 100 → length b ≤ 100 → AreRemarks (a ∷ b ∷ [])
+pub both_remarks : (a b : List ℕ) → IsRemark a → IsRemark b → length a ≤ 100 → length b ≤ 100 → AreRemarks (a ∷ b ∷ [])
 both_remarks a b plain_a plain_b short_a short_b = record {
   plain = All-cons IsRemark a (b ∷ []) plain_a (All-cons IsRemark b [] plain_b (λ k d within. absurd (omega arith)));
   short =
@@ -119,13 +129,13 @@ both_remarks a b plain_a plain_b short_a short_b = record {
 }
 
 -- a word without a line feed
-plain_word : (word : List ℕ) → list_all (λ b. not (b == 10)) word ≡ true → IsRemark word
+pub plain_word : (word : List ℕ) → list_all (λ b. not (b == 10)) word ≡ true → IsRemark word
 plain_word word is = λ k d within same.
     let test : not (get_or word k d == 10) ≡ true = and_at (list_all (λ b. not (b == 10))) (λ b. not (b == 10)) refl (λ _ _. refl) word k d within is in
     false≢true (ap (λ b. not (b == 10)) (sym same) ∙ test)
 
 -- a word followed by another remark
-after_word : (word rest : List ℕ) → IsRemark word → IsRemark rest → IsRemark (word ++ rest)
+pub after_word : (word rest : List ℕ) → IsRemark word → IsRemark rest → IsRemark (word ++ rest)
 after_word word rest plain_word plain_rest = All-append (λ b. b ≢ 10) word rest plain_word plain_rest
 
 -- the profit of a plan that may be there
@@ -170,7 +180,7 @@ length-point_starts plant (slot ∷ grid) (value ∷ values) =
     elim (cases_Bool (value == 0)) [ inl is ↦ rw is (omega (arith, more)) | inr is ↦ rw is (omega (arith, more)) ]
 
 -- a feasible plan has no more starts than a plant may have slots
-few-starts : (plant : Plant) (plan : List Start) → Sound plant → Feasible plant plan → length plan ≤ 512
+pub few-starts : (plant : Plant) (plan : List Start) → Sound plant → Feasible plant plan → length plan ≤ 512
 few-starts plant plan sound feasible =
     let point = point_starts plant (slots plant) (plan_point plant plan) in
     let same = length_permutation plan point (starts-permutation plant plan sound (has_point-feasible plant plan sound feasible)) in
@@ -192,7 +202,7 @@ small-start plant start sound fits =
     let most = sound.counts.periods in
     record { period = omega (arith, later, ends, most.1); quanta = quanta_most plant start sound fits }
 
-writable : (plant : Plant) (plan : List Start) → Sound plant → Feasible plant plan → All (IsWritable plant) plan
+pub writable : (plant : Plant) (plan : List Start) → Sound plant → Feasible plant plan → All (IsWritable plant) plan
 writable plant plan sound feasible k d within =
     let named = named-Feasible plant plan sound feasible k d within in
     let small = small-start plant (get_or plan k d) sound (feasible.fits k d within) in
@@ -201,7 +211,7 @@ writable plant plan sound feasible k d within =
 -- ---- the answer
 
 -- the lines of few starts that can be written, after short remarks, say the plan
-reads-lines : (plant : Plant) (plan : List Start) (lines : List (List ℕ)) → Sound plant → length plan ≤ 512 → All (IsWritable plant) plan → AreRemarks lines
+pub reads-lines : (plant : Plant) (plan : List Start) (lines : List (List ℕ)) → Sound plant → length plan ≤ 512 → All (IsWritable plant) plan → AreRemarks lines
     → plan_of_text plant (comment_lines lines ++ plan_lines plant plan) ≡ Ok plan
 unfolding ReadsBack
 reads-lines plant plan lines sound few can are =
@@ -213,7 +223,7 @@ reads-feasible : (plant : Plant) (plan : List Start) (lines : List (List ℕ)) �
 reads-feasible plant plan lines sound feasible are = reads-lines plant plan lines sound (few-starts plant plan sound feasible) (writable plant plan sound feasible) are
 
 -- no lines
-reads-nothing : (plant : Plant) (lines : List (List ℕ)) → Sound plant → AreRemarks lines → plan_of_text plant (comment_lines lines ++ plan_lines plant []) ≡ Ok []
+pub reads-nothing : (plant : Plant) (lines : List (List ℕ)) → Sound plant → AreRemarks lines → plan_of_text plant (comment_lines lines ++ plan_lines plant []) ≡ Ok []
 reads-nothing plant lines sound are = reads-lines plant [] lines sound (omega arith) (λ k d within. absurd (omega arith)) are
 
 -- what the comments and lines of a right answer say

@@ -61,7 +61,7 @@ module _ (plant : Plant) (A B : List Start → Type 0) (to : (plan : List Start)
   }
 
   -- and so is an outcome
-  outcome-among : (least : List Start) (count budget : ℕ) (outcome : Outcome) → IsOutcomeOf plant A least count budget outcome → IsOutcomeOf plant B least count budget outcome
+  pub outcome-among : (least : List Start) (count budget : ℕ) (outcome : Outcome) → IsOutcomeOf plant A least count budget outcome → IsOutcomeOf plant B least count budget outcome
   outcome-among least count budget outcome is = record {
     answer = answer-among least count budget outcome.boxes outcome.answer is.answer;
     some = is.some;
@@ -94,13 +94,13 @@ solved-over plant period kept part budget log status text is planned = record {
 }
 
 -- the verdict on a log that may be told
-told-verdict : (plant : Plant) (part : Program) (log : Option (List ℕ)) (verdict : LogVerdict) → IfSome log (λ bytes. IsPartChecked plant part bytes verdict) → IfSome log (λ bytes. IsVerdict part 4608 bytes verdict)
+told-verdict : (plant : Plant) (part : Program) (log : Option (List ℕ)) (verdict : LogVerdict) → IfSome log (λ bytes. IsPartChecked plant part 4608 bytes verdict) → IfSome log (λ bytes. IsVerdict part 4608 bytes verdict)
 told-verdict plant part None verdict right = tt
 told-verdict plant part (Some bytes) verdict right = right.right
 
 -- an answer of checking
 checked-over : (plant : Plant) (period : ℕ) (kept : List Start) (part : Program) (log : Option (List ℕ)) (status : ℕ) (text : List ℕ) → IsKeptPart plant period kept part
-    → Judged (IsPartChecked plant part) (YesSaysOf plant part) log status text → CheckedOver log plant period kept part status text
+    → Judged (IsPartChecked plant part 4608) (YesSaysOf plant part) log status text → CheckedOver log plant period kept part status text
 checked-over plant period kept part log status text is judged = record {
   verdict = judged.verdict;
   right = told-verdict plant part log judged.verdict judged.right;
@@ -121,7 +121,7 @@ module _ {E : Type 0} (plant : Plant) (period : ℕ) (kept : List Start) where
 
   -- of checking
   pub checked_open : (log : Option (List ℕ)) (Unchanged : Type 0) (part : Program) (r : Result Reply E) → IsKeptPart plant period kept part
-      → IfOk r (λ reply. Judged (IsPartChecked plant part) (YesSaysOf plant part) log reply.status reply.text.items)
+      → IfOk r (λ reply. Judged (IsPartChecked plant part 4608) (YesSaysOf plant part) log reply.status reply.text.items)
       → IfOk r (λ reply. ReplanChecked log plant period kept Unchanged reply.status reply.text.items)
   checked_open log Unchanged part (Ok reply) is judged = inr (part, (is, checked-over plant period kept part log reply.status reply.text.items is judged))
   checked_open log Unchanged part (Err e) is judged = tt

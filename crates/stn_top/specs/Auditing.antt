@@ -4,15 +4,15 @@ use Rattle.stn_edge.specs.Files.{FileMap, file_of}
 use Rattle.stn_model.specs.declared.plant.Plant.{Plant}
 use Rattle.least_horizon.specs.declared.stem.StemVerdict.{StemVerdict}
 use Rattle.least_horizon.specs.declared.stem.StemVerdict.TheVariants.{Yes, No}
-use Rattle.least_horizon.specs.LogNames.{log_name}
+use Rattle.proof_log.specs.LogNames.{log_name}
 use Rattle.least_horizon.specs.Least.{NoneBelow}
 use Rattle.least_horizon.specs.Stems.{IsStemVerdict}
+use Rattle.stn_top.specs.Lines.{numbered_defect}
 
 -- the line on the logs of a stem: that no horizon below this one has a feasible plan, or what speaks against the first such log
 unfoldable pub audit_text : ℕ → StemVerdict → List ℕ
 audit_text horizon Yes = codes "yes none-below " ++ (decimal horizon ++ codes "\n")
-audit_text horizon (No at defect) =
-    codes "no " ++ (decimal at ++ (codes " " ++ (decimal defect.line ++ (codes " " ++ (decimal defect.kind ++ codes "\n")))))
+audit_text horizon (No at defect) = numbered_defect at defect
 
 -- the exit status of such a check
 abbrev pub audit_status : StemVerdict → ℕ

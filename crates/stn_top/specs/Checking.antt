@@ -8,12 +8,16 @@ use Rattle.log_check.specs.declared.verdict.LogVerdict.{LogVerdict}
 use Rattle.log_check.specs.declared.verdict.LogVerdict.TheVariants.{Yes, No}
 use Rattle.plant_check.specs.Claims.{IsChecked, YesSays}
 
+-- a claim in words, to the end of the line
+unfoldable pub claim_words : Claim → List ℕ
+claim_words (claim.Optimal earned point) = codes "optimal " ++ (signed_decimal earned ++ codes "\n")
+claim_words claim.Infeasible = codes "infeasible\n"
+claim_words (claim.Between earned most point) = codes "between " ++ (signed_decimal earned ++ (codes " " ++ (signed_decimal most ++ codes "\n")))
+claim_words (claim.Below most) = codes "below " ++ (signed_decimal most ++ codes "\n")
+
 -- the line on a valid log: its claim
 unfoldable pub claim_text : Claim → List ℕ
-claim_text (claim.Optimal earned point) = codes "yes optimal " ++ (signed_decimal earned ++ codes "\n")
-claim_text claim.Infeasible = codes "yes infeasible\n"
-claim_text (claim.Between earned most point) = codes "yes between " ++ (signed_decimal earned ++ (codes " " ++ (signed_decimal most ++ codes "\n")))
-claim_text (claim.Below most) = codes "yes below " ++ (signed_decimal most ++ codes "\n")
+claim_text claim = codes "yes " ++ claim_words claim
 
 -- the line on a log: the claim of a valid one, or the line and the kind of the first defect
 unfoldable pub checked_text : LogVerdict → List ℕ

@@ -10,5 +10,8 @@ pub mod Replanning
 pub mod Estimating
 pub mod Seeking
 pub mod Auditing
+pub mod Parting
+pub mod PartSolving
+pub mod JoiningParts
 pub mod Requests
 pub mod Replies

@@ -4,7 +4,7 @@ use Rattle.std.specs.Option.{option_map}
 use Rattle.stn_edge.specs.Count.{Rose}
 use Rattle.stn_edge.specs.Text.{extended}
 use Rattle.stn_edge.specs.Files.{FileMap}
-use Rattle.stn_top.specs.Words.{Request, Says, HasNoForm}
+use Rattle.stn_top.specs.Words.{Request, Says, Joining, HasNoForm}
 use Rattle.stn_top.specs.Lines.{words_text}
 use Rattle.stn_top.specs.Requests.{MayRead, MayWrite, IsAnswer, GetsToWriting}
 
@@ -43,6 +43,10 @@ IsCutOff Replies old new = (new ≡ old) ⊎ PartlyAnswered Replies old new
 abbrev pub LogFailed : List (List ℕ) → Option FileMap → ℕ → ℕ → Type 0
 LogFailed words files old new = Rose old new × ((request : Request) × (Says words request × GetsToWriting files request))
 
--- the statuses of refusals, and that of a file that could not be read
+-- the statuses of refusals
 abbrev pub IsUnwritten : ℕ → Type 0
-IsUnwritten status = (status ≡ 2) ⊎ ((status ≡ 3) ⊎ ((status ≡ 4) ⊎ ((status ≡ 5) ⊎ (status ≡ 7))))
+IsUnwritten status = (status ≡ 2) ⊎ ((status ≡ 3) ⊎ ((status ≡ 4) ⊎ (status ≡ 5)))
+
+-- the words say no joining of logs
+abbrev pub SayNoJoining : List (List ℕ) → Type 0
+SayNoJoining words = (plant stem log : List ℕ) (levels : ℕ) → ¬ Says words (Joining plant levels stem log)

@@ -1,6 +1,7 @@
 -- The files of a request, and its answer.
-use Rattle.std.specs.Prelude.{◌≡◌, ◌≢◌, ◌⊎◌, ℕ, Bool, IsTrue, All, List, [], ◌∷◌, map, slice_index_or, Option, None, IfSome, Ok}
+use Rattle.std.specs.Prelude.{◌≡◌, ◌≢◌, ◌⊎◌, ◌≤◌, ◌^◌, ℕ, Bool, IsTrue, All, List, [], ◌∷◌, map, slice_index_or, Option, None, IfSome, Ok, length}
 use Rattle.std.specs.Option.{option_map}
+use Rattle.std.specs.List.{range_with_len}
 use Rattle.std.specs.FinMap.{get}
 use Rattle.stn_edge.specs.Files.{FileMap, file_of}
 use Rattle.stn_model.specs.declared.plant.Plant.{Plant}
@@ -12,9 +13,12 @@ use Rattle.frozen_plan.specs.Frozen.{kept_starts}
 use Rattle.frozen_plan.specs.Keeping.{StandTogether}
 use Rattle.stn_solve.specs.Proofs.{HasPlantProof, IsLeftOf, bytes_in}
 use Rattle.least_horizon.specs.declared.answer.LeastAnswer.{LeastAnswer}
-use Rattle.least_horizon.specs.LogNames.{logs_in}
+use Rattle.least_horizon.specs.LogNames.{logs_in, OthersStayBelow}
 use Rattle.least_horizon.specs.Least.{IsLeast, IsStopped}
-use Rattle.stn_top.specs.Words.{Request, Solving, Logging, Simulating, Checking, Upgrading, Showing, Replanning, ReplanLogging, CheckingReplan, Estimating, Seeking, Tracing, Auditing}
+use Rattle.time_grid.specs.Slots.{slots}
+use Rattle.proof_log.specs.LogNames.{log_name}
+use Rattle.log_parts.specs.PartLogs.{AllAreValid}
+use Rattle.stn_top.specs.Words.{Request, IsNoPartLog, Solving, Logging, Simulating, Checking, Upgrading, Showing, Replanning, ReplanLogging, CheckingReplan, Estimating, Seeking, Tracing, Auditing, Parting, PartSolving, Joining}
 use Rattle.stn_top.specs.Sources.{IsReadOf, OnPlant, OnPlan}
 use Rattle.stn_top.specs.Solving.{Solved}
 use Rattle.stn_top.specs.Simulation.{Simulated}
@@ -25,9 +29,16 @@ use Rattle.stn_top.specs.Estimating.{Estimated}
 use Rattle.stn_top.specs.Replanning.{Replanned, ReplanChecked, LeavesReplan}
 use Rattle.stn_top.specs.Seeking.{Sought, log_names}
 use Rattle.stn_top.specs.Auditing.{Audited}
+use Rattle.stn_top.specs.Parting.{OnLevels, Parted}
+use Rattle.stn_top.specs.PartSolving.{PartSolved, LeavesPart}
+use Rattle.stn_top.specs.JoiningParts.{JoinAnswered, LeavesJoined}
+
+-- the names of the logs of a stem for the parts of so many levels
+unfoldable pub part_names : List ℕ → ℕ → List (List ℕ)
+part_names stem levels = map (log_name stem) (range_with_len 0 (2 ^ levels))
 
 -- the names of the files that a request reads, in the order of its words: the plant, then the plan, or the log to check, or the
--- logs of the shorter horizons
+-- logs of the shorter horizons or of the parts
 abbrev pub read_names : Request → List (List ℕ)
 read_names (Solving plant budget) = plant ∷ []
 read_names (Logging plant budget log) = plant ∷ []
@@ -42,8 +53,11 @@ read_names (Estimating plant log state step count) = plant ∷ log ∷ []
 read_names (Seeking plant budget) = plant ∷ []
 read_names (Tracing plant budget stem) = plant ∷ []
 read_names (Auditing plant horizon stem) = plant ∷ log_names stem horizon
+read_names (Parting plant levels) = plant ∷ []
+read_names (PartSolving plant levels part budget log) = plant ∷ []
+read_names (Joining plant levels stem log) = plant ∷ part_names stem levels
 
--- the names of the files that a request writes: the log of a planning, or those of all horizons that a plant may have
+-- the names of the files that a request writes: the log of a planning or of a joining, or those of all horizons that a plant may have
 abbrev pub written_names : Request → List (List ℕ)
 written_names (Solving plant budget) = []
 written_names (Logging plant budget log) = log ∷ []
@@ -58,6 +72,9 @@ written_names (Estimating plant log state step count) = []
 written_names (Seeking plant budget) = []
 written_names (Tracing plant budget stem) = log_names stem 337
 written_names (Auditing plant horizon stem) = []
+written_names (Parting plant levels) = []
+written_names (PartSolving plant levels part budget log) = log ∷ []
+written_names (Joining plant levels stem log) = log ∷ []
 
 -- the files that a request reads may be read
 abbrev pub MayRead : (List ℕ → Bool) → Request → Type 0
@@ -93,9 +110,14 @@ AnswersTo old new contents (ReplanLogging plant plan period budget log) status t
 AnswersTo old new contents (CheckingReplan plant plan period log) status text =
     OnPlant (reading (content contents 0)) (λ p. OnPlan (plan_of_text p (content contents 1)) (λ starts. ReplanChecked (bytes_in log old) p period (kept_starts period starts) (new ≡ old))) status text
 AnswersTo old new contents (Estimating plant log state step count) status text = OnPlant (reading (content contents 0)) (Estimated state step count (content contents 1)) status text
-AnswersTo old new contents (Seeking plant budget) status text = OnPlant (reading (content contents 0)) (λ p. Sought budget p (λ _. None)) status text
-AnswersTo old new contents (Tracing plant budget stem) status text = OnPlant (reading (content contents 0)) (λ p. Sought budget p (logs_in stem new)) status text
+AnswersTo old new contents (Seeking plant budget) status text = OnPlant (reading (content contents 0)) (λ p. Sought budget p (λ _. None) (λ _. Unit {0})) status text
+AnswersTo old new contents (Tracing plant budget stem) status text = OnPlant (reading (content contents 0)) (λ p. Sought budget p (logs_in stem new) (λ horizon. OthersStayBelow stem horizon old new)) status text
 AnswersTo old new contents (Auditing plant horizon stem) status text = OnPlant (reading (content contents 0)) (Audited old horizon stem) status text
+AnswersTo old new contents (Parting plant levels) status text = OnPlant (reading (content contents 0)) (Parted levels) status text
+AnswersTo old new contents (PartSolving plant levels part budget log) status text =
+    OnPlant (reading (content contents 0)) (λ p. OnLevels p levels (PartSolved budget p levels part (bytes_in log new))) status text
+AnswersTo old new contents (Joining plant levels stem log) status text =
+    OnPlant (reading (content contents 0)) (λ p. OnLevels p levels (JoinAnswered old new levels stem log p)) status text
 
 -- The answer to a request, with the files before and after: there are contents of the files that it reads, which are those of
 -- the files before where the store tells them, and it is the answer over these contents. A refusal of the plant or of the plan
@@ -134,6 +156,18 @@ pub record HoldsLogs (budget : ℕ) (old new : Option FileMap) (name stem : List
   pub read : IsReadOf reading old name (Ok plant)
   pub holds : IsStopped plant budget stem old new ⊎ ((said : LeastAnswer) × IsLeast plant budget (logs_in stem new) said)
 
+-- the plant in a file was read, and the file of a log is as it was, or holds a log over a part of the plant
+pub record HoldsPart (old new : Option FileMap) (name : List ℕ) (levels part : ℕ) (log : List ℕ) : Type 0 where
+  pub plant : Plant
+  pub read : IsReadOf reading old name (Ok plant)
+  pub holds : LeavesPart plant levels part log old new
+
+-- the plant in a file was read, and the file of a log is as it was, or holds the joined log
+pub record HoldsJoined (old new : Option FileMap) (name : List ℕ) (levels : ℕ) (stem log : List ℕ) : Type 0 where
+  pub plant : Plant
+  pub read : IsReadOf reading old name (Ok plant)
+  pub holds : LeavesJoined plant levels stem log old new
+
 -- what a request leaves, however it ends: the files as they were, or, where it writes logs, logs in their files
 abbrev pub IsLeft : Request → Option FileMap → Option FileMap → Type 0
 IsLeft (Solving plant budget) old new = new ≡ old
@@ -149,8 +183,12 @@ IsLeft (Estimating plant log state step count) old new = new ≡ old
 IsLeft (Seeking plant budget) old new = new ≡ old
 IsLeft (Tracing plant budget stem) old new = (new ≡ old) ⊎ HoldsLogs budget old new plant stem
 IsLeft (Auditing plant horizon stem) old new = new ≡ old
+IsLeft (Parting plant levels) old new = new ≡ old
+IsLeft (PartSolving plant levels part budget log) old new = (new ≡ old) ⊎ HoldsPart old new plant levels part log
+IsLeft (Joining plant levels stem log) old new = (new ≡ old) ⊎ HoldsJoined old new plant levels stem log
 
--- a request gets to writing a file: it names a log, and its plant was read, and its plan where it has one, of which the kept starts stand together
+-- a request gets to writing a file: it names a log, and its plant was read, and its plan where it has one, of which the kept starts
+-- stand together; where it speaks of parts, the plant has a slot for each level, and the logs that it joins are valid
 abbrev pub GetsToWriting : Option FileMap → Request → Type 0
 GetsToWriting files (Solving plant budget) = ⊥
 GetsToWriting files (Logging plant budget log) = (p : Plant) × IsReadOf reading files plant (Ok p)
@@ -165,3 +203,15 @@ GetsToWriting files (Estimating plant log state step count) = ⊥
 GetsToWriting files (Seeking plant budget) = ⊥
 GetsToWriting files (Tracing plant budget stem) = (p : Plant) × IsReadOf reading files plant (Ok p)
 GetsToWriting files (Auditing plant horizon stem) = ⊥
+GetsToWriting files (Parting plant levels) = ⊥
+GetsToWriting files (PartSolving plant levels part budget log) = (p : Plant) × (IsReadOf reading files plant (Ok p) × (levels ≤ length (slots p)))
+GetsToWriting files (Joining plant levels stem log) =
+    (p : Plant) × (IsReadOf reading files plant (Ok p) × (levels ≤ length (slots p)) × AllAreValid p levels stem files)
+
+-- the request is not to join logs
+abbrev pub IsNoJoining : Request → Type 0
+IsNoJoining request = (plant : List ℕ) (levels : ℕ) (stem log : List ℕ) → request ≢ Joining plant levels stem log
+
+-- where the request is to join logs, it writes none of those that it joins
+abbrev pub WritesApart : Request → Type 0
+WritesApart request = (plant : List ℕ) (levels : ℕ) (stem log : List ℕ) → request ≡ Joining plant levels stem log → IsNoPartLog log stem levels

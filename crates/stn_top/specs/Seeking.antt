@@ -1,13 +1,16 @@
 -- The answer of `least`: its text, and when it is right.
-use Rattle.std.specs.Prelude.{◌≡◌, ◌-◌, ℕ, List, ◌++◌, All, map, codes, decimal, Option}
+use Rattle.std.specs.Prelude.{◌≡◌, ◌-◌, ℕ, List, [], ◌++◌, All, map, codes, decimal, Option, Ok}
 use Rattle.std.specs.Fmt.{signed_decimal}
 use Rattle.std.specs.List.{range_with_len}
 use Rattle.stn_model.specs.declared.plant.Plant.{Plant}
+use Rattle.stn_model.specs.declared.start.Start.{Start}
 use Rattle.plan_text.specs.PlanLines.{plan_lines, IsNamed}
+use Rattle.plan_text.specs.PlanText.{plan_of_text}
 use Rattle.least_horizon.specs.declared.answer.LeastAnswer.{LeastAnswer}
 use Rattle.least_horizon.specs.declared.answer.LeastAnswer.TheVariants.{At, Nowhere, Open}
-use Rattle.least_horizon.specs.LogNames.{log_name}
-use Rattle.least_horizon.specs.Least.{IsLeast}
+use Rattle.proof_log.specs.LogNames.{log_name}
+use Rattle.least_horizon.specs.Least.{IsLeast, untried}
+use Rattle.stn_top.specs.Solving.{IsMoney}
 
 -- the names of the logs of a stem for the horizons from 1 on that are shorter than this one
 unfoldable pub log_names : List ℕ → ℕ → List (List ℕ)
@@ -32,10 +35,25 @@ NamesItems plant (At horizon earned plan) = All (IsNamed plant) plan
 NamesItems plant Nowhere = Unit {0}
 NamesItems plant (Open horizon) = Unit {0}
 
+-- the answer's profit, where it has one, has at most 128 bits, one of them for its sign
+abbrev pub EarnsMoney : LeastAnswer → Type 0
+EarnsMoney (At horizon earned plan) = IsMoney earned
+EarnsMoney Nowhere = Unit {0}
+EarnsMoney (Open horizon) = Unit {0}
+
+-- the plan that an answer prints: no starts where it has none
+abbrev pub shown_plan : LeastAnswer → List Start
+shown_plan (At horizon earned plan) = plan
+shown_plan Nowhere = []
+shown_plan (Open horizon) = []
+
 -- The answer of `least`: the right least horizon, which is found by solving one horizon after another, with its status and its
--- text. Where the bytes of logs are told, they are the logs of the horizons that were solved.
-pub record Sought (budget : ℕ) (plant : Plant) (logs : ℕ → Option (List ℕ)) (status : ℕ) (text : List ℕ) : Type 0 where
+-- text, which, read as plan text, says the plan of the answer. Where the bytes of logs are told, they are the logs of the
+-- horizons that were solved, and what is said of the horizons from the first on that was not tried holds.
+pub record Sought (budget : ℕ) (plant : Plant) (logs : ℕ → Option (List ℕ)) (Untouched : ℕ → Type 0) (status : ℕ) (text : List ℕ) : Type 0 where
   pub said : LeastAnswer
   pub right : IsLeast plant budget logs said
+  pub untouched : Untouched (untried plant said)
   pub status_is : status ≡ least_status said
   pub text_is : text ≡ least_text plant said
+  pub reads_back : plan_of_text plant text ≡ Ok (shown_plan said)

@@ -1,7 +1,7 @@
 -- The words of a command.
 use Rattle.std.specs.Prelude.{◌≡◌, ◌≢◌, ℕ, ℤ, ◌<◌, ◌≤◌, ◌^◌, unsigned_abs, List, [], ◌∷◌, map, codes, decimal}
 use Rattle.std.specs.Fmt.{signed_decimal}
-use Rattle.least_horizon.specs.LogNames.{log_name}
+use Rattle.proof_log.specs.LogNames.{log_name}
 use Rattle.std.specs.Borrow.{Bor}
 use Rattle.stn_top.specs.declared.command.PlanUse.{PlanUse}
 use Rattle.stn_top.specs.declared.command.PlanUse.TheVariants.{Simulate, Report, Picture}
@@ -23,6 +23,9 @@ pub data Request : Type 0 where
   Seeking : (plant : List ℕ) (budget : ℕ) → Request
   Tracing : (plant : List ℕ) (budget : ℕ) (stem : List ℕ) → Request
   Auditing : (plant : List ℕ) (horizon : ℕ) (stem : List ℕ) → Request
+  Parting : (plant : List ℕ) (levels : ℕ) → Request
+  PartSolving : (plant : List ℕ) (levels part budget : ℕ) (log : List ℕ) → Request
+  Joining : (plant : List ℕ) (levels : ℕ) (stem log : List ℕ) → Request
 
 -- the first word of a command that simulates a plan
 abbrev pub use_word : PlanUse → List ℕ
@@ -71,6 +74,21 @@ pub record IsHorizon (word : List ℕ) (horizon : ℕ) : Type 0 where
 abbrev pub IsNoLog : List ℕ → List ℕ → Type 0
 IsNoLog file stem = (g : ℕ) → 1 ≤ g → g ≤ 336 → file ≢ log_name stem g
 
+-- the word is a number of levels in decimal digits, without sign and leading zeros
+pub record IsLevels (word : List ℕ) (levels : ℕ) : Type 0 where
+  pub digits : word ≡ decimal levels
+  pub some : 1 ≤ levels
+  pub most : levels ≤ 8
+
+-- the word is the number of one of the parts of so many levels, in decimal digits, without sign and leading zeros
+pub record IsPart (word : List ℕ) (levels part : ℕ) : Type 0 where
+  pub digits : word ≡ decimal part
+  pub within : part < 2 ^ levels
+
+-- the file is the log of none of the parts of so many levels
+abbrev pub IsNoPartLog : List ℕ → List ℕ → ℕ → Type 0
+IsNoPartLog file stem levels = (part : ℕ) → part < 2 ^ levels → file ≢ log_name stem part
+
 -- the words say the request; no file has an empty name, and a log is not written over a file that is read
 abbrev pub Says : List (List ℕ) → Request → Type 0
 Says words (Solving plant budget) = (word : List ℕ) × ((words ≡ codes "solve" ∷ plant ∷ word ∷ []) × (plant ≢ []) × IsBudget word budget)
@@ -94,6 +112,13 @@ Says words (Tracing plant budget stem) =
     (word : List ℕ) × ((words ≡ codes "least" ∷ plant ∷ word ∷ stem ∷ []) × (plant ≢ []) × (stem ≢ []) × IsNoLog plant stem × IsBudget word budget)
 Says words (Auditing plant horizon stem) =
     (word : List ℕ) × ((words ≡ codes "check-least" ∷ plant ∷ word ∷ stem ∷ []) × (plant ≢ []) × (stem ≢ []) × IsNoLog plant stem × IsHorizon word horizon)
+Says words (Parting plant levels) = (word : List ℕ) × ((words ≡ codes "parts" ∷ plant ∷ word ∷ []) × (plant ≢ []) × IsLevels word levels)
+Says words (PartSolving plant levels part budget log) =
+    (parts : List ℕ) × ((number : List ℕ) × ((most : List ℕ) × ((words ≡ codes "solve-part" ∷ plant ∷ parts ∷ number ∷ most ∷ log ∷ [])
+    × (plant ≢ []) × (log ≢ []) × (log ≢ plant) × IsLevels parts levels × IsPart number levels part × IsBudget most budget)))
+Says words (Joining plant levels stem log) =
+    (parts : List ℕ) × ((words ≡ codes "join" ∷ plant ∷ parts ∷ stem ∷ log ∷ [])
+    × (plant ≢ []) × (stem ≢ []) × (log ≢ []) × (log ≢ plant) × IsNoPartLog log stem levels × IsLevels parts levels)
 
 -- the words have the form of no command
 abbrev pub HasNoForm : List (List ℕ) → Type 0
@@ -104,6 +129,12 @@ pub record NoHorizons (words : List (List ℕ)) : Type 0 where
   pub seeking : (plant : List ℕ) (budget : ℕ) → ¬ Says words (Seeking plant budget)
   pub tracing : (plant stem : List ℕ) (budget : ℕ) → ¬ Says words (Tracing plant budget stem)
   pub auditing : (plant stem : List ℕ) (horizon : ℕ) → ¬ Says words (Auditing plant horizon stem)
+
+-- the words say no request that speaks of the parts of a plant
+pub record NoParts (words : List (List ℕ)) : Type 0 where
+  pub parting : (plant : List ℕ) (levels : ℕ) → ¬ Says words (Parting plant levels)
+  pub solving : (plant log : List ℕ) (levels part budget : ℕ) → ¬ Says words (PartSolving plant levels part budget log)
+  pub joining : (plant stem log : List ℕ) (levels : ℕ) → ¬ Says words (Joining plant levels stem log)
 
 -- what a command asks for
 abbrev pub meaning : declared.Command → Request
@@ -120,3 +151,6 @@ meaning (variants.Estimate plant log state steps) = Estimating plant.now log.now
 meaning (variants.Least plant budget) = Seeking plant.now budget.boxes
 meaning (variants.LeastLogs plant budget stem) = Tracing plant.now budget.boxes stem.now
 meaning (variants.CheckLeast plant horizon stem) = Auditing plant.now horizon stem.now
+meaning (variants.Parts plant levels) = Parting plant.now levels.number
+meaning (variants.SolvePart plant part budget log) = PartSolving plant.now part.levels.number part.number budget.boxes log.now
+meaning (variants.Join plant levels stem log) = Joining plant.now levels.number stem.now log.now

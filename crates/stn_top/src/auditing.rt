@@ -8,12 +8,12 @@ ghost use Rattle.stn_top.specs.Requests.{IsAnswer};
 ghost use Rattle.stn_top.specs.Sources.{IfReplied, IfRefused};
 ghost use Rattle.stn_top.specs.Auditing.{audit_status, audit_text, Audited};
 
+use crate::lines::numbered_defect;
 use crate::reply::Reply;
 use crate::sources::plant_in;
 use crate::stopped::Stopped;
 use least_horizon::{StemVerdict, check_least};
 use log_check::CheckStop;
-use proof_log::Defect;
 use std::alloc::{AllocError, Global};
 use stn_edge::Shelf;
 use stn_model::Plant;
@@ -87,7 +87,7 @@ fn audited(alloc: Global, horizon: u32, verdict: StemVerdict) -> Result<Reply, A
             horizon: at,
             defect,
         } => {
-            let text = no_text(alloc, at, defect)?;
+            let text = numbered_defect(alloc, at, defect)?;
             Ok(Reply { status: 1, text })
         }
     }
@@ -99,15 +99,4 @@ fn yes_text(alloc: Global, horizon: u32) -> Result<Vec<u8>, AllocError>
 {
     let line = format!(in alloc; "yes none-below {horizon}\n")?;
     Vec::from_slice(alloc, line.as_bytes())
-}
-
-fn no_text(alloc: Global, at: u32, defect: Defect) -> Result<Vec<u8>, AllocError>
-    ensures { IfOk result (λ text. text.items
-        ≡ codes "no " ++ (decimal at ++ (codes " " ++ (decimal defect.line ++ (codes " "
-        ++ (decimal defect.kind ++ codes "\n")))))) }
-{
-    let line = defect.line;
-    let kind = defect.kind;
-    let text = format!(in alloc; "no {at} {line} {kind}\n")?;
-    Vec::from_slice(alloc, text.as_bytes())
 }

@@ -8,7 +8,7 @@ ghost use Rattle.stn_model.specs.Sound.{Sound};
 ghost use Rattle.stn_top.specs.Words.{Checking};
 ghost use Rattle.stn_top.specs.Requests.{IsAnswer};
 ghost use Rattle.stn_top.specs.Sources.{IfReplied, IfRefused};
-ghost use Rattle.stn_top.specs.Checking.{claim_text, checked_text, checked_status, Checked};
+ghost use Rattle.stn_top.specs.Checking.{claim_words, checked_text, checked_status, Checked};
 
 use crate::lines::amount_line;
 use crate::reply::Reply;
@@ -75,14 +75,14 @@ fn check_log<F: Shelf>(
 }
 
 /// The answer that a check of a log found.
-#[tactic(auto, unfolding(crate::specs::Checking::checked_text))]
+#[tactic(auto, unfolding(crate::specs::Checking::checked_text, crate::specs::Checking::claim_text))]
 pub fn checked(alloc: Global, verdict: &LogVerdict) -> Result<Reply, AllocError>
     ensures { IfOk result (λ reply. (reply.status ≡ checked_status verdict.now)
         × (reply.text.items ≡ checked_text verdict.now)) }
 {
     match verdict {
         LogVerdict::Yes(claim) => {
-            let text = claim_text(alloc, claim)?;
+            let text = claim_line(alloc, "yes ", claim)?;
             Ok(Reply { status: 0, text })
         }
         LogVerdict::No(defect) => {
@@ -92,28 +92,38 @@ pub fn checked(alloc: Global, verdict: &LogVerdict) -> Result<Reply, AllocError>
     }
 }
 
-#[tactic(auto, unfolding(crate::specs::Checking::claim_text))]
-fn claim_text(alloc: Global, claim: &Claim) -> Result<Vec<u8>, AllocError>
-    ensures { IfOk result (λ text. text.items ≡ claim_text claim.now) }
+/// A line that ends in a claim.
+pub fn claim_line(alloc: Global, what: &str, claim: &Claim) -> Result<Vec<u8>, AllocError>
+    ensures { IfOk result (λ text. text.items ≡ what.now ++ claim_words claim.now) }
+{
+    let mut text = Vec::from_slice(alloc, what.as_bytes())?;
+    let words = claim_words(alloc, claim)?;
+    text.extend_from_slice(words.as_slice())?;
+    Ok(text)
+}
+
+#[tactic(auto, unfolding(crate::specs::Checking::claim_words))]
+fn claim_words(alloc: Global, claim: &Claim) -> Result<Vec<u8>, AllocError>
+    ensures { IfOk result (λ text. text.items ≡ claim_words claim.now) }
 {
     match claim {
-        Claim::Optimal { profit, point: _ } => amount_line(alloc, "yes optimal ", profit),
-        Claim::Infeasible => Vec::from_slice(alloc, "yes infeasible\n".as_bytes()),
+        Claim::Optimal { profit, point: _ } => amount_line(alloc, "optimal ", profit),
+        Claim::Infeasible => Vec::from_slice(alloc, "infeasible\n".as_bytes()),
         Claim::Between {
             profit,
             cap,
             point: _,
         } => between_text(alloc, profit, cap),
-        Claim::Below { cap } => amount_line(alloc, "yes below ", cap),
+        Claim::Below { cap } => amount_line(alloc, "below ", cap),
     }
 }
 
 fn between_text(alloc: Global, profit: &i128, cap: &i128) -> Result<Vec<u8>, AllocError>
     ensures { IfOk result (λ text. text.items
-        ≡ codes "yes between " ++ (signed_decimal profit.now ++ (codes " "
+        ≡ codes "between " ++ (signed_decimal profit.now ++ (codes " "
         ++ (signed_decimal cap.now ++ codes "\n")))) }
 {
-    let line = format!(in alloc; "yes between {profit} {cap}\n")?;
+    let line = format!(in alloc; "between {profit} {cap}\n")?;
     Vec::from_slice(alloc, line.as_bytes())
 }
 

@@ -1,8 +1,11 @@
 //! The words of a command.
-ghost use Rattle.std.specs.Prelude.{◌≡◌, ◌≢◌, ◌↔◌, ◌∷◌, true, ℕ, ℤ, List, MatchOption};
+ghost use Rattle.std.specs.Prelude.{◌≡◌, ◌≢◌, ◌↔◌, ◌<◌, ◌∷◌, true, ℕ, ℤ, List, MatchOption};
+ghost use Rattle.proof_log.specs.LogNames.{log_name};
 ghost use Rattle.stn_top.specs.Words.{Says, HasNoForm, IsBudget, IsPeriod, IsSeed, IsStep, IsStepCount, Solving, Logging, Simulating, Checking, Upgrading, Showing, Replanning, ReplanLogging, CheckingReplan, Estimating, texts, meaning, Seeking, Tracing, Auditing, NoHorizons, IsHorizon, IsNoLog, use_word};
 
 use crate::budget::{Budget, MAX_BUDGET};
+use crate::levels::{Levels, Part};
+use crate::part_words::part_form;
 use crate::period::Period;
 use crate::steps::{MAX_STEP, MAX_STEPS, Steps};
 use stn_model::limits::MAX_PERIODS;
@@ -98,6 +101,25 @@ pub enum Command<'a> {
         horizon: u32,
         stem: &'a str,
     },
+    /// `parts PLANT LEVELS`: print the parts of the plant.
+    Parts {
+        plant: &'a str,
+        levels: Levels,
+    },
+    /// `solve-part PLANT LEVELS PART BUDGET LOG`: plan a part of the plant, and write the log of the proof.
+    SolvePart {
+        plant: &'a str,
+        part: Part,
+        budget: Budget,
+        log: &'a str,
+    },
+    /// `join PLANT LEVELS STEM LOG`: check the logs of all parts, and write the log of the plant that they make up.
+    Join {
+        plant: &'a str,
+        levels: Levels,
+        stem: &'a str,
+        log: &'a str,
+    },
 }
 
 /// The command that the words say, if they have the form of one. It takes no memory.
@@ -141,7 +163,10 @@ pub fn command_of<'a>(words: &[&'a str]) -> Option<Command<'a>>
     if let Some(command) = demo_of(words) {
         return Some(command);
     }
-    horizon_form(words)
+    if let Some(command) = horizon_form(words) {
+        return Some(command);
+    }
+    part_form(words)
 }
 
 // The command that tries one horizon after another.
@@ -191,8 +216,8 @@ fn log_of<'a>(words: &[&'a str]) -> Option<Command<'a>>
     }
 }
 
-// The words are not the same.
-fn differ(first: &str, second: &str) -> bool
+/// The words are not the same.
+pub fn differ(first: &str, second: &str) -> bool
     ensures { (result ≡ true) ↔ (first.now ≢ second.now) }
 {
     first != second
@@ -499,15 +524,23 @@ fn check_least_of<'a>(words: &[&'a str]) -> Option<Command<'a>>
 fn is_no_log(file: &str, stem: &str) -> bool
     ensures { (result ≡ true) ↔ IsNoLog file.now stem.now }
 {
-    let name = file.as_bytes();
-    let at = stem.len();
-    if name.len() <= at || !same_bytes(&name[..at], stem.as_bytes()) || name[at] != b'.' {
-        return true;
-    }
-    match read_number(&name[at + 1..], 337) {
+    match log_number(file, stem, 337) {
         Some(number) => number == 0,
         None => true,
     }
+}
+
+/// The number below the limit of which the file is the log of the stem, if there is one.
+pub fn log_number(file: &str, stem: &str, limit: u64) -> Option<u64>
+    ensures { MatchOption result ((n : ℕ) → n < limit → file.now ≢ log_name stem.now n)
+        (λ number. (number < limit) × (file.now ≡ log_name stem.now number)) }
+{
+    let name = file.as_bytes();
+    let at = stem.len();
+    if name.len() <= at || !same_bytes(&name[..at], stem.as_bytes()) || name[at] != b'.' {
+        return None;
+    }
+    read_number(&name[at + 1..], limit)
 }
 
 // The bytes are the same.
@@ -537,7 +570,8 @@ fn seed_of(word: &str) -> Option<u32>
     }
 }
 
-fn budget_of(word: &str) -> Option<Budget>
+/// The budget that a word says.
+pub fn budget_of(word: &str) -> Option<Budget>
     ensures { MatchOption result ((n : ℕ)
         → ¬ IsBudget word.now n) (λ budget. IsBudget word.now budget.boxes) }
 {

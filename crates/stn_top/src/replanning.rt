@@ -29,7 +29,7 @@ use crate::sources::{plan_in, plant_in};
 use crate::stopped::Stopped;
 use frozen_plan::{Keeping, keep};
 use log_check::CheckStop;
-use plant_check::check_part;
+use plant_check::{MOST_DEPTH, check_part};
 use row_relax::Rows;
 use std::alloc::{AllocError, Global};
 use stn_edge::{Shelf, Stop};
@@ -238,8 +238,8 @@ fn plan_part(alloc: Global, plant: &Plant, rows: &Rows, budget: Budget) -> Resul
     planned(alloc, plant, &outcome)
 }
 
-// The answer of planning over the rows of a part of a plant's choices, whose log is written.
-fn log_part<F: Shelf>(
+/// The answer of planning over the rows of a part of a plant's choices, whose log is written.
+pub fn log_part<F: Shelf>(
     alloc: Global,
     files: &mut F,
     plant: &Plant,
@@ -286,7 +286,7 @@ fn check_rows_of<F: Shelf>(
     requires sound { Sound plant.now }
     requires part { IsPartOf plant.now rows.now.program }
     requires allowed { IsTrue (F.may_read files.old name.now) }
-    ensures answer { IfOk result (λ reply. Judged (IsPartChecked plant.now rows.now.program)
+    ensures answer { IfOk result (λ reply. Judged (IsPartChecked plant.now rows.now.program 4608)
         (YesSaysOf plant.now rows.now.program)
         (option_map (λ m. file_of m name.now) (F.files files.old)) reply.status reply.text.items) }
     ensures none { IfRefused result (λ _. ⊥) }
@@ -299,7 +299,7 @@ fn check_rows_of<F: Shelf>(
     ensures later { F.read_faults files.old ≤ F.read_faults files.new }
     ensures no_write { F.write_faults files.new ≡ F.write_faults files.old }
 {
-    match check_part(alloc, plant, rows, files, name) {
+    match check_part(alloc, plant, rows, MOST_DEPTH, files, name) {
         Ok(verdict) => Ok(checked(alloc, &verdict)?),
         Err(CheckStop::Fault) => Err(Stopped::ReadFault),
         Err(CheckStop::Memory) => Err(Stopped::Memory),

@@ -11,11 +11,11 @@ ghost use Rattle.least_horizon.specs.Least.{IsLeast, IsStopped};
 ghost use Rattle.stn_top.specs.Words.{Seeking, Tracing};
 ghost use Rattle.stn_top.specs.Requests.{IsAnswer, IsLeft, GetsToWriting};
 ghost use Rattle.stn_top.specs.Sources.{IfReplied, IfRefused};
-ghost use Rattle.stn_top.specs.Seeking.{least_text, least_status, NamesItems, Sought};
+ghost use Rattle.stn_top.specs.Seeking.{least_text, least_status, EarnsMoney, NamesItems, Sought};
 
 use crate::budget::Budget;
 use crate::reply::Reply;
-use crate::solving::with_plan;
+use crate::solving::{bounded, with_plan};
 use crate::sources::plant_in;
 use crate::stopped::Stopped;
 use least_horizon::{LeastAnswer, least, least_to};
@@ -81,9 +81,11 @@ pub fn trace_file<F: Shelf>(
 fn seek_plant(alloc: Global, plant: &Plant, budget: Budget) -> Result<Reply, AllocError>
     requires { Sound plant.now }
     ensures { IfOk result
-        (λ reply. Sought budget.boxes plant.now (λ _. None) reply.status reply.text.items) }
+        (λ reply. Sought budget.boxes plant.now (λ _. None) (λ _. Unit {0})
+        reply.status reply.text.items) }
 {
     let said = least(alloc, plant, budget.boxes)?;
+    in_money(&said);
     found(alloc, plant, &said)
 }
 
@@ -98,7 +100,9 @@ fn trace_plant<F: Shelf>(
     requires sound { Sound plant.now }
     requires allowed { AreAllowed (F.may_write files.old) stem.now 337 }
     ensures answer { IfOk result (λ reply. Sought budget.boxes plant.now
-        (logs_in stem.now (F.files files.new)) reply.status reply.text.items) }
+        (logs_in stem.now (F.files files.new))
+        (λ horizon. OthersStayBelow stem.now horizon (F.files files.old) (F.files files.new))
+        reply.status reply.text.items) }
     ensures none { IfRefused result (λ _. ⊥) }
     ensures no_fault { result ≢ Err Stopped.ReadFault }
     ensures write_fault { result ≡ Err Stopped.WriteFault
@@ -113,9 +117,27 @@ fn trace_plant<F: Shelf>(
     ensures writes { F.write_faults files.old ≤ F.write_faults files.new }
 {
     match least_to(alloc, plant, budget.boxes, files, stem) {
-        Ok(said) => Ok(found(alloc, plant, &said)?),
+        Ok(said) => {
+            in_money(&said);
+            Ok(found(alloc, plant, &said)?)
+        }
         Err(Stop::Failed) => Err(Stopped::WriteFault),
         Err(Stop::Memory) => Err(Stopped::Memory),
+    }
+}
+
+// What the type of an answer's profit says of it.
+fn in_money(said: &LeastAnswer)
+    ensures { EarnsMoney said.now }
+{
+    match said {
+        LeastAnswer::At {
+            horizon: _,
+            profit,
+            plan: _,
+        } => bounded(profit),
+        LeastAnswer::Nowhere => (),
+        LeastAnswer::Open { horizon: _ } => (),
     }
 }
 

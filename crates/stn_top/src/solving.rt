@@ -174,7 +174,7 @@ pub fn in_money(answer: &Answer)
 }
 
 // What an amount's type says of it.
-fn bounded(amount: &i128)
+pub fn bounded(amount: &i128)
     ensures { IsMoney amount.now }
 {
     let _value = *amount;

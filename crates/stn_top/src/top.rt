@@ -5,14 +5,17 @@ ghost use Rattle.stn_edge.specs.Count.{Rose};
 ghost use Rattle.stn_edge.specs.Text.{extended};
 ghost use Rattle.stn_top.specs.Words.{Request, Says, HasNoForm, texts, meaning};
 ghost use Rattle.stn_top.specs.Sources.{IfReplied};
-ghost use Rattle.stn_top.specs.Requests.{MayRead, MayWrite, OthersKept, IsAnswer, IsLeft, GetsToWriting};
-ghost use Rattle.stn_top.specs.Replies.{IsReply, Answered, IsCutOff, MayReadAll, MayWriteAll, LogFailed, IsUnwritten};
+ghost use Rattle.stn_top.specs.Requests.{MayRead, MayWrite, WritesApart, OthersKept, IsAnswer, IsLeft, GetsToWriting, IsNoJoining};
+ghost use Rattle.stn_top.specs.Replies.{IsReply, Answered, IsCutOff, MayReadAll, MayWriteAll, LogFailed, IsUnwritten, SayNoJoining};
 
 use crate::auditing::audit_file;
 use crate::checking::check_file;
 use crate::command::{Command, command_of};
 use crate::demo::show;
 use crate::estimating::estimate_file;
+use crate::joining::join_file;
+use crate::part_solving::solve_part_file;
+use crate::parting::parts_file;
 use crate::replanning::{check_replan_file, log_replan_file, replan_file};
 use crate::reply::Reply;
 use crate::seeking::{seek_file, trace_file};
@@ -41,10 +44,13 @@ use stn_edge::{Shelf, Sink, Stop};
 /// | `least PLANT BUDGET` | finds the least horizon within which all deliveries can be met, with at most BUDGET boxes for each |
 /// | `least PLANT BUDGET STEM` | the same, and writes the log of each horizon g that it tries to the file STEM.g; none of STEM.1 to STEM.336 is PLANT |
 /// | `check-least PLANT H STEM` | checks the logs STEM.1, STEM.2 and so on of the horizons below H (1 to 337), and says that none of these has a feasible plan, or what speaks against the first log that doesn't show it |
+/// | `parts PLANT LEVELS` | prints the parts that LEVELS (1 to 8) cut the plant into, two to the power of LEVELS, and the slots that tell them apart: in each of the first LEVELS slots, a part has a batch or has none |
+/// | `solve-part PLANT LEVELS PART BUDGET LOG` | plans the part of this number as `solve` does, and writes the log of the proof; LOG is not the word PLANT |
+/// | `join PLANT LEVELS STEM LOG` | checks the logs STEM.0, STEM.1 and so on of all parts, and writes the log of the plant that they make up, or says what speaks against the first that is not valid; LOG is neither the word PLANT nor the name of one of these logs |
 ///
-/// Statuses: 0 optimal, feasible, reported, upgraded, valid or estimated; 1 no plan is feasible, the plan is not or what is kept of it can't be, or a log is not valid; 2 the words have no
-/// form; 3 the plant file has a fault; 4 the plan file has one; 5 STATE is not the name of a state with limits; 6 the budget was spent; 7 a file could not be read; 8 the log could not be written or
-/// the answer could not be put; 9 no memory. The answer is put at once, after all work. No file changes but the logs that the words name.
+/// Statuses: 0 optimal, feasible, reported, upgraded, valid, estimated, listed or joined; 1 no plan is feasible, the plan is not or what is kept of it can't be, or a log is not valid; 2 the words have no
+/// form; 3 the plant file has a fault; 4 the plan file has one; 5 STATE is not the name of a state with limits, or the plant has fewer slots than LEVELS; 6 the budget was spent; 7 a file could not be
+/// read; 8 the log could not be written or the answer could not be put; 9 no memory. The answer is put at once, after all work. No file changes but the logs that the words name.
 pub fn run<F: Shelf, K: Sink>(alloc: Global, words: &[&str], files: &mut F, out: &mut K) -> u8
     requires may_read { MayReadAll (F.may_read files.old) (texts words.now) }
     requires may_write { MayWriteAll (F.may_write files.old) (texts words.now) }
@@ -66,12 +72,14 @@ pub fn run<F: Shelf, K: Sink>(alloc: Global, words: &[&str], files: &mut F, out:
     ensures known { result ≤ 9 }
 
     // Only the logs that the request writes may have changed, and they hold logs, begun or whole. After
-    // 2, 3, 4, 5 and 7 no file has.
+    // 2, 3, 4 and 5 no file has, and after 7 none has but where logs are joined.
     ensures files { (request : Request) → Says (texts words.now) request
         → OthersKept request (F.files files.old) (F.files files.new) }
     ensures left { (request : Request) → Says (texts words.now) request
         → IsLeft request (F.files files.old) (F.files files.new) }
     ensures unwritten { IsUnwritten result → F.files files.new ≡ F.files files.old }
+    ensures unread { result ≡ 7 → SayNoJoining (texts words.now)
+        → F.files files.new ≡ F.files files.old }
     ensures no_files { HasNoForm (texts words.now) → F.files files.new ≡ F.files files.old }
     ensures readable { F.may_read files.new ≡ F.may_read files.old }
     ensures writable { F.may_write files.new ≡ F.may_write files.old }
@@ -89,6 +97,7 @@ pub fn run<F: Shelf, K: Sink>(alloc: Global, words: &[&str], files: &mut F, out:
 fn answer<F: Shelf, K: Sink>(alloc: Global, command: Command, files: &mut F, out: &mut K) -> u8
     requires may_read { MayRead (F.may_read files.old) (meaning command) }
     requires may_write { MayWrite (F.may_write files.old) (meaning command) }
+    requires apart { WritesApart (meaning command) }
     ensures answer { result < 7 → Answered (IsAnswer (F.files files.old) (F.files files.new) (meaning command.entry))
         result (K.written out.old) (K.written out.new) }
     ensures asked { result ≢ 2 }
@@ -102,6 +111,8 @@ fn answer<F: Shelf, K: Sink>(alloc: Global, command: Command, files: &mut F, out
     ensures files { OthersKept (meaning command.entry) (F.files files.old) (F.files files.new) }
     ensures left { IsLeft (meaning command.entry) (F.files files.old) (F.files files.new) }
     ensures unwritten { IsUnwritten result → F.files files.new ≡ F.files files.old }
+    ensures unread { result ≡ 7 → IsNoJoining (meaning command.entry)
+        → F.files files.new ≡ F.files files.old }
     ensures readable { F.may_read files.new ≡ F.may_read files.old }
     ensures writable { F.may_write files.new ≡ F.may_write files.old }
     ensures reads { F.read_faults files.old ≤ F.read_faults files.new }
@@ -140,13 +151,15 @@ fn put<K: Sink>(out: &mut K, status: u8, text: &[u8]) -> u8
 fn reply_to<F: Shelf>(alloc: Global, command: Command, files: &mut F) -> Result<Reply, Stopped>
     requires may_read { MayRead (F.may_read files.old) (meaning command) }
     requires may_write { MayWrite (F.may_write files.old) (meaning command) }
+    requires apart { WritesApart (meaning command) }
     ensures answer { IfReplied result (λ reply. IsAnswer (F.files files.old) (F.files files.new)
         (meaning command.entry) reply.status reply.text.items) }
     ensures unwritten { IfReplied result (λ reply. IsUnwritten reply.status
         → F.files files.new ≡ F.files files.old) }
     ensures fault { result ≡ Err Stopped.ReadFault
         → Rose (F.read_faults files.old) (F.read_faults files.new) }
-    ensures unread { result ≡ Err Stopped.ReadFault → F.files files.new ≡ F.files files.old }
+    ensures unread { result ≡ Err Stopped.ReadFault → IsNoJoining (meaning command.entry)
+        → F.files files.new ≡ F.files files.old }
     ensures write_fault { result ≡ Err Stopped.WriteFault
         → Rose (F.write_faults files.old) (F.write_faults files.new) × GetsToWriting (F.files files.old) (meaning command.entry) }
     ensures files { OthersKept (meaning command.entry) (F.files files.old) (F.files files.new) }
@@ -199,5 +212,18 @@ fn reply_to<F: Shelf>(alloc: Global, command: Command, files: &mut F) -> Result<
             horizon,
             stem,
         } => audit_file(alloc, files, plant, horizon, stem),
+        Command::Parts { plant, levels } => parts_file(alloc, files, plant, levels),
+        Command::SolvePart {
+            plant,
+            part,
+            budget,
+            log,
+        } => solve_part_file(alloc, files, plant, part, budget, log),
+        Command::Join {
+            plant,
+            levels,
+            stem,
+            log,
+        } => join_file(alloc, files, plant, levels, stem, log),
     }
 }

@@ -18,8 +18,9 @@ returns-in_err-plant-clause-others g c = stay_below_same c.args.stem.now 337 (g.
 
 pub returns-clause-answer : goal.returns-clause-answer
 returns-clause-answer g c =
+    let same = c.in_ok-plant.ensures.same in
     traced_reply (g.F.Shelf.files c.args.files.now) (g.F.Shelf.files c.trace_plant.new.files) c.args.name.now c.args.budget.boxes c.args.stem.now c.in_ok-plant.plant c.trace_plant.result
-    c.in_ok-plant.ensures.read c.trace_plant.ensures.answer c.trace_plant.ensures.none
+    c.in_ok-plant.ensures.read (rw same at c.trace_plant.ensures.answer) c.trace_plant.ensures.none
 
 pub returns-clause-begun : goal.returns-clause-begun
 returns-clause-begun g c = λ _. (c.in_ok-plant.plant, c.in_ok-plant.ensures.read)

@@ -1,5 +1,5 @@
 use Rattle.std.proofs.Common.{inr}
-use Rattle.least_horizon.specs.LogNames.{logs_in}
+use Rattle.least_horizon.specs.LogNames.{logs_in, OthersStayBelow}
 use Rattle.stn_top.proofs.Horizons.{named-least, sought_is, found_stay}
 use Rattle.stn_top.proofs.seeking.trace_plant.Goals as goal
 
@@ -22,4 +22,6 @@ returns-in_err-found-in-Ok-clause-others g c =
 
 pub returns-in_ok-found-in-Ok-clause-answer : goal.returns-in_ok-found-in-Ok-clause-answer
 returns-in_ok-found-in-Ok-clause-answer g c =
-    sought_is c.args.plant.now c.args.budget.boxes (logs_in c.args.stem.now (g.F.Shelf.files c.least_to.new.files)) c.in-Ok.said c.in_ok-found-in-Ok.field-0 c.in-Ok.ensures.least c.in_ok-found-in-Ok.ensures
+    sought_is c.args.plant.now c.args.budget.boxes (logs_in c.args.stem.now (g.F.Shelf.files c.least_to.new.files))
+    (λ horizon. OthersStayBelow c.args.stem.now horizon (g.F.Shelf.files c.args.files.now) (g.F.Shelf.files c.least_to.new.files)) c.in-Ok.said c.in_ok-found-in-Ok.field-0 c.requires.sound
+    c.in-Ok.ensures.least c.in-Ok.ensures.others c.in_money.ensures c.in_ok-found-in-Ok.ensures

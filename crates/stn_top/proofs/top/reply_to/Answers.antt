@@ -1,7 +1,9 @@
 use Rattle.stn_top.proofs.AnswerLemmas.{logging_unwritten, tracing_unwritten}
 use Rattle.stn_top.proofs.ReplanLemmas.{replan_unwritten}
-use Rattle.stn_top.proofs.FileLemmas.{kept_log, kept_replan, kept_logs}
-use Rattle.stn_top.proofs.Horizons.{logs_allowed, all_logs_allowed}
+use Rattle.stn_top.proofs.FileLemmas.{kept_log, kept_replan, kept_logs, kept_part, kept_joined}
+use Rattle.std.proofs.Common.{ap}
+use Rattle.stn_top.specs.Words.{meaning}
+use Rattle.stn_top.proofs.Horizons.{logs_allowed, all_logs_allowed, parts_allowed}
 use Rattle.stn_top.proofs.top.reply_to.Goals as goal
 
 pub returns-in-Log-clause-unwritten : goal.returns-in-Log-clause-unwritten
@@ -41,3 +43,22 @@ audit_file-requires-clause-logs_readable g c =
     let may = g.F.Shelf.may_read c.args.files.now in
     let is = c.in-CheckLeast.is in
     logs_allowed may c.in-CheckLeast.plant.now c.in-CheckLeast.stem.now c.in-CheckLeast.horizon (rw is at c.requires.may_read)
+
+pub returns-in-SolvePart-clause-files : goal.returns-in-SolvePart-clause-files
+returns-in-SolvePart-clause-files g c =
+    rw c.in-SolvePart.is (kept_part c.in-SolvePart.plant.now c.in-SolvePart.part.levels.number c.in-SolvePart.part.number c.in-SolvePart.budget.boxes c.in-SolvePart.log.now
+    (g.F.Shelf.files c.args.files.now) (g.F.Shelf.files c.solve_part_file.new.files) c.solve_part_file.ensures.others)
+
+pub join_file-requires-clause-logs_readable : goal.join_file-requires-clause-logs_readable
+join_file-requires-clause-logs_readable g c =
+    let may = g.F.Shelf.may_read c.args.files.now in
+    let is = c.in-Join.is in
+    parts_allowed may c.in-Join.plant.now c.in-Join.stem.now c.in-Join.levels.number (rw is at c.requires.may_read)
+
+pub join_file-requires-clause-apart : goal.join_file-requires-clause-apart
+join_file-requires-clause-apart g c = c.requires.apart c.in-Join.plant.now c.in-Join.levels.number c.in-Join.stem.now c.in-Join.log.now (ap meaning c.in-Join.is)
+
+pub returns-in-Join-clause-files : goal.returns-in-Join-clause-files
+returns-in-Join-clause-files g c =
+    rw c.in-Join.is (kept_joined c.in-Join.plant.now c.in-Join.levels.number c.in-Join.stem.now c.in-Join.log.now
+    (g.F.Shelf.files c.args.files.now) (g.F.Shelf.files c.join_file.new.files) c.join_file.ensures.others)

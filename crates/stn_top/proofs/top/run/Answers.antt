@@ -1,6 +1,7 @@
 use Rattle.stn_top.specs.Words.{texts, meaning}
 use Rattle.stn_top.proofs.AnswerLemmas.{cut_off, none_cut_off}
 use Rattle.stn_top.proofs.FileLemmas.{kept_all, left_all}
+use Rattle.stn_top.proofs.PartWords.{says_apart, says_no_joining}
 use Rattle.stn_top.proofs.top.run.Goals as goal
 
 pub returns-in-Some-clause-part : goal.returns-in-Some-clause-part
@@ -22,3 +23,9 @@ pub returns-in-Some-clause-left : goal.returns-in-Some-clause-left
 returns-in-Some-clause-left g c =
     left_all (texts c.args.words.now) (meaning c.in-Some.command) (g.F.Shelf.files c.args.files.now) (g.F.Shelf.files c.answer.new.files)
     c.in-Some.ensures c.answer.ensures.files c.answer.ensures.left
+
+pub answer-requires-clause-apart : goal.answer-requires-clause-apart
+answer-requires-clause-apart g c = says_apart (texts c.args.words.now) (meaning c.in-Some.command) c.in-Some.ensures
+
+pub returns-in-Some-clause-unread : goal.returns-in-Some-clause-unread
+returns-in-Some-clause-unread g c = λ seven none. c.answer.ensures.unread seven (says_no_joining (texts c.args.words.now) (meaning c.in-Some.command) c.in-Some.ensures none)
