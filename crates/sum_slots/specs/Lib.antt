@@ -1,0 +1,4 @@
+pub mod Law
+pub mod Shown
+pub mod Sum
+pub mod Larger
