@@ -8,7 +8,7 @@ use stn_top::run;
 // A command, and the statuses that it ends with where its first call of the store fails, its second, and so on.
 type Command = (&'static [&'static str], &'static [u8]);
 
-const COMMANDS: [Command; 7] = [
+const COMMANDS: [Command; 10] = [
     (&["solve", "plant", "31"], &[7, 7]),
     (&["solve", "plant", "31", "log"], &[7, 7, 8, 8]),
     (&["simulate", "plant", "plan"], &[7, 7, 7, 7]),
@@ -16,17 +16,34 @@ const COMMANDS: [Command; 7] = [
     (&["check", "plant", "proof"], &[7, 7, 7, 7]),
     (&["upgrade", "plant"], &[7, 7]),
     (&["demo", "1"], &[]),
+    (&["parts", "plant", "1"], &[7, 7]),
+    (
+        &["solve-part", "plant", "1", "0", "31", "log"],
+        &[7, 7, 8, 8],
+    ),
+    (
+        &["join", "plant", "1", "half", "log"],
+        &[7, 7, 7, 7, 7, 7, 8, 7, 7, 7, 7, 8],
+    ),
 ];
 
 // How many bytes go through a call that fails.
 const BYTES: [u64; 3] = [0, 1, 7];
 
 // Files that no command changes.
-const KEPT: [(&str, &str); 3] = [
+const KEPT: [(&str, &str); 5] = [
     ("plant", TINY),
     ("plan", "0 U make 3\n1 U make 3\n"),
     (
         "proof",
+        "stn-log 1\nnode\ndual 1 0\nclaim optimal 60 2\nvalue 0 3\nvalue 1 3\nend\n",
+    ),
+    (
+        "half.0",
+        "stn-log 2\nnode\ndual 1 0\nclaim optimal 36 1\nvalue 1 3\nend\n",
+    ),
+    (
+        "half.1",
         "stn-log 1\nnode\ndual 1 0\nclaim optimal 60 2\nvalue 0 3\nvalue 1 3\nend\n",
     ),
 ];

@@ -18,6 +18,8 @@ mod logs;
 #[cfg(test)]
 mod logs_written;
 #[cfg(test)]
+mod parts;
+#[cfg(test)]
 mod plans;
 #[cfg(test)]
 mod plant_files;
