@@ -1,3 +1,4 @@
 pub mod Course
 pub mod Meaning
 pub mod Verdict
+pub mod laws

@@ -11,6 +11,7 @@ mod claims;
 mod course;
 mod log;
 mod points;
+mod started;
 mod verdict;
 
 pub use bytes::check_bytes;
