@@ -54,8 +54,9 @@ fn verdict(program: &Program, course: Course, began: u64, claim: Option<Claim>) 
 }
 
 /// Checks the log that lies in a file of the shelf, over the root of the rows, with at most so many splits one in another. It
-/// reads the file once, part by part, and takes memory by the depth of the proof, one certificate and one point. Each found point
-/// is tested against every row, so a log costs as many times the entries of all rows as it has found points.
+/// reads the file once, part by part, and takes memory by the depth of the proof, one certificate and one point. A found group
+/// costs the slots, one comparison for each row, and for each of its values and each row at most one search by halving among the
+/// row's entries.
 ///
 /// The answer is the first text defect of the log, where there is none the first meaning defect, and where there is none its
 /// claim: then what the claim says holds of all points. `Fault` comes only where a read failed.

@@ -8,8 +8,8 @@ ghost use Rattle.log_check.specs.laws.Started.{AreNextStarts, IsFirstFrom, slots
 
 use row_kit::{Entry, MOST_SLOTS, Program, Row};
 
-/// Whether a point keeps every row. It costs the slots, one comparison for each row, and for each row and each started slot two
-/// looks at the row's entries and one search among them by halving. Where no slot is started, no entry is looked at.
+/// Whether a point keeps every row. It costs the slots, one comparison for each row, and for each started slot and each row at
+/// most one search by halving among the row's entries. Where no slot is started, no entry is looked at.
 pub(crate) fn keeps_rows(program: &Program, point: &[u8]) -> bool
     requires { length point.now ≡ length program.now.root }
     ensures { IsTrue result ↔ All (IsKept point.now) program.now.rows }
