@@ -34,14 +34,14 @@ impl Model for Ahead {
 }
 
 impl Ahead {
-    // The first place of a file, with nothing held.
-    pub(crate) fn begin(alloc: Global) -> Result<Ahead, AllocError>
-        ensures place { IfOk result (λ held. held.place ≡ 0) }
+    // A place of a file, with nothing held.
+    pub(crate) fn begin_at(alloc: Global, place: u64) -> Result<Ahead, AllocError>
+        ensures place { IfOk result (λ held. held.place ≡ place) }
         ensures bytes { IfOk result (λ held. held.bytes ≡ []) }
     {
         let buffer = vec![in alloc; 0u8; BUFFER]?;
         Ok(Ahead {
-            place: 0,
+            place,
             buffer,
             start: 0,
             end: 0,

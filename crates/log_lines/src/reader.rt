@@ -53,7 +53,14 @@ impl LineReader {
     pub fn begin(alloc: Global) -> Result<LineReader, AllocError>
         ensures { IfOk result (λ reader. reader ≡ new_reading) }
     {
-        let ahead = Ahead::begin(alloc)?;
+        LineReader::begin_at(alloc, 0)
+    }
+
+    /// A reader at a place of a file: the first line that it reads begins there, and none where the file ends before it.
+    pub fn begin_at(alloc: Global, place: u64) -> Result<LineReader, AllocError>
+        ensures { IfOk result (λ reader. reader ≡ record new_reading { place = place }) }
+    {
+        let ahead = Ahead::begin_at(alloc, place)?;
         let line = vec![in alloc; 0u8; MOST_BYTES]?;
         Ok(LineReader {
             ahead,

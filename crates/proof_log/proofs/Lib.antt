@@ -12,5 +12,6 @@ pub mod Gathers
 pub mod Texts
 pub mod Reading
 pub mod PartsRead
+pub mod Headed
 pub mod SaidOfOthers
 pub mod CleanTexts

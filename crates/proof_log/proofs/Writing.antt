@@ -143,6 +143,17 @@ log_written name held files new rest later items claim took is =
     file_alone name (log_text 2 items claim) new
     (subst (IsWhole (at name [] new later)) (log_text-parts 2 items claim) (IsWhole-took (at name held files rest) (at name [] new later) (lines_text front) (lines_text (claim_lines claim ++ End ∷ [])) is took))
 
+-- any text and the lines of a proof, and then those of a claim and the end
+pub file_written : (name held text : List ℕ) (files new : Option FileMap) (rest later : Rest) (items : List RowItem) (claim : Claim) → Took (at name held files rest) (at name [] new later) (lines_text (claim_lines claim ++ End ∷ []))
+    → IsWhole (at name held files rest) (text ++ lines_text (flat_map item_lines items)) → IfSome new (λ m. file_of m name ≡ text ++ lines_text (flat_map item_lines items ++ (claim_lines claim ++ End ∷ [])))
+file_written name held text files new rest later items claim took is =
+    let proof = lines_text (flat_map item_lines items) in
+    let end = lines_text (claim_lines claim ++ End ∷ []) in
+    let joined : (text ++ proof) ++ end ≡ text ++ lines_text (flat_map item_lines items ++ (claim_lines claim ++ End ∷ [])) =
+    append_assoc text proof end ∙ ap (λ (bytes : List ℕ). text ++ bytes) (sym (lines_text-append (flat_map item_lines items) (claim_lines claim ++ End ∷ []))) in
+    file_alone name (text ++ lines_text (flat_map item_lines items ++ (claim_lines claim ++ End ∷ []))) new
+    (subst (IsWhole (at name [] new later)) joined (IsWhole-took (at name held files rest) (at name [] new later) (text ++ proof) end is took))
+
 -- a text after which nothing is taken
 pub Took-after : (a b c : Writing) (text : List ℕ) → Took a b text → Took b c [] → Took a c text
 Took-after a b c text first second = subst (Took a c) (append-nil text) (Took-then a b c text [] first second)

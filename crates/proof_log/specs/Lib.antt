@@ -6,6 +6,7 @@ pub mod OneText
 pub mod Gathering
 pub mod Agree
 pub mod Text
+pub mod Behind
 pub mod Gathered
 pub mod Step
 pub mod LogReading

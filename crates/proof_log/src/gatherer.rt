@@ -1,7 +1,7 @@
 //! The gathering of a log's lines into the items of its proof and its claim.
-ghost use Rattle.std.specs.Prelude.{◌≡◌, ◌+◌, ◌<◌, ◌^◌, ◌↔◌, List as Items, [], ◌∷◌, ◌++◌, None, IfOk, IsTrue};
+ghost use Rattle.std.specs.Prelude.{◌≡◌, ◌+◌, ◌<◌, ◌^◌, ◌↔◌, List as Items, [], ◌∷◌, ◌++◌, None, Some, IfOk, IsTrue};
 ghost use Rattle.log_lines.specs.declared.line.Line.{Line as AnyLine};
-ghost use Rattle.log_lines.specs.Grammar.{Standing, new_standing};
+ghost use Rattle.log_lines.specs.Grammar.{Standing, new_standing, next};
 ghost use Rattle.log_lines.specs.Line.{IsLine};
 ghost use Rattle.proof_log.specs.Agree.{IsBody};
 ghost use Rattle.proof_log.specs.declared.group.Group.TheVariants as Group;
@@ -56,6 +56,23 @@ impl Gatherer {
             number: 0,
             began: 2,
         }
+    }
+
+    /// A gatherer that has taken the first line of a log of version 2.
+    pub(crate) fn headed(alloc: Global, limits: Limits) -> Result<Gatherer, AllocError>
+        ensures limits { IfOk result (λ gatherer. gatherer.limits ≡ limits) }
+        ensures grammar { IfOk result (λ gatherer. next new_standing (AnyLine.Header 2) ≡ Some gatherer.grammar) }
+        ensures gathered { IfOk result (HasGathered (AnyLine.Header 2 ∷ []) [] None) }
+    {
+        let mut grammar = Grammar::new(alloc);
+        let _ = grammar.take(&limits, &Line::Header { version: 2 })?;
+        Ok(Gatherer {
+            limits,
+            grammar,
+            group: Group::Nothing,
+            number: 1,
+            began: 2,
+        })
     }
 
     /// Takes the next line of a log.

@@ -5,7 +5,8 @@
 //!
 //! `LogReader` reads a log from a file, part by part: items that may come one after another, the claim once they are those of a
 //! whole proof, and the end, with which the file is the text of a log without a defect; or the first text defect of the file. It
-//! holds the lines of one item at most. `read_log` gives the log of which some bytes are the text, so that `put_log` of it is
+//! holds the lines of one item at most. A reader may begin behind a head of the file: it reads the log of version 2 that would stand
+//! there with its first line, and `first_defect` gives the first defect of that log. `read_log` gives the log of which some bytes are the text, so that `put_log` of it is
 //! those bytes again, or their first text defect.
 #![tactic(auto)]
 
@@ -22,6 +23,7 @@ mod naming;
 mod nodes;
 mod parts;
 mod read;
+mod scan;
 mod whole;
 mod writer;
 
@@ -37,6 +39,7 @@ pub use log_reader::{LogPart, LogReader};
 pub use naming::log_name;
 pub use nodes::put_proof;
 pub use read::{LogStop, read_log};
+pub use scan::first_defect;
 pub use whole::put_log;
 pub use writer::LogWriter;
 

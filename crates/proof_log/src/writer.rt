@@ -1,6 +1,6 @@
 //! A log that is written to a file piece by piece.
 
-ghost use Rattle.std.specs.Prelude.{◌≡◌, ◌≤◌, List, [], ◌∷◌, ◌++◌, Err, IsTrue, IfOk, IfSome, OnOk, OnErr, flat_map, string_bytes};
+ghost use Rattle.std.specs.Prelude.{◌≡◌, ◌≤◌, ℕ, List, [], ◌∷◌, ◌++◌, Err, IsTrue, IfOk, IfSome, OnOk, OnErr, flat_map, string_bytes};
 ghost use Rattle.std.specs.Option.{option_map};
 ghost use Rattle.stn_edge.specs.Count.{Rose};
 ghost use Rattle.stn_edge.specs.Files.{file_of, cleared, MayClear};
@@ -47,8 +47,34 @@ impl LogWriter {
         ensures no_read { F.read_faults files.new ≡ F.read_faults files.old }
         ensures cause { result ≡ Err Stop.Failed → Rose (F.write_faults files.old) (F.write_faults files.new) }
     {
+        let mut line = Vec::new(alloc);
+        put_line(alloc, &Line::Header { version: 2 }, &mut line)?;
+        LogWriter::begin_with(alloc, files, name, line.as_slice())
+    }
+
+    /// Makes the file there and empty, and holds a head back in the place of the first line of a log. After an error the file is
+    /// as before, or there and empty.
+    pub fn begin_with<F: Shelf>(
+        alloc: Global,
+        files: &mut F,
+        name: &str,
+        head: &[u8],
+    ) -> Result<LogWriter, Stop>
+        requires { IsTrue (F.may_write files.old name.now) }
+        ensures name { IfOk result (λ writer. string_bytes writer.name ≡ name.now) }
+        ensures header { IfOk result (λ writer. writer.buffer.items ≡ head.now) }
+        ensures whole { IfOk result (λ writer.
+            IsWhole (writing F.files F.read_faults F.may_read F.may_write writer files.new) head.now) }
+        ensures ok { OnOk result (F.files files.new ≡ option_map (cleared name.now) (F.files files.old)) }
+        ensures err { OnErr result (MayClear name.now (F.files files.old) (F.files files.new)) }
+        ensures readable { F.may_read files.new ≡ F.may_read files.old }
+        ensures writable { F.may_write files.new ≡ F.may_write files.old }
+        ensures later { F.write_faults files.old ≤ F.write_faults files.new }
+        ensures no_read { F.read_faults files.new ≡ F.read_faults files.old }
+        ensures cause { result ≡ Err Stop.Failed → Rose (F.write_faults files.old) (F.write_faults files.new) }
+    {
         let mut buffer = Vec::with_capacity(alloc, PIECE)?;
-        put_line(alloc, &Line::Header { version: 2 }, &mut buffer)?;
+        buffer.extend_from_slice(head)?;
         let own_name = String::from_str(alloc, name)?;
         files.clear(name)?;
         Ok(LogWriter {
@@ -75,6 +101,13 @@ impl LogWriter {
             → IsWhole (writing F.files F.read_faults F.may_read F.may_write self files.old)
             (lines_text (Line.Header 2 ∷ flat_map item_lines items))
             → IfSome (F.files files.new) (λ m. file_of m (string_bytes self.name) ≡ log_text 2 items claim.now)) }
+
+        // The same behind any text in the place of the first line.
+        ensures file { OnOk result ((text : List ℕ) (items : List RowItem)
+            → IsWhole (writing F.files F.read_faults F.may_read F.may_write self files.old)
+            (text ++ lines_text (flat_map item_lines items))
+            → IfSome (F.files files.new) (λ m. file_of m (string_bytes self.name)
+            ≡ text ++ lines_text (flat_map item_lines items ++ (claim_lines claim.now ++ Line.End ∷ [])))) }
         ensures readable { F.may_read files.new ≡ F.may_read files.old }
         ensures writable { F.may_write files.new ≡ F.may_write files.old }
         ensures later { F.write_faults files.old ≤ F.write_faults files.new }

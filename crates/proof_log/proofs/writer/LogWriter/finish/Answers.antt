@@ -1,10 +1,10 @@
-use Rattle.std.proofs.Common.{◌≡◌, List, [], ◌∷◌, ◌++◌, string_bytes}
+use Rattle.std.proofs.Common.{◌≡◌, ℕ, List, [], ◌∷◌, ◌++◌, string_bytes}
 use Rattle.std.proofs.lemmas.Result.{on_err_weaker, on_ok_weaker}
 use Rattle.log_lines.specs.declared.line.Line.TheVariants.{End}
 use Rattle.row_relax.specs.RowProofs.{RowItem}
 use Rattle.proof_log.specs.Log.{claim_lines, lines_text}
 use Rattle.proof_log.specs.Writer.{Took, Broke}
-use Rattle.proof_log.proofs.Writing.{rest_of, at, Took-held, Took-after, Took-renamed, Broke-held, Broke-after, Broke-renamed, OnErr-holds, OnOk-both, log_written}
+use Rattle.proof_log.proofs.Writing.{rest_of, at, Took-held, Took-after, Took-renamed, Broke-held, Broke-after, Broke-renamed, OnErr-holds, OnOk-both, log_written, file_written}
 use Rattle.proof_log.proofs.writer.LogWriter.finish.Goals as goal
 
 pub returns-in_err-put_claim-clause-broke : goal.returns-in_err-put_claim-clause-broke
@@ -51,4 +51,13 @@ returns-clause-log g c =
     let new = g.F.Shelf.files c.flush.new.files in
     on_ok_weaker c.flush.result
     (λ took (items : List RowItem) is. log_written name c.args.self.buffer.items files new (rest_of g.F.Shelf.read_faults g.F.Shelf.may_read g.F.Shelf.may_write c.args.files.now) (rest_of g.F.Shelf.read_faults g.F.Shelf.may_read g.F.Shelf.may_write c.flush.new.files) items c.args.claim.now took is)
+    (returns-clause-took g c)
+
+pub returns-clause-file : goal.returns-clause-file
+returns-clause-file g c =
+    let name = string_bytes c.args.self.name in
+    let files = g.F.Shelf.files c.args.files.now in
+    let new = g.F.Shelf.files c.flush.new.files in
+    on_ok_weaker c.flush.result
+    (λ took (text : List ℕ) (items : List RowItem) is. file_written name c.args.self.buffer.items text files new (rest_of g.F.Shelf.read_faults g.F.Shelf.may_read g.F.Shelf.may_write c.args.files.now) (rest_of g.F.Shelf.read_faults g.F.Shelf.may_read g.F.Shelf.may_write c.flush.new.files) items c.args.claim.now took is)
     (returns-clause-took g c)
