@@ -27,6 +27,7 @@ use Rattle.row_relax.specs.laws.Shown.{domains_of-view_of, fits_of}
 use Rattle.row_relax.specs.Steps.{row_steps}
 use Rattle.row_relax.specs.View.{Fits, IsIn, view_of}
 use Rattle.stn_edge.specs.Files.{FileMap, file_of}
+use Rattle.proof_log.specs.Behind.{behind}
 use Rattle.log_lines.specs.TextDefect.{log_text_defect}
 use Rattle.proof_log.specs.declared.claim.Claim.{Claim}
 use Rattle.proof_log.specs.declared.claim.Claim.TheVariants.{Optimal, Infeasible, Between, Below}
@@ -111,26 +112,26 @@ meant_of program depth bytes version tree claim (Ended proof_cap) walk views beg
   meaning = inr (record { proof_cap = proof_cap; proved = stand; line = answer.0 ∙ at; has = answer.1 });
 }
 
--- the answer on whole items and their claim is the verdict on the file
-pub end_verdict : (told : Option FileMap) (name : List ℕ) (program : Program) (depth version : ℕ) (items : List RowItem) (claim : Claim) (course : Course) (walk : RowWalk) (views : List View) (began : ℕ) (verdict : LogVerdict)
-    → AreWhole items → IfSome told (λ m. IsClean (limits_of program depth) (file_of m name) version items claim)
+-- the answer on whole items and their claim is the verdict on the log behind a head of the file
+pub end_verdict : (told : Option FileMap) (name : List ℕ) (head : ℕ) (program : Program) (depth version : ℕ) (items : List RowItem) (claim : Claim) (course : Course) (walk : RowWalk) (views : List View) (began : ℕ) (verdict : LogVerdict)
+    → AreWhole items → IfSome told (λ m. IsClean (limits_of program depth) (behind head (file_of m name)) version items claim)
     → StandsAt (row_steps program) program (view_of program.root) items course walk views → began ≡ line_after items
-    → IsEndVerdict program course began claim verdict → IfSome told (λ m. IsVerdict program depth (file_of m name) verdict)
-end_verdict None name program depth version items claim course walk views began verdict whole clean stand at answer = tt
-end_verdict (Some m) name program depth version items claim course walk views began verdict whole clean stand at answer =
+    → IsEndVerdict program course began claim verdict → IfSome told (λ m. IsVerdict program depth (behind head (file_of m name)) verdict)
+end_verdict None name head program depth version items claim course walk views began verdict whole clean stand at answer = tt
+end_verdict (Some m) name head program depth version items claim course walk views began verdict whole clean stand at answer =
     let own = whole_tree items whole in
-    let bytes = file_of m name in
+    let bytes = behind head (file_of m name) in
     subst (λ o. IsVerdictGiven program bytes o verdict) (sym clean.clean)
     (meant_of program depth bytes version own.0 claim course walk views began verdict
     (subst (λ xs. IsClean (limits_of program depth) bytes version xs claim) own.1 clean)
     (subst (λ xs. StandsAt (row_steps program) program (view_of program.root) xs course walk views) own.1 stand)
     (subst (λ xs. began ≡ line_after xs) own.1 at) answer)
 
--- a text defect is the verdict on the file
-pub bad_verdict : (told : Option FileMap) (name : List ℕ) (program : Program) (depth : ℕ) (defect : Defect)
-    → IfSome told (λ m. log_text_defect (limits_of program depth) (file_of m name) ≡ Some (defect.line, defect.kind)) → IfSome told (λ m. IsVerdict program depth (file_of m name) (No defect))
-bad_verdict None name program depth defect is = tt
-bad_verdict (Some m) name program depth defect is = subst (λ o. IsVerdictGiven program (file_of m name) o (No defect)) (sym is) (refl, refl)
+-- a text defect is the verdict on the log behind a head of the file
+pub bad_verdict : (told : Option FileMap) (name : List ℕ) (head : ℕ) (program : Program) (depth : ℕ) (defect : Defect)
+    → IfSome told (λ m. log_text_defect (limits_of program depth) (behind head (file_of m name)) ≡ Some (defect.line, defect.kind)) → IfSome told (λ m. IsVerdict program depth (behind head (file_of m name)) (No defect))
+bad_verdict None name head program depth defect is = tt
+bad_verdict (Some m) name head program depth defect is = subst (λ o. IsVerdictGiven program (behind head (file_of m name)) o (No defect)) (sym is) (refl, refl)
 
 -- where the answer is yes, what the claim says holds of all points
 pub end_holds : (program : Program) (items : List RowItem) (claim : Claim) (course : Course) (walk : RowWalk) (views : List View) (began : ℕ) (verdict : LogVerdict)

@@ -2,6 +2,7 @@
 use Rattle.std.proofs.Common.{◌≡◌, ◌≢◌, ℕ, List, [], ◌∷◌, ◌++◌, map, Option, Some, None, IfSome, refl, sym, subst, IsSome}
 use Rattle.row_kit.specs.declared.program.Program.{Program}
 use Rattle.stn_edge.specs.Files.{FileMap, file_of}
+use Rattle.proof_log.specs.Behind.{behind}
 use Rattle.proof_tree.specs.declared.walk.Expected.TheVariants.{Node}
 use Rattle.proof_tree.specs.Views.{present}
 use Rattle.row_relax.specs.Steps.{row_steps}
@@ -26,19 +27,19 @@ abbrev pub Stood : Program → List RowItem → Checker → Type 0
 Stood program items checker = StandsAt (row_steps program) program (view_of program.root) items checker.course checker.walk (map view_of checker.area)
 
 -- the items that were read are those that the check has taken, and the claim that was read begins after them
-pub record HasTaken (program : Program) (depth : ℕ) (told : Option FileMap) (name : List ℕ) (reader : LogReader) (checker : Checker) (began : ℕ) (claimed : Option Claim) : Type 0 where
+pub record HasTaken (program : Program) (depth : ℕ) (told : Option FileMap) (name : List ℕ) (head : ℕ) (reader : LogReader) (checker : Checker) (began : ℕ) (claimed : Option Claim) : Type 0 where
   pub fits : Fits program (present (map view_of checker.area))
   pub ready : IsReady (row_steps program) checker.course checker.walk (map view_of checker.area)
   pub items : List RowItem
-  pub read : HasRead told name (limits_of program depth) items claimed reader
+  pub read : HasRead told name head (limits_of program depth) items claimed reader
   pub stands : Stood program items checker
   pub at : IfSome claimed (λ claim. began ≡ line_after items)
 
 -- before the first part
-pub begun : (program : Program) (depth : ℕ) (told : Option FileMap) (name : List ℕ) (reader : LogReader) (checker : Checker) (began : ℕ)
-    → HasRead told name (limits_of program depth) [] None reader → Fits program (present (map view_of checker.area)) → checker.area ≡ program.root ∷ []
-    → checker.course ≡ Going → checker.walk.first ≡ None → checker.walk.splits ≡ [] → checker.walk.expected ≡ Node → HasTaken program depth told name reader checker began None
-begun program depth told name reader checker began read fits area course first splits expected = record {
+pub begun : (program : Program) (depth : ℕ) (told : Option FileMap) (name : List ℕ) (head : ℕ) (reader : LogReader) (checker : Checker) (began : ℕ)
+    → HasRead told name head (limits_of program depth) [] None reader → Fits program (present (map view_of checker.area)) → checker.area ≡ program.root ∷ []
+    → checker.course ≡ Going → checker.walk.first ≡ None → checker.walk.splits ≡ [] → checker.walk.expected ≡ Node → HasTaken program depth told name head reader checker began None
+begun program depth told name head reader checker began read fits area course first splits expected = record {
   fits = fits;
   ready = rw course (rw first splits);
   items = [];
@@ -47,12 +48,12 @@ begun program depth told name reader checker began read fits area course first s
   at = tt;
 }
 
-module _ {program : Program} {depth : ℕ} {told : Option FileMap} {name : List ℕ} {reader : LogReader} {checker : Checker} {began : ℕ} {claimed : Option Claim}
-    (taken : HasTaken program depth told name reader checker began claimed) (later : LogReader) (part : LogPart)
-    (is_part : IsPartAfter told name (limits_of program depth) taken.items claimed later part) where
+module _ {program : Program} {depth : ℕ} {told : Option FileMap} {name : List ℕ} {head : ℕ} {reader : LogReader} {checker : Checker} {began : ℕ} {claimed : Option Claim}
+    (taken : HasTaken program depth told name head reader checker began claimed) (later : LogReader) (part : LogPart)
+    (is_part : IsPartAfter told name head (limits_of program depth) taken.items claimed later part) where
   -- the part that was read
-  part_is : (own : LogPart) → part ≡ own → IsPartAfter told name (limits_of program depth) taken.items claimed later own
-  part_is own is = subst (IsPartAfter told name (limits_of program depth) taken.items claimed later) is is_part
+  part_is : (own : LogPart) → part ≡ own → IsPartAfter told name head (limits_of program depth) taken.items claimed later own
+  part_is own is = subst (IsPartAfter told name head (limits_of program depth) taken.items claimed later) is is_part
 
   -- an item that was read may be taken
   pub item_may : (line : ℕ) (item : RowItem) → part ≡ ItemPart line item → MayTake (row_steps program) checker.course checker.walk (present (map view_of checker.area)) item
@@ -64,20 +65,20 @@ module _ {program : Program} {depth : ℕ} {told : Option FileMap} {name : List 
   pub item_taken : (line : ℕ) (item : RowItem) (new : Checker) → part ≡ ItemPart line item
       → Fits program (present (map view_of new.area)) → IsReady (row_steps program) new.course new.walk (map view_of new.area)
       → (line ≡ line_after taken.items → Stood program taken.items checker → Stood program (taken.items ++ item ∷ []) new)
-      → HasTaken program depth told name later new began claimed
+      → HasTaken program depth told name head later new began claimed
   item_taken line item new is fits ready stands =
       let own = part_is (ItemPart line item) is in
       record {
         fits = fits;
         ready = ready;
         items = taken.items ++ item ∷ [];
-        read = subst (λ c. HasRead told name (limits_of program depth) (taken.items ++ item ∷ []) c later) (sym own.0) own.4;
+        read = subst (λ c. HasRead told name head (limits_of program depth) (taken.items ++ item ∷ []) c later) (sym own.0) own.4;
         stands = stands own.1 taken.stands;
         at = subst (λ c. IfSome c (λ claim. began ≡ line_after (taken.items ++ item ∷ []))) (sym own.0) tt;
       }
 
   -- a claim that was read begins after the items
-  pub claim_taken : (line : ℕ) (made : Claim) → part ≡ ClaimPart line made → HasTaken program depth told name later checker line (Some made)
+  pub claim_taken : (line : ℕ) (made : Claim) → part ≡ ClaimPart line made → HasTaken program depth told name head later checker line (Some made)
   claim_taken line made is =
       let own = part_is (ClaimPart line made) is in
       record { fits = taken.fits; ready = taken.ready; items = taken.items; read = own.3; stands = taken.stands; at = own.1 }
@@ -93,12 +94,12 @@ module _ {program : Program} {depth : ℕ} {told : Option FileMap} {name : List 
     answer_on : (made : Claim) → claimed ≡ Some made → IsEndVerdict program checker.course began made verdict
     answer_on made has = subst (λ c. IfSome c (λ claim. IsEndVerdict program checker.course began claim verdict)) has answer
 
-    -- the answer at the end is the verdict on the file
-    pub taken_verdict : IfSome told (λ m. IsVerdict program depth (file_of m name) verdict)
+    -- the answer at the end is the verdict on the log behind the head
+    pub taken_verdict : IfSome told (λ m. IsVerdict program depth (behind head (file_of m name)) verdict)
     taken_verdict =
         let own = part_is (EndPart version) is in
         let made = own.1.0 in
-        end_verdict told name program depth version taken.items made checker.course checker.walk (map view_of checker.area) began verdict own.0 own.1.2
+        end_verdict told name head program depth version taken.items made checker.course checker.walk (map view_of checker.area) began verdict own.0 own.1.2
         taken.stands (subst (λ c. IfSome c (λ claim. began ≡ line_after taken.items)) own.1.1 taken.at) (answer_on made own.1.1)
 
     pub taken_holds : YesHolds program verdict

@@ -2,6 +2,7 @@
 ghost use Rattle.std.specs.Prelude.{◌≡◌, ◌≢◌, ◌≤◌, Err, IfOk, IfSome, IsSome, IsTrue};
 ghost use Rattle.stn_edge.specs.Count.{Rose};
 ghost use Rattle.stn_edge.specs.Files.{file_of};
+ghost use Rattle.proof_log.specs.Behind.{behind};
 ghost use Rattle.log_check.specs.Verdict.{IsVerdict, YesHolds, IsClaimVerdict, IsEndVerdict, limits_of};
 
 use crate::checker::Checker;
@@ -78,7 +79,31 @@ pub fn check_rows<F: Shelf>(
     ensures later { F.read_faults files.old ≤ F.read_faults files.new }
     ensures no_write { F.write_faults files.new ≡ F.write_faults files.old }
 {
-    let mut reader = LogReader::begin(alloc, limits_of(&rows.program, depth))?;
+    check_behind(alloc, rows, depth, 0, files, name)
+}
+
+/// Checks the log behind a head of so many bytes of a file (0: of the whole file), as `check_rows` checks one. Lines are counted
+/// from the first line of that log on.
+pub fn check_behind<F: Shelf>(
+    alloc: Global,
+    rows: &Rows,
+    depth: u32,
+    head: u64,
+    files: &mut F,
+    name: &str,
+) -> Result<LogVerdict, CheckStop>
+    requires { IsTrue (F.may_read files.old name.now) }
+    ensures verdict { IfOk result (λ verdict. IfSome (F.files files.old)
+        (λ m. IsVerdict rows.now.program depth (behind head (file_of m name.now)) verdict)) }
+    ensures holds { IfOk result (YesHolds rows.now.program) }
+    ensures fault { result ≡ Err CheckStop.Fault → Rose (F.read_faults files.old) (F.read_faults files.new) }
+    ensures same { F.files files.new ≡ F.files files.old }
+    ensures readable { F.may_read files.new ≡ F.may_read files.old }
+    ensures writable { F.may_write files.new ≡ F.may_write files.old }
+    ensures later { F.read_faults files.old ≤ F.read_faults files.new }
+    ensures no_write { F.write_faults files.new ≡ F.write_faults files.old }
+{
+    let mut reader = LogReader::begin_behind(alloc, limits_of(&rows.program, depth), head)?;
     let mut checker = Checker::new(alloc, rows)?;
     let mut began = 0;
     let mut claimed = None;

@@ -1,6 +1,7 @@
 //! The checker of proof logs: it says whether the claim of a log is proved.
 //!
-//! `check_rows` reads a log in a file once, part by part, `check_bytes` takes one as bytes, and `check_log` as a proof and a claim.
+//! `check_rows` reads a log in a file once, part by part, and `check_behind` one that stands behind a head of its file;
+//! `check_bytes` takes one as bytes, and `check_log` as a proof and a claim.
 //! Where they say yes, what the claim says holds of all points. Where they say no, they name the first defect.
 #![tactic(auto)]
 
@@ -15,6 +16,6 @@ mod started;
 mod verdict;
 
 pub use bytes::check_bytes;
-pub use checking::check_rows;
+pub use checking::{check_behind, check_rows};
 pub use log::check_log;
 pub use verdict::{CheckStop, LogVerdict};

@@ -5,9 +5,9 @@
 //!
 //! `LogReader` reads a log from a file, part by part: items that may come one after another, the claim once they are those of a
 //! whole proof, and the end, with which the file is the text of a log without a defect; or the first text defect of the file. It
-//! holds the lines of one item at most. A reader may begin behind a head of the file: it reads the log of version 2 that would stand
-//! there with its first line, and `first_defect` gives the first defect of that log. `read_log` gives the log of which some bytes are the text, so that `put_log` of it is
-//! those bytes again, or their first text defect.
+//! holds the lines of one item at most. Behind a head of the file it reads the log of version 2 whose first line stood there.
+//! `first_defect` gives the first text defect of a log, or none. `read_log` gives the log of which some bytes are the text, so
+//! that `put_log` of it is those bytes again, or their first text defect.
 #![tactic(auto)]
 
 mod claim;

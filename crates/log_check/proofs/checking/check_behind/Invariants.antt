@@ -1,7 +1,7 @@
 -- The check has taken what the reader has read.
 use Rattle.std.proofs.Common.{◌≡◌, ◌≤◌}
 use Rattle.log_check.proofs.Taking.{HasTaken}
-use Rattle.log_check.proofs.checking.check_rows.Given as goal
+use Rattle.log_check.proofs.checking.check_behind.Given as goal
 
 abbrev pub invariant-parts : goal.invariant-parts
 invariant-parts g l = record {
@@ -10,5 +10,5 @@ invariant-parts g l = record {
   writable : g.F.Shelf.may_write l.files ≡ g.F.Shelf.may_write l.initial.files;
   no_write : g.F.Shelf.write_faults l.files ≡ g.F.Shelf.write_faults l.initial.files;
   later : g.F.Shelf.read_faults l.initial.files ≤ g.F.Shelf.read_faults l.files;
-  taken : HasTaken l.rows.program l.depth (g.F.Shelf.files l.files) l.name l.reader l.checker l.began l.claimed;
+  taken : HasTaken l.rows.program l.depth (g.F.Shelf.files l.files) l.name l.fn.head l.reader l.checker l.began l.claimed;
 }
