@@ -49,7 +49,7 @@ stays_said P name (Some m) (Some n) same is =
 
 -- what a reader has read of a file it has read where the file stays
 pub read_stays : (name : List ℕ) (limits : Limits) (items : List RowItem) (claim : Option Claim) (r : LogReader) (old new : Option FileMap)
-    → option_map (λ (m : FileMap). file_of m name) new ≡ option_map (λ (m : FileMap). file_of m name) old → HasRead old name limits items claim r → HasRead new name limits items claim r
+    → option_map (λ (m : FileMap). file_of m name) new ≡ option_map (λ (m : FileMap). file_of m name) old → HasRead old name 0 limits items claim r → HasRead new name 0 limits items claim r
 read_stays name limits items claim r old new same read = record {
   lines = read.lines;
   gathered = read.gathered;
@@ -70,7 +70,7 @@ front_at limits version p group claim bytes rest tree items lines is over fresh 
     (sym is.text ∙ read ∙ ap (λ (own : List Line). lines_text own ++ rest) listed)
 
 -- what a reader has read of a log are its first items
-pub front_read : (limits : Limits) (name : List ℕ) (m : FileMap) (items : List RowItem) (claim : Option Claim) (r : LogReader) (tree : RowTree) → IsLogOf limits (file_of m name) tree → HasRead (Some m) name limits items claim r
+pub front_read : (limits : Limits) (name : List ℕ) (m : FileMap) (items : List RowItem) (claim : Option Claim) (r : LogReader) (tree : RowTree) → IsLogOf limits (file_of m name) tree → HasRead (Some m) name 0 limits items claim r
     → (later : List RowItem) × (tree_items tree ≡ items ++ later)
 front_read limits name m items claim r tree is read =
     let g = r.gatherer in
@@ -81,7 +81,7 @@ front_read limits name m items claim r tree is read =
 pub record HasReadOn (limits : Limits) (name : List ℕ) (old : Option FileMap) (writer : LogWriter) (new : Option FileMap) (later : LogWriter) (r : LogReader) : Type 0 where
   pub items : List RowItem
   pub claim : Option Claim
-  pub read : HasRead new name limits items claim r
+  pub read : HasRead new name 0 limits items claim r
   pub same : option_map (λ (m : FileMap). file_of m name) new ≡ option_map (λ (m : FileMap). file_of m name) old
   pub has : (before : List RowItem) → HasItems writer old before → HasItems later new (before ++ items)
 
@@ -103,7 +103,7 @@ begun_front name files before items later all_items is begun =
 
 -- the reading of a log broke off after some items, of which a first part was written
 pub broken_off : (limits : Limits) (name own : List ℕ) (old now new : Option FileMap) (writer : LogWriter) (items : List RowItem) (claim : Option Claim) (r : LogReader) → own ≡ name_of writer
-    → option_map (λ (m : FileMap). file_of m name) now ≡ option_map (λ (m : FileMap). file_of m name) old → HasRead now name limits items claim r
+    → option_map (λ (m : FileMap). file_of m name) now ≡ option_map (λ (m : FileMap). file_of m name) old → HasRead now name 0 limits items claim r
     → ((before : List RowItem) → HasItems writer old before → IsBegun own new (before ++ items)) → HasBrokenOff limits name old writer new
 broken_off limits name own None now new writer items claim r named same read begun = tt
 broken_off limits name own (Some m) None new writer items claim r named same read begun = absurd cc
@@ -114,7 +114,7 @@ broken_off limits name own (Some m) (Some n) new writer items claim r named same
 
 -- the reader is at the end of a log whose items a writer has
 pub copied_end : (limits : Limits) (name : List ℕ) (old new : Option FileMap) (writer later : LogWriter) (r s : LogReader) (version : ℕ) (on : HasReadOn limits name old writer new later r)
-    → IsPartAfter new name limits on.items on.claim s (EndPart version) → HasCopied limits name old writer new later {D = Defect} None
+    → IsPartAfter new name 0 limits on.items on.claim s (EndPart version) → HasCopied limits name old writer new later {D = Defect} None
 copied_end limits name None new writer later r s version on part = tt
 copied_end limits name (Some m) None writer later r s version on part = absurd (let same = on.same in cc)
 copied_end limits name (Some m) (Some n) writer later r s version on part = λ tree is before has.
@@ -135,7 +135,7 @@ copied_end limits name (Some m) (Some n) writer later r s version on part = λ t
 
 -- a log without a text defect shows none
 pub copied_bad : (limits : Limits) (name : List ℕ) (old new : Option FileMap) (writer later : LogWriter) (r s : LogReader) (defect : Defect) (on : HasReadOn limits name old writer new later r)
-    → IsPartAfter new name limits on.items on.claim s (BadPart defect) → HasCopied limits name old writer new later (Some defect)
+    → IsPartAfter new name 0 limits on.items on.claim s (BadPart defect) → HasCopied limits name old writer new later (Some defect)
 copied_bad limits name None new writer later r s defect on part = tt
 copied_bad limits name (Some m) None writer later r s defect on part = absurd (let same = on.same in cc)
 copied_bad limits name (Some m) (Some n) writer later r s defect on part = λ tree is before has.
@@ -146,7 +146,7 @@ copied_bad limits name (Some m) (Some n) writer later r s defect on part = λ tr
 
 -- the reader has read one more item, which the writer took
 pub item_copied : (limits : Limits) (name : List ℕ) (old now new : Option FileMap) (writer mid later : LogWriter) (r s : LogReader) (line : ℕ) (item : RowItem) (on : HasReadOn limits name old writer now mid r)
-    → IsPartAfter now name limits on.items on.claim s (ItemPart line item) → option_map (λ (m : FileMap). file_of m name) new ≡ option_map (λ (m : FileMap). file_of m name) now
+    → IsPartAfter now name 0 limits on.items on.claim s (ItemPart line item) → option_map (λ (m : FileMap). file_of m name) new ≡ option_map (λ (m : FileMap). file_of m name) now
     → ((items : List RowItem) → HasItems mid now items → HasItems later new (items ++ item ∷ [])) → HasReadOn limits name old writer new later s
 item_copied limits name old now new writer mid later r s line item on part stays took = record {
   items = on.items ++ item ∷ [];
@@ -158,11 +158,11 @@ item_copied limits name old now new writer mid later r s line item on part stays
 
 -- the reader has read the claim
 pub claim_read : (limits : Limits) (name : List ℕ) (old now : Option FileMap) (writer mid : LogWriter) (r s : LogReader) (line : ℕ) (made : Claim) (on : HasReadOn limits name old writer now mid r)
-    → IsPartAfter now name limits on.items on.claim s (ClaimPart line made) → HasReadOn limits name old writer now mid s
+    → IsPartAfter now name 0 limits on.items on.claim s (ClaimPart line made) → HasReadOn limits name old writer now mid s
 claim_read limits name old now writer mid r s line made on part = record { items = on.items; claim = Some made; read = part.3; same = on.same; has = on.has }
 
 -- a reader that begins
-pub read_on : (limits : Limits) (name : List ℕ) (old : Option FileMap) (writer : LogWriter) (r : LogReader) → HasRead old name limits [] None r → HasReadOn limits name old writer old writer r
+pub read_on : (limits : Limits) (name : List ℕ) (old : Option FileMap) (writer : LogWriter) (r : LogReader) → HasRead old name 0 limits [] None r → HasReadOn limits name old writer old writer r
 read_on limits name old writer r read = record { items = []; claim = None; read = read; same = refl; has = λ before has. subst (HasItems writer old) (sym (append-nil before)) has }
 
 -- what holds holds after an error
@@ -183,7 +183,7 @@ on_broken limits name old now new writer mid r named still on =
 
 -- the writer broke off in the next item
 pub item_broken : (limits : Limits) (name : List ℕ) (old now next new : Option FileMap) (writer mid : LogWriter) (r s : LogReader) (line : ℕ) (item : RowItem) (on : HasReadOn limits name old writer now mid r) → name_of mid ≡ name_of writer → next ≡ now
-    → IsPartAfter now name limits on.items on.claim s (ItemPart line item) → ((items : List RowItem) → HasItems mid next items → IsBegun (name_of mid) new (items ++ item ∷ [])) → HasBrokenOff limits name old writer new
+    → IsPartAfter now name 0 limits on.items on.claim s (ItemPart line item) → ((items : List RowItem) → HasItems mid next items → IsBegun (name_of mid) new (items ++ item ∷ [])) → HasBrokenOff limits name old writer new
 item_broken limits name old now next new writer mid r s line item on named still part broke =
     broken_off limits name (name_of mid) old now new writer (on.items ++ item ∷ []) None s named on.same part.4
     (λ before has.

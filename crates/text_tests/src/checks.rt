@@ -1,11 +1,12 @@
 //! Logs over a program without slots.
-use log_check::{LogVerdict, check_bytes, check_log};
+use log_check::{LogVerdict, check_behind, check_bytes, check_log};
 use log_lines::Limits;
 use proof_log::{Defect, LogStop, read_log};
 use row_kit::{List, Program};
 use row_relax::Rows;
 use std::alloc::{AllocError, Global};
 use std::test::Fail;
+use stn_edge::FixedShelf;
 
 // A program without slots and rows: its only point is worth 5.
 fn bare(alloc: Global) -> Option<Program> {
@@ -55,12 +56,32 @@ fn are_judged(alloc: Global, rows: &Rows) -> Result<bool, AllocError> {
     Ok(true)
 }
 
+// Whether each log gets its verdict where its first line, 10 bytes, is a head. The line `point`, which only version 2 has, may
+// stand there then.
+fn are_judged_behind(alloc: Global, rows: &Rows) -> Result<bool, AllocError> {
+    for (bytes, line, kind) in LOGS {
+        let line = if kind == 1 { 0 } else { line };
+        let mut shelf = FixedShelf::new(alloc);
+        shelf.put_file("log", bytes)?;
+        match check_behind(alloc, rows, 4_608, 10, &mut shelf, "log") {
+            Ok(verdict) => {
+                if !is_verdict(verdict, line, kind) {
+                    return Ok(false);
+                }
+            }
+            Err(_) => return Err(AllocError),
+        }
+    }
+    Ok(true)
+}
+
 #[test]
 fn logs_are_judged(rt: HostRuntime) -> Result<(), Fail> {
     let rows = Rows {
         program: bare(rt.alloc()).ok_or("bounds")?,
     };
     assert!(rt; are_judged(rt.alloc(), &rows)?);
+    assert!(rt; are_judged_behind(rt.alloc(), &rows)?);
     Ok(())
 }
 

@@ -2,15 +2,16 @@
 use dual_bound::{Cert, Mult};
 use log_lines::Limits;
 use proof_log::{
-    Claim, Defect, LogStop, LogWriter, put_claim, put_item, put_log, put_proof, read_log,
+    Claim, Defect, LogStop, LogWriter, first_defect, put_claim, put_item, put_log, put_proof,
+    read_log,
 };
 use proof_tree::{End, Item, List as Cuts, NodeTaker, Proof, TakeStop};
 use range_prop::RowCut;
 use row_kit::{Found, List};
-use row_relax::{RowPick, RowProof};
+use row_relax::{RowPick, RowProof, Rows};
 use std::alloc::{AllocError, Global};
 use std::test::Fail;
-use stn_edge::{MemShelf, Stop};
+use stn_edge::{FixedShelf, MemShelf, Stop};
 
 /// A point of three slots, with a start in the first and in the last.
 fn point(alloc: Global) -> Result<List<u8>, AllocError> {
@@ -106,16 +107,29 @@ fn puts_claims(rt: HostRuntime) -> Result<(), Fail> {
     Ok(())
 }
 
+/// Writes an item.
+fn write(writer: &mut LogWriter, shelf: &mut MemShelf, item: &Item<Rows>) -> Result<(), Stop> {
+    match writer.put(shelf, item) {
+        Ok(()) => Ok(()),
+        Err(TakeStop::Failed) => Err(Stop::Failed),
+        Err(TakeStop::Memory) => Err(Stop::Memory),
+    }
+}
+
 /// Writes a log of that many nodes, as if each stood alone.
 fn write_nodes(alloc: Global, shelf: &mut MemShelf, count: u32) -> Result<(), Stop> {
     let mut writer = LogWriter::begin(alloc, shelf, "log")?;
     for _ in 0..count {
-        match writer.put(shelf, &Item::Node) {
-            Ok(()) => {}
-            Err(TakeStop::Failed) => return Err(Stop::Failed),
-            Err(TakeStop::Memory) => return Err(Stop::Memory),
-        }
+        write(&mut writer, shelf, &Item::Node)?;
     }
+    writer.finish(shelf, &Claim::Infeasible)
+}
+
+/// Writes a log of one node behind a head.
+fn write_behind(alloc: Global, shelf: &mut MemShelf, head: &[u8]) -> Result<(), Stop> {
+    let mut writer = LogWriter::begin_with(alloc, shelf, "log", head)?;
+    write(&mut writer, shelf, &Item::Node)?;
+    write(&mut writer, shelf, &Item::Empty)?;
     writer.finish(shelf, &Claim::Infeasible)
 }
 
@@ -132,6 +146,19 @@ fn writes_logs(rt: HostRuntime) -> Result<(), Fail> {
     assert!(rt; log(&shelf) == short.as_slice());
     write_nodes(rt.alloc(), &mut shelf, 1000)?;
     assert!(rt; log(&shelf).len() == 10 + 5000 + 21);
+    Ok(())
+}
+
+#[test]
+fn writes_behind_a_head(rt: HostRuntime) -> Result<(), Fail> {
+    let alloc = rt.alloc();
+    let mut shelf = MemShelf::new(alloc);
+    write_behind(alloc, &mut shelf, b"a head\nof 17 byte")?;
+    let text = b"a head\nof 17 bytenode\nempty\nclaim infeasible\nend\n";
+    assert!(rt; log(&shelf) == text.as_slice());
+    assert!(rt; first_defect(alloc, LIMITS, 17, &mut shelf, "log")? == None);
+    let early = first_defect(alloc, LIMITS, 16, &mut shelf, "log")?;
+    assert!(rt; early == Some(Defect { line: 2, kind: 1 }));
     Ok(())
 }
 
@@ -175,14 +202,16 @@ const TEXTS: [(&[u8], u64, u8); 12] = [
     ),
 ];
 
+/// The limits of those texts.
+const LIMITS: Limits = Limits {
+    rows: 9,
+    slots: 3,
+    depth: 1,
+};
+
 /// The text of the log of which this is the text.
 fn read_back(alloc: Global, text: &[u8]) -> Result<Vec<u8>, LogStop> {
-    let limits = Limits {
-        rows: 9,
-        slots: 3,
-        depth: 1,
-    };
-    let log = read_log(alloc, text, &limits)?;
+    let log = read_log(alloc, text, &LIMITS)?;
     let mut back = Vec::new(alloc);
     put_log(alloc, &log, &mut back)?;
     Ok(back)
@@ -197,6 +226,29 @@ fn reads_logs(rt: HostRuntime) -> Result<(), Fail> {
                 assert_eq!(rt; line, 0);
             }
             Err(stop) => assert_eq!(rt; stop, LogStop::Defect(Defect { line, kind })),
+        }
+    }
+    Ok(())
+}
+
+/// The first defect of a log that stands behind so many bytes of a text.
+fn defect_behind(alloc: Global, head: u64, text: &[u8]) -> Result<Option<Defect>, Stop> {
+    let mut shelf = FixedShelf::new(alloc);
+    shelf.put_file("log", text)?;
+    first_defect(alloc, LIMITS, head, &mut shelf, "log")
+}
+
+#[test]
+fn tells_first_defects(rt: HostRuntime) -> Result<(), Fail> {
+    for (text, line, kind) in TEXTS {
+        let expected = if line == 0 {
+            None
+        } else {
+            Some(Defect { line, kind })
+        };
+        assert!(rt; defect_behind(rt.alloc(), 0, text)? == expected);
+        if text.starts_with(b"stn-log 2\n") {
+            assert!(rt; defect_behind(rt.alloc(), 10, text)? == expected);
         }
     }
     Ok(())
