@@ -1,7 +1,9 @@
+pub mod Columns
 pub mod FoundSound
 pub mod Items
 pub mod Judging
+pub mod Left
 pub mod OwnLog
-pub mod Passing
 pub mod Taking
 pub mod There
+pub mod Turning

@@ -19,6 +19,7 @@ use Rattle.log_check.specs.declared.course.Course.TheVariants.{Going}
 use Rattle.log_check.specs.declared.verdict.LogVerdict.{LogVerdict}
 use Rattle.log_check.specs.Course.{StandsAt, IsReady, MayTake}
 use Rattle.log_check.specs.Verdict.{IsVerdict, YesHolds, IsEndVerdict, limits_of}
+use Rattle.log_check.specs.laws.Rooms.{IsRoomsOf}
 use Rattle.log_check.proofs.Judging.{end_verdict, end_holds, not_going}
 use Rattle.log_check.proofs.There.{may_take}
 
@@ -34,18 +35,20 @@ pub record HasTaken (program : Program) (depth : ℕ) (told : Option FileMap) (n
   pub read : HasRead told name head (limits_of program depth) items claimed reader
   pub stands : Stood program items checker
   pub at : IfSome claimed (λ claim. began ≡ line_after items)
+  pub rooms : IsRoomsOf program checker.rooms
 
 -- before the first part
 pub begun : (program : Program) (depth : ℕ) (told : Option FileMap) (name : List ℕ) (head : ℕ) (reader : LogReader) (checker : Checker) (began : ℕ)
     → HasRead told name head (limits_of program depth) [] None reader → Fits program (present (map view_of checker.area)) → checker.area ≡ program.root ∷ []
-    → checker.course ≡ Going → checker.walk.first ≡ None → checker.walk.splits ≡ [] → checker.walk.expected ≡ Node → HasTaken program depth told name head reader checker began None
-begun program depth told name head reader checker began read fits area course first splits expected = record {
+    → checker.course ≡ Going → checker.walk.first ≡ None → checker.walk.splits ≡ [] → checker.walk.expected ≡ Node → IsRoomsOf program checker.rooms → HasTaken program depth told name head reader checker began None
+begun program depth told name head reader checker began read fits area course first splits expected rooms = record {
   fits = fits;
   ready = rw course (rw first splits);
   items = [];
   read = read;
   stands = rw course (tt, rw expected (rw splits (rw area refl)));
   at = tt;
+  rooms = rooms;
 }
 
 module _ {program : Program} {depth : ℕ} {told : Option FileMap} {name : List ℕ} {head : ℕ} {reader : LogReader} {checker : Checker} {began : ℕ} {claimed : Option Claim}
@@ -65,8 +68,9 @@ module _ {program : Program} {depth : ℕ} {told : Option FileMap} {name : List 
   pub item_taken : (line : ℕ) (item : RowItem) (new : Checker) → part ≡ ItemPart line item
       → Fits program (present (map view_of new.area)) → IsReady (row_steps program) new.course new.walk (map view_of new.area)
       → (line ≡ line_after taken.items → Stood program taken.items checker → Stood program (taken.items ++ item ∷ []) new)
+      → IsRoomsOf program new.rooms
       → HasTaken program depth told name head later new began claimed
-  item_taken line item new is fits ready stands =
+  item_taken line item new is fits ready stands rooms =
       let own = part_is (ItemPart line item) is in
       record {
         fits = fits;
@@ -75,13 +79,14 @@ module _ {program : Program} {depth : ℕ} {told : Option FileMap} {name : List 
         read = subst (λ c. HasRead told name head (limits_of program depth) (taken.items ++ item ∷ []) c later) (sym own.0) own.4;
         stands = stands own.1 taken.stands;
         at = subst (λ c. IfSome c (λ claim. began ≡ line_after (taken.items ++ item ∷ []))) (sym own.0) tt;
+        rooms = rooms;
       }
 
   -- a claim that was read begins after the items
   pub claim_taken : (line : ℕ) (made : Claim) → part ≡ ClaimPart line made → HasTaken program depth told name head later checker line (Some made)
   claim_taken line made is =
       let own = part_is (ClaimPart line made) is in
-      record { fits = taken.fits; ready = taken.ready; items = taken.items; read = own.3; stands = taken.stands; at = own.1 }
+      record { fits = taken.fits; ready = taken.ready; items = taken.items; read = own.3; stands = taken.stands; at = own.1; rooms = taken.rooms }
 
   -- at the end a check does not go on, and a claim was read
   pub end_over : (version : ℕ) → part ≡ EndPart version → checker.course ≢ Going

@@ -8,9 +8,11 @@ ghost use Rattle.row_relax.specs.RowProofs.{RowItem};
 ghost use Rattle.proof_log.specs.Log.{line_after};
 ghost use Rattle.log_check.specs.Meaning.{ItemDefect};
 ghost use Rattle.log_check.specs.Course.{StandsAt, IsReady, MayTake, IsTested, end_kind, course_of};
+ghost use Rattle.log_check.specs.laws.Rooms.{IsRoomsOf};
 
 use crate::course::Course;
-use crate::points::point_defect;
+use crate::points::found_defect;
+use crate::rooms::RowRooms;
 use proof_log::Defect;
 use proof_tree::{Expected, Item, Relaxation, Took, Walk};
 use row_kit::{Area, Program};
@@ -23,17 +25,22 @@ pub struct Checker {
     pub(crate) area: Area,
     pub(crate) walk: Walk<Rows>,
     pub(crate) course: Course,
+    pub(crate) rooms: RowRooms,
 }
 
 /// The defect of an item that shows before the walk takes it: that of a found point, or an empty domain under a certificate.
-fn defect_before(rows: &Rows, area: &Area, item: &Item<Rows>) -> Option<u8>
-    requires { Fits rows.now.program (present (map view_of area.now)) }
-    ensures { MatchOption result
+fn defect_before(rows: &Rows, rooms: &mut RowRooms, area: &Area, item: &Item<Rows>) -> Option<u8>
+    requires fits { Fits rows.now.program (present (map view_of area.now)) }
+    requires rooms { IsRoomsOf rows.now.program rooms.old }
+    ensures rooms { IsRoomsOf rows.now.program rooms.new }
+    ensures defect { MatchOption result
         (IsTested (row_steps rows.now.program) rows.now.program (present (map view_of area.now)) item.now)
         (λ kind. ItemDefect (row_steps rows.now.program) rows.now.program (present (map view_of area.now)) item.now kind) }
 {
     match item {
-        Item::Found(found) => point_defect(&rows.program, &found.value, found.point.as_slice()),
+        Item::Found(found) => {
+            found_defect(rooms, &rows.program, &found.value, found.point.as_slice())
+        }
         Item::Dual(_) | Item::Pending(_) => { if rows.empty(area) { Some(11) } else { None } }
         Item::Node | Item::Cut(_) | Item::Empty | Item::Point | Item::Split(_, _) => None,
     }
@@ -71,12 +78,14 @@ impl Checker {
         ensures first { IfOk result (λ checker. checker.walk.first ≡ None) }
         ensures splits { IfOk result (λ checker. checker.walk.splits ≡ []) }
         ensures expected { IfOk result (λ checker. checker.walk.expected ≡ Expected.Node) }
+        ensures rooms { IfOk result (λ checker. IsRoomsOf rows.now.program checker.rooms) }
     {
         let area = rows.root_area(alloc)?;
         Ok(Checker {
             area,
             walk: Walk::new(alloc),
             course: Course::Going,
+            rooms: RowRooms::new(alloc, &rows.program)?,
         })
     }
 
@@ -94,7 +103,9 @@ impl Checker {
         requires ready { IsReady (row_steps rows.now.program) self.old.course self.old.walk (map view_of self.old.area) }
         requires may { MayTake (row_steps rows.now.program) self.old.course self.old.walk
             (present (map view_of self.old.area)) item }
+        requires rooms { IsRoomsOf rows.now.program self.old.rooms }
         ensures fits { Fits rows.now.program (present (map view_of self.new.area)) }
+        ensures rooms { IsRoomsOf rows.now.program self.new.rooms }
         ensures ready { OnOk result (IsReady (row_steps rows.now.program) self.new.course self.new.walk
             (map view_of self.new.area)) }
         ensures stands { OnOk result ((root : View) (items : Items RowItem) → line ≡ line_after items
@@ -116,7 +127,9 @@ impl Checker {
         requires ready { Stands (row_steps rows.now.program) self.old.walk (map view_of self.old.area) }
         requires may { MayTake (row_steps rows.now.program) Course.Going self.old.walk
             (present (map view_of self.old.area)) item.now }
+        requires rooms { IsRoomsOf rows.now.program self.old.rooms }
         ensures fits { Fits rows.now.program (present (map view_of self.new.area)) }
+        ensures rooms { IsRoomsOf rows.now.program self.new.rooms }
         ensures ready { OnOk result (IsReady (row_steps rows.now.program) self.new.course self.new.walk
             (map view_of self.new.area)) }
         ensures stands { OnOk result ((root : View) (items : Items RowItem) → line ≡ line_after items
@@ -125,7 +138,7 @@ impl Checker {
             → StandsAt (row_steps rows.now.program) rows.now.program root (items ++ item.now ∷ []) self.new.course self.new.walk
             (map view_of self.new.area)) }
     {
-        if let Some(kind) = defect_before(rows, &self.area, item) {
+        if let Some(kind) = defect_before(rows, &mut self.rooms, &self.area, item) {
             self.course = Course::Faulty(Defect { line, kind });
             return Ok(());
         }

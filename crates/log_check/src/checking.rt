@@ -55,9 +55,10 @@ fn verdict(program: &Program, course: Course, began: u64, claim: Option<Claim>) 
 }
 
 /// Checks the log that lies in a file of the shelf, over the root of the rows, with at most so many splits one in another. It
-/// reads the file once, part by part, and takes memory by the depth of the proof, one certificate and one point. A found group
-/// costs the slots, one comparison for each row, and for each of its values and each row at most one search by halving among the
-/// row's entries.
+/// reads the file once, part by part, and takes memory by the depth of the proof, one certificate and one point, and 12 bytes for
+/// each entry of the rows and 16 for each row. It goes over the entries of the rows once before the log. A found group then costs
+/// the slots, for each slot that has another value than in the found group before it (at first, than 0) the rows that name the
+/// slot, and where its point is lawful the worth.
 ///
 /// The answer is the first text defect of the log, where there is none the first meaning defect, and where there is none its
 /// claim: then what the claim says holds of all points. `Fault` comes only where a read failed.
@@ -82,8 +83,8 @@ pub fn check_rows<F: Shelf>(
     check_behind(alloc, rows, depth, 0, files, name)
 }
 
-/// Checks the log behind a head of so many bytes of a file (0: of the whole file), as `check_rows` checks one. Lines are counted
-/// from the first line of that log on.
+/// Checks the log behind a head of so many bytes of a file (0: of the whole file), as `check_rows` checks one and at the same cost.
+/// Lines are counted from the first line of that log on.
 pub fn check_behind<F: Shelf>(
     alloc: Global,
     rows: &Rows,

@@ -12,7 +12,7 @@ mod claims;
 mod course;
 mod log;
 mod points;
-mod started;
+mod rooms;
 mod verdict;
 
 pub use bytes::check_bytes;

@@ -1,17 +1,44 @@
 //! What is wrong with a found point.
-ghost use Rattle.std.specs.Prelude.{◌≡◌, ℕ, MatchOption};
+ghost use Rattle.std.specs.Prelude.{◌≡◌, ◌↔◌, ℕ, MatchOption, IsTrue};
+ghost use Rattle.row_kit.specs.Point.{IsLawful};
 ghost use Rattle.log_check.specs.Meaning.{PointDefect, IsWorth};
+ghost use Rattle.log_check.specs.laws.Rooms.{IsRoomsOf};
 
-use crate::started::keeps_rows;
-use row_kit::{Program, lies_in, worth};
+use crate::rooms::RowRooms;
+use row_kit::{Program, is_lawful, worth};
 
-/// What is wrong with a point and the worth that it is said to have: it is not lawful, or its worth is another. Every row is
-/// tested, since a point that breaks the last row is none whatever its worth; `keeps_rows` says what that costs.
+/// What is wrong with a point and the worth that it is said to have: it is not lawful, or its worth is another. It costs the slots,
+/// the entries of the rows, and the worth.
 pub(crate) fn point_defect(program: &Program, value: &i128, point: &[u8]) -> Option<u8>
     ensures { MatchOption result (IsWorth program.now value.now point.now)
         (λ kind. PointDefect program.now value.now point.now kind) }
 {
-    if !lies_in(program.root.as_slice(), point) || !keeps_rows(program, point) {
+    worth_defect(is_lawful(program, point), program, value, point)
+}
+
+/// As `point_defect`, from the rooms at the point before, in place of the entries of the rows: it costs the slots, for each slot that
+/// has another value than at that point the rows that name it, and where the point is lawful the worth.
+pub(crate) fn found_defect(
+    rooms: &mut RowRooms,
+    program: &Program,
+    value: &i128,
+    point: &[u8],
+) -> Option<u8>
+    requires { IsRoomsOf program.now rooms.old }
+    ensures rooms { IsRoomsOf program.now rooms.new }
+    ensures defect { MatchOption result (IsWorth program.now value.now point.now)
+        (λ kind. PointDefect program.now value.now point.now kind) }
+{
+    worth_defect(rooms.moves_to(program, point), program, value, point)
+}
+
+// As `point_defect`, where it is known whether the point is lawful.
+fn worth_defect(lawful: bool, program: &Program, value: &i128, point: &[u8]) -> Option<u8>
+    requires { IsTrue lawful ↔ IsLawful program.now point.now }
+    ensures { MatchOption result (IsWorth program.now value.now point.now)
+        (λ kind. PointDefect program.now value.now point.now kind) }
+{
+    if !lawful {
         return Some(13);
     }
     if worth(program, point) != *value {

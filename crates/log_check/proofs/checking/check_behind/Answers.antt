@@ -20,7 +20,7 @@ parts-init g c = record {
   later = omega arith;
   taken = begun c.args.rows.now.program c.args.depth (g.F.Shelf.files c.args.files.now) c.args.name.now c.args.head c.in_ok-reader.reader c.in_ok-checker.checker 0
       (subst (λ l. HasRead (g.F.Shelf.files c.args.files.now) c.args.name.now c.args.head l [] None c.in_ok-reader.reader) c.limits_of.ensures (c.in_ok-reader.ensures (g.F.Shelf.files c.args.files.now) c.args.name.now))
-      c.in_ok-checker.ensures.fits c.in_ok-checker.ensures.area c.in_ok-checker.ensures.course c.in_ok-checker.ensures.first c.in_ok-checker.ensures.splits c.in_ok-checker.ensures.expected;
+      c.in_ok-checker.ensures.fits c.in_ok-checker.ensures.area c.in_ok-checker.ensures.course c.in_ok-checker.ensures.first c.in_ok-checker.ensures.splits c.in_ok-checker.ensures.expected c.in_ok-checker.ensures.rooms;
 }
 
 pub take-requires-clause-may : goal.take-requires-clause-may
@@ -91,7 +91,8 @@ parts-preserved g c =
             rw w.checker-is (rw w.began-is (rw w.claimed-is (rw still
             (item_taken taken c.next.new.self c.in_ok-line.field-0 part
             w.in-Item.line w.in-Item.item w.take.new.self w.in-Item.is w.take.ensures.fits w.in_ok-take-in-Item.ensures.ready
-            (λ at stand. w.in_ok-take-in-Item.ensures.stands (view_of program.root) taken.items at stand)))))
+            (λ at stand. w.in_ok-take-in-Item.ensures.stands (view_of program.root) taken.items at stand)
+            w.take.ensures.rooms))))
         | in-Claim w ↦
             rw w.checker-is (rw w.began-is (rw w.claimed-is (rw still
             (claim_taken taken c.next.new.self c.in_ok-line.field-0 part
