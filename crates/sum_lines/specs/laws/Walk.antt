@@ -1,0 +1,102 @@
+-- Stands in specs/ since clauses of private functions cite it; no public clause does.
+-- A walk over the lines of a head in a file.
+use Rattle.std.specs.Prelude.{◌≡◌, ◌≢◌, ⊤, ◌⊎◌, ◌+◌, ◌<◌, ◌≤◌, ℕ, true, false, Option, Some, None, IfSome, unsigned_abs, List, [], ◌∷◌, ◌++◌, length, map, drop}
+use Rattle.log_lines.specs.Grammar.{follows}
+use Rattle.log_lines.specs.Reader.{IsAhead, Reading}
+use Rattle.log_lines.specs.declared.grammar.Limits.{Limits}
+use Rattle.proof_log.specs.declared.log.Defect.{Defect}
+use Rattle.row_kit.specs.Row.{is_nothing}
+use Rattle.row_kit.specs.declared.row.Entry.{Entry}
+use Rattle.stn_edge.specs.Files.{FileMap, file_of}
+use Rattle.sum_lines.specs.declared.line.HeadLine.{HeadLine}
+use Rattle.sum_lines.specs.declared.line.HeadLine.TheVariants as line
+use Rattle.sum_lines.specs.declared.opening.Opened.{Opened}
+use Rattle.sum_lines.specs.declared.opening.Opened.TheVariants as opened
+use Rattle.sum_lines.specs.declared.walk.Seen.{Seen}
+use Rattle.sum_lines.specs.declared.walk.Seen.TheVariants as seen
+use Rattle.sum_lines.specs.declared.walk.Walk.{Walk}
+use Rattle.sum_lines.specs.Front.{BeginsWith, EndsEarly, IsBadTerm, MayFollow, MayOpen, NoneFirst, opening_defect}
+use Rattle.sum_lines.specs.Head.{AreTerms, first_line, last_slot, opening_line, term_line, text_with}
+use Rattle.sum_lines.specs.Line.{IsHeadLine, head_line_text}
+
+-- what is left of a file after a first line and these
+abbrev pub rest_after : List HeadLine → List ℕ → List ℕ
+rest_after lines file = drop (length (text_with lines)) file
+
+-- a reader has passed the first line and these lines of a file
+abbrev pub IsPassed : List HeadLine → Reading → List ℕ → Type 0
+IsPassed lines reader file = (file ≡ text_with lines ++ rest_after lines file) × IsAhead file reader.place reader.ahead
+
+-- a walk over the file of a name, where it is told, has passed the first line and these lines
+pub record HasPassed (told : Option FileMap) (name : List ℕ) (lines : List HeadLine) (walk : Walk) : Type 0 where
+  pub going : walk.reader.ended ≡ false
+  pub line : walk.line ≡ 2 + length lines
+  pub bytes : walk.bytes ≡ length (text_with lines)
+  pub place : walk.reader.place ≡ walk.bytes
+  pub told : IfSome told (λ m. IsPassed lines walk.reader (file_of m name))
+
+-- a walk has passed the first line; there is none where the file does not begin with that
+abbrev pub HasBegun : Option FileMap → List ℕ → Option Walk → Type 0
+HasBegun told name None = IfSome told (λ m. ¬ BeginsWith first_line (file_of m name))
+HasBegun told name (Some walk) = HasPassed told name [] walk
+
+-- what is seen after these lines: the next one, which may be written; or another, which no head line is; or the end of the file before a line feed
+abbrev pub HasSeen : Option FileMap → List ℕ → List HeadLine → Walk → Seen → Type 0
+HasSeen told name lines walk (seen.Line line) = IsHeadLine line × HasPassed told name (lines ++ line ∷ []) walk
+HasSeen told name lines walk seen.Other =
+    IfSome told (λ m. (¬ EndsEarly (rest_after lines (file_of m name))) × NoneFirst IsHeadLine (rest_after lines (file_of m name)))
+HasSeen told name lines walk seen.Cut = IfSome told (λ m. EndsEarly (rest_after lines (file_of m name)))
+
+-- what the line is that a walk has read, and where the walk has passed it how many lines and bytes come before the next one
+abbrev pub HasLooked : Walk → Walk → Seen → Type 0
+HasLooked old new (seen.Line line) =
+    IsHeadLine line × (head_line_text line ≡ old.reader.line) × (new.line ≡ old.line + 1) × (new.bytes ≡ old.bytes + (length old.reader.line + 1))
+HasLooked old new seen.Other = (line : HeadLine) → IsHeadLine line → head_line_text line ≢ old.reader.line
+HasLooked old new seen.Cut = ⊥
+
+-- a line that is seen may be written
+abbrev pub MayBeSeen : Seen → Type 0
+MayBeSeen (seen.Line line) = IsHeadLine line
+MayBeSeen seen.Other = ⊤
+MayBeSeen seen.Cut = ⊤
+
+-- a term that may come above the last slot: its slot is there, and its parts are those of a term
+pub record IsTermAbove (slots : ℕ) (above : Option ℕ) (term : Entry) : Type 0 where
+  pub there : term.slot < slots
+  pub above_last : follows above term.slot ≡ true
+  pub fixed : unsigned_abs term.fixed ≤ 10000000
+  pub per : unsigned_abs term.per ≤ 10000000
+  pub counts : is_nothing (term.fixed, term.per) ≡ false
+
+-- a line names a slot that is not there
+abbrev pub IsFar : ℕ → HeadLine → Type 0
+IsFar slots (line.Sum _ _ _ _ _) = ⊥
+IsFar slots (line.Term slot _ _) = slots ≤ slot
+
+-- the kind of the defect of what is seen where a term is to come
+abbrev pub IsTermKind : ℕ → Option ℕ → Seen → ℕ → Type 0
+IsTermKind slots above seen.Cut kind = kind ≡ 2
+IsTermKind slots above seen.Other kind = kind ≡ 1
+IsTermKind slots above (seen.Line line) kind =
+    ((kind ≡ 1) × (¬ MayFollow above line)) ⊎ ((kind ≡ 5) × MayFollow above line × IsFar slots line)
+
+-- after these lines, where a term is to come above the last slot, the next line has this defect
+pub record HasBadTerm (told : Option FileMap) (name : List ℕ) (slots : ℕ) (above : Option ℕ) (lines : List HeadLine) (defect : Defect) : Type 0 where
+  pub line : defect.line ≡ 2 + length lines
+  pub told : IfSome told (λ m. (file_of m name ≡ text_with lines ++ rest_after lines (file_of m name))
+      × IsBadTerm slots above (rest_after lines (file_of m name)) defect.kind)
+
+-- after these lines and fewer terms than so many, the next line has this defect
+pub record HasBadTerms (told : Option FileMap) (name : List ℕ) (slots count : ℕ) (lines : List HeadLine) (defect : Defect) : Type 0 where
+  pub terms : List Entry
+  pub are : AreTerms slots terms
+  pub fewer : length terms < count
+  pub bad : HasBadTerm told name slots (last_slot None terms) (lines ++ map term_line terms) defect
+
+-- what a line that is seen after so many sums begins: a sum, its defect, or nothing where it may begin none
+abbrev pub IsOpened : Limits → ℕ → Seen → Opened → Type 0
+IsOpened limits before seen (opened.Sum sum count) =
+    (seen ≡ seen.Line (opening_line sum count)) × MayOpen limits.slots (opening_line sum count) × (opening_defect limits before (opening_line sum count) ≡ None) × (sum.terms ≡ [])
+IsOpened limits before seen (opened.Bad kind) =
+    (line : HeadLine) × (seen ≡ seen.Line line) × MayOpen limits.slots line × (opening_defect limits before line ≡ Some kind)
+IsOpened limits before seen opened.Nothing = (line : HeadLine) → seen ≡ seen.Line line → ¬ MayOpen limits.slots line

@@ -1,0 +1,31 @@
+//! Why the reading of a head ends early.
+ghost use Rattle.std.specs.Prelude.{◌≡◌};
+ghost use Rattle.stn_edge.specs.declared.stop.Stop.TheVariants.{Memory as StopMemory};
+ghost use Rattle.sum_lines.specs.declared.halt.Halt.TheVariants.{Stopped as HaltStopped};
+
+use proof_log::Defect;
+use std::alloc::AllocError;
+use stn_edge::Stop;
+
+// A defect of the text, or a stop.
+#[derive(Clone, Copy)]
+pub(crate) enum Halt {
+    Bad(Defect),
+    Stopped(Stop),
+}
+
+impl From<Stop> for Halt {
+    ghost from_gives = { λ stop halt. halt ≡ HaltStopped stop };
+
+    fn from(stop: Stop) -> Halt {
+        Halt::Stopped(stop)
+    }
+}
+
+impl From<AllocError> for Halt {
+    ghost from_gives = { λ _ halt. halt ≡ HaltStopped StopMemory };
+
+    fn from(_error: AllocError) -> Halt {
+        Halt::Stopped(Stop::Memory)
+    }
+}

@@ -1,0 +1,25 @@
+//! The head of a proof log of version 3, which declares sums.
+//!
+//! `read_head` reads the head from a file of a shelf, or its first defect, and `put_head` appends the text of a head. `heads_are_read`
+//! is the law that what the one writes the other reads. `read_head_line` gives the line of a head that some bytes are.
+#![tactic(auto)]
+
+mod halt;
+mod head;
+mod law;
+pub mod line;
+mod numbers;
+mod opening;
+mod printing;
+mod reading;
+mod sums;
+mod terms;
+mod walk;
+mod words;
+
+pub use head::{Front, Head};
+pub use law::heads_are_read;
+pub use line::HeadLine;
+pub use printing::put_head;
+pub use reading::read_head_line;
+pub use sums::read_head;

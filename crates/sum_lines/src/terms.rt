@@ -1,0 +1,119 @@
+//! The terms of a sum, line by line.
+ghost use Rattle.std.specs.Prelude.{◌≡◌, ◌≤◌, ◌∷◌, [], ◌++◌, List as Items, Err, IsTrue, IfErr, IfOk, length, map};
+ghost use Rattle.log_lines.specs.Grammar.{follows};
+ghost use Rattle.proof_log.specs.declared.log.Defect.{Defect};
+ghost use Rattle.stn_edge.specs.Count.{Rose};
+ghost use Rattle.stn_edge.specs.declared.stop.Stop.TheVariants.{Failed};
+ghost use Rattle.sum_lines.specs.Head.{AreTerms, term_line};
+ghost use Rattle.sum_lines.specs.declared.line.HeadLine.{HeadLine};
+ghost use Rattle.sum_lines.specs.declared.walk.Seen.TheVariants.{Line};
+ghost use Rattle.sum_lines.specs.laws.Walk.{HasBadTerm, HasBadTerms, HasPassed, IsTermAbove, IsTermKind, MayBeSeen};
+
+use crate::halt::Halt;
+use crate::line::HeadLine;
+use crate::walk::{Seen, Walk};
+use log_lines::kinds::{GRAMMAR, SLOT_NUMBER, TRUNCATED};
+use proof_log::Defect;
+use row_kit::{Entry, List};
+use std::alloc::Global;
+use stn_edge::Shelf;
+
+// So many terms, which come next.
+pub(crate) fn read_terms<F: Shelf>(
+    alloc: Global,
+    slots: u32,
+    count: u32,
+    walk: &mut Walk,
+    files: &mut F,
+    name: &str,
+) -> Result<List<Entry>, Halt>
+    requires allowed { IsTrue (F.may_read files.old name.now) }
+    requires passed { (lines : Items HeadLine) × HasPassed (F.files files.old) name.now lines walk.old }
+    ensures count { IfOk result (λ terms. length terms ≡ count) }
+    ensures terms { IfOk result (AreTerms slots) }
+    ensures goes { IfOk result (λ terms. (lines : Items HeadLine) → HasPassed (F.files files.old) name.now lines walk.old
+        → HasPassed (F.files files.old) name.now (lines ++ map term_line terms) walk.new) }
+    ensures bad { (defect : Defect) → result ≡ Err (Halt.Bad defect)
+        → (lines : Items HeadLine) → HasPassed (F.files files.old) name.now lines walk.old
+        → HasBadTerms (F.files files.old) name.now slots count lines defect }
+    ensures same { F.files files.new ≡ F.files files.old }
+    ensures readable { F.may_read files.new ≡ F.may_read files.old }
+    ensures writable { F.may_write files.new ≡ F.may_write files.old }
+    ensures later { F.read_faults files.old ≤ F.read_faults files.new }
+    ensures no_write { F.write_faults files.new ≡ F.write_faults files.old }
+    ensures fault { result ≡ Err (Halt.Stopped Failed) → Rose (F.read_faults files.old) (F.read_faults files.new) }
+{
+    let mut terms = List::new(alloc);
+    let mut above = None;
+    'terms: for _ in 0..count {
+        let term = next_term(slots, above, walk, files, name)?;
+        above = Some(term.slot);
+        terms.push(term)?;
+    }
+    Ok(terms)
+}
+
+// The term that comes next, above the last slot.
+fn next_term<F: Shelf>(
+    slots: u32,
+    above: Option<u32>,
+    walk: &mut Walk,
+    files: &mut F,
+    name: &str,
+) -> Result<Entry, Halt>
+    requires allowed { IsTrue (F.may_read files.old name.now) }
+    requires passed { (lines : Items HeadLine) × HasPassed (F.files files.old) name.now lines walk.old }
+    ensures term { IfOk result (IsTermAbove slots above) }
+    ensures goes { IfOk result (λ term. (lines : Items HeadLine) → HasPassed (F.files files.old) name.now lines walk.old
+        → HasPassed (F.files files.old) name.now (lines ++ term_line term ∷ []) walk.new) }
+    ensures bad { (defect : Defect) → result ≡ Err (Halt.Bad defect)
+        → (lines : Items HeadLine) → HasPassed (F.files files.old) name.now lines walk.old
+        → HasBadTerm (F.files files.old) name.now slots above lines defect }
+    ensures same { F.files files.new ≡ F.files files.old }
+    ensures readable { F.may_read files.new ≡ F.may_read files.old }
+    ensures writable { F.may_write files.new ≡ F.may_write files.old }
+    ensures later { F.read_faults files.old ≤ F.read_faults files.new }
+    ensures no_write { F.write_faults files.new ≡ F.write_faults files.old }
+    ensures fault { result ≡ Err (Halt.Stopped Failed) → Rose (F.read_faults files.old) (F.read_faults files.new) }
+{
+    let line = walk.line;
+    let seen = walk.next(files, name)?;
+    match term_of(slots, above, seen) {
+        Ok(term) => Ok(term),
+        Err(kind) => Err(Halt::Bad(Defect { line, kind })),
+    }
+}
+
+// The term that is seen above the last slot, or the kind of its defect.
+fn term_of(slots: u32, above: Option<u32>, seen: Seen) -> Result<Entry, u8>
+    requires { MayBeSeen seen }
+    ensures term { IfOk result (IsTermAbove slots above) }
+    ensures is { IfOk result (λ term. seen ≡ Line (term_line term)) }
+    ensures bad { IfErr result (IsTermKind slots above seen) }
+{
+    match seen {
+        Seen::Cut => Err(TRUNCATED),
+        Seen::Line(HeadLine::Term { slot, fixed, per }) if follows(above, slot) => {
+            if slot < u128::from(slots) {
+                Ok(Entry {
+                    slot: slot as u32,
+                    fixed: fixed as i64,
+                    per: per as i64,
+                })
+            } else {
+                Err(SLOT_NUMBER)
+            }
+        }
+        _ => Err(GRAMMAR),
+    }
+}
+
+// Whether the slot is above the last one.
+fn follows(above: Option<u32>, slot: u128) -> bool
+    ensures { result ≡ follows above slot }
+{
+    match above {
+        Some(last) => u128::from(last) < slot,
+        None => true,
+    }
+}
