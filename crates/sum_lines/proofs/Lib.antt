@@ -1,2 +1,5 @@
 pub mod WordTexts
 pub mod NumberWords
+pub mod LineWords
+pub mod LineTexts
+pub mod Feeds

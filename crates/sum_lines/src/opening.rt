@@ -2,7 +2,7 @@
 ghost use Rattle.std.specs.Prelude.{◌≡◌, ◌≤◌, ℕ, ℤ};
 ghost use Rattle.sum_lines.specs.Front.{has_room, is_there, opening_defect};
 ghost use Rattle.sum_lines.specs.Head.{IsThere};
-ghost use Rattle.sum_lines.specs.declared.line.HeadLine.TheVariants.{Sum};
+ghost use Rattle.sum_lines.specs.declared.line.HeadLine.TheVariants as line;
 ghost use Rattle.sum_lines.specs.laws.Walk.{IsOpened, MayBeSeen};
 
 use crate::line::HeadLine;
@@ -72,7 +72,7 @@ fn opening_defect(limits: &Limits, before: usize, low: Option<u128>, high: Optio
     requires slots { limits.now.slots ≤ 512 }
     requires rows { limits.now.rows ≤ 45904 }
     requires before { before ≤ 512 }
-    ensures { (width : ℕ) (offset : ℤ) (count : ℕ) → result ≡ opening_defect limits.now before (Sum width offset low high count) }
+    ensures { (width : ℕ) (offset : ℤ) (count : ℕ) → result ≡ opening_defect limits.now before (line.Sum width offset low high count) }
 {
     if !is_there(limits.rows, low) || !is_there(limits.rows, high) {
         Some(ROW_NUMBER)

@@ -34,7 +34,8 @@ fn put_sum(alloc: Global, sum: &Sum, text: &mut Vec<u8>) -> Result<(), AllocErro
     ensures { OnOk result (text.new.items ≡ text.old.items ++ lines_text (sum_lines sum.now)) }
 {
     put_opening(alloc, sum, text)?;
-    put_terms(alloc, sum.terms.as_slice(), text)
+    put_terms(alloc, sum.terms.as_slice(), text)?;
+    Ok(())
 }
 
 // Appends the line of a sum.
@@ -43,12 +44,13 @@ fn put_opening(alloc: Global, sum: &Sum, text: &mut Vec<u8>) -> Result<(), Alloc
         ++ (head_line_text (opening_line sum.now (length sum.now.terms)) ++ 10 ∷ [])) }
 {
     text.extend_from_slice(b"sum")?;
-    put_natural(alloc, u64::from(sum.width), text)?;
-    put_signed(alloc, sum.offset, text)?;
+    put_natural(alloc, sum.width as u64, text)?;
+    put_signed(alloc, &sum.offset, text)?;
     put_row(alloc, sum.low, text)?;
     put_row(alloc, sum.high, text)?;
     put_natural(alloc, sum.terms.len() as u64, text)?;
-    text.extend_from_slice(b"\n")
+    text.extend_from_slice(b"\n")?;
+    Ok(())
 }
 
 // Appends the lines of terms.
@@ -66,10 +68,11 @@ fn put_term(alloc: Global, term: &Entry, text: &mut Vec<u8>) -> Result<(), Alloc
     ensures { OnOk result (text.new.items ≡ text.old.items ++ (head_line_text (term_line term.now) ++ 10 ∷ [])) }
 {
     text.extend_from_slice(b"term")?;
-    put_natural(alloc, u64::from(term.slot), text)?;
-    put_signed(alloc, term.fixed, text)?;
-    put_signed(alloc, term.per, text)?;
-    text.extend_from_slice(b"\n")
+    put_natural(alloc, term.slot as u64, text)?;
+    put_signed(alloc, &term.fixed, text)?;
+    put_signed(alloc, &term.per, text)?;
+    text.extend_from_slice(b"\n")?;
+    Ok(())
 }
 
 // Appends the number of a row after a blank, or a minus for none.
@@ -91,8 +94,8 @@ fn put_natural(alloc: Global, number: u64, text: &mut Vec<u8>) -> Result<(), All
 }
 
 // Appends a number after a blank.
-fn put_signed(alloc: Global, number: i64, text: &mut Vec<u8>) -> Result<(), AllocError>
-    ensures { OnOk result (text.new.items ≡ text.old.items ++ (32 ∷ signed_decimal number)) }
+fn put_signed(alloc: Global, number: &i64, text: &mut Vec<u8>) -> Result<(), AllocError>
+    ensures { OnOk result (text.new.items ≡ text.old.items ++ (32 ∷ signed_decimal number.now)) }
 {
     let digits = format!(in alloc; " {number}")?;
     text.extend_from_slice(digits.as_bytes())

@@ -1,5 +1,5 @@
 //! A walk over the lines of a head in a file.
-ghost use Rattle.std.specs.Prelude.{◌≡◌, ◌≤◌, ◌+◌, List, Err, IsTrue, IfOk, IfErr, OnOk, length, bytes_eq};
+ghost use Rattle.std.specs.Prelude.{◌≡◌, ◌≢◌, ◌≤◌, ◌+◌, List, Err, IsTrue, IfOk, IfErr, OnOk, MatchOption, length};
 ghost use Rattle.stn_edge.specs.Count.{Rose};
 ghost use Rattle.sum_lines.specs.Head.{first_line};
 ghost use Rattle.sum_lines.specs.declared.line.HeadLine.{HeadLine};
@@ -47,15 +47,9 @@ impl Walk {
         ensures fault { result ≡ Err Stop.Failed → Rose (F.read_faults files.old) (F.read_faults files.new) }
     {
         let mut reader = LineReader::begin(alloc)?;
-        let end = reader.next(files, name)?;
-        if end == LineEnd::Whole && is_first(reader.line()) {
-            Ok(Some(Walk {
-                reader,
-                line: 2,
-                bytes: 10,
-            }))
-        } else {
-            Ok(None)
+        match reader.next(files, name)? {
+            LineEnd::Whole => Ok(past_first(reader)),
+            _ => Ok(None),
         }
     }
 
@@ -115,9 +109,18 @@ impl Walk {
     }
 }
 
-// Whether the line is the first one of a head.
-fn is_first(line: &[u8]) -> bool
-    ensures { result ≡ bytes_eq line.now first_line }
+// A walk past the line that was read, where it is the first one of a head.
+fn past_first(reader: LineReader) -> Option<Walk>
+    ensures { MatchOption result (reader.line ≢ first_line)
+        (λ walk. (reader.line ≡ first_line) × (walk ≡ record { reader = reader; line = 2; bytes = 10 })) }
 {
-    line == b"stn-log 3".as_slice()
+    if reader.line() == b"stn-log 3".as_slice() {
+        Some(Walk {
+            reader,
+            line: 2,
+            bytes: 10,
+        })
+    } else {
+        None
+    }
 }

@@ -28,12 +28,12 @@ abbrev pub IsPassed : List HeadLine → Reading → List ℕ → Type 0
 IsPassed lines reader file = (file ≡ text_with lines ++ rest_after lines file) × IsAhead file reader.place reader.ahead
 
 -- a walk over the file of a name, where it is told, has passed the first line and these lines
-pub record HasPassed (told : Option FileMap) (name : List ℕ) (lines : List HeadLine) (walk : Walk) : Type 0 where
+pub record HasPassed (files : Option FileMap) (name : List ℕ) (lines : List HeadLine) (walk : Walk) : Type 0 where
   pub going : walk.reader.ended ≡ false
   pub line : walk.line ≡ 2 + length lines
   pub bytes : walk.bytes ≡ length (text_with lines)
   pub place : walk.reader.place ≡ walk.bytes
-  pub told : IfSome told (λ m. IsPassed lines walk.reader (file_of m name))
+  pub told : IfSome files (λ m. IsPassed lines walk.reader (file_of m name))
 
 -- a walk has passed the first line; there is none where the file does not begin with that
 abbrev pub HasBegun : Option FileMap → List ℕ → Option Walk → Type 0
@@ -81,22 +81,22 @@ IsTermKind slots above (seen.Line line) kind =
     ((kind ≡ 1) × (¬ MayFollow above line)) ⊎ ((kind ≡ 5) × MayFollow above line × IsFar slots line)
 
 -- after these lines, where a term is to come above the last slot, the next line has this defect
-pub record HasBadTerm (told : Option FileMap) (name : List ℕ) (slots : ℕ) (above : Option ℕ) (lines : List HeadLine) (defect : Defect) : Type 0 where
+pub record HasBadTerm (files : Option FileMap) (name : List ℕ) (slots : ℕ) (above : Option ℕ) (lines : List HeadLine) (defect : Defect) : Type 0 where
   pub line : defect.line ≡ 2 + length lines
-  pub told : IfSome told (λ m. (file_of m name ≡ text_with lines ++ rest_after lines (file_of m name))
+  pub told : IfSome files (λ m. (file_of m name ≡ text_with lines ++ rest_after lines (file_of m name))
       × IsBadTerm slots above (rest_after lines (file_of m name)) defect.kind)
 
 -- after these lines and fewer terms than so many, the next line has this defect
-pub record HasBadTerms (told : Option FileMap) (name : List ℕ) (slots count : ℕ) (lines : List HeadLine) (defect : Defect) : Type 0 where
+pub record HasBadTerms (files : Option FileMap) (name : List ℕ) (slots count : ℕ) (lines : List HeadLine) (defect : Defect) : Type 0 where
   pub terms : List Entry
   pub are : AreTerms slots terms
   pub fewer : length terms < count
-  pub bad : HasBadTerm told name slots (last_slot None terms) (lines ++ map term_line terms) defect
+  pub bad : HasBadTerm files name slots (last_slot None terms) (lines ++ map term_line terms) defect
 
 -- what a line that is seen after so many sums begins: a sum, its defect, or nothing where it may begin none
 abbrev pub IsOpened : Limits → ℕ → Seen → Opened → Type 0
-IsOpened limits before seen (opened.Sum sum count) =
-    (seen ≡ seen.Line (opening_line sum count)) × MayOpen limits.slots (opening_line sum count) × (opening_defect limits before (opening_line sum count) ≡ None) × (sum.terms ≡ [])
-IsOpened limits before seen (opened.Bad kind) =
-    (line : HeadLine) × (seen ≡ seen.Line line) × MayOpen limits.slots line × (opening_defect limits before line ≡ Some kind)
-IsOpened limits before seen opened.Nothing = (line : HeadLine) → seen ≡ seen.Line line → ¬ MayOpen limits.slots line
+IsOpened limits before shown (opened.Sum sum count) =
+    (shown ≡ seen.Line (opening_line sum count)) × MayOpen limits.slots (opening_line sum count) × (opening_defect limits before (opening_line sum count) ≡ None) × (sum.terms ≡ [])
+IsOpened limits before shown (opened.Bad kind) =
+    (line : HeadLine) × (shown ≡ seen.Line line) × MayOpen limits.slots line × (opening_defect limits before line ≡ Some kind)
+IsOpened limits before shown opened.Nothing = (line : HeadLine) → shown ≡ seen.Line line → ¬ MayOpen limits.slots line
