@@ -25,7 +25,7 @@ use Rattle.sum_lines.proofs.WordTexts.{words_unique}
 IsFit : List ℕ → Type 0
 IsFit word = HasNoFeed word × (length word ≤ 31)
 
-tested : (bytes : List ℕ) → list_all (λ b. not (eqb b 10)) bytes ≡ true → HasNoFeed bytes
+pub tested : (bytes : List ℕ) → list_all (λ b. not (eqb b 10)) bytes ≡ true → HasNoFeed bytes
 tested bytes is = λ k d within. let tells : not (eqb (get_or bytes k d) 10) ≡ true = and_at (list_all (λ b. not (eqb b 10))) (λ b. not (eqb b 10)) refl (λ _ _. refl) bytes k d within is in grind (arith, nat_tests)
 
 no_feed_number : (n : ℕ) → n < 10 ^ 64 → HasNoFeed (decimal n)
@@ -101,17 +101,17 @@ pub begins_line : (text part bytes after : List ℕ) → HasNoFeed text → HasN
 begins_line text part bytes after plain plain2 is first = feed_unique text part first.after after plain plain2 (sym first.is ∙ is)
 
 -- how long the first line is
-cond_le : (b : Bool) (m n : ℕ) → m ≤ n → cond b 0 (suc m) ≤ suc n
+cond_le : (b : Bool) (m n : ℕ) → m ≤ n → cond b (1 + m) 0 ≤ suc n
 cond_le true m n le = omega arith
 cond_le false m n le = omega arith
 
 line_short : (text after : List ℕ) → line_length (text ++ 10 ∷ after) ≤ length text
 line_short [] after = omega arith
-line_short (byte ∷ text) after = cond_le (eqb byte 10) (line_length (text ++ 10 ∷ after)) (length text) (line_short text after)
+line_short (byte ∷ text) after = cond_le (not (eqb byte 10)) (line_length (text ++ 10 ∷ after)) (length text) (line_short text after)
 
 line_within : (bytes : List ℕ) → line_length bytes ≤ length bytes
 line_within [] = omega arith
-line_within (byte ∷ bytes) = cond_le (eqb byte 10) (line_length bytes) (length bytes) (line_within bytes)
+line_within (byte ∷ bytes) = cond_le (not (eqb byte 10)) (line_length bytes) (length bytes) (line_within bytes)
 
 -- no short text stands first before a long line
 pub long_none : (text bytes : List ℕ) → length text ≤ 200 → 200 < line_length bytes → ¬ BeginsWith text bytes

@@ -3,3 +3,5 @@ pub mod NumberWords
 pub mod LineWords
 pub mod LineTexts
 pub mod Feeds
+pub mod Walks
+pub mod Openings

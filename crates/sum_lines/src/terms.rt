@@ -45,7 +45,7 @@ pub(crate) fn read_terms<F: Shelf>(
 {
     let mut terms = List::new(alloc);
     let mut above = None;
-    'terms: for _ in 0..count {
+    'terms: while terms.len() < count as usize {
         let term = next_term(slots, above, walk, files, name)?;
         above = Some(term.slot);
         terms.push(term)?;
