@@ -5,3 +5,4 @@ pub mod LineTexts
 pub mod Feeds
 pub mod Walks
 pub mod Openings
+pub mod TermLines

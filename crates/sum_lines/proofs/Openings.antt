@@ -17,7 +17,7 @@ use Rattle.sum_lines.specs.Line.{IsOffset}
 use Rattle.sum_lines.specs.laws.Walk.{IsOpened}
 
 -- no test has failed
-all_passed : (a b r : Bool) → cond (a && b) (cond r None (Some 21)) (Some 4) ≡ None → (a ≡ true) × (b ≡ true) × (r ≡ true)
+all_passed : (a b r : Bool) → cond {A = Option ℕ} (a && b) (cond {A = Option ℕ} r None (Some 21)) (Some 4) ≡ None → (a ≡ true) × (b ≡ true) × (r ≡ true)
 all_passed false false r is = cc
 all_passed false true r is = cc
 all_passed true false r is = cc

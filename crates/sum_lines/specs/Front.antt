@@ -78,7 +78,7 @@ pub record IsFarTerm (slots : ℕ) (above : Option ℕ) (bytes : List ℕ) (kind
 
 -- where a term is to come above the last slot, the next line has a defect of this kind: 2, 1 or 5
 abbrev pub IsBadTerm : ℕ → Option ℕ → List ℕ → ℕ → Type 0
-IsBadTerm slots above bytes kind = IsCutTerm bytes kind ⊎ IsNoTerm above bytes kind ⊎ IsFarTerm slots above bytes kind
+IsBadTerm slots above bytes kind = IsCutTerm bytes kind ⊎ (IsNoTerm above bytes kind ⊎ IsFarTerm slots above bytes kind)
 
 -- after lines of so many sums, the next line is a sum line that has this defect
 pub record IsBadAtSum (limits : Limits) (before : ℕ) (lines : List HeadLine) (bytes : List ℕ) (defect : Defect) : Type 0 where

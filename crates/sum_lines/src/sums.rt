@@ -76,7 +76,10 @@ fn read_front<F: Shelf>(
 {
     match Walk::begin(alloc, files, name)? {
         None => Ok(Front::Plain),
-        Some(mut walk) => Ok(Front::Headed(read_sums(alloc, limits, &mut walk, files, name)?)),
+        Some(mut walk) => match read_sums(alloc, limits, &mut walk, files, name) {
+            Ok(head) => Ok(Front::Headed(head)),
+            Err(halt) => Err(halt),
+        },
     }
 }
 
@@ -109,12 +112,12 @@ fn read_sums<F: Shelf>(
     'sums: loop {
         let line = walk.line;
         let bytes = walk.bytes;
-        match next_sum(alloc, limits, sums.len(), walk, files, name)? {
-            Some(sum) => {
+        match next_sum(alloc, limits, sums.len(), walk, files, name) {
+            Ok(Some(sum)) => {
                 sums.push(sum)?;
                 lines.push(line)?;
             }
-            None => {
+            Ok(None) => {
                 return Ok(Head {
                     sums,
                     lines,
@@ -122,6 +125,7 @@ fn read_sums<F: Shelf>(
                     bytes,
                 });
             }
+            Err(halt) => return Err(halt),
         }
     }
 }
@@ -163,8 +167,13 @@ fn next_sum<F: Shelf>(
         Opened::Nothing => Ok(None),
         Opened::Bad(kind) => Err(Halt::Bad(Defect { line, kind })),
         Opened::Sum { mut sum, count } => {
-            sum.terms = read_terms(alloc, limits.slots, count, walk, files, name)?;
-            Ok(Some(sum))
+            match read_terms(alloc, limits.slots, count, walk, files, name) {
+                Ok(terms) => {
+                    sum.terms = terms;
+                    Ok(Some(sum))
+                }
+                Err(halt) => Err(halt),
+            }
         }
     }
 }

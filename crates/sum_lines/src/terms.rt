@@ -46,9 +46,13 @@ pub(crate) fn read_terms<F: Shelf>(
     let mut terms = List::new(alloc);
     let mut above = None;
     'terms: while terms.len() < count as usize {
-        let term = next_term(slots, above, walk, files, name)?;
-        above = Some(term.slot);
-        terms.push(term)?;
+        match next_term(slots, above, walk, files, name) {
+            Ok(term) => {
+                above = Some(term.slot);
+                terms.push(term)?;
+            }
+            Err(halt) => return Err(halt),
+        }
     }
     Ok(terms)
 }
