@@ -6,3 +6,4 @@ pub mod Feeds
 pub mod Walks
 pub mod Openings
 pub mod TermLines
+pub mod SumLines

@@ -1,7 +1,7 @@
 -- The terms of a sum, line by line.
-use Rattle.std.proofs.Common.{◌≡◌, ◌⊎◌, inl, inr, ℕ, suc, ◌+◌, ◌-◌, ◌<◌, ◌≤◌, true, false, All, List, [], ◌∷◌, ◌++◌, length, length-append, map, get_or, Option, Some, None, IfSome, unsigned_abs, subst, sym, ap, ◌∙◌, refl, arith, append_assoc}
+use Rattle.std.proofs.Common.{◌≡◌, ◌⊎◌, inl, inr, ℕ, zero, suc, ◌+◌, ◌-◌, ◌<◌, ◌≤◌, true, false, All, List, [], ◌∷◌, ◌++◌, length, length-append, map, get_or, Option, Some, None, IfSome, unsigned_abs, subst, sym, ap, ◌∙◌, refl, arith, append_assoc}
 use Rattle.std.proofs.lemmas.Bool.Decides.{nat_tests}
-use Rattle.std.proofs.lemmas.List.{map-append, get_or-append_left, get_or-append_right}
+use Rattle.std.proofs.lemmas.List.{map-append, length-map}
 use Rattle.std.proofs.lemmas.List.Elements.{All-append, All-cons}
 use Rattle.std.specs.List.Sorted.{IsStrictlyIncreasing}
 use Rattle.log_lines.specs.Grammar.{follows}
@@ -88,12 +88,31 @@ follows_above None last number is tells = cc
 follows_above (Some n) last number is tells = let same : n ≡ last = cc in grind (arith, nat_tests)
 
 -- ascending numbers and one more above the last
+asc_more : (xs : List ℕ) (x : ℕ) → ((k : ℕ) → suc k < length xs → get_or xs k 0 < get_or xs (suc k) 0) → (0 < length xs → get_or xs (length xs - 1) 0 < x) → (k : ℕ) → suc k < length (xs ++ x ∷ [])
+    → get_or (xs ++ x ∷ []) k 0 < get_or (xs ++ x ∷ []) (suc k) 0
+asc_more [] x asc above k within = absurd (omega arith)
+asc_more (y ∷ []) x asc above zero within = above (omega arith)
+asc_more (y ∷ []) x asc above (suc k) within = absurd (omega arith)
+asc_more (y ∷ z ∷ ys) x asc above zero within = asc 0 (omega arith)
+asc_more (y ∷ z ∷ ys) x asc above (suc k) within =
+    let next : length (y ∷ z ∷ ys) - 1 ≡ suc (length (z ∷ ys) - 1) = omega arith in
+    asc_more (z ∷ ys) x (λ j w. asc (suc j) (omega arith)) (λ some. subst (λ n. get_or (y ∷ z ∷ ys) n 0 < x) next (above (omega arith))) k (omega arith)
+
 ascending_more : (xs : List ℕ) (x : ℕ) → IsStrictlyIncreasing xs → (0 < length xs → get_or xs (length xs - 1) 0 < x) → IsStrictlyIncreasing (xs ++ x ∷ [])
-ascending_more xs x ascending above = λ k within. ?
+ascending_more xs x ascending above = λ k within.
+    let one : suc k ≡ k + 1 = omega arith in
+    subst (λ n. get_or (xs ++ x ∷ []) k 0 < get_or (xs ++ x ∷ []) n 0) one
+    (asc_more xs x (λ j w. let next : j + 1 ≡ suc j = omega arith in subst (λ n. get_or xs j 0 < get_or xs n 0) next (ascending j (omega arith))) above k (omega arith))
 
 -- the slots of terms and one more
-slots_more : (terms : List Entry) (term : Entry) → IsStrictlyIncreasing (map (λ t. t.slot) terms) → follows (last_slot None terms) term.slot ≡ true → IsStrictlyIncreasing (map (λ t. t.slot) (terms ++ term ∷ []))
-slots_more terms term ascending tells = ?
+slots_more : (terms : List Entry) (term : Entry) → IsStrictlyIncreasing (map (λ (t : Entry). t.slot) terms) → follows (last_slot None terms) term.slot ≡ true → IsStrictlyIncreasing (map (λ (t : Entry). t.slot) (terms ++ term ∷ []))
+slots_more terms term ascending tells =
+    let slots : List ℕ = map (λ (t : Entry). t.slot) terms in
+    let long : length slots ≡ length terms = length-map (λ (t : Entry). t.slot) terms in
+    subst IsStrictlyIncreasing (sym (map-append (λ (t : Entry). t.slot) terms (term ∷ [])))
+    (ascending_more slots term.slot ascending
+    (λ some. let place : length terms - 1 ≡ length slots - 1 = ap (λ n. n - 1) (sym long) in
+        follows_above (last_slot None terms) (get_or slots (length slots - 1) 0) term.slot (last_at None terms (omega arith) ∙ ap (λ k. Some (get_or slots k 0)) place) tells))
 
 one : {X : Type 0} (P : X → Type 0) (x : X) → P x → All P (x ∷ [])
 one P x is = All-cons P x [] is (λ k d within. absurd (omega arith))

@@ -1,0 +1,121 @@
+-- The sums of a head, one after another.
+use Rattle.std.proofs.Common.{◌≡◌, ◌⊎◌, inl, inr, ℕ, ◌+◌, ◌*◌, ◌-◌, ◌<◌, ◌≤◌, ◌^◌, true, false, All, List, [], ◌∷◌, ◌++◌, length, length-append, map, drop, Option, Some, None, IfSome, subst, sym, ap, ◌∙◌, refl, arith, append_assoc}
+use Rattle.std.proofs.lemmas.Bool.Decides.{nat_tests}
+use Rattle.std.proofs.lemmas.List.Elements.{All-append, All-cons}
+use Rattle.log_lines.specs.declared.grammar.Limits.{Limits}
+use Rattle.proof_log.specs.declared.log.Defect.{Defect}
+use Rattle.row_kit.specs.declared.row.Entry.{Entry}
+use Rattle.stn_edge.specs.Files.{FileMap, file_of}
+use Rattle.sum_slots.specs.declared.sum.Sum.{Sum}
+use Rattle.sum_slots.specs.Sum.{IsDeclared}
+use Rattle.sum_lines.specs.declared.head.Head.{Head}
+use Rattle.sum_lines.specs.declared.line.HeadLine.{HeadLine}
+use Rattle.sum_lines.specs.declared.line.HeadLine.TheVariants as line
+use Rattle.sum_lines.specs.declared.walk.Seen.{Seen}
+use Rattle.sum_lines.specs.declared.walk.Seen.TheVariants as seen
+use Rattle.sum_lines.specs.declared.walk.Walk.{Walk}
+use Rattle.sum_lines.specs.Front.{BeginsWith, IsBadAt, IsBadHead, IsHeaded, MayOpen, NoneFirst, has_room, opening_defect}
+use Rattle.sum_lines.specs.Head.{AreKept, AreTerms, HasRows, IsKept, begins_on, head_of, head_text, lines_of, open_lines, opening_line, sum_lines, term_line, text_with}
+use Rattle.sum_lines.specs.Line.{IsHeadLine, head_line_text}
+use Rattle.sum_lines.specs.laws.Sums.{IsSumKept}
+use Rattle.sum_lines.specs.laws.Walk.{HasBadTerms, HasPassed, HasSeen, rest_after}
+use Rattle.sum_lines.proofs.Feeds.{begins_none}
+use Rattle.sum_lines.proofs.LineTexts.{lines_of-more}
+use Rattle.sum_lines.proofs.Openings.{sound_is}
+use Rattle.sum_lines.proofs.TermLines.{first_same, line_first}
+
+-- a line that may open a sum may be written
+may_open_line : (slots : ℕ) (line : HeadLine) → MayOpen slots line → IsHeadLine line
+may_open_line slots (line.Sum _ _ _ _ _) may = may.0
+may_open_line slots (line.Term _ _ _) may = absurd may
+
+-- where what is seen may open no sum, no line does
+pub none_opens : (files : Option FileMap) (name : List ℕ) (lines : List HeadLine) (walk2 : Walk) (shown : Seen) (slots : ℕ) → HasSeen files name lines walk2 shown → ((line : HeadLine) → shown ≡ seen.Line line → ¬ MayOpen slots line)
+    → IfSome files (λ m. NoneFirst (MayOpen slots) (rest_after lines (file_of m name)))
+none_opens None name lines walk2 shown slots has none = tt
+none_opens (Some m) name lines walk2 (seen.Line line) slots has none = λ other may first.
+    let file = file_of m name in
+    none line refl (subst (MayOpen slots) (first_same other line (rest_after lines file) (rest_after (lines ++ line ∷ []) file) (may_open_line slots other may) has.0 (line_first lines line file has.1.told.0) first) may)
+none_opens (Some m) name lines walk2 seen.Other slots has none = λ other may first. has.1 other (may_open_line slots other may) first
+none_opens (Some m) name lines walk2 seen.Cut slots has none = λ other may first. begins_none (head_line_text other) (rest_after lines (file_of m name)) has.0 first
+
+-- the defect of a line that opens a sum
+pub opening_bad : (files : Option FileMap) (name : List ℕ) (limits : Limits) (before : ℕ) (lines : List HeadLine) (walk walk2 : Walk) (line : HeadLine) (kind : ℕ) → HasPassed files name lines walk → HasSeen files name lines walk2 (seen.Line line)
+    → MayOpen limits.slots line → opening_defect limits before line ≡ Some kind → IfSome files (λ m. IsBadAt limits before lines (file_of m name) (record { line = walk.line; kind = kind }))
+opening_bad None name limits before lines walk walk2 line kind passed has may is = tt
+opening_bad (Some m) name limits before lines walk walk2 line kind passed has may is =
+    let file = file_of m name in
+    inl (record {
+      rest = rest_after lines file;
+      is = passed.told.0;
+      line = passed.line;
+      bad = record { line = line; opens = may; first = record { after = rest_after (lines ++ line ∷ []) file; is = line_first lines line file has.1.told.0 }; defect = is };
+    })
+
+-- the defect of a line where a term of a sum is to come
+pub terms_bad : (files : Option FileMap) (name : List ℕ) (limits : Limits) (before : ℕ) (lines : List HeadLine) (sum : Sum) (count : ℕ) (defect : Defect) → HasBadTerms files name limits.slots count (lines ++ opening_line sum count ∷ []) defect
+    → MayOpen limits.slots (opening_line sum count) → opening_defect limits before (opening_line sum count) ≡ None → IfSome files (λ m. IsBadAt limits before lines (file_of m name) defect)
+terms_bad None name limits before lines sum count defect has may sound = tt
+terms_bad (Some m) name limits before lines sum count defect has may sound =
+    let file = file_of m name in
+    let all = (lines ++ opening_line sum count ∷ []) ++ map term_line has.terms in
+    let same : all ≡ lines ++ (opening_line sum count ∷ map term_line has.terms) = append_assoc lines (opening_line sum count ∷ []) (map term_line has.terms) in
+    inr (record {
+      sum = record sum { terms = has.terms };
+      count = count;
+      rest = rest_after all file;
+      opens = may;
+      sound = sound;
+      terms = has.are;
+      fewer = has.fewer;
+      is = has.bad.told.0 ∙ ap (λ ls. text_with ls ++ rest_after all file) same;
+      line = has.bad.line ∙ ap (λ ls. 2 + length ls) same;
+      bad = has.bad.told.1;
+    })
+
+-- a sum whose terms were read
+pub sum_goes : (files : Option FileMap) (name : List ℕ) (lines : List HeadLine) (sum : Sum) (terms : List Entry) (count : ℕ) (walk : Walk) → length terms ≡ count
+    → HasPassed files name ((lines ++ opening_line sum count ∷ []) ++ map term_line terms) walk → HasPassed files name (lines ++ sum_lines (record sum { terms = terms })) walk
+sum_goes files name lines sum terms count walk long passed =
+    subst (λ n. HasPassed files name (lines ++ (opening_line sum n ∷ map term_line terms)) walk) (sym long)
+    (subst (λ ls. HasPassed files name ls walk) (append_assoc lines (opening_line sum count ∷ []) (map term_line terms)) passed)
+
+-- a sum that was read keeps the limits
+pub sum_kept : (limits : Limits) (before : ℕ) (sum : Sum) (terms : List Entry) (count : ℕ) → MayOpen limits.slots (opening_line sum count) → opening_defect limits before (opening_line sum count) ≡ None → length terms ≡ count → AreTerms limits.slots terms
+    → IsSumKept limits before (record sum { terms = terms })
+sum_kept limits before sum terms count may sound long are =
+    let tells = sound_is limits before sum.width sum.offset sum.low sum.high count sound in
+    record {
+      declared = record { width_some = may.0.0.0; width_most = may.0.0.1; offset_small = may.0.1; terms_some = omega (arith, may.0.4.0); terms_count = are.count; terms_bounded = are.bounded };
+      rows = (tells.0, tells.1);
+      room = tells.2;
+    }
+
+-- ---- whole sums
+
+-- there is room for so many sums, by a test
+room_is : (limits : Limits) (count : ℕ) → has_room limits count ≡ true → (limits.slots + count ≤ 512) × (limits.rows + 2 * count ≤ 45904)
+room_is limits count is = (grind (arith, nat_tests), grind (arith, nat_tests))
+
+-- no sums keep the limits
+pub none_kept : (limits : Limits) → limits.slots ≤ 512 → limits.rows ≤ 45904 → AreKept limits []
+none_kept limits slots rows = record { declared = λ k d within. absurd (omega arith); rows_there = λ k d within. absurd (omega arith); slots = omega arith; rows = omega arith }
+
+-- sums and one more keep the limits
+pub more_kept : (limits : Limits) (sums : List Sum) (sum : Sum) → AreKept limits sums → IsSumKept limits (length sums) sum → AreKept limits (sums ++ sum ∷ [])
+more_kept limits sums sum kept is =
+    let room = room_is limits (length sums + 1) is.room in
+    let long = length-append sums (sum ∷ []) in
+    record {
+      declared = All-append (IsDeclared limits.slots) sums (sum ∷ []) kept.declared (All-cons (IsDeclared limits.slots) sum [] is.declared (λ k d within. absurd (omega arith)));
+      rows_there = All-append (HasRows limits.rows) sums (sum ∷ []) kept.rows_there (All-cons (HasRows limits.rows) sum [] is.rows (λ k d within. absurd (omega arith)));
+      slots = omega (arith, room.0, long);
+      rows = omega (arith, room.1, long);
+    }
+
+-- the lines on which sums and one more begin
+begins_on-more : (first : ℕ) (sums : List Sum) (sum : Sum) → begins_on first (sums ++ sum ∷ []) ≡ begins_on first sums ++ (first + length (lines_of sums)) ∷ []
+begins_on-more first [] sum = let same : first ≡ first + 0 = omega arith in ap (λ n. n ∷ []) same
+begins_on-more first (s ∷ sums) sum =
+    let next : (first + (1 + length s.terms)) + length (lines_of sums) ≡ first + length (lines_of (s ∷ sums)) = ? in
+    ap (λ w. first ∷ w) (begins_on-more (first + (1 + length s.terms)) sums sum ∙ ap (λ n. begins_on (first + (1 + length s.terms)) sums ++ n ∷ []) next)
