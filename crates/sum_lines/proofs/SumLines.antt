@@ -1,5 +1,7 @@
 -- The sums of a head, one after another.
-use Rattle.std.proofs.Common.{◌≡◌, ◌⊎◌, inl, inr, ℕ, ◌+◌, ◌*◌, ◌-◌, ◌<◌, ◌≤◌, ◌^◌, true, false, All, List, [], ◌∷◌, ◌++◌, length, length-append, map, drop, Option, Some, None, IfSome, subst, sym, ap, ◌∙◌, refl, arith, append_assoc}
+use Rattle.std.proofs.Common.{◌≡◌, ◌⊎◌, inl, inr, ℕ, ◌+◌, ◌*◌, ◌-◌, ◌<◌, ◌≤◌, ◌^◌, suc, true, false, All, get_or, List, [], ◌∷◌, ◌++◌, length, length-append, map, drop, Option, Some, None, IfSome, subst, sym, ap, ◌∙◌, refl, arith, append_assoc}
+use Rattle.std.specs.Prelude.{codes}
+use Rattle.std.proofs.Math.Seq.{drop-append_seam}
 use Rattle.std.proofs.lemmas.Bool.Decides.{nat_tests}
 use Rattle.std.proofs.lemmas.List.Elements.{All-append, All-cons}
 use Rattle.log_lines.specs.declared.grammar.Limits.{Limits}
@@ -113,9 +115,81 @@ more_kept limits sums sum kept is =
       rows = omega (arith, room.1, long);
     }
 
+-- as many lines as terms
+lines_long : (terms : List Entry) → length (map term_line terms) ≡ length terms
+lines_long [] = refl
+lines_long (t ∷ terms) = ap suc (lines_long terms)
+
 -- the lines on which sums and one more begin
 begins_on-more : (first : ℕ) (sums : List Sum) (sum : Sum) → begins_on first (sums ++ sum ∷ []) ≡ begins_on first sums ++ (first + length (lines_of sums)) ∷ []
 begins_on-more first [] sum = let same : first ≡ first + 0 = omega arith in ap (λ n. n ∷ []) same
 begins_on-more first (s ∷ sums) sum =
-    let next : (first + (1 + length s.terms)) + length (lines_of sums) ≡ first + length (lines_of (s ∷ sums)) = ? in
+    let next : (first + (1 + length s.terms)) + length (lines_of sums) ≡ first + length (lines_of (s ∷ sums)) = omega (arith, length-append (map term_line s.terms) (lines_of sums), lines_long s.terms) in
     ap (λ w. first ∷ w) (begins_on-more (first + (1 + length s.terms)) sums sum ∙ ap (λ n. begins_on (first + (1 + length s.terms)) sums ++ n ∷ []) next)
+
+-- the lines of sums after one more, where its line is told
+pub begins_next : (lines lines2 : List ℕ) (sums : List Sum) (sum : Sum) (at : ℕ) → lines ≡ begins_on 2 sums → lines2 ≡ lines ++ at ∷ [] → at ≡ 2 + length (lines_of sums) → lines2 ≡ begins_on 2 (sums ++ sum ∷ [])
+begins_next lines lines2 sums sum at is is2 told = is2 ∙ ap (λ w. w ++ at ∷ []) is ∙ ap (λ n. begins_on 2 sums ++ n ∷ []) told ∙ sym (begins_on-more 2 sums sum)
+
+-- one line for each sum
+begins_long : (first : ℕ) (sums : List Sum) → length (begins_on first sums) ≡ length sums
+begins_long first [] = refl
+begins_long first (s ∷ sums) = ap suc (begins_long (first + (1 + length s.terms)) sums)
+
+-- a walk that has passed one sum more
+pub passed_sum : (files : Option FileMap) (name : List ℕ) (sums : List Sum) (sum : Sum) (walk : Walk) → HasPassed files name (lines_of sums ++ sum_lines sum) walk → HasPassed files name (lines_of (sums ++ sum ∷ [])) walk
+passed_sum files name sums sum walk passed = subst (λ ls. HasPassed files name ls walk) (sym (lines_of-more sums sum)) passed
+
+-- the head with sums that keep the limits
+pub head_of_kept : (limits : Limits) (sums : List Sum) → AreKept limits sums → length (head_text sums) < 2 ^ 64 → IsKept limits (head_of sums)
+head_of_kept limits sums kept small = record { is = refl; sums = kept; lines = begins_long 2 sums; count = omega arith; bytes_least = omega arith; bytes_most = small }
+
+-- the head that a walk has passed
+pub head_same : (files : Option FileMap) (name : List ℕ) (sums : List Sum) (lines : List ℕ) (walk : Walk) → lines ≡ begins_on 2 sums → HasPassed files name (lines_of sums) walk
+    → head_of sums ≡ record { sums = sums; lines = lines; count = walk.line - 1; bytes = walk.bytes }
+head_same files name sums lines walk is passed =
+    let count : 1 + length (lines_of sums) ≡ walk.line - 1 = omega (arith, passed.line) in
+    let bytes : length (head_text sums) ≡ walk.bytes = sym passed.bytes in
+    let begins : begins_on 2 sums ≡ lines = sym is in
+    let made : ℕ → ℕ → List ℕ → Head = λ c b l. record { sums = sums; lines = l; count = c; bytes = b } in
+    ap (λ c. made c (length (head_text sums)) (begins_on 2 sums)) count ∙ ap (λ b. made (walk.line - 1) b (begins_on 2 sums)) bytes ∙ ap (λ l. made (walk.line - 1) walk.bytes l) begins
+
+pub head_kept : (files : Option FileMap) (name : List ℕ) (limits : Limits) (sums : List Sum) (lines : List ℕ) (walk : Walk) → AreKept limits sums → lines ≡ begins_on 2 sums → HasPassed files name (lines_of sums) walk → walk.bytes < 2 ^ 64
+    → IsKept limits (record { sums = sums; lines = lines; count = walk.line - 1; bytes = walk.bytes })
+head_kept files name limits sums lines walk kept is passed small =
+    subst (IsKept limits) (head_same files name sums lines walk is passed) (head_of_kept limits sums kept (subst (λ n. n < 2 ^ 64) passed.bytes small))
+
+-- the same of the file
+pub head_told : (files : Option FileMap) (name : List ℕ) (limits : Limits) (sums : List Sum) (lines : List ℕ) (walk : Walk) → IsKept limits (record { sums = sums; lines = lines; count = walk.line - 1; bytes = walk.bytes }) → HasPassed files name (lines_of sums) walk
+    → IfSome files (λ m. NoneFirst (MayOpen limits.slots) (rest_after (lines_of sums) (file_of m name))) → IfSome files (λ m. IsHeaded limits (file_of m name) (record { sums = sums; lines = lines; count = walk.line - 1; bytes = walk.bytes }))
+head_told None name limits sums lines walk kept passed none = tt
+head_told (Some m) name limits sums lines walk kept passed none =
+    let file = file_of m name in
+    record {
+      kept = kept;
+      is = passed.told.0 ∙ ap (λ n. head_text sums ++ drop n file) (sym passed.bytes);
+      ends = subst (λ n. NoneFirst (MayOpen limits.slots) (drop n file)) (sym passed.bytes) none;
+    }
+
+-- a defect after whole sums
+pub bad_head : (files : Option FileMap) (name : List ℕ) (limits : Limits) (sums : List Sum) (before : ℕ) (defect : Defect) → AreKept limits sums → before ≡ length sums → IfSome files (λ m. IsBadAt limits before (lines_of sums) (file_of m name) defect)
+    → IfSome files (λ m. IsBadHead limits (file_of m name) defect)
+bad_head None name limits sums before defect kept is bad = tt
+bad_head (Some m) name limits sums before defect kept is bad = record { sums = sums; kept = kept; bad = subst (λ n. IsBadAt limits n (lines_of sums) (file_of m name) defect) is bad }
+
+-- ---- the law
+
+-- no line that may open a sum stands first before a line `node`
+node_none : (slots : ℕ) (rest : List ℕ) → NoneFirst (MayOpen slots) (codes "node" ++ 10 ∷ rest)
+unfolding head_line_text
+node_none slots rest (line.Sum w o l h c) may first = omega (arith, ap (λ w. get_or w 0 0) first.is)
+node_none slots rest (line.Term s f p) may first = absurd may
+
+pub heads_read : (limits : Limits) (sums : List Sum) (rest : List ℕ) → AreKept limits sums → length (head_text sums) < 2 ^ 64 → IsHeaded limits (head_text sums ++ (codes "node" ++ 10 ∷ rest)) (head_of sums)
+heads_read limits sums rest kept small =
+    let seam = drop-append_seam (head_text sums) (codes "node" ++ 10 ∷ rest) in
+    record {
+      kept = head_of_kept limits sums kept small;
+      is = ap (λ w. head_text sums ++ w) (sym seam);
+      ends = subst (NoneFirst (MayOpen limits.slots)) (sym seam) (node_none limits.slots rest);
+    }

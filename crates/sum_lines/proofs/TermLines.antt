@@ -1,7 +1,7 @@
 -- The terms of a sum, line by line.
 use Rattle.std.proofs.Common.{◌≡◌, ◌⊎◌, inl, inr, ℕ, zero, suc, ◌+◌, ◌-◌, ◌<◌, ◌≤◌, true, false, All, List, [], ◌∷◌, ◌++◌, length, length-append, map, get_or, Option, Some, None, IfSome, unsigned_abs, subst, sym, ap, ◌∙◌, refl, arith, append_assoc}
 use Rattle.std.proofs.lemmas.Bool.Decides.{nat_tests}
-use Rattle.std.proofs.lemmas.List.{map-append, length-map}
+use Rattle.std.proofs.lemmas.List.{map-append}
 use Rattle.std.proofs.lemmas.List.Elements.{All-append, All-cons}
 use Rattle.std.specs.List.Sorted.{IsStrictlyIncreasing}
 use Rattle.log_lines.specs.Grammar.{follows}
@@ -104,11 +104,16 @@ ascending_more xs x ascending above = λ k within.
     subst (λ n. get_or (xs ++ x ∷ []) k 0 < get_or (xs ++ x ∷ []) n 0) one
     (asc_more xs x (λ j w. let next : j + 1 ≡ suc j = omega arith in subst (λ n. get_or xs j 0 < get_or xs n 0) next (ascending j (omega arith))) above k (omega arith))
 
+-- as many slots as terms
+slots_long : (terms : List Entry) → length (map (λ (t : Entry). t.slot) terms) ≡ length terms
+slots_long [] = refl
+slots_long (t ∷ terms) = ap suc (slots_long terms)
+
 -- the slots of terms and one more
 slots_more : (terms : List Entry) (term : Entry) → IsStrictlyIncreasing (map (λ (t : Entry). t.slot) terms) → follows (last_slot None terms) term.slot ≡ true → IsStrictlyIncreasing (map (λ (t : Entry). t.slot) (terms ++ term ∷ []))
 slots_more terms term ascending tells =
     let slots : List ℕ = map (λ (t : Entry). t.slot) terms in
-    let long : length slots ≡ length terms = length-map (λ (t : Entry). t.slot) terms in
+    let long : length slots ≡ length terms = slots_long terms in
     subst IsStrictlyIncreasing (sym (map-append (λ (t : Entry). t.slot) terms (term ∷ [])))
     (ascending_more slots term.slot ascending
     (λ some. let place : length terms - 1 ≡ length slots - 1 = ap (λ n. n - 1) (sym long) in
