@@ -1,5 +1,5 @@
 //! The head of a log, sum by sum.
-ghost use Rattle.std.specs.Prelude.{◌≡◌, ◌≤◌, ◌+◌, ◌*◌, ◌++◌, [], List as Items, None, Ok, Err, IsTrue, IfOk, IfSome, length};
+ghost use Rattle.std.specs.Prelude.{◌≡◌, ◌<◌, ◌≤◌, ◌-◌, ◌^◌, ◌++◌, [], List as Items, None, Ok, Err, IsTrue, IfOk, IfSome};
 ghost use Rattle.proof_log.specs.declared.log.Defect.{Defect};
 ghost use Rattle.stn_edge.specs.Count.{Rose};
 ghost use Rattle.stn_edge.specs.Files.{file_of};
@@ -117,16 +117,23 @@ fn read_sums<F: Shelf>(
                 sums.push(sum)?;
                 lines.push(line)?;
             }
-            Ok(None) => {
-                return Ok(Head {
-                    sums,
-                    lines,
-                    count: line - 1,
-                    bytes,
-                });
-            }
+            Ok(None) => return Ok(head_with(sums, lines, line, bytes)),
             Err(halt) => return Err(halt),
         }
+    }
+}
+
+// The head with these sums, which begin on these lines, before a line and after so many bytes.
+fn head_with(sums: List<Sum>, lines: List<u64>, line: u64, bytes: u64) -> Head
+    requires { 1 ≤ line }
+    ensures is { result ≡ record { sums = sums; lines = lines; count = line - 1; bytes = bytes } }
+    ensures small { bytes < 2 ^ 64 }
+{
+    Head {
+        sums,
+        lines,
+        count: line - 1,
+        bytes,
     }
 }
 

@@ -1,7 +1,7 @@
-use Rattle.std.proofs.Common.{◌≡◌, [], ◌∷◌, ◌++◌, List, ap, sym, subst, Err, IfSome, Option, arith, ◌∙◌, None, refl}
+use Rattle.std.proofs.Common.{◌≡◌, [], ◌∷◌, ◌++◌, List, ap, sym, subst, Err, IfSome, Option, arith, ◌∙◌, Ok}
 use Rattle.stn_edge.specs.Files.{FileMap, file_of}
-use Rattle.sum_lines.specs.Front.{IsBadAt, MayOpen, NoneFirst}
-use Rattle.sum_lines.specs.Head.{AreKept, begins_on, lines_of, sum_lines}
+use Rattle.sum_lines.specs.Front.{IsBadAt, IsHeaded, MayOpen, NoneFirst}
+use Rattle.sum_lines.specs.Head.{AreKept, IsKept, begins_on, lines_of, sum_lines}
 use Rattle.sum_lines.specs.declared.halt.Halt.TheVariants as halt
 use Rattle.sum_lines.specs.declared.line.HeadLine.{HeadLine}
 use Rattle.sum_lines.specs.laws.Sums.{IsSumKept}
@@ -10,22 +10,46 @@ use Rattle.sum_lines.proofs.SumLines.{bad_head, begins_next, head_kept, head_tol
 use Rattle.sum_lines.proofs.sums.read_sums.Goals as goal
 
 pub sums-preserved : goal.sums-preserved
-sums-preserved g c = let a = c.in_ok-push.ensures in ?
+sums-preserved g c =
+    let i = c.sums.invariant in
+    let files = g.F.Shelf.files c.args.files.now in
+    let name = c.args.name.now in
+    let limits = c.args.limits.now in
+    let sums = c.sums.sums in
+    let sum = c.in-Ok-Some.sum in
+    let is = c.in_ok-push-in-Ok-Some.ensures.ok in
+    let kept = subst (λ f. IfSome f (IsSumKept limits c.len.result)) c.in-Ok-Some.field-0-is c.in-Ok-Some.ensures.sum in
+    let goes = subst (λ f. IfSome f (λ s. (ls : List HeadLine) → HasPassed (g.F.Shelf.files c.sums.files) name ls c.sums.walk → HasPassed (g.F.Shelf.files c.sums.files) name (ls ++ sum_lines s) c.next_sum.new.walk)) c.in-Ok-Some.field-0-is c.in-Ok-Some.ensures.goes in
+    let there = subst (λ (f : Option FileMap). HasPassed f name (lines_of sums) c.sums.walk) (sym i.same) i.passed in
+    let here = subst (λ (f : Option FileMap). HasPassed f name (lines_of sums ++ sum_lines sum) c.next_sum.new.walk) i.same (goes (lines_of sums) there) in
+    record {
+      same = cc;
+      readable = cc;
+      writable = cc;
+      no_write = cc;
+      later = omega arith;
+      kept = subst (AreKept limits) (sym is) (more_kept limits sums sum i.kept (subst (λ n. IsSumKept limits n sum) c.len.ensures kept));
+      begins = begins_next c.sums.lines c.push-in-Ok-Some.new.self sums sum c.sums.walk.line i.begins c.in_ok-push-in-Ok-Some-2.ensures.ok i.passed.line ∙ ap (begins_on 2) (sym is);
+      passed = subst (λ ss. HasPassed files name (lines_of ss) c.next_sum.new.walk) (sym is) (passed_sum files name sums sum c.next_sum.new.walk here);
+    }
 
 pub returns-in-Ok-None-clause-kept : goal.returns-in-Ok-None-clause-kept
 returns-in-Ok-None-clause-kept g c =
     let i = c.sums.invariant in
-    head_kept (g.F.Shelf.files c.args.files.now) c.args.name.now c.args.limits.now c.sums.sums c.sums.lines c.sums.walk i.kept i.begins i.passed (omega arith)
+    let made = c.head_with.ensures in
+    subst (IsKept c.args.limits.now) (sym made.is) (head_kept (g.F.Shelf.files c.args.files.now) c.args.name.now c.args.limits.now c.sums.sums c.sums.lines c.sums.walk i.kept i.begins i.passed made.small)
 
 pub returns-in-Ok-None-clause-head : goal.returns-in-Ok-None-clause-head
 returns-in-Ok-None-clause-head g c =
     let i = c.sums.invariant in
+    let made = c.head_with.ensures in
     let files = g.F.Shelf.files c.args.files.now in
     let name = c.args.name.now in
-    let slots = c.args.limits.now.slots in
+    let limits = c.args.limits.now in
     let there = subst (λ (f : Option FileMap). HasPassed f name (lines_of c.sums.sums) c.sums.walk) (sym i.same) i.passed in
-    let ends = subst (λ (f : Option FileMap). IfSome f (λ m. NoneFirst (MayOpen slots) (rest_after (lines_of c.sums.sums) (file_of m name)))) i.same (c.in-Ok-None.ensures.ends refl (lines_of c.sums.sums) there) in
-    head_told files name c.args.limits.now c.sums.sums c.sums.lines c.sums.walk (head_kept files name c.args.limits.now c.sums.sums c.sums.lines c.sums.walk i.kept i.begins i.passed (omega arith)) i.passed ends
+    let ends = subst (λ (f : Option FileMap). IfSome f (λ m. NoneFirst (MayOpen limits.slots) (rest_after (lines_of c.sums.sums) (file_of m name)))) i.same (c.in-Ok-None.ensures.ends (ap Ok c.in-Ok-None.field-0-is) (lines_of c.sums.sums) there) in
+    subst (λ head. IfSome files (λ m. IsHeaded limits (file_of m name) head)) (sym made.is)
+    (head_told files name limits c.sums.sums c.sums.lines c.sums.walk (head_kept files name limits c.sums.sums c.sums.lines c.sums.walk i.kept i.begins i.passed made.small) i.passed ends)
 
 pub returns-in-Err-clause-bad : goal.returns-in-Err-clause-bad
 returns-in-Err-clause-bad g c defect is =
