@@ -1,8 +1,8 @@
 -- Lines and their line feeds.
-use Rattle.std.proofs.Common.{◌≡◌, ◌≢◌, ℕ, ℤ, pos, negsuc, suc, ◌+◌, ◌*◌, ◌<◌, ◌≤◌, ◌^◌, Bool, true, false, not, cond, eqb, All, List, [], ◌∷◌, ◌++◌, length, length-append, drop, get_or, decimal, Option, Some, None, unsigned_abs, sym, ap, ◌∙◌, refl, arith}
+use Rattle.std.proofs.Common.{◌≡◌, ◌≢◌, ℕ, ℤ, pos, negsuc, suc, ◌+◌, ◌<◌, ◌≤◌, ◌^◌, Bool, true, false, not, cond, eqb, List, [], ◌∷◌, ◌++◌, length, length-append, drop, get_or, decimal, Option, Some, None, unsigned_abs, sym, ap, ◌∙◌, refl, arith}
 use Rattle.std.specs.Prelude.{codes}
 use Rattle.std.specs.Fmt.{signed_decimal}
-use Rattle.std.specs.List.{list_all, position_or_len}
+use Rattle.std.specs.List.{list_all}
 use Rattle.std.proofs.lemmas.Bool.Decides.{nat_tests}
 use Rattle.std.proofs.lemmas.Fmt.{length-decimal-le_wide}
 use Rattle.std.proofs.lemmas.List.Elements.{All-append, All-cons}
@@ -17,7 +17,6 @@ use Rattle.sum_lines.specs.Front.{BeginsWith, EndsEarly}
 use Rattle.sum_lines.specs.Line.{IsHeadLine, IsShortRow, head_line_text, line_name, line_words, row_word, words_text}
 use Rattle.sum_lines.proofs.LineWords.{text_cut_line}
 use Rattle.sum_lines.proofs.NumberWords.{no_minus}
-use Rattle.sum_lines.proofs.WordTexts.{words_unique}
 
 -- ---- no line feed in a line, and few bytes
 

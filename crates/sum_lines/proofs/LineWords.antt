@@ -1,5 +1,5 @@
 -- The words of a line: what they are printed of.
-use Rattle.std.proofs.Common.{◌≡◌, ◌≢◌, ℕ, ℤ, pos, negsuc, suc, ◌<◌, ◌≤◌, ◌^◌, true, false, not, eqb, All, List, [], ◌∷◌, ◌++◌, length, get_or, decimal, Option, Some, None, MatchOption, unsigned_abs, sym, ap, ◌∙◌, refl, arith, bytes_eq}
+use Rattle.std.proofs.Common.{◌≡◌, ◌≢◌, ℕ, ℤ, pos, ◌<◌, ◌^◌, true, false, not, eqb, All, List, [], ◌∷◌, ◌++◌, length, get_or, decimal, Option, Some, None, MatchOption, sym, ap, ◌∙◌, refl, arith, bytes_eq}
 use Rattle.std.specs.Prelude.{codes}
 use Rattle.std.specs.Fmt.{signed_decimal}
 use Rattle.std.specs.List.{list_all}
@@ -8,7 +8,7 @@ use Rattle.std.proofs.lemmas.Bool.Decides.{nat_tests}
 use Rattle.std.proofs.lemmas.List.Recursion.{and_at}
 use Rattle.std.proofs.lemmas.List.Elements.{All-cons}
 use Rattle.std.proofs.lemmas.Slice.Eq.{bytes_eq-Decides}
-use Rattle.log_lines.specs.Numbers.{IsCut, IsRest, IsWord}
+use Rattle.log_lines.specs.Numbers.{IsCut, IsWord}
 use Rattle.log_lines.proofs.NumberTexts.{IsWord-signed, word_unique}
 use Rattle.log_lines.proofs.SignedNumbers.{signed_decimal_injective_wide}
 use Rattle.row_kit.specs.Row.{is_nothing}

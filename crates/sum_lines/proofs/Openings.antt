@@ -1,12 +1,11 @@
 -- What a sum line begins.
-use Rattle.std.proofs.Common.{◌≡◌, ℕ, ℤ, ◌+◌, ◌<◌, ◌≤◌, Bool, true, false, cond, ◌&&◌, List, [], Option, Some, None, subst, sym, ap, ◌∙◌, refl, arith}
+use Rattle.std.proofs.Common.{◌≡◌, ℕ, ℤ, ◌+◌, ◌≤◌, Bool, true, false, cond, ◌&&◌, [], Option, Some, None, subst, sym, ap, ◌∙◌, refl, arith}
 use Rattle.std.proofs.lemmas.Bool.Decides.{nat_tests}
 use Rattle.std.proofs.lemmas.Int.{to_z-of_z, fits_signed_from_abs}
 use mir.Syntax.{w64, w128}
 use mir.Val.{to_z, of_z}
 use Rattle.log_lines.specs.declared.grammar.Limits.{Limits}
 use Rattle.sum_slots.specs.declared.sum.Sum.{Sum}
-use Rattle.sum_lines.specs.declared.line.HeadLine.{HeadLine}
 use Rattle.sum_lines.specs.declared.line.HeadLine.TheVariants as line
 use Rattle.sum_lines.specs.declared.opening.Opened.TheVariants as opened
 use Rattle.sum_lines.specs.declared.walk.Seen.{Seen}

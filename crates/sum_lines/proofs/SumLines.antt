@@ -1,5 +1,5 @@
 -- The sums of a head, one after another.
-use Rattle.std.proofs.Common.{◌≡◌, ◌⊎◌, inl, inr, ℕ, ◌+◌, ◌*◌, ◌-◌, ◌<◌, ◌≤◌, ◌^◌, suc, true, false, All, get_or, List, [], ◌∷◌, ◌++◌, length, length-append, map, drop, Option, Some, None, IfSome, subst, sym, ap, ◌∙◌, refl, arith, append_assoc}
+use Rattle.std.proofs.Common.{◌≡◌, inl, inr, ℕ, ◌+◌, ◌*◌, ◌-◌, ◌<◌, ◌≤◌, ◌^◌, suc, true, get_or, List, [], ◌∷◌, ◌++◌, length, length-append, map, drop, Option, Some, None, IfSome, subst, sym, ap, ◌∙◌, refl, arith, append_assoc}
 use Rattle.std.specs.Prelude.{codes}
 use Rattle.std.proofs.Math.Seq.{drop-append_seam}
 use Rattle.std.proofs.lemmas.Bool.Decides.{nat_tests}
@@ -16,8 +16,8 @@ use Rattle.sum_lines.specs.declared.line.HeadLine.TheVariants as line
 use Rattle.sum_lines.specs.declared.walk.Seen.{Seen}
 use Rattle.sum_lines.specs.declared.walk.Seen.TheVariants as seen
 use Rattle.sum_lines.specs.declared.walk.Walk.{Walk}
-use Rattle.sum_lines.specs.Front.{BeginsWith, IsBadAt, IsBadHead, IsHeaded, MayOpen, NoneFirst, has_room, opening_defect}
-use Rattle.sum_lines.specs.Head.{AreKept, AreTerms, HasRows, IsKept, begins_on, head_of, head_text, lines_of, open_lines, opening_line, sum_lines, term_line, text_with}
+use Rattle.sum_lines.specs.Front.{IsBadAt, IsBadHead, IsHeaded, MayOpen, NoneFirst, has_room, opening_defect}
+use Rattle.sum_lines.specs.Head.{AreKept, AreTerms, HasRows, IsKept, begins_on, head_of, head_text, lines_of, opening_line, sum_lines, term_line, text_with}
 use Rattle.sum_lines.specs.Line.{IsHeadLine, head_line_text}
 use Rattle.sum_lines.specs.laws.Sums.{IsSumKept}
 use Rattle.sum_lines.specs.laws.Walk.{HasBadTerms, HasPassed, HasSeen, rest_after}

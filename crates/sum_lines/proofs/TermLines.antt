@@ -1,11 +1,10 @@
 -- The terms of a sum, line by line.
-use Rattle.std.proofs.Common.{◌≡◌, ◌⊎◌, inl, inr, ℕ, zero, suc, ◌+◌, ◌-◌, ◌<◌, ◌≤◌, true, false, All, List, [], ◌∷◌, ◌++◌, length, length-append, map, get_or, Option, Some, None, IfSome, unsigned_abs, subst, sym, ap, ◌∙◌, refl, arith, append_assoc}
+use Rattle.std.proofs.Common.{◌≡◌, ◌⊎◌, inl, inr, ℕ, zero, suc, ◌+◌, ◌-◌, ◌<◌, ◌≤◌, true, false, All, List, [], ◌∷◌, ◌++◌, length, map, get_or, Option, Some, None, IfSome, unsigned_abs, subst, sym, ap, ◌∙◌, refl, arith, append_assoc}
 use Rattle.std.proofs.lemmas.Bool.Decides.{nat_tests}
 use Rattle.std.proofs.lemmas.List.{map-append}
 use Rattle.std.proofs.lemmas.List.Elements.{All-append, All-cons}
 use Rattle.std.specs.List.Sorted.{IsStrictlyIncreasing}
 use Rattle.log_lines.specs.Grammar.{follows}
-use Rattle.proof_log.specs.declared.log.Defect.{Defect}
 use Rattle.row_kit.specs.Row.{is_nothing}
 use Rattle.row_kit.specs.declared.row.Entry.{Entry}
 use Rattle.stn_edge.specs.Files.{FileMap, file_of}
@@ -48,8 +47,11 @@ far_bad slots above bytes after kind (line.Term slot fixed per) next is may far 
 line_bad : (slots : ℕ) (above : Option ℕ) (bytes after : List ℕ) (kind : ℕ) (line : HeadLine) → bytes ≡ head_line_text line ++ 10 ∷ after → IsHeadLine line → ((kind ≡ 1) × (¬ MayFollow above line)) ⊎ ((kind ≡ 5) × MayFollow above line × IsFar slots line)
     → IsBadTerm slots above bytes kind
 line_bad slots above bytes after kind line next is (inl other) =
-    inr (inl (other.0, line_late (head_line_text line) bytes after next,
-    λ line2 may first. other.1 (subst (MayFollow above) (first_same line2 line bytes after (may_follow_line above line2 may) is next first) may)))
+    inr (inl (
+      other.0,
+      line_late (head_line_text line) bytes after next,
+      λ line2 may first. other.1 (subst (MayFollow above) (first_same line2 line bytes after (may_follow_line above line2 may) is next first) may),
+    ))
 line_bad slots above bytes after kind line next is (inr far) = far_bad slots above bytes after kind line next far.0 far.1 far.2
 
 -- the same of what is seen, where the store may not tell the file
@@ -117,7 +119,7 @@ slots_more terms term ascending tells =
     subst IsStrictlyIncreasing (sym (map-append (λ (t : Entry). t.slot) terms (term ∷ [])))
     (ascending_more slots term.slot ascending
     (λ some. let place : length terms - 1 ≡ length slots - 1 = ap (λ n. n - 1) (sym long) in
-        follows_above (last_slot None terms) (get_or slots (length slots - 1) 0) term.slot (last_at None terms (omega arith) ∙ ap (λ k. Some (get_or slots k 0)) place) tells))
+    follows_above (last_slot None terms) (get_or slots (length slots - 1) 0) term.slot (last_at None terms (omega arith) ∙ ap (λ k. Some (get_or slots k 0)) place) tells))
 
 one : {X : Type 0} (P : X → Type 0) (x : X) → P x → All P (x ∷ [])
 one P x is = All-cons P x [] is (λ k d within. absurd (omega arith))

@@ -1,7 +1,7 @@
 -- A walk over the lines of a head.
-use Rattle.std.proofs.Common.{◌≡◌, ◌≢◌, ℕ, ◌+◌, ◌<◌, false, List, [], ◌∷◌, ◌++◌, length, length-append, drop, Option, Some, None, MatchOption, IfSome, Result, Ok, Err, IfOk, subst, sym, ap, ◌∙◌, refl, arith, append_assoc}
+use Rattle.std.proofs.Common.{◌≡◌, ◌≢◌, ℕ, ◌+◌, ◌<◌, List, [], ◌∷◌, ◌++◌, length, length-append, drop, Option, Some, None, MatchOption, IfSome, Result, Ok, Err, IfOk, subst, sym, ap, ◌∙◌, refl, arith, append_assoc}
 use Rattle.std.proofs.Math.Seq.{drop-append_seam}
-use Rattle.log_lines.specs.Reader.{EndsLine, HasNoFeed, IsAhead, IsEnd, Reading, line_length, new_reading}
+use Rattle.log_lines.specs.Reader.{EndsLine, HasNoFeed, IsEnd, Reading, line_length, new_reading}
 use Rattle.log_lines.specs.declared.reader.LineEnd.{LineEnd}
 use Rattle.log_lines.specs.declared.reader.LineEnd.TheVariants.{Whole, Cut, Long, Nothing}
 use Rattle.stn_edge.specs.Files.{FileMap, file_of}
@@ -58,9 +58,10 @@ other_told : (files : Option FileMap) (name : List ℕ) (lines : List HeadLine) 
 other_told None name lines old new place plain none ends = tt
 other_told (Some m) name lines old new place plain none ends =
     let file = file_of m name in
-    let next : rest_after lines file ≡ new.line ++ 10 ∷ drop new.place file = ap (λ k. drop k file) (sym place) ∙ ends.0 in
-    (line_late new.line (rest_after lines file) (drop new.place file) next,
-    λ line is first. none line is (begins_line (head_line_text line) new.line (rest_after lines file) (drop new.place file) (text_fits line is).0 plain next first))
+    let next : rest_after lines file ≡ new.line ++ 10 ∷ drop new.place file = ap (λ k. drop k file) (sym place) ∙ ends.0 in (
+      line_late new.line (rest_after lines file) (drop new.place file) next,
+      λ line is first. none line is (begins_line (head_line_text line) new.line (rest_after lines file) (drop new.place file) (text_fits line is).0 plain next first),
+    )
 
 -- a line that is too long
 pub long_told : (files : Option FileMap) (name : List ℕ) (lines : List HeadLine) (old new : Reading) → old.place ≡ length (text_with lines)
@@ -86,10 +87,11 @@ whole_line files name lines line old new passed end ends text count bytes = reco
 -- what is seen of a whole line
 pub whole_seen : (files : Option FileMap) (name : List ℕ) (lines : List HeadLine) (old mid new : Walk) (shown : Seen) → HasPassed files name lines old → IsEnd old.reader mid.reader Whole → IfSome files (λ m. EndsLine (file_of m name) old.reader mid.reader Whole)
     → mid.line ≡ old.line → mid.bytes ≡ old.bytes → new.reader ≡ mid.reader → HasLooked mid new shown → HasSeen files name lines new shown
-whole_seen files name lines old mid new (seen.Line line) passed end ends count bytes same looked =
-    (looked.0,
-    whole_line files name lines line old new passed (subst (λ r. IsEnd old.reader r Whole) (sym same) end) (subst (λ r. IfSome files (λ m. EndsLine (file_of m name) old.reader r Whole)) (sym same) ends)
-    (looked.1 ∙ ap (λ r. r.line) (sym same)) (looked.2 ∙ ap (λ n. n + 1) count) (looked.3 ∙ ap (λ n. n + (length mid.reader.line + 1)) bytes ∙ ap (λ r. old.bytes + (length r.line + 1)) (sym same)))
+whole_seen files name lines old mid new (seen.Line line) passed end ends count bytes same looked = (
+  looked.0,
+  whole_line files name lines line old new passed (subst (λ r. IsEnd old.reader r Whole) (sym same) end) (subst (λ r. IfSome files (λ m. EndsLine (file_of m name) old.reader r Whole)) (sym same) ends)
+      (looked.1 ∙ ap (λ r. r.line) (sym same)) (looked.2 ∙ ap (λ n. n + 1) count) (looked.3 ∙ ap (λ n. n + (length mid.reader.line + 1)) bytes ∙ ap (λ r. old.bytes + (length r.line + 1)) (sym same)),
+)
 whole_seen files name lines old mid new seen.Other passed end ends count bytes same looked = other_told files name lines old.reader mid.reader (passed.place ∙ passed.bytes) end.1.1 looked ends
 whole_seen files name lines old mid new seen.Cut passed end ends count bytes same looked = absurd looked
 

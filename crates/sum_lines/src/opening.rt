@@ -25,10 +25,7 @@ const MOST_ROWS: u64 = 45_904;
 // A sum without its terms, which are to be so many; its defect; or nothing.
 #[derive(Drop)]
 pub(crate) enum Opened {
-    Sum {
-        sum: Sum,
-        count: u32,
-    },
+    Sum { sum: Sum, count: u32 },
     Bad(u8),
     Nothing,
 }
@@ -42,13 +39,15 @@ pub(crate) fn open_sum(alloc: Global, limits: &Limits, before: usize, seen: Seen
     ensures { IsOpened limits.now before seen result }
 {
     match seen {
-        Seen::Line(HeadLine::Sum {
-            width,
-            offset,
-            low,
-            high,
-            count,
-        }) if count <= u128::from(limits.slots) => {
+        Seen::Line(
+            HeadLine::Sum {
+                width,
+                offset,
+                low,
+                high,
+                count,
+            },
+        ) if count <= u128::from(limits.slots) => {
             match opening_defect(limits, before, low, high) {
                 Some(kind) => Opened::Bad(kind),
                 None => Opened::Sum {
@@ -68,7 +67,12 @@ pub(crate) fn open_sum(alloc: Global, limits: &Limits, before: usize, seen: Seen
 }
 
 // The kind of the defect of a sum line with these rows after so many sums.
-fn opening_defect(limits: &Limits, before: usize, low: Option<u128>, high: Option<u128>) -> Option<u8>
+fn opening_defect(
+    limits: &Limits,
+    before: usize,
+    low: Option<u128>,
+    high: Option<u128>,
+) -> Option<u8>
     requires slots { limits.now.slots ≤ 512 }
     requires rows { limits.now.rows ≤ 45904 }
     requires before { before ≤ 512 }

@@ -1,6 +1,6 @@
 -- Stands in specs/ since clauses of private functions cite it; no public clause does.
 -- How the words of a line are cut: one after another, each after a blank.
-use Rattle.std.specs.Prelude.{◌≡◌, ◌≢◌, ℕ, Option, MatchOption, List, ◌∷◌, ◌++◌, length}
+use Rattle.std.specs.Prelude.{◌≡◌, ℕ, Option, MatchOption, List, ◌∷◌, ◌++◌, length}
 use Rattle.std.specs.List.{All}
 use Rattle.log_lines.specs.Numbers.{IsRest, IsWord}
 use Rattle.sum_lines.specs.Line.{words_text}

@@ -1,4 +1,4 @@
-use Rattle.std.proofs.Common.{sym, ◌∙◌}
+use Rattle.std.proofs.Common.{sym}
 use Rattle.std.specs.Prelude.{codes}
 use Rattle.sum_lines.proofs.LineWords.{named_read, text_none}
 use Rattle.sum_lines.proofs.reading.read_head_line.Goals as goal

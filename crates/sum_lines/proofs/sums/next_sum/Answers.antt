@@ -1,4 +1,4 @@
-use Rattle.std.proofs.Common.{◌≡◌, [], ◌∷◌, ◌++◌, List, ap, sym, subst, Err, IfSome, Option}
+use Rattle.std.proofs.Common.{◌≡◌, [], ◌∷◌, ◌++◌, ap, sym, subst, Err, IfSome, Option}
 use Rattle.proof_log.specs.declared.log.Defect.{Defect}
 use Rattle.stn_edge.specs.Files.{FileMap, file_of}
 use Rattle.sum_lines.specs.Front.{IsBadAt}

@@ -1,4 +1,4 @@
-use Rattle.std.proofs.Common.{◌≡◌, [], ◌∷◌, ◌++◌, List, ap, sym, subst, Err, IfSome, Option, arith, ◌∙◌, Ok}
+use Rattle.std.proofs.Common.{◌≡◌, ◌++◌, List, ap, sym, subst, Err, IfSome, Option, arith, ◌∙◌, Ok}
 use Rattle.stn_edge.specs.Files.{FileMap, file_of}
 use Rattle.sum_lines.specs.Front.{IsBadAt, IsHeaded, MayOpen, NoneFirst}
 use Rattle.sum_lines.specs.Head.{AreKept, IsKept, begins_on, lines_of, sum_lines}
