@@ -76,7 +76,8 @@ fn opening_defect(
     requires slots { limits.now.slots ≤ 512 }
     requires rows { limits.now.rows ≤ 45904 }
     requires before { before ≤ 512 }
-    ensures { (width : ℕ) (offset : ℤ) (count : ℕ) → result ≡ opening_defect limits.now before (line.Sum width offset low high count) }
+    ensures { (width : ℕ) (offset : ℤ) (count : ℕ)
+        → result ≡ opening_defect limits.now before (line.Sum width offset low high count) }
 {
     if !is_there(limits.rows, low) || !is_there(limits.rows, high) {
         Some(ROW_NUMBER)

@@ -58,7 +58,8 @@ fn term_line(rest: &[u8]) -> Option<HeadLine>
 
 // A sum line by its words.
 fn sum_with(width: &[u8], offset: &[u8], low: &[u8], high: &[u8], count: &[u8]) -> Option<HeadLine>
-    ensures { ReadsLine (codes "sum") (width.now ∷ offset.now ∷ low.now ∷ high.now ∷ count.now ∷ []) result }
+    ensures { ReadsLine (codes "sum")
+        (width.now ∷ offset.now ∷ low.now ∷ high.now ∷ count.now ∷ []) result }
 {
     match read_measures(width, offset) {
         Some((width, offset)) => match read_rows(low, high) {

@@ -38,7 +38,8 @@ pub fn read_head<F: Shelf>(
 
     // Whether the files are told or not:
     ensures kept { IfOk result (λ front. KeepsLimits limits.now front) }
-    ensures fault { result ≡ Err Stop.Failed → Rose (F.read_faults files.old) (F.read_faults files.new) }
+    ensures fault { result ≡ Err Stop.Failed
+        → Rose (F.read_faults files.old) (F.read_faults files.new) }
     ensures same { F.files files.new ≡ F.files files.old }
     ensures readable { F.may_read files.new ≡ F.may_read files.old }
     ensures writable { F.may_write files.new ≡ F.may_write files.old }
@@ -67,7 +68,8 @@ fn read_front<F: Shelf>(
     ensures kept { IfOk result (λ front. KeepsLimits limits.now front) }
     ensures bad { (defect : Defect) → result ≡ Err (Halt.Bad defect)
         → IfSome (F.files files.old) (λ m. IsBadHead limits.now (file_of m name.now) defect) }
-    ensures fault { result ≡ Err (Halt.Stopped Failed) → Rose (F.read_faults files.old) (F.read_faults files.new) }
+    ensures fault { result ≡ Err (Halt.Stopped Failed)
+        → Rose (F.read_faults files.old) (F.read_faults files.new) }
     ensures same { F.files files.new ≡ F.files files.old }
     ensures readable { F.may_read files.new ≡ F.may_read files.old }
     ensures writable { F.may_write files.new ≡ F.may_write files.old }
@@ -100,7 +102,8 @@ fn read_sums<F: Shelf>(
     ensures kept { IfOk result (IsKept limits.now) }
     ensures bad { (defect : Defect) → result ≡ Err (Halt.Bad defect)
         → IfSome (F.files files.old) (λ m. IsBadHead limits.now (file_of m name.now) defect) }
-    ensures fault { result ≡ Err (Halt.Stopped Failed) → Rose (F.read_faults files.old) (F.read_faults files.new) }
+    ensures fault { result ≡ Err (Halt.Stopped Failed)
+        → Rose (F.read_faults files.old) (F.read_faults files.new) }
     ensures same { F.files files.new ≡ F.files files.old }
     ensures readable { F.may_read files.new ≡ F.may_read files.old }
     ensures writable { F.may_write files.new ≡ F.may_write files.old }
@@ -150,7 +153,8 @@ fn next_sum<F: Shelf>(
     requires rows { limits.now.rows ≤ 45904 }
     requires before { before ≤ 512 }
     requires allowed { IsTrue (F.may_read files.old name.now) }
-    requires passed { (lines : Items HeadLine) × HasPassed (F.files files.old) name.now lines walk.old }
+    requires passed { (lines : Items HeadLine)
+        × HasPassed (F.files files.old) name.now lines walk.old }
     ensures sum { IfOk result (λ found. IfSome found (IsSumKept limits.now before)) }
     ensures goes { IfOk result (λ found. IfSome found (λ sum. (lines : Items HeadLine)
         → HasPassed (F.files files.old) name.now lines walk.old
@@ -161,7 +165,8 @@ fn next_sum<F: Shelf>(
     ensures bad { (defect : Defect) → result ≡ Err (Halt.Bad defect)
         → (lines : Items HeadLine) → HasPassed (F.files files.old) name.now lines walk.old
         → IfSome (F.files files.old) (λ m. IsBadAt limits.now before lines (file_of m name.now) defect) }
-    ensures fault { result ≡ Err (Halt.Stopped Failed) → Rose (F.read_faults files.old) (F.read_faults files.new) }
+    ensures fault { result ≡ Err (Halt.Stopped Failed)
+        → Rose (F.read_faults files.old) (F.read_faults files.new) }
     ensures same { F.files files.new ≡ F.files files.old }
     ensures readable { F.may_read files.new ≡ F.may_read files.old }
     ensures writable { F.may_write files.new ≡ F.may_write files.old }

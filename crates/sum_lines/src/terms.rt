@@ -28,10 +28,12 @@ pub(crate) fn read_terms<F: Shelf>(
     name: &str,
 ) -> Result<List<Entry>, Halt>
     requires allowed { IsTrue (F.may_read files.old name.now) }
-    requires passed { (lines : Items HeadLine) × HasPassed (F.files files.old) name.now lines walk.old }
+    requires passed { (lines : Items HeadLine)
+        × HasPassed (F.files files.old) name.now lines walk.old }
     ensures count { IfOk result (λ terms. length terms ≡ count) }
     ensures terms { IfOk result (AreTerms slots) }
-    ensures goes { IfOk result (λ terms. (lines : Items HeadLine) → HasPassed (F.files files.old) name.now lines walk.old
+    ensures goes { IfOk result
+        (λ terms. (lines : Items HeadLine) → HasPassed (F.files files.old) name.now lines walk.old
         → HasPassed (F.files files.old) name.now (lines ++ map term_line terms) walk.new) }
     ensures bad { (defect : Defect) → result ≡ Err (Halt.Bad defect)
         → (lines : Items HeadLine) → HasPassed (F.files files.old) name.now lines walk.old
@@ -41,7 +43,8 @@ pub(crate) fn read_terms<F: Shelf>(
     ensures writable { F.may_write files.new ≡ F.may_write files.old }
     ensures later { F.read_faults files.old ≤ F.read_faults files.new }
     ensures no_write { F.write_faults files.new ≡ F.write_faults files.old }
-    ensures fault { result ≡ Err (Halt.Stopped Failed) → Rose (F.read_faults files.old) (F.read_faults files.new) }
+    ensures fault { result ≡ Err (Halt.Stopped Failed)
+        → Rose (F.read_faults files.old) (F.read_faults files.new) }
 {
     let mut terms = List::new(alloc);
     let mut above = None;
@@ -66,9 +69,11 @@ fn next_term<F: Shelf>(
     name: &str,
 ) -> Result<Entry, Halt>
     requires allowed { IsTrue (F.may_read files.old name.now) }
-    requires passed { (lines : Items HeadLine) × HasPassed (F.files files.old) name.now lines walk.old }
+    requires passed { (lines : Items HeadLine)
+        × HasPassed (F.files files.old) name.now lines walk.old }
     ensures term { IfOk result (IsTermAbove slots above) }
-    ensures goes { IfOk result (λ term. (lines : Items HeadLine) → HasPassed (F.files files.old) name.now lines walk.old
+    ensures goes { IfOk result
+        (λ term. (lines : Items HeadLine) → HasPassed (F.files files.old) name.now lines walk.old
         → HasPassed (F.files files.old) name.now (lines ++ term_line term ∷ []) walk.new) }
     ensures bad { (defect : Defect) → result ≡ Err (Halt.Bad defect)
         → (lines : Items HeadLine) → HasPassed (F.files files.old) name.now lines walk.old
@@ -78,7 +83,8 @@ fn next_term<F: Shelf>(
     ensures writable { F.may_write files.new ≡ F.may_write files.old }
     ensures later { F.read_faults files.old ≤ F.read_faults files.new }
     ensures no_write { F.write_faults files.new ≡ F.write_faults files.old }
-    ensures fault { result ≡ Err (Halt.Stopped Failed) → Rose (F.read_faults files.old) (F.read_faults files.new) }
+    ensures fault { result ≡ Err (Halt.Stopped Failed)
+        → Rose (F.read_faults files.old) (F.read_faults files.new) }
 {
     let line = walk.line;
     let seen = walk.next(files, name)?;

@@ -44,7 +44,8 @@ impl Walk {
         ensures writable { F.may_write files.new ≡ F.may_write files.old }
         ensures later { F.read_faults files.old ≤ F.read_faults files.new }
         ensures no_write { F.write_faults files.new ≡ F.write_faults files.old }
-        ensures fault { result ≡ Err Stop.Failed → Rose (F.read_faults files.old) (F.read_faults files.new) }
+        ensures fault { result ≡ Err Stop.Failed
+            → Rose (F.read_faults files.old) (F.read_faults files.new) }
     {
         let mut reader = LineReader::begin(alloc)?;
         match reader.next(files, name)? {
@@ -56,16 +57,19 @@ impl Walk {
     // Looks at the next line, and passes it where it is a line of a head.
     pub(crate) fn next<F: Shelf>(&mut self, files: &mut F, name: &str) -> Result<Seen, Stop>
         requires allowed { IsTrue (F.may_read files.old name.now) }
-        requires passed { (lines : List HeadLine) × HasPassed (F.files files.old) name.now lines self.old }
+        requires passed { (lines : List HeadLine)
+            × HasPassed (F.files files.old) name.now lines self.old }
         ensures may_be { IfOk result MayBeSeen }
-        ensures seen { IfOk result (λ seen. (lines : List HeadLine) → HasPassed (F.files files.old) name.now lines self.old
+        ensures seen { IfOk result
+            (λ seen. (lines : List HeadLine) → HasPassed (F.files files.old) name.now lines self.old
             → HasSeen (F.files files.old) name.now lines self.new seen) }
         ensures same { F.files files.new ≡ F.files files.old }
         ensures readable { F.may_read files.new ≡ F.may_read files.old }
         ensures writable { F.may_write files.new ≡ F.may_write files.old }
         ensures later { F.read_faults files.old ≤ F.read_faults files.new }
         ensures no_write { F.write_faults files.new ≡ F.write_faults files.old }
-        ensures fault { result ≡ Err Stop.Failed → Rose (F.read_faults files.old) (F.read_faults files.new) }
+        ensures fault { result ≡ Err Stop.Failed
+            → Rose (F.read_faults files.old) (F.read_faults files.new) }
     {
         match self.reader.next(files, name)? {
             LineEnd::Whole => self.look(),
