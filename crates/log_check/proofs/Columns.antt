@@ -1,15 +1,15 @@
 -- The cells of rows in the columns of their slots, one entry and one row at a time.
-use Rattle.std.proofs.Common.{◌≡◌, ℕ, ◌+◌, ◌<◌, ◌≤◌, Bool, true, false, cond, eqb, List, [], ◌∷◌, ◌++◌, length, set, take, replicate, refl, ap, sym, subst, ◌∙◌, ⊎_elim, arith, ℤ, pos, ◌+ℤ◌}
+use Rattle.std.proofs.Common.{◌≡◌, ℕ, ◌+◌, ◌<◌, ◌≤◌, Bool, true, false, cond, eqb, List, [], ◌∷◌, ◌++◌, length, set, take, ap, sym, subst, ◌∙◌, ⊎_elim, arith, ℤ, pos, ◌+ℤ◌}
 use Rattle.std.specs.List.{All}
 use Rattle.std.proofs.lemmas.Bool.{cases_eq, cases_lt, cond-true, cond-false, eq-eqb, ne_eqb}
 use Rattle.std.proofs.lemmas.Int.{ints}
-use Rattle.std.proofs.lemmas.List.{get_or-set_same, get_or-set_other, get_or-replicate, get_or-take, get_or_default, get_or_past, length-replicate, length-take-le}
+use Rattle.std.proofs.lemmas.List.{get_or-set_same, get_or-set_other, get_or-take, get_or_default, get_or_past, length-take-le}
 use Rattle.std.proofs.lemmas.List.Elements.{All-push, All-set}
 use Rattle.row_kit.specs.declared.row.Entry.{Entry}
 use Rattle.row_kit.specs.declared.row.Row.{Row}
 use Rattle.row_kit.specs.Row.{counted, entry_at, row_at, no_row}
 use Rattle.log_check.specs.declared.rooms.Cell.{Cell}
-use Rattle.log_check.specs.laws.Rooms.{cell_counted, cells_at, column_at, entries_in, AreColumns, IsColumn}
+use Rattle.log_check.specs.laws.Rooms.{cell_counted, cells_at, column_at, entries_in, AreColumns}
 
 -- a cell at the end counts beside the others
 pushed : (cells : List Cell) (cell : Cell) (row value : ℕ) → cells_at (cells ++ cell ∷ []) row value ≡ cells_at cells row value +ℤ cond (eqb cell.row row) (cell_counted cell value) (pos 0)
@@ -59,12 +59,6 @@ pub one_within : (columns : List (List Cell)) (most slot : ℕ) (cell : Cell) �
 one_within columns most slot cell lt below within =
     All-set (All (λ (c : Cell). c.row < most)) columns slot (column_at columns slot ++ cell ∷ [])
     (All-push (λ (c : Cell). c.row < most) (column_at columns slot) cell (within slot [] lt) below) within
-
--- no rows have empty columns
-pub no_columns : (rows : List Row) (n : ℕ) → AreColumns (take 0 rows) (replicate n [])
-no_columns rows n slot lt =
-    let bare : column_at (replicate n []) slot ≡ [] = get_or-replicate n slot [] [] (omega (arith, length-replicate n (let none : List Cell = [] in none))) in
-    subst (IsColumn (take 0 rows) slot) (sym bare) (record { named = λ k d h. absurd (omega (arith, h)); counts = λ row value. refl })
 
 -- one row more
 pub one_row : (rows : List Row) (n : ℕ) (columns later : List (List Cell)) → n < length rows → length later ≡ length columns → AreColumns (take n rows) columns

@@ -93,6 +93,7 @@ still_rooms program held later slot value is lt byte columns point turned broken
     moved : (later room limit sum new off on less more : ℤ) → later ≡ room +ℤ off -ℤ on → room ≡ limit -ℤ sum → new ≡ sum -ℤ less +ℤ more → off ≡ less → on ≡ more → later ≡ limit -ℤ new
     moved later room limit sum new off on less more a b c d e = omega (arith, ints)
 
+-- a number is 0
 abbrev Is0 : ℕ → Type 0
 Is0 n = n ≡ 0
 
@@ -153,6 +154,7 @@ all_kept program held is none row d lt =
     kept : (room limit sum : ℤ) → room ≡ limit -ℤ sum → pos 0 ≤ℤ room → sum ≤ℤ limit
     kept room limit sum e whole = omega (arith, ints)
 
+-- and the other way round
 pub kept_none : (program : Program) (held : RowRooms) → IsRoomsOf program held → All (IsKept held.point.items) program.rows → held.broken ≡ 0
 kept_none program held is keeps =
     is.broken ∙ none_broken held.rooms.items (λ row lt.
@@ -162,9 +164,11 @@ kept_none program held is keeps =
     whole : (room limit sum : ℤ) → room ≡ limit -ℤ sum → sum ≤ℤ limit → pos 0 ≤ℤ room
     whole room limit sum e kept = omega (arith, ints)
 
+-- so many zeros
 abbrev pub zeros : ℕ → List ℕ
 zeros n = replicate n 0
 
+-- they are so many
 zeros_length : (n : ℕ) → length (zeros n) ≡ n
 zeros_length n = let none : ℕ = 0 in length-replicate n none
 

@@ -56,7 +56,7 @@ fn verdict(program: &Program, course: Course, began: u64, claim: Option<Claim>) 
 
 /// Checks the log that lies in a file of the shelf, over the root of the rows, with at most so many splits one in another. It
 /// reads the file once, part by part, and takes memory by the depth of the proof, one certificate and one point, and 12 bytes for
-/// each entry of the rows and 16 for each row. It goes over the entries of the rows once before the log. A found group then costs
+/// each entry of the rows and 16 for each row. Before the log it goes over the entries of the rows twice. A found group then costs
 /// the slots, for each slot that has another value than in the found group before it (at first, than 0) the rows that name the
 /// slot, and where its point is lawful the worth.
 ///
