@@ -120,7 +120,7 @@ impl Explorer {
     ) -> Result<(), AllocError>
         requires slots { length (present area.old) ≡ length program.now.root }
     {
-        let Advice { cert, slot } = advice;
+        let Advice { cert, slot, .. } = advice;
         let held = self.tree.cap_above(program, area, number);
         let own = cap_of(program, area, &cert);
         if own < held {

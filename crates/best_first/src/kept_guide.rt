@@ -189,6 +189,7 @@ impl Guide for KeptGuide {
             return Ok(Advice {
                 cert: node.cert.take(),
                 slot: node.slot,
+                max: None,
             });
         }
         self.plain.advise(alloc, program, area, depth, best, point)

@@ -34,9 +34,9 @@ node_found : (cuts : List RowCut) (found : Option Found) (tail : Tail) → found
 node_found cuts found (closing end) = sym (append-nil (option_to_list found))
 node_found cuts found (parting pick cert a b) = refl
 
-module _ (program : Program) where
+module _ (program : Program) (given : ℕ) where
   -- the end of a counted node
-  leaf_done : (node : RowNode) (end : Leaf Cert) → EndDone program node.view (node.before ++ option_to_list node.found) (closed end) → NodeEndDone program node (closed end)
+  leaf_done : (node : RowNode) (end : Leaf Cert) → EndDone program given node.view (node.before ++ option_to_list node.found) (closed end) → NodeEndDone program given node (closed end)
   leaf_done node no_point done = done
   leaf_done node (dual cert) done = done
   leaf_done node one_point done = done
@@ -44,7 +44,7 @@ module _ (program : Program) where
 
   -- a node whose end is as a search leaves it
   node_done : (parent : Option Cert) (before : List Found) (cuts : List RowCut) (found : Option Found) (tail : Tail) (v w : View) → after_cuts (row_steps program) v cuts ≡ Some w → Fits program w → IfSome found (IsGroup program)
-      → TailDone program w (before ++ option_to_list found) tail → EachNode (NodeDone program) (row_steps program) parent before v (node_of cuts found tail)
+      → TailDone program given w (before ++ option_to_list found) tail → EachNode (NodeDone program given) (row_steps program) parent before v (node_of cuts found tail)
   node_done parent before cuts found (closing end) v w moved fit group done =
       at_some (after_cuts (row_steps program) v cuts) w _ moved
       (record { group = group; fits = fit; end = leaf_done (record { parent = parent; before = before; cuts = cuts; found = found; view = w; end = closed end }) end done })
@@ -52,21 +52,21 @@ module _ (program : Program) where
       at_some (after_cuts (row_steps program) v cuts) w _ moved (
         record { group = group; fits = fit; end = done.0 },
         done.1,
-        subst (λ fs. IsSomeAnd ((row_steps program).right w pick) (λ y. EachNode (NodeDone program) (row_steps program) (Some cert) fs y b)) (append_assoc before (option_to_list found) (found_points a)) done.2,
+        subst (λ fs. IsSomeAnd ((row_steps program).right w pick) (λ y. EachNode (NodeDone program given) (row_steps program) (Some cert) fs y b)) (append_assoc before (option_to_list found) (found_points a)) done.2,
       )
 
-module _ {T O : Type 0} (took : T → O → List RowItem → T → O → Type 0) (program : Program) (budget : ℕ) (may_leave : Bool) where
+module _ {T O : Type 0} (took : T → O → List RowItem → T → O → Type 0) (program : Program) (given budget : ℕ) (may_leave : Bool) where
   -- a box whose first items, found point and end were put
   pub box_handed : (v w : View) (cap : Capped) (item : RowItem) (old between mid new : Reached) (t : T) (o : O) (t1 : T) (o1 : O) (t2 : T) (o2 : O) (t3 : T) (o3 : O)
       → Fits program w → between.best ≡ old.best → mid.spent ≡ old.spent + 1
       → HeadHanded took program v t o w t1 o1
-      → LookHanded took program w item between t1 o1 mid t2 o2
-      → TailHanded took program budget may_leave w cap mid t2 o2 new t3 o3
-      → BoxHanded took (λ parent. ⊤) program budget may_leave v cap old t o new t3 o3
+      → LookHanded took program given w item between t1 o1 mid t2 o2
+      → TailHanded took program given budget may_leave w cap mid t2 o2 new t3 o3
+      → BoxHanded took (λ parent. ⊤) program given budget may_leave v cap old t o new t3 o3
   box_handed v w cap item old between mid new t o t1 o1 t2 o2 t3 o3 fit same one_more head look tail = record {
     tree = node_of head.cuts look.found tail.tail;
     done = λ parent before any best.
-        node_done program parent before head.cuts look.found tail.tail v w head.moved fit look.group (tail.done (before ++ option_to_list look.found) (look.best before (from_old before best)));
+        node_done program given parent before head.cuts look.found tail.tail v w head.moved fit look.group (tail.done (before ++ option_to_list look.found) (look.best before (from_old before best)));
     best = λ before best.
         let all = tail.best (before ++ option_to_list look.found) (look.best before (from_old before best)) in
         let order = append_assoc before (option_to_list look.found) (tail_found tail.tail) ∙ ap (λ fs. before ++ fs) (sym (node_found head.cuts look.found tail.tail)) in
@@ -84,10 +84,10 @@ module _ {T O : Type 0} (took : T → O → List RowItem → T → O → Type 0)
 
   -- an end without parts
   tail_leaf : (v : View) (end : Leaf Cert) (cap : Capped) (r : Reached) (t : T) (o : O) (t2 : T) (o2 : O)
-      → ((fs : List Found) → IsBest r.best fs → EndDone program v fs (closed end)) → cap ≡ leaf_cap (row_steps program) v end
+      → ((fs : List Found) → IsBest r.best fs → EndDone program given v fs (closed end)) → cap ≡ leaf_cap (row_steps program) v end
       → ((cuts : List RowCut) (found : Option Found) → (counted {P = RowPick} (leaf cuts found end) ≡ 1) × (opens (leaf cuts found end) ≡ 0))
       → IsFitItem program (leaf_item end) → Grows took took t o (leaf_item end ∷ []) t2 o2
-      → TailHanded took program budget may_leave v cap r t o r t2 o2
+      → TailHanded took program given budget may_leave v cap r t o r t2 o2
   tail_leaf v end cap r t o t2 o2 done is one fit grown = record {
     tail = closing end;
     done = done;
@@ -101,25 +101,25 @@ module _ {T O : Type 0} (took : T → O → List RowItem → T → O → Type 0)
     handed = grown;
   }
 
-  pub tail_empty : (v : View) (r : Reached) (t : T) (o : O) (t2 : T) (o2 : O) → ((fs : List Found) → IsBest r.best fs → ItemEnds program v fs Empty) → Grows took took t o (Empty ∷ []) t2 o2
-      → TailHanded took program budget may_leave v NoPoint r t o r t2 o2
+  pub tail_empty : (v : View) (r : Reached) (t : T) (o : O) (t2 : T) (o2 : O) → ((fs : List Found) → IsBest r.best fs → ItemEnds program given v fs Empty) → Grows took took t o (Empty ∷ []) t2 o2
+      → TailHanded took program given budget may_leave v NoPoint r t o r t2 o2
   tail_empty v r t o t2 o2 done grown =
       let bare = done (option_to_list r.best) (IsBest-itself r.best) in
       tail_leaf v no_point NoPoint r t o t2 o2 done (sym (ap (λ b. cond b NoPoint Bad) bare)) (λ cuts found. (refl, refl)) tt grown
 
-  pub tail_dual : (v : View) (cert : Cert) (cap : Capped) (r : Reached) (t : T) (o : O) (t2 : T) (o2 : O) → ((fs : List Found) → IsBest r.best fs → ItemEnds program v fs (Dual cert)) → cap ≡ (row_steps program).cap v cert
-      → IsFitItem program (Dual cert) → Grows took took t o (Dual cert ∷ []) t2 o2 → TailHanded took program budget may_leave v cap r t o r t2 o2
+  pub tail_dual : (v : View) (cert : Cert) (cap : Capped) (r : Reached) (t : T) (o : O) (t2 : T) (o2 : O) → ((fs : List Found) → IsBest r.best fs → ItemEnds program given v fs (Dual cert)) → cap ≡ (row_steps program).cap v cert
+      → IsFitItem program (Dual cert) → Grows took took t o (Dual cert ∷ []) t2 o2 → TailHanded took program given budget may_leave v cap r t o r t2 o2
   tail_dual v cert cap r t o t2 o2 done is fit grown = tail_leaf v (dual cert) cap r t o t2 o2 done is (λ cuts found. (refl, refl)) fit grown
 
-  pub tail_point : (v : View) (cap : Capped) (r : Reached) (t : T) (o : O) (t2 : T) (o2 : O) → ((fs : List Found) → IsBest r.best fs → ItemEnds program v fs Point) → cap ≡ (row_steps program).settle v
-      → Grows took took t o (Point ∷ []) t2 o2 → TailHanded took program budget may_leave v cap r t o r t2 o2
+  pub tail_point : (v : View) (cap : Capped) (r : Reached) (t : T) (o : O) (t2 : T) (o2 : O) → ((fs : List Found) → IsBest r.best fs → ItemEnds program given v fs Point) → cap ≡ (row_steps program).settle v
+      → Grows took took t o (Point ∷ []) t2 o2 → TailHanded took program given budget may_leave v cap r t o r t2 o2
   tail_point v cap r t o t2 o2 done is grown = tail_leaf v one_point cap r t o t2 o2 done is (λ cuts found. (refl, refl)) tt grown
 
   -- a split with its parts
   pub tail_split : (v : View) (pick : RowPick) (cert : Cert) (cap : Capped) (old new : Reached) (t : T) (o : O) (t1 : T) (o1 : O) (t2 : T) (o2 : O)
-      → ((fs : List Found) → IsBest old.best fs → ItemEnds program v fs (Split pick cert)) → IsFitItem program (Split pick cert)
-      → Grows took took t o (Split pick cert ∷ []) t1 o1 → PartsHanded took program budget may_leave v pick cert cap old t1 o1 new t2 o2
-      → TailHanded took program budget may_leave v cap old t o new t2 o2
+      → ((fs : List Found) → IsBest old.best fs → ItemEnds program given v fs (Split pick cert)) → IsFitItem program (Split pick cert)
+      → Grows took took t o (Split pick cert ∷ []) t1 o1 → PartsHanded took program given budget may_leave v pick cert cap old t1 o1 new t2 o2
+      → TailHanded took program given budget may_leave v cap old t o new t2 o2
   tail_split v pick cert cap old new t o t1 o1 t2 o2 done fit grown parts = record {
     tail = parting pick cert parts.first parts.second;
     done = λ fs best. (done fs best, parts.first_done fs best, parts.second_done fs best);
@@ -139,9 +139,9 @@ module _ {T O : Type 0} (took : T → O → List RowItem → T → O → Type 0)
   pub parts_handed : (v x y : View) (pick : RowPick) (cert : Cert) (cap1 cap2 : Capped) (old a b c new : Reached) (t : T) (o : O) (t1 : T) (o1 : O) (t2 : T) (o2 : O)
       → a.best ≡ old.best → a.spent ≡ old.spent → c.best ≡ b.best → c.spent ≡ b.spent → new.spent ≤ budget
       → (row_steps program).left v pick ≡ Some x → (row_steps program).right v pick ≡ Some y
-      → BoxHanded took (λ parent. parent ≡ Some cert) program budget may_leave x cap1 a t o b t1 o1
-      → BoxHanded took (λ parent. parent ≡ Some cert) program budget may_leave y cap2 c t1 o1 new t2 o2
-      → PartsHanded took program budget may_leave v pick cert (greater cap1 cap2) old t o new t2 o2
+      → BoxHanded took (λ parent. parent ≡ Some cert) program given budget may_leave x cap1 a t o b t1 o1
+      → BoxHanded took (λ parent. parent ≡ Some cert) program given budget may_leave y cap2 c t1 o1 new t2 o2
+      → PartsHanded took program given budget may_leave v pick cert (greater cap1 cap2) old t o new t2 o2
   parts_handed v x y pick cert cap1 cap2 old a b c new t o t1 o1 t2 o2 same_best same_spent next_best next_spent within left right first second = record {
     first = first.tree;
     second = second.tree;
@@ -180,7 +180,7 @@ module _ {T O : Type 0} (took : T → O → List RowItem → T → O → Type 0)
   pub open_handed : (v : View) (cert : Cert) (cap : Capped) (r : Reached) (t : T) (o : O) (t2 : T) (o2 : O)
       → Fits program v → (row_steps program).empty v ≡ false → (row_steps program).cap v cert ≢ Bad → cap ≡ (row_steps program).cap v cert → (may_leave ≡ false → r.spent ≡ budget)
       → IsFitItem program (Pending cert) → Grows took took t o (NodeItem ∷ (Pending cert ∷ [])) t2 o2
-      → BoxHanded took (λ parent. parent ≡ Some cert) program budget may_leave v cap r t o r t2 o2
+      → BoxHanded took (λ parent. parent ≡ Some cert) program given budget may_leave v cap r t o r t2 o2
   open_handed v cert cap r t o t2 o2 fit some capped is spent fit_item grown = record {
     tree = leaf [] None (pending cert);
     done = λ parent before held best. record { group = tt; fits = fit; end = record { left_open = record { held = held; cuts = refl; found = refl }; some = some; capped = capped } };
@@ -193,7 +193,7 @@ module _ {T O : Type 0} (took : T → O → List RowItem → T → O → Type 0)
 
   -- a counted box is a part of a split
   pub part_handed : (v : View) (cert : Cert) (cap : Capped) (old other new : Reached) (t : T) (o : O) (t2 : T) (o2 : O) → other.best ≡ old.best → other.spent ≡ old.spent
-      → BoxHanded took (λ parent. ⊤) program budget may_leave v cap other t o new t2 o2 → BoxHanded took (λ parent. parent ≡ Some cert) program budget may_leave v cap old t o new t2 o2
+      → BoxHanded took (λ parent. ⊤) program given budget may_leave v cap other t o new t2 o2 → BoxHanded took (λ parent. parent ≡ Some cert) program given budget may_leave v cap old t o new t2 o2
   part_handed v cert cap old other new t o t2 o2 same_best same_spent box = record {
     tree = box.tree;
     done = λ parent before held best. box.done parent before tt (subst (λ found. IsBest found before) (sym same_best) best);

@@ -5,6 +5,7 @@ pub mod Depths
 pub mod Growing
 pub mod Handing
 pub mod Opened
+pub mod Picked
 pub mod Singles
 pub mod Standing
 pub mod Stopping

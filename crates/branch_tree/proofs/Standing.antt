@@ -95,11 +95,11 @@ pub kept_length : (old new : List View) → KeepsViews old new → length old �
 kept_length old new keeps = omega (arith, length-take (length old) new, ap length keeps)
 
 -- the parts of a split are there
-pub left_there : (program : Program) (v : View) (pick : RowPick) → IsParted (domains_of v) pick → (x : View) × ((row_steps program).left v pick ≡ Some x)
+pub left_there : {given : ℕ} (program : Program) (v : View) (pick : RowPick) → IsParted given (domains_of v) pick → (x : View) × ((row_steps program).left v pick ≡ Some x)
 unfolding row_steps
 left_there program v pick parts = (_, ap (λ there. shown_if there (kept_at (domains_of v) pick.slot (up_to pick.max))) (lt-ltb pick.slot (length (domains_of v)) parts.slot))
 
-pub right_there : (program : Program) (v : View) (pick : RowPick) → IsParted (domains_of v) pick → (x : View) × ((row_steps program).right v pick ≡ Some x)
+pub right_there : {given : ℕ} (program : Program) (v : View) (pick : RowPick) → IsParted given (domains_of v) pick → (x : View) × ((row_steps program).right v pick ≡ Some x)
 unfolding row_steps
 right_there program v pick parts = (_, ap (λ there. shown_if there (kept_at (domains_of v) pick.slot (over pick.max))) (lt-ltb pick.slot (length (domains_of v)) parts.slot))
 
@@ -146,7 +146,7 @@ capped_open program ds cert fit scale each = at (has_total program ds cert) (bot
     at true is = by_scale (eqb cert.scale 0) refl
 
 -- the left part of a split
-pub left_stands : (ground : Ground) (v x : View) (pick : RowPick) (cert : Cert) (depth : ℕ) (old new : Reached) → StandsIn ground v depth old → HaveRoom (program_of ground).rows (domains_of v) → IsSplitAt (program_of ground) v pick cert
+pub left_stands : (ground : Ground) (v x : View) (pick : RowPick) (cert : Cert) (depth : ℕ) (old new : Reached) → StandsIn ground v depth old → HaveRoom (program_of ground).rows (domains_of v) → IsSplitAt (program_of ground) ground.given v pick cert
     → (row_steps (program_of ground)).left v pick ≡ Some x → length new.point.items ≡ length old.point.items → new.changed ≡ Some pick.slot → new.own ≡ None → StandsIn ground x (depth + 1) new
 left_stands ground v x pick cert depth old new stands room cause moved places changed own =
     let program = program_of ground in
@@ -156,13 +156,13 @@ left_stands ground v x pick cert depth old new stands room cause moved places ch
       indexed = stands.indexed;
       fits = (rows_sound program).left_fits v x pick stands.fits moved;
       places = places ∙ stands.places;
-      deep = omega (arith, stands.deep, splits-left program v x pick stands.fits cause.parted moved);
+      deep = omega (arith, stands.deep, splits-left program v x pick cause.parted moved);
       room = subst (λ o. IfSome o (λ slot. (slot < length program.root) × HaveRoomBut program.rows (slot ∷ []) (domains_of x))) (sym changed)
           (subst (λ n. pick.slot < n) stands.fits.slots cause.parted.slot, subst (λ (xs : List Domain). HaveRoomBut program.rows (pick.slot ∷ []) xs) (sym (left_domains program v x pick moved)) rooms);
       own = subst (λ o. IfSome o (λ found. IsGroup program found × IsIn x found.point)) (sym own) tt;
     }
 
-pub right_stands : (ground : Ground) (v x : View) (pick : RowPick) (cert : Cert) (depth : ℕ) (old new : Reached) → StandsIn ground v depth old → HaveRoom (program_of ground).rows (domains_of v) → IsSplitAt (program_of ground) v pick cert
+pub right_stands : (ground : Ground) (v x : View) (pick : RowPick) (cert : Cert) (depth : ℕ) (old new : Reached) → StandsIn ground v depth old → HaveRoom (program_of ground).rows (domains_of v) → IsSplitAt (program_of ground) ground.given v pick cert
     → (row_steps (program_of ground)).right v pick ≡ Some x → length new.point.items ≡ length old.point.items → new.changed ≡ Some pick.slot → new.own ≡ None → StandsIn ground x (depth + 1) new
 right_stands ground v x pick cert depth old new stands room cause moved places changed own =
     let program = program_of ground in
@@ -172,14 +172,14 @@ right_stands ground v x pick cert depth old new stands room cause moved places c
       indexed = stands.indexed;
       fits = (rows_sound program).right_fits v x pick stands.fits moved;
       places = places ∙ stands.places;
-      deep = omega (arith, stands.deep, splits-right program v x pick stands.fits cause.parted moved);
+      deep = omega (arith, stands.deep, splits-right program v x pick cause.parted moved);
       room = subst (λ o. IfSome o (λ slot. (slot < length program.root) × HaveRoomBut program.rows (slot ∷ []) (domains_of x))) (sym changed)
           (subst (λ n. pick.slot < n) stands.fits.slots cause.parted.slot, subst (λ (xs : List Domain). HaveRoomBut program.rows (pick.slot ∷ []) xs) (sym (right_domains program v x pick moved)) rooms);
       own = subst (λ o. IfSome o (λ found. IsGroup program found × IsIn x found.point)) (sym own) tt;
     }
 
 -- a part whose domains are open is a part of the split
-part_is : (program : Program) (v x : View) (ds : List Domain) (pick : RowPick) (cert : Cert) → IsSplitAt program v pick cert → domains_of x ≡ ds → All IsOpen ds → IsPartOf program x cert
+part_is : {given : ℕ} (program : Program) (v x : View) (ds : List Domain) (pick : RowPick) (cert : Cert) → IsSplitAt program given v pick cert → domains_of x ≡ ds → All IsOpen ds → IsPartOf program x cert
 unfolding row_steps
 part_is program v x ds pick cert cause same each =
     let fit = total-fit program (domains_of v) cert cause.polished.total in
@@ -188,14 +188,14 @@ part_is program v x ds pick cert cause same each =
       capped = subst (λ (xs : List Domain). cert_cap program xs cert ≢ Bad) (sym same) (capped_open program ds cert fit cause.polished.scale each);
     }
 
-pub left_is : (program : Program) (v x : View) (pick : RowPick) (cert : Cert) → IsSplitAt program v pick cert → (row_steps program).left v pick ≡ Some x → IsPartOf program x cert
+pub left_is : {given : ℕ} (program : Program) (v x : View) (pick : RowPick) (cert : Cert) → IsSplitAt program given v pick cert → (row_steps program).left v pick ≡ Some x → IsPartOf program x cert
 left_is program v x pick cert cause moved = part_is program v x (kept_at (domains_of v) pick.slot (up_to pick.max)) pick cert cause (left_domains program v x pick moved) cause.parted.left
 
-pub right_is : (program : Program) (v x : View) (pick : RowPick) (cert : Cert) → IsSplitAt program v pick cert → (row_steps program).right v pick ≡ Some x → IsPartOf program x cert
+pub right_is : {given : ℕ} (program : Program) (v x : View) (pick : RowPick) (cert : Cert) → IsSplitAt program given v pick cert → (row_steps program).right v pick ≡ Some x → IsPartOf program x cert
 right_is program v x pick cert cause moved = part_is program v x (kept_at (domains_of v) pick.slot (over pick.max)) pick cert cause (right_domains program v x pick moved) cause.parted.right
 
 -- each part has fewer points
-pub parts_fewer : (program : Program) (v x y : View) (pick : RowPick) → Fits program v → IsParted (domains_of v) pick → (row_steps program).left v pick ≡ Some x → (row_steps program).right v pick ≡ Some y → (points_in x < points_in v) × (points_in y < points_in v)
+pub parts_fewer : {given : ℕ} (program : Program) (v x y : View) (pick : RowPick) → Fits program v → IsParted given (domains_of v) pick → (row_steps program).left v pick ≡ Some x → (row_steps program).right v pick ≡ Some y → (points_in x < points_in v) × (points_in y < points_in v)
 parts_fewer program v x y pick fit parts left right =
     let both : points_in x + points_in y ≡ points_in v = points-both program v x y pick fit left right in
     let some_x : 0 < points_in x = subst (λ (ds : List Domain). 0 < points_of ds) (sym (left_domains program v x pick left)) (points-open (kept_at (domains_of v) pick.slot (up_to pick.max)) parts.left) in

@@ -143,27 +143,27 @@ module _ {T O : Type 0} (took broke : T → O → List RowItem → T → O → T
       }
 
   -- the taker stopped at the end of a box
-  pub tail_at_item : (view : View) (item : RowItem) (fs : List Found) (t : T) (o : O) (t2 : T) (o2 : O) → ItemEnds program view fs item → IsFitItem program item
+  pub tail_at_item : (given : ℕ) (view : View) (item : RowItem) (fs : List Found) (t : T) (o : O) (t2 : T) (o2 : O) → ItemEnds program given view fs item → IsFitItem program item
       → 1 ≤ view_splits view ⊎ ((pick : RowPick) (cert : Cert) → item ≡ Split pick cert → ⊥)
       → Grows took broke t o (item ∷ []) t2 o2 → TailStopped took broke program view t o t2 o2
-  tail_at_item view Node fs t o t2 o2 ends fit room grown = absurd ends
-  tail_at_item view (Cut cut) fs t o t2 o2 ends fit room grown = absurd ends
-  tail_at_item view (FoundItem f) fs t o t2 o2 ends fit room grown = absurd ends
-  tail_at_item view (Pending cert) fs t o t2 o2 ends fit room grown = absurd ends
-  tail_at_item view Empty fs t o t2 o2 ends fit room grown = record { tail = closing no_point; fit = fit_empty program; deep = omega arith; stopped = stopped_last took broke t o (Empty ∷ []) t2 o2 grown }
-  tail_at_item view (Dual cert) fs t o t2 o2 ends fit room grown = record {
+  tail_at_item given view Node fs t o t2 o2 ends fit room grown = absurd ends
+  tail_at_item given view (Cut cut) fs t o t2 o2 ends fit room grown = absurd ends
+  tail_at_item given view (FoundItem f) fs t o t2 o2 ends fit room grown = absurd ends
+  tail_at_item given view (Pending cert) fs t o t2 o2 ends fit room grown = absurd ends
+  tail_at_item given view Empty fs t o t2 o2 ends fit room grown = record { tail = closing no_point; fit = fit_empty program; deep = omega arith; stopped = stopped_last took broke t o (Empty ∷ []) t2 o2 grown }
+  tail_at_item given view (Dual cert) fs t o t2 o2 ends fit room grown = record {
     tail = closing (dual cert);
     fit = All-cons (IsFitItem program) (Dual cert) [] fit (All-nil (IsFitItem program));
     deep = omega arith;
     stopped = stopped_last took broke t o (Dual cert ∷ []) t2 o2 grown;
   }
-  tail_at_item view Point fs t o t2 o2 ends fit room grown = record {
+  tail_at_item given view Point fs t o t2 o2 ends fit room grown = record {
     tail = closing one_point;
     fit = All-cons (IsFitItem program) Point [] tt (All-nil (IsFitItem program));
     deep = omega arith;
     stopped = stopped_last took broke t o (Point ∷ []) t2 o2 grown;
   }
-  tail_at_item view (Split pick cert) fs t o t2 o2 ends fit room grown = record {
+  tail_at_item given view (Split pick cert) fs t o t2 o2 ends fit room grown = record {
     tail = parting pick cert bare_box bare_box;
     fit = All-cons (IsFitItem program) (Split pick cert) (tree_items bare_box ++ tree_items bare_box) fit (All-append (IsFitItem program) (tree_items bare_box) (tree_items bare_box) (fit_bare program) (fit_bare program));
     deep = elim room [ inl some ↦ omega arith | inr never ↦ absurd (never pick cert refl) ];

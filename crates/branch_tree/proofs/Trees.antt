@@ -97,10 +97,10 @@ some_point : (program : Program) (v : View) → Fits program v → (row_steps pr
 unfolding row_steps
 some_point program v fit some = (only_point (domains_of v), least_lies (domains_of v) fit.normal (none_bare-open (domains_of v) some))
 
-module _ (program : Program) where
+module _ (program : Program) (given : ℕ) where
   -- the cap of a leaf
   leaf-defined : (parent : Option Cert) (before : List Found) (cuts : List RowCut) (found : Option Found) (w : View) (end : Leaf Cert)
-      → NodeDone program (record { parent = parent; before = before; cuts = cuts; found = found; view = w; end = closed end }) → IsDefined (leaf_cap (row_steps program) w end)
+      → NodeDone program given (record { parent = parent; before = before; cuts = cuts; found = found; view = w; end = closed end }) → IsDefined (leaf_cap (row_steps program) w end)
   leaf-defined parent before cuts found w no_point done = subst (λ b. IsDefined (cond b NoPoint Bad)) (sym done.end) tt
   leaf-defined parent before cuts found w (dual cert) done = closed-defined _ _ done.end
   leaf-defined parent before cuts found w one_point done = closed-defined _ _ done.end
@@ -118,7 +118,7 @@ module _ (program : Program) where
       ∙ ap (λ o. greater (tree_cap (row_steps program) x a) (cap_if o (λ z. tree_cap (row_steps program) z b))) right
 
   -- the cap of a search is defined
-  pub tree-defined : (tree : RowTree) (parent : Option Cert) (before : List Found) (v : View) → EachNode (NodeDone program) (row_steps program) parent before v tree → IsDefined (tree_cap (row_steps program) v tree)
+  pub tree-defined : (tree : RowTree) (parent : Option Cert) (before : List Found) (v : View) → EachNode (NodeDone program given) (row_steps program) parent before v tree → IsDefined (tree_cap (row_steps program) v tree)
   tree-defined (leaf cuts found end) parent before v done =
       let at = fact_of (after_cuts (row_steps program) v cuts) _ done in
       subst IsDefined (sym (cap_at (after_cuts (row_steps program) v cuts) at.0 (λ w. leaf_cap (row_steps program) w end) at.1.0)) (leaf-defined parent before cuts found at.0 end at.1.1)
@@ -131,13 +131,13 @@ module _ (program : Program) where
       subst IsDefined (sym (split-cap cuts found pick cert a b v at.0 left.0 right.0 at.1.0 left.1.0 right.1.0)) (greater-defined _ _ first second)
 
   -- where no box is left open, the cap leaves nothing above the found points
-  pub tree-closed : (tree : RowTree) (parent : Option Cert) (before : List Found) (v : View) → EachNode (NodeDone program) (row_steps program) parent before v tree → opens tree ≡ 0
+  pub tree-closed : (tree : RowTree) (parent : Option Cert) (before : List Found) (v : View) → EachNode (NodeDone program given) (row_steps program) parent before v tree → opens tree ≡ 0
       → ClosedBy (tree_cap (row_steps program) v tree) (before ++ found_points tree)
   tree-closed (leaf cuts found end) parent before v done none =
       let at = fact_of (after_cuts (row_steps program) v cuts) _ done in
       subst (λ cap. ClosedBy cap (before ++ option_to_list found)) (sym (cap_at (after_cuts (row_steps program) v cuts) at.0 (λ w. leaf_cap (row_steps program) w end) at.1.0)) (leaf_closed cuts end at.0 at.1.1 none)
     where
-      leaf_closed : (us : List RowCut) (e : Leaf Cert) (w : View) → NodeDone program (record { parent = parent; before = before; cuts = us; found = found; view = w; end = closed e }) → opens (leaf us found e) ≡ 0
+      leaf_closed : (us : List RowCut) (e : Leaf Cert) (w : View) → NodeDone program given (record { parent = parent; before = before; cuts = us; found = found; view = w; end = closed e }) → opens (leaf us found e) ≡ 0
           → ClosedBy (leaf_cap (row_steps program) w e) (before ++ option_to_list found)
       leaf_closed us no_point w is over = subst (λ b. ClosedBy (cond b NoPoint Bad) (before ++ option_to_list found)) (sym is.end) tt
       leaf_closed us (dual cert) w is over = is.end
@@ -156,20 +156,20 @@ module _ (program : Program) where
       (ClosedBy-greater _ _ _ (subst (ClosedBy _) one first) (subst (ClosedBy _) two second))
 
   -- the parts of a split have points
-  left_points : (v w : View) (pick : RowPick) → IsParted (domains_of v) pick → (row_steps program).left v pick ≡ Some w → 0 < points_in w
+  left_points : (v w : View) (pick : RowPick) → IsParted given (domains_of v) pick → (row_steps program).left v pick ≡ Some w → 0 < points_in w
   unfolding row_steps
   left_points v w pick parts is =
       let ds = kept_at (domains_of v) pick.slot (up_to pick.max) in
       subst (λ xs. 0 < points_of xs) (sym (domains_there _ ds w is)) (points-open ds parts.left)
 
-  right_points : (v w : View) (pick : RowPick) → IsParted (domains_of v) pick → (row_steps program).right v pick ≡ Some w → 0 < points_in w
+  right_points : (v w : View) (pick : RowPick) → IsParted given (domains_of v) pick → (row_steps program).right v pick ≡ Some w → 0 < points_in w
   unfolding row_steps
   right_points v w pick parts is =
       let ds = kept_at (domains_of v) pick.slot (over pick.max) in
       subst (λ xs. 0 < points_of xs) (sym (domains_there _ ds w is)) (points-open ds parts.right)
 
   -- a box of n points counts at most 2 n - 1 boxes, and one less for each box that is left open
-  pub tree-boxes : (tree : RowTree) (parent : Option Cert) (before : List Found) (v : View) → Fits program v → 0 < points_in v → EachNode (NodeDone program) (row_steps program) parent before v tree
+  pub tree-boxes : (tree : RowTree) (parent : Option Cert) (before : List Found) (v : View) → Fits program v → 0 < points_in v → EachNode (NodeDone program given) (row_steps program) parent before v tree
       → counted tree + opens tree + 1 ≤ 2 * points_in v
   tree-boxes (leaf cuts found no_point) parent before v fit some done = omega arith
   tree-boxes (leaf cuts found (dual cert)) parent before v fit some done = omega arith
@@ -180,27 +180,27 @@ module _ (program : Program) where
       let left = fact_of ((row_steps program).left at.0 pick) _ at.1.1.1 in
       let right = fact_of ((row_steps program).right at.0 pick) _ at.1.1.2 in
       let leave = cuts_leave program cuts v at.0 fit at.1.0 in
-      let parted' : IsParted (domains_of at.0) pick = at.1.1.0.end.parted in
+      let parted' : IsParted given (domains_of at.0) pick = at.1.1.0.end.parted in
       let first : counted a + opens a + 1 ≤ 2 * points_in left.0 = tree-boxes a (Some cert) _ left.0 ((rows_sound program).left_fits at.0 left.0 pick leave.fits left.1.0) (left_points at.0 left.0 pick parted' left.1.0) left.1.1 in
       let second : counted b + opens b + 1 ≤ 2 * points_in right.0 = tree-boxes b (Some cert) _ right.0 ((rows_sound program).right_fits at.0 right.0 pick leave.fits right.1.0) (right_points at.0 right.0 pick parted' right.1.0) right.1.1 in
       let both : points_in left.0 + points_in right.0 ≡ points_in at.0 = points-both program at.0 left.0 right.0 pick leave.fits left.1.0 right.1.0 in
       omega (arith, first, second, both, leave.points)
 
   -- no node stands deeper than there are splits
-  pub tree-depth : (tree : RowTree) (parent : Option Cert) (before : List Found) (v : View) → Fits program v → EachNode (NodeDone program) (row_steps program) parent before v tree → depth tree ≤ 1 + view_splits v
+  pub tree-depth : (tree : RowTree) (parent : Option Cert) (before : List Found) (v : View) → Fits program v → EachNode (NodeDone program given) (row_steps program) parent before v tree → depth tree ≤ 1 + view_splits v
   tree-depth (leaf cuts found end) parent before v fit done = omega arith
   tree-depth (split cuts found pick cert a b) parent before v fit done =
       let at = fact_of (after_cuts (row_steps program) v cuts) _ done in
       let left = fact_of ((row_steps program).left at.0 pick) _ at.1.1.1 in
       let right = fact_of ((row_steps program).right at.0 pick) _ at.1.1.2 in
       let leave = cuts_leave program cuts v at.0 fit at.1.0 in
-      let parted' : IsParted (domains_of at.0) pick = at.1.1.0.end.parted in
+      let parted' : IsParted given (domains_of at.0) pick = at.1.1.0.end.parted in
       let first : depth a ≤ 1 + view_splits left.0 = tree-depth a (Some cert) _ left.0 ((rows_sound program).left_fits at.0 left.0 pick leave.fits left.1.0) left.1.1 in
       let second : depth b ≤ 1 + view_splits right.0 = tree-depth b (Some cert) _ right.0 ((rows_sound program).right_fits at.0 right.0 pick leave.fits right.1.0) right.1.1 in
-      omega (arith, first, second, splits-left program at.0 left.0 pick leave.fits parted' left.1.0, splits-right program at.0 right.0 pick leave.fits parted' right.1.0, leave.splits)
+      omega (arith, first, second, splits-left program at.0 left.0 pick parted' left.1.0, splits-right program at.0 right.0 pick parted' right.1.0, leave.splits)
 
   -- where a box is left open, one is whose area has a point
-  pub tree-open : (tree : RowTree) (parent : Option Cert) (before : List Found) (v : View) → EachNode (NodeDone program) (row_steps program) parent before v tree → 0 < opens tree → HasOpenBox program v tree
+  pub tree-open : (tree : RowTree) (parent : Option Cert) (before : List Found) (v : View) → EachNode (NodeDone program given) (row_steps program) parent before v tree → 0 < opens tree → HasOpenBox program v tree
   tree-open (leaf cuts found no_point) parent before v done some = absurd (omega arith)
   tree-open (leaf cuts found (dual cert)) parent before v done some = absurd (omega arith)
   tree-open (leaf cuts found one_point) parent before v done some = absurd (omega arith)
@@ -221,13 +221,13 @@ module _ (program : Program) where
       one w x y to_left to_right first second (suc n) is = inl (at_some ((row_steps program).left w pick) x (λ z. HasOpenBox program z a) to_left (first (omega arith)))
 
   -- a search is justified
-  end-justified : (node : RowNode) (end : NodeEnd Cert RowPick) → NodeEndDone program node end → EndIsJustified program node end
+  end-justified : (node : RowNode) (end : NodeEnd Cert RowPick) → NodeEndDone program given node end → EndIsJustified program given node end
   end-justified node (closed no_point) done = tt
   end-justified node (closed (dual cert)) done = tt
   end-justified node (closed one_point) done = tt
   end-justified node (closed (pending cert)) done = done.left_open
   end-justified node (parted pick cert) done = done
 
-  pub tree-justified : (tree : RowTree) (parent : Option Cert) (before : List Found) (v : View) → EachNode (NodeDone program) (row_steps program) parent before v tree → EachNode (NodeIsJustified program) (row_steps program) parent before v tree
+  pub tree-justified : (tree : RowTree) (parent : Option Cert) (before : List Found) (v : View) → EachNode (NodeDone program given) (row_steps program) parent before v tree → EachNode (NodeIsJustified program given) (row_steps program) parent before v tree
   tree-justified tree parent before v done =
-      EachNode-weaker (row_steps program) (NodeDone program) (NodeIsJustified program) (λ node is. record { group = is.group; end = end-justified node node.end is.end }) parent before v tree done
+      EachNode-weaker (row_steps program) (NodeDone program given) (NodeIsJustified program given) (λ node is. record { group = is.group; end = end-justified node node.end is.end }) parent before v tree done

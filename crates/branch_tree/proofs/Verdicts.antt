@@ -69,26 +69,26 @@ exhausted_of rows ds each done =
     ]
 
 -- what is judged of a box ends it
-pub verdict-ends : (program : Program) (marks : List (List Domain)) (item : RowItem) (found best : Option Found) (before : List Found)
+pub verdict-ends : (program : Program) (given : ℕ) (marks : List (List Domain)) (item : RowItem) (found best : Option Found) (before : List Found)
     → AreDone program.rows (present marks) → All IsOpen (present marks) → (All IsSingle (present marks) → Reaches (settled program (present marks)) found)
-    → IsBest best (before ++ option_to_list found) → IsVerdict program (present marks) (option_map (λ f. f.value) best) item → ItemEnds program (seen marks) (before ++ option_to_list found) item
+    → IsBest best (before ++ option_to_list found) → IsVerdict program given (present marks) (option_map (λ f. f.value) best) item → ItemEnds program given (seen marks) (before ++ option_to_list found) item
 unfolding row_steps
-verdict-ends program marks (Dual cert) found best before done each only is verdict =
+verdict-ends program given marks (Dual cert) found best before done each only is verdict =
     subst (λ (ds : List Domain). ClosedBy (cert_cap program ds cert) (before ++ option_to_list found)) (sym (domains-views marks)) (not_over-closed (cert_cap program (present marks) cert) best (before ++ option_to_list found) is verdict)
-verdict-ends program marks Point found best before done each only is verdict =
+verdict-ends program given marks Point found best before done each only is verdict =
     subst (λ (ds : List Domain). ClosedBy (settled program ds) (before ++ option_to_list found)) (sym (domains-views marks)) (reached-closed (settled program (present marks)) found before (only verdict))
-verdict-ends program marks (Split pick cert) found best before done each only is verdict =
-    subst (λ (ds : List Domain). HasCause program ds (before ++ option_to_list found) pick cert) (sym (domains-views marks)) (record {
+verdict-ends program given marks (Split pick cert) found best before done each only is verdict =
+    subst (λ (ds : List Domain). HasCause program given ds (before ++ option_to_list found) pick cert) (sym (domains-views marks)) (record {
       exhausted = exhausted_of program.rows (present marks) each done;
       polished = verdict.0;
       above = over-above (cert_cap program (present marks) cert) best (before ++ option_to_list found) (within-not_bad (cert_cap program (present marks) plain_cert) (cert_cap program (present marks) cert) verdict.0.no_higher) is verdict.2;
       parted = verdict.1;
     })
-verdict-ends program marks Node found best before done each only is verdict = absurd verdict
-verdict-ends program marks (Cut cut) found best before done each only is verdict = absurd verdict
-verdict-ends program marks (FoundItem f) found best before done each only is verdict = absurd verdict
-verdict-ends program marks Empty found best before done each only is verdict = absurd verdict
-verdict-ends program marks (Pending cert) found best before done each only is verdict = absurd verdict
+verdict-ends program given marks Node found best before done each only is verdict = absurd verdict
+verdict-ends program given marks (Cut cut) found best before done each only is verdict = absurd verdict
+verdict-ends program given marks (FoundItem f) found best before done each only is verdict = absurd verdict
+verdict-ends program given marks Empty found best before done each only is verdict = absurd verdict
+verdict-ends program given marks (Pending cert) found best before done each only is verdict = absurd verdict
 
 -- a split leaves a value above it
 max_most : (d : Domain) (m : ℕ) → IsNormal d → IsOpen (shared d (over m)) → m ≤ 254
@@ -99,62 +99,62 @@ max_most d m n some =
     (cases_lt m 255)
 
 -- and its item is fit
-pub verdict-fit : (program : Program) (ds : List Domain) (best : Option ℤ) (item : RowItem) → All IsNormal ds → length ds ≡ length program.root → IsVerdict program ds best item → IsFitItem program item
-verdict-fit program ds best (Dual cert) normal' slots verdict =
+pub verdict-fit : (program : Program) (given : ℕ) (ds : List Domain) (best : Option ℤ) (item : RowItem) → All IsNormal ds → length ds ≡ length program.root → IsVerdict program given ds best item → IsFitItem program item
+verdict-fit program given ds best (Dual cert) normal' slots verdict =
     total-fit program ds cert (cap-total cert.scale (total_at program ds cert) (not_over-not_bad (cert_cap program ds cert) best verdict))
-verdict-fit program ds best Point normal' slots verdict = tt
-verdict-fit program ds best (Split pick cert) normal' slots verdict =
-    let parts : IsParted ds pick = verdict.1 in
+verdict-fit program given ds best Point normal' slots verdict = tt
+verdict-fit program given ds best (Split pick cert) normal' slots verdict =
+    let parts : IsParted given ds pick = verdict.1 in
     let right = at_slot ds pick.slot (shared (domain_at ds pick.slot) (over pick.max)) parts.slot parts.right in (
       subst (λ n. pick.slot < n) slots parts.slot,
       max_most (domain_at ds pick.slot) pick.max (normal' pick.slot no_values parts.slot) right,
       total-fit program ds cert verdict.0.total,
     )
-verdict-fit program ds best Node normal' slots verdict = absurd verdict
-verdict-fit program ds best (Cut cut) normal' slots verdict = absurd verdict
-verdict-fit program ds best (FoundItem f) normal' slots verdict = absurd verdict
-verdict-fit program ds best Empty normal' slots verdict = absurd verdict
-verdict-fit program ds best (Pending cert) normal' slots verdict = absurd verdict
+verdict-fit program given ds best Node normal' slots verdict = absurd verdict
+verdict-fit program given ds best (Cut cut) normal' slots verdict = absurd verdict
+verdict-fit program given ds best (FoundItem f) normal' slots verdict = absurd verdict
+verdict-fit program given ds best Empty normal' slots verdict = absurd verdict
+verdict-fit program given ds best (Pending cert) normal' slots verdict = absurd verdict
 
 -- an item that ends a box with some found points ends it with any that have the same best
-pub ends-same : (program : Program) (view : View) (item : RowItem) (best : Option Found) (fs gs : List Found) → IsBest best fs → IsBest best gs → ItemEnds program view fs item → ItemEnds program view gs item
-ends-same program view Empty best fs gs is other ends = ends
-ends-same program view (Dual cert) best fs gs is other ends = closed-same ((row_steps program).cap view cert) best fs gs is other ends
-ends-same program view Point best fs gs is other ends = closed-same ((row_steps program).settle view) best fs gs is other ends
-ends-same program view (Split pick cert) best fs gs is other ends = record {
+pub ends-same : (program : Program) (given : ℕ) (view : View) (item : RowItem) (best : Option Found) (fs gs : List Found) → IsBest best fs → IsBest best gs → ItemEnds program given view fs item → ItemEnds program given view gs item
+ends-same program given view Empty best fs gs is other ends = ends
+ends-same program given view (Dual cert) best fs gs is other ends = closed-same ((row_steps program).cap view cert) best fs gs is other ends
+ends-same program given view Point best fs gs is other ends = closed-same ((row_steps program).settle view) best fs gs is other ends
+ends-same program given view (Split pick cert) best fs gs is other ends = record {
   exhausted = ends.exhausted;
   polished = ends.polished;
   above = above-same (cert_cap program (domains_of view) cert) best fs gs is other ends.above;
   parted = ends.parted;
 }
-ends-same program view Node best fs gs is other ends = absurd ends
-ends-same program view (Cut cut) best fs gs is other ends = absurd ends
-ends-same program view (FoundItem f) best fs gs is other ends = absurd ends
-ends-same program view (Pending cert) best fs gs is other ends = absurd ends
+ends-same program given view Node best fs gs is other ends = absurd ends
+ends-same program given view (Cut cut) best fs gs is other ends = absurd ends
+ends-same program given view (FoundItem f) best fs gs is other ends = absurd ends
+ends-same program given view (Pending cert) best fs gs is other ends = absurd ends
 
 -- no other item ends a box
-pub ends-only : (program : Program) (view : View) (fs : List Found) (item : RowItem) → ItemEnds program view fs item → (item ≡ Empty → ⊥) → ((cert : Cert) → item ≡ Dual cert → ⊥) → (item ≡ Point → ⊥) → ((pick : RowPick) (cert : Cert) → item ≡ Split pick cert → ⊥) → ⊥
-ends-only program view fs Empty ends empty dual point split = empty refl
-ends-only program view fs (Dual cert) ends empty dual point split = dual cert refl
-ends-only program view fs Point ends empty dual point split = point refl
-ends-only program view fs (Split pick cert) ends empty dual point split = split pick cert refl
-ends-only program view fs Node ends empty dual point split = ends
-ends-only program view fs (Cut cut) ends empty dual point split = ends
-ends-only program view fs (FoundItem f) ends empty dual point split = ends
-ends-only program view fs (Pending cert) ends empty dual point split = ends
+pub ends-only : (program : Program) (given : ℕ) (view : View) (fs : List Found) (item : RowItem) → ItemEnds program given view fs item → (item ≡ Empty → ⊥) → ((cert : Cert) → item ≡ Dual cert → ⊥) → (item ≡ Point → ⊥) → ((pick : RowPick) (cert : Cert) → item ≡ Split pick cert → ⊥) → ⊥
+ends-only program given view fs Empty ends empty dual point split = empty refl
+ends-only program given view fs (Dual cert) ends empty dual point split = dual cert refl
+ends-only program given view fs Point ends empty dual point split = point refl
+ends-only program given view fs (Split pick cert) ends empty dual point split = split pick cert refl
+ends-only program given view fs Node ends empty dual point split = ends
+ends-only program given view fs (Cut cut) ends empty dual point split = ends
+ends-only program given view fs (FoundItem f) ends empty dual point split = ends
+ends-only program given view fs (Pending cert) ends empty dual point split = ends
 
 -- a split leaves a split to its parts
-pub ends-room : (program : Program) (view : View) (fs : List Found) (item : RowItem) → Fits program view → ItemEnds program view fs item → (1 ≤ view_splits view) ⊎ ((pick : RowPick) (cert : Cert) → item ≡ Split pick cert → ⊥)
-ends-room program view fs Empty fit ends = inr (λ pick cert same. cc)
-ends-room program view fs (Dual c) fit ends = inr (λ pick cert same. cc)
-ends-room program view fs Point fit ends = inr (λ pick cert same. cc)
-ends-room program view fs (Split pick cert) fit ends =
+pub ends-room : (program : Program) (given : ℕ) (view : View) (fs : List Found) (item : RowItem) → ItemEnds program given view fs item → (1 ≤ view_splits view) ⊎ ((pick : RowPick) (cert : Cert) → item ≡ Split pick cert → ⊥)
+ends-room program given view fs Empty ends = inr (λ pick cert same. cc)
+ends-room program given view fs (Dual c) ends = inr (λ pick cert same. cc)
+ends-room program given view fs Point ends = inr (λ pick cert same. cc)
+ends-room program given view fs (Split pick cert) ends =
     let part = left_there program view pick ends.parted in
-    inl (omega (arith, splits-left program view part.0 pick fit ends.parted part.1))
-ends-room program view fs Node fit ends = absurd ends
-ends-room program view fs (Cut cut) fit ends = absurd ends
-ends-room program view fs (FoundItem f) fit ends = absurd ends
-ends-room program view fs (Pending cert) fit ends = absurd ends
+    inl (omega (arith, splits-left program view part.0 pick ends.parted part.1))
+ends-room program given view fs Node ends = absurd ends
+ends-room program given view fs (Cut cut) ends = absurd ends
+ends-room program given view fs (FoundItem f) ends = absurd ends
+ends-room program given view fs (Pending cert) ends = absurd ends
 
 -- the certificate of a part that is left open is fit
 pub pending-fit : (program : Program) (view : View) (cert : Cert) → (row_steps program).cap view cert ≢ Bad → IsFitItem program (Pending cert)

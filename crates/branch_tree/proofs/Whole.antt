@@ -115,17 +115,17 @@ root-stands ground marks start indexed is begun = subst (λ (ms : List (List Dom
     }
 
 -- what is known of the search of the root
-pub record RootSearched {T O : Type 0} (took : T → O → List RowItem → T → O → Type 0) (program : Program) (budget : ℕ) (may_leave : Bool) (cap : Capped) (start new : Reached) (left_open : Bool) (t : T) (o : O) (t2 : T) (o2 : O) : Type 0 where
-  pub box : BoxHanded took (λ parent. ⊤) program budget may_leave (view_of program.root) cap start t o new t2 o2
+pub record RootSearched {T O : Type 0} (took : T → O → List RowItem → T → O → Type 0) (program : Program) (given budget : ℕ) (may_leave : Bool) (cap : Capped) (start new : Reached) (left_open : Bool) (t : T) (o : O) (t2 : T) (o2 : O) : Type 0 where
+  pub box : BoxHanded took (λ parent. ⊤) program given budget may_leave (view_of program.root) cap start t o new t2 o2
   pub begun : IsStart program start
   pub own : IsOwnBest start.own new.best
   pub within : new.spent ≤ budget
   pub over : left_open ≡ is_over cap (option_map (λ f. f.value) new.best)
 
-module _ {T O : Type 0} (took : T → O → List RowItem → T → O → Type 0) (program : Program) (budget : ℕ) (may_leave : Bool) (cap : Capped) (start new : Reached) (left_open : Bool) (t : T) (o : O) (t2 : T) (o2 : O)
-    (root : RootSearched took program budget may_leave cap start new left_open t o t2 o2) where
+module _ {T O : Type 0} (took : T → O → List RowItem → T → O → Type 0) (program : Program) (given budget : ℕ) (may_leave : Bool) (cap : Capped) (start new : Reached) (left_open : Bool) (t : T) (o : O) (t2 : T) (o2 : O)
+    (root : RootSearched took program given budget may_leave cap start new left_open t o t2 o2) where
   -- each node of the proof
-  nodes : EachNode (NodeDone program) (row_steps program) None [] (view_of program.root) root.box.tree
+  nodes : EachNode (NodeDone program given) (row_steps program) None [] (view_of program.root) root.box.tree
   nodes = root.box.done None [] tt (subst (λ b. IsBest b []) (sym root.begun.best) refl)
 
   -- the best of its found points
@@ -133,13 +133,13 @@ module _ {T O : Type 0} (took : T → O → List RowItem → T → O → Type 0)
   best = root.box.best [] (subst (λ b. IsBest b []) (sym root.begun.best) refl)
 
   defined : cap ≢ Bad
-  defined bad = defined-not_bad (tree_cap (row_steps program) (view_of program.root) root.box.tree) (tree-defined program root.box.tree None [] (view_of program.root) nodes) (sym root.box.capped ∙ bad)
+  defined bad = defined-not_bad (tree_cap (row_steps program) (view_of program.root) root.box.tree) (tree-defined program given root.box.tree None [] (view_of program.root) nodes) (sym root.box.capped ∙ bad)
 
   -- the boxes of the proof
   boxes : counted root.box.tree + opens root.box.tree + 1 ≤ 2 * points_of program.root
   boxes =
       let some : 0 < points_in (view_of program.root) = subst (λ n. 0 < n) (sym (root_points program)) (points-open program.root program.root_open) in
-      subst (λ n. counted root.box.tree + opens root.box.tree + 1 ≤ 2 * n) (root_points program) (tree-boxes program root.box.tree None [] (view_of program.root) (root_fits program) some nodes)
+      subst (λ n. counted root.box.tree + opens root.box.tree + 1 ≤ 2 * n) (root_points program) (tree-boxes program given root.box.tree None [] (view_of program.root) (root_fits program) some nodes)
 
   spent_is : new.spent ≡ counted root.box.tree
   spent_is = let sum : new.spent ≡ start.spent + counted root.box.tree = root.box.counts.counted in omega (arith, sum, root.begun.spent)
@@ -150,7 +150,7 @@ module _ {T O : Type 0} (took : T → O → List RowItem → T → O → Type 0)
     where
       at : (n : ℕ) → opens root.box.tree ≡ n → 0 < opens root.box.tree
       at zero none =
-          let closed = tree-closed program root.box.tree None [] (view_of program.root) nodes none in
+          let closed = tree-closed program given root.box.tree None [] (view_of program.root) nodes none in
           let not_over = closed-not_over (tree_cap (row_steps program) (view_of program.root) root.box.tree) new.best (found_points root.box.tree) best closed in
           absurd (apart left_open over (root.over ∙ ap (λ c. is_over c (option_map (λ f. f.value) new.best)) root.box.capped ∙ not_over))
         where
@@ -161,22 +161,22 @@ module _ {T O : Type 0} (took : T → O → List RowItem → T → O → Type 0)
   pub ended_of_root : Ended
   ended_of_root = record { best = new.best; cap = cap; spent = new.spent; left_open = left_open }
 
-  pub root-search : IsSearch program budget root.box.tree (record { best = new.best; cap = cap; spent = new.spent; left_open = left_open })
+  pub root-search : IsSearch program given budget root.box.tree (record { best = new.best; cap = cap; spent = new.spent; left_open = left_open })
   root-search = record {
     cap = root.box.capped;
     defined = defined;
     bounds = bounds;
-    justified = tree-justified program root.box.tree None [] (view_of program.root) nodes;
+    justified = tree-justified program given root.box.tree None [] (view_of program.root) nodes;
     writable = record {
       fit = root.box.fit;
-      shallow = omega (arith, tree-depth program root.box.tree None [] (view_of program.root) (root_fits program) nodes, splits-root program);
+      shallow = omega (arith, tree-depth program given root.box.tree None [] (view_of program.root) (root_fits program) nodes, splits-root program);
     };
     best = best;
     spent = spent_is;
     within = root.within;
     few = omega (arith, boxes, spent_is);
     left_open = λ over. (
-      tree-open program root.box.tree None [] (view_of program.root) nodes (some_open over),
+      tree-open program given root.box.tree None [] (view_of program.root) nodes (some_open over),
       over-above cap new.best (found_points root.box.tree) defined best (sym root.over ∙ over),
     );
     settled = λ over. settled program cap new.best (found_points root.box.tree) best groups bounds (sym root.over ∙ over);
@@ -190,7 +190,7 @@ module _ {T O : Type 0} (took : T → O → List RowItem → T → O → Type 0)
       groups = subst (All (IsGroup program)) (found_in-tree Rows Area root.box.tree) (fit-groups program (tree_items root.box.tree) root.box.fit)
 
   -- the items of the proof were taken
-  pub root-taken : took t o [] t o → IsSearchedTo took program budget (record { best = new.best; cap = cap; spent = new.spent; left_open = left_open }) t o t2 o2
+  pub root-taken : took t o [] t o → IsSearchedTo took program given budget (record { best = new.best; cap = cap; spent = new.spent; left_open = left_open }) t o t2 o2
   root-taken none = record { tree = root.box.tree; search = root-search; handed = root.box.handed t o [] none }
 
   -- a budget that was spent makes the count exact
@@ -204,11 +204,11 @@ module _ {T O : Type 0} (took : T → O → List RowItem → T → O → Type 0)
   root-full never over = root.box.counts.full never (some_open over)
 
 -- what the search of the root comes to
-pub root-searched : {T O : Type 0} (took : T → O → List RowItem → T → O → Type 0) (program : Program) (budget : ℕ) (may_leave : Bool) (cap : Capped) (start new : Reached) (left_open : Bool) (t : T) (o : O) (t2 : T) (o2 : O)
-    (marks : List (List Domain)) (worth : Option ℤ) → marks ≡ program.root ∷ [] → BoxHanded took (λ parent. ⊤) program budget may_leave (seen marks) cap start t o new t2 o2 → IsStart program start → IsOwnBest start.own new.best
-    → new.spent ≤ budget → worth ≡ option_map (λ f. f.value) new.best → left_open ≡ is_over cap worth → RootSearched took program budget may_leave cap start new left_open t o t2 o2
-root-searched took program budget may_leave cap start new left_open t o t2 o2 marks worth is box begun own within worth_is over = record {
-  box = subst (λ (ms : List (List Domain)). BoxHanded took (λ parent. ⊤) program budget may_leave (seen ms) cap start t o new t2 o2) is box;
+pub root-searched : {T O : Type 0} (took : T → O → List RowItem → T → O → Type 0) (program : Program) (given budget : ℕ) (may_leave : Bool) (cap : Capped) (start new : Reached) (left_open : Bool) (t : T) (o : O) (t2 : T) (o2 : O)
+    (marks : List (List Domain)) (worth : Option ℤ) → marks ≡ program.root ∷ [] → BoxHanded took (λ parent. ⊤) program given budget may_leave (seen marks) cap start t o new t2 o2 → IsStart program start → IsOwnBest start.own new.best
+    → new.spent ≤ budget → worth ≡ option_map (λ f. f.value) new.best → left_open ≡ is_over cap worth → RootSearched took program given budget may_leave cap start new left_open t o t2 o2
+root-searched took program given budget may_leave cap start new left_open t o t2 o2 marks worth is box begun own within worth_is over = record {
+  box = subst (λ (ms : List (List Domain)). BoxHanded took (λ parent. ⊤) program given budget may_leave (seen ms) cap start t o new t2 o2) is box;
   begun = begun;
   own = own;
   within = within;

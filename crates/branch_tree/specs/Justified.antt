@@ -1,5 +1,5 @@
 -- When no box of a proof over rows was split without cause.
-use Rattle.std.specs.Prelude.{◌≡◌, ℕ, ◌+◌, ◌-◌, ◌/◌, ◌<◌, ◌≤◌, nat_le, ◌&&◌, if◌then◌else◌, List, [], ◌++◌, length, Some, None, option_to_list, IfSome, IsSome, ◌<ℤ◌, ⊤}
+use Rattle.std.specs.Prelude.{◌≡◌, ℕ, ◌<◌, ◌≤◌, List, [], ◌++◌, length, Some, None, option_to_list, IfSome, IsSome, ◌<ℤ◌, ⊤}
 use Rattle.std.specs.List.{All}
 use Rattle.row_kit.specs.declared.domain.Domain.{Domain}
 use Rattle.row_kit.specs.declared.found.Found.{Found}
@@ -12,15 +12,16 @@ use Rattle.dual_bound.specs.declared.cert.Cert.{Cert}
 use Rattle.dual_bound.specs.Cap.{cert_cap}
 use Rattle.dual_bound.specs.Total.{total_at}
 use Rattle.dual_climb.specs.RowBest.{RowBest}
-use Rattle.dual_simplex.specs.Solved.{plain_cert, IsNoWorseThanPlain}
+use Rattle.dual_simplex.specs.Solved.{IsNoWorseThanPlain}
 use Rattle.proof_tree.specs.declared.capped.Capped.{Capped}
 use Rattle.proof_tree.specs.declared.capped.Capped.TheVariants.{AtMost}
 use Rattle.proof_tree.specs.Nodes.{Node, NodeEnd, closed, parted, EachNode}
-use Rattle.proof_tree.specs.Tree.{Tree, pending}
+use Rattle.proof_tree.specs.Tree.{pending}
 use Rattle.row_relax.specs.declared.pick.RowPick.{RowPick}
 use Rattle.row_relax.specs.Steps.{kept_at, row_steps}
 use Rattle.row_relax.specs.View.{domains_of, view_of}
 use Rattle.row_relax.specs.RowProofs.{RowTree}
+use Rattle.branch_tree.specs.Splits.{PartsLess, split_value}
 
 -- a node of it where it stands
 abbrev pub RowNode : Type 0
@@ -47,26 +48,23 @@ pub record IsPolished (program : Program) (domains : List Domain) (cert : Cert) 
   pub row_best : RowBest program domains cert
   pub no_higher : IsNoWorseThanPlain program domains cert
 
--- where a domain is split: at 0 where it holds 0 and other values, else at the middle of its values
-abbrev pub split_value : Domain → ℕ
-split_value domain =
-    if domain.zero && nat_le domain.lo domain.hi then 0 else domain.lo + (domain.hi - domain.lo) / 2
-
--- a pick splits the domain of a slot so, and neither part has an empty domain
-pub record IsParted (domains : List Domain) (pick : RowPick) : Type 0 where
+-- A pick splits the domain of a slot: at its split value where the slot's number is below `given`, and a later slot, which is a sum's, at any value.
+-- Both parts of the domain can be split less often than it, and neither part of the box has an empty domain.
+pub record IsParted (given : ℕ) (domains : List Domain) (pick : RowPick) : Type 0 where
   pub slot : pick.slot < length domains
-  pub value : pick.max ≡ split_value (domain_at domains pick.slot)
+  pub value : pick.slot < given → pick.max ≡ split_value (domain_at domains pick.slot)
+  pub fewer : PartsLess (domain_at domains pick.slot) pick.max
   pub left : All IsOpen (kept_at domains pick.slot (up_to pick.max))
   pub right : All IsOpen (kept_at domains pick.slot (over pick.max))
 
 -- what a split needs, over the domains after the cuts of its node and the found points up to it
-pub record HasCause (program : Program) (domains : List Domain) (found : List Found) (pick : RowPick) (cert : Cert) : Type 0 where
+pub record HasCause (program : Program) (given : ℕ) (domains : List Domain) (found : List Found) (pick : RowPick) (cert : Cert) : Type 0 where
   -- no cut of any row at any slot shrinks a domain
   pub exhausted : All (IsStill domains) program.rows
   pub polished : IsPolished program domains cert
   -- the cap of the certificate is above the worth of each of the found points
   pub above : IsAbove (cert_cap program domains cert) found
-  pub parted : IsParted domains pick
+  pub parted : IsParted given domains pick
 
 -- a node that is left open has no cuts and no found point, and holds the certificate of its parent
 pub record IsLeftOpen (node : RowNode) (cert : Cert) : Type 0 where
@@ -75,16 +73,16 @@ pub record IsLeftOpen (node : RowNode) (cert : Cert) : Type 0 where
   pub found : node.found ≡ None
 
 -- the end of a node is justified: a split has cause, and an open end is one that was left open
-abbrev pub EndIsJustified : Program → RowNode → NodeEnd Cert RowPick → Type 0
-EndIsJustified program node (parted pick cert) = HasCause program (domains_of node.view) (found_up_to node) pick cert
-EndIsJustified program node (closed (pending cert)) = IsLeftOpen node cert
-EndIsJustified program node (closed end) = ⊤
+abbrev pub EndIsJustified : Program → ℕ → RowNode → NodeEnd Cert RowPick → Type 0
+EndIsJustified program given node (parted pick cert) = HasCause program given (domains_of node.view) (found_up_to node) pick cert
+EndIsJustified program given node (closed (pending cert)) = IsLeftOpen node cert
+EndIsJustified program given node (closed end) = ⊤
 
 -- a node is justified where its end is, and its found point is lawful and stands with its worth
-pub record NodeIsJustified (program : Program) (node : RowNode) : Type 0 where
+pub record NodeIsJustified (program : Program) (given : ℕ) (node : RowNode) : Type 0 where
   pub group : IfSome node.found (IsGroup program)
-  pub end : EndIsJustified program node node.end
+  pub end : EndIsJustified program given node node.end
 
--- a proof is justified where each of its nodes is, over the root
-abbrev pub IsJustified : Program → RowTree → Type 0
-IsJustified program tree = EachNode (NodeIsJustified program) (row_steps program) None [] (view_of program.root) tree
+-- a proof is justified where each of its nodes is, over the root; slots from the number `given` on are sums
+abbrev pub IsJustified : Program → ℕ → RowTree → Type 0
+IsJustified program given tree = EachNode (NodeIsJustified program given) (row_steps program) None [] (view_of program.root) tree

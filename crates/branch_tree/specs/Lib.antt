@@ -1,3 +1,4 @@
 pub mod Justified
 pub mod Searched
+pub mod Splits
 pub mod laws

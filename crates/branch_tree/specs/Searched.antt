@@ -2,26 +2,20 @@
 use Rattle.std.specs.Prelude.{◌≡◌, ◌≢◌, ℕ, ◌+◌, ◌*◌, ◌<◌, ◌≤◌, nat_le, true, false, ◌&&◌, if◌then◌else◌, List, [], ◌++◌, length, Option, Some, None, ◌≤ℤ◌, ⊤, ◌⊎◌}
 use Rattle.std.specs.List.{All, Contains, sum_by}
 use Rattle.std.specs.Option.{IsSomeAnd}
-use Rattle.row_kit.specs.declared.area.Area.{Area}
 use Rattle.row_kit.specs.declared.domain.Domain.{Domain}
 use Rattle.row_kit.specs.declared.found.Found.{Found}
 use Rattle.row_kit.specs.declared.program.Program.{Program}
 use Rattle.row_kit.specs.Point.{IsLawful, LiesIn, worth_of}
 use Rattle.row_kit.specs.Points.{points_of}
-use Rattle.range_prop.specs.declared.row_cut.RowCut.{RowCut}
-use Rattle.dual_bound.specs.declared.cert.Cert.{Cert}
 use Rattle.dual_bound.specs.Total.{is_fit}
 use Rattle.proof_tree.specs.Cap.{Bounds}
 use Rattle.proof_tree.specs.declared.capped.Capped.{Capped}
 use Rattle.proof_tree.specs.declared.capped.Capped.TheVariants.{AtMost, NoPoint, Bad}
-use Rattle.proof_tree.specs.declared.item.Item.{Item}
 use Rattle.proof_tree.specs.declared.item.Item.TheVariants.{Node, Cut, Found as FoundItem, Empty, Dual, Point, Pending, Split}
 use Rattle.proof_tree.specs.Items.{tree_items, depth}
 use Rattle.proof_tree.specs.Nodes.{counted, found_points}
 use Rattle.proof_tree.specs.Tree.{leaf, split, pending, tree_cap, after_cuts}
 use Rattle.proof_tree.specs.Views.{View}
-use Rattle.row_relax.specs.declared.RowPick.{RowPick}
-use Rattle.row_relax.specs.declared.Rows.{Rows}
 use Rattle.row_relax.specs.Settle.{only_point}
 use Rattle.row_relax.specs.Steps.{row_steps}
 use Rattle.row_relax.specs.View.{IsIn, view_of}
@@ -73,13 +67,13 @@ IsSettled (AtMost cap) (Some best) = cap ≡ best.value
 IsSettled NoPoint None = ⊤
 IsSettled _ _ = ⊥
 
--- what a search of the root with a budget comes to, and the proof that it makes
-pub record IsSearch (program : Program) (budget : ℕ) (tree : RowTree) (ended : Ended) : Type 0 where
+-- what a search of the root with a budget comes to, and the proof that it makes; slots from the number `given` on are sums
+pub record IsSearch (program : Program) (given budget : ℕ) (tree : RowTree) (ended : Ended) : Type 0 where
   -- the cap is that of the proof, and no lawful point is worth more
   pub cap : ended.cap ≡ tree_cap (row_steps program) (view_of program.root) tree
   pub defined : ended.cap ≢ Bad
   pub bounds : Bounds (LiesIn program.root) (IsLawful program) (worth_of program) ended.cap
-  pub justified : IsJustified program tree
+  pub justified : IsJustified program given tree
   pub writable : IsWritable program tree
   pub best : IsBest ended.best (found_points tree)
   -- the counted boxes are at most the budget, and at most twice the points less one
@@ -102,9 +96,9 @@ pub record IsExact (program : Program) (budget : ℕ) (ended : Ended) : Type 0 w
   pub below : ended.left_open ≡ true → budget + 1 < 2 * points_of program.root
 
 -- a search whose proof a taker took
-pub record IsSearchedTo {T O : Type 0} (took : T → O → List RowItem → T → O → Type 0) (program : Program) (budget : ℕ) (ended : Ended) (taker : T) (out : O) (taker_after : T) (out_after : O) : Type 0 where
+pub record IsSearchedTo {T O : Type 0} (took : T → O → List RowItem → T → O → Type 0) (program : Program) (given budget : ℕ) (ended : Ended) (taker : T) (out : O) (taker_after : T) (out_after : O) : Type 0 where
   pub tree : RowTree
-  pub search : IsSearch program budget tree ended
+  pub search : IsSearch program given budget tree ended
   pub handed : took taker out (tree_items tree) taker_after out_after
 
 -- a search that broke off: a taker took, or did not wholly take, the first items of some proof that may be written

@@ -2,4 +2,5 @@
 pub mod Ends
 pub mod Grounds
 pub mod Handed
+pub mod Picks
 pub mod Stops

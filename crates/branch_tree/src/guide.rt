@@ -15,10 +15,13 @@ pub struct Advice {
     pub cert: Option<Cert>,
     /// The slot to split where the box stays open.
     pub slot: Option<u32>,
+    /// Where to split that slot: its first part keeps the values up to this one. It counts at the slots of sums alone. Where a part
+    /// has no values, or can be split as often as before, the nearest value counts at which that is not so.
+    pub max: Option<u8>,
 }
 
-/// What may advise a search. It promises nothing: a certificate counts by its exact cap, and a slot where both its parts have
-/// points.
+/// What may advise a search. It promises nothing: a certificate counts by its exact cap, a slot where both its parts have points,
+/// and a value at the slot of a sum where, besides, both parts can be split less often.
 pub trait Guide {
     /// Whether to leave a part of a split open though budget is left. The part stands below so many splits.
     fn leaves(&mut self, program: &Program, area: &Area, depth: u32) -> bool
@@ -63,6 +66,7 @@ impl Guide for PlainGuide {
         Ok(Advice {
             cert: Some(cert),
             slot: None,
+            max: None,
         })
     }
 }

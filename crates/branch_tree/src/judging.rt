@@ -98,9 +98,9 @@ pub(crate) fn judge(
 ) -> Result<Item<Rows>, AllocError>
     requires slots { length (present area.now) ≡ length (program_of ground.now).root }
     requires each_open { All IsOpen (present area.now) }
-    ensures { IfOk result (IsVerdict (program_of ground.now) (present area.now) best) }
+    ensures { IfOk result (IsVerdict (program_of ground.now) ground.now.given (present area.now) best) }
 {
-    let Advice { cert, slot } = advice;
+    let Advice { cert, slot, max } = advice;
     if area.is_point() {
         return Ok(Item::Point);
     }
@@ -108,7 +108,7 @@ pub(crate) fn judge(
     if !exceeds(cap(&ground.rows.program, area, &cert), best) {
         return Ok(Item::Dual(cert));
     }
-    settle_or_split(ground, area, cert, slot, best)
+    settle_or_split(ground, area, cert, slot, max, best)
 }
 
 // A split with the polished certificate, or the end of a box that the polished certificate closes.
@@ -117,6 +117,7 @@ fn settle_or_split(
     area: &Area,
     cert: Cert,
     slot: Option<u32>,
+    max: Option<u8>,
     best: Option<i128>,
 ) -> Result<Item<Rows>, AllocError>
     requires slots { length (present area.now) ≡ length (program_of ground.now).root }
@@ -124,12 +125,12 @@ fn settle_or_split(
     requires more { ¬ All IsSingle (present area.now) }
     requires no_higher { IsNoWorseThanPlain (program_of ground.now) (present area.now) cert }
     requires over { is_over (cert_cap (program_of ground.now) (present area.now) cert) best ≡ true }
-    ensures { IfOk result (IsVerdict (program_of ground.now) (present area.now) best) }
+    ensures { IfOk result (IsVerdict (program_of ground.now) ground.now.given (present area.now) best) }
 {
     let mut cert = cert;
     polish(ground.alloc, &ground.rows.program, area, &mut cert, best)?;
     if !exceeds(cap(&ground.rows.program, area, &cert), best) {
         return Ok(Item::Dual(cert));
     }
-    Ok(Item::Split(pick_of(area, slot), cert))
+    Ok(Item::Split(pick_of(area, ground.given, slot, max), cert))
 }

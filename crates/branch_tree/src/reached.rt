@@ -11,6 +11,8 @@ pub(crate) struct Ground<'a> {
     pub rows: &'a Rows,
     // The rows of each slot.
     pub index: RowIndex,
+    // Slots from this number on are sums, and may be split at any value.
+    pub given: u32,
     // How many boxes may be counted.
     pub budget: u32,
     // Whether the guide may leave boxes open though budget is left.

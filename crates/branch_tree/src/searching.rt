@@ -49,7 +49,7 @@ fn search_root<H: Hinter, G: Guide, O, T: NodeTaker<Rows, O>>(
     requires budget { 1 ≤ ground.now.budget }
     requires ready { T.ready taker.old out.old }
     ensures ready { OnOk result (T.ready taker.new out.new) }
-    ensures ok { IfOk result (λ ended. IsSearchedTo T.took (program_of ground.now) ground.now.budget ended taker.old out.old taker.new out.new) }
+    ensures ok { IfOk result (λ ended. IsSearchedTo T.took (program_of ground.now) ground.now.given ground.now.budget ended taker.old out.old taker.new out.new) }
     ensures exact { IfOk result (λ ended. ground.now.may_leave ≡ false → IsExact (program_of ground.now) ground.now.budget ended) }
     ensures guided { IfOk result (λ ended. ended.spent ≡ ground.now.budget → IsExact (program_of ground.now) ground.now.budget ended) }
     ensures err { OnErr result (IsBrokenOff T.took T.broke (program_of ground.now) taker.old out.old taker.new out.new) }
@@ -80,9 +80,12 @@ fn search_root<H: Hinter, G: Guide, O, T: NodeTaker<Rows, O>>(
 
 /// As `search_to`, with a guide that may leave boxes open though budget is left. The answer also says whether the count is
 /// exact: whether the budget was spent, or nothing is left open.
+///
+/// Slots from the number `given` on are sums, and may be split at any value; those below it are split at 0 or in the middle alone.
 pub fn search_guided_to<H: Hinter, G: Guide, O, T: NodeTaker<Rows, O>>(
     alloc: Global,
     rows: &Rows,
+    given: u32,
     budget: u32,
     hinter: &mut H,
     guide: &mut G,
@@ -92,7 +95,7 @@ pub fn search_guided_to<H: Hinter, G: Guide, O, T: NodeTaker<Rows, O>>(
     requires budget { (1 ≤ budget) × (budget ≤ 100000) }
     requires ready { T.ready taker.old out.old }
     ensures ready { OnOk result (T.ready taker.new out.new) }
-    ensures ok { IfOk result (λ guided. IsSearchedTo T.took rows.now.program budget guided.ended taker.old out.old taker.new out.new) }
+    ensures ok { IfOk result (λ guided. IsSearchedTo T.took rows.now.program given budget guided.ended taker.old out.old taker.new out.new) }
     ensures exact { IfOk result (λ guided. guided.exact ≡ true → IsExact rows.now.program budget guided.ended) }
     ensures inexact { IfOk result (λ guided. guided.exact ≡ false → (guided.ended.left_open ≡ true) × (guided.ended.spent ≢ budget)) }
     ensures err { OnErr result (IsBrokenOff T.took T.broke rows.now.program taker.old out.old taker.new out.new) }
@@ -103,6 +106,7 @@ pub fn search_guided_to<H: Hinter, G: Guide, O, T: NodeTaker<Rows, O>>(
         alloc,
         rows,
         index: RowIndex::new(alloc, &rows.program)?,
+        given,
         budget,
         may_leave: true,
     };
@@ -114,9 +118,12 @@ pub fn search_guided_to<H: Hinter, G: Guide, O, T: NodeTaker<Rows, O>>(
 /// Searches the root by branch and bound, and puts the items of the proof as it is made: after `Ok` the taker took the items of
 /// a justified proof that covers the root, whose numbers the answer tells. It counts at most as many boxes as the budget, and
 /// leaves a box open only where it counted just as many. After an error the taker took the first items of some proof.
+///
+/// Slots from the number `given` on are sums, and may be split at any value; those below it are split at 0 or in the middle alone.
 pub fn search_to<H: Hinter, O, T: NodeTaker<Rows, O>>(
     alloc: Global,
     rows: &Rows,
+    given: u32,
     budget: u32,
     hinter: &mut H,
     taker: &mut T,
@@ -125,7 +132,7 @@ pub fn search_to<H: Hinter, O, T: NodeTaker<Rows, O>>(
     requires budget { (1 ≤ budget) × (budget ≤ 100000) }
     requires ready { T.ready taker.old out.old }
     ensures ready { OnOk result (T.ready taker.new out.new) }
-    ensures ok { IfOk result (λ ended. IsSearchedTo T.took rows.now.program budget ended taker.old out.old taker.new out.new) }
+    ensures ok { IfOk result (λ ended. IsSearchedTo T.took rows.now.program given budget ended taker.old out.old taker.new out.new) }
     ensures exact { IfOk result (IsExact rows.now.program budget) }
     ensures err { OnErr result (IsBrokenOff T.took T.broke rows.now.program taker.old out.old taker.new out.new) }
     ensures later { T.faults out.old ≤ T.faults out.new }
@@ -135,6 +142,7 @@ pub fn search_to<H: Hinter, O, T: NodeTaker<Rows, O>>(
         alloc,
         rows,
         index: RowIndex::new(alloc, &rows.program)?,
+        given,
         budget,
         may_leave: false,
     };
@@ -142,20 +150,32 @@ pub fn search_to<H: Hinter, O, T: NodeTaker<Rows, O>>(
 }
 
 /// As `search`, with a guide that may leave boxes open though budget is left. The answer also says whether the count is exact.
+///
+/// Slots from the number `given` on are sums, and may be split at any value; those below it are split at 0 or in the middle alone.
 pub fn search_guided<H: Hinter, G: Guide>(
     alloc: Global,
     rows: &Rows,
+    given: u32,
     budget: u32,
     hinter: &mut H,
     guide: &mut G,
 ) -> Result<(Searched, bool), AllocError>
     requires { (1 ≤ budget) × (budget ≤ 100000) }
-    ensures ok { IfOk result (λ found. IsSearch rows.now.program budget (tree_of found.0.tree) (ended_of found.0)) }
+    ensures ok { IfOk result (λ found. IsSearch rows.now.program given budget (tree_of found.0.tree) (ended_of found.0)) }
     ensures exact { IfOk result (λ found. found.1 ≡ true → IsExact rows.now.program budget (ended_of found.0)) }
     ensures inexact { IfOk result (λ found. found.1 ≡ false → (found.0.left_open ≡ true) × (found.0.spent ≢ budget)) }
 {
     let mut taker = TreeTaker::new(alloc, RowCopier);
-    match search_guided_to(alloc, rows, budget, hinter, guide, &mut taker, &mut ()) {
+    match search_guided_to(
+        alloc,
+        rows,
+        given,
+        budget,
+        hinter,
+        guide,
+        &mut taker,
+        &mut (),
+    ) {
         Ok(guided) => Ok((with_tree(guided.ended, taker), guided.exact)),
         Err(_) => Err(AllocError),
     }
@@ -163,18 +183,21 @@ pub fn search_guided<H: Hinter, G: Guide>(
 
 /// Searches the root by branch and bound, and builds the proof: a justified one that covers the root, whose numbers the answer
 /// tells. It counts at most as many boxes as the budget, and leaves a box open only where it counted just as many.
+///
+/// Slots from the number `given` on are sums, and may be split at any value; those below it are split at 0 or in the middle alone.
 pub fn search<H: Hinter>(
     alloc: Global,
     rows: &Rows,
+    given: u32,
     budget: u32,
     hinter: &mut H,
 ) -> Result<Searched, AllocError>
     requires { (1 ≤ budget) × (budget ≤ 100000) }
-    ensures ok { IfOk result (λ searched. IsSearch rows.now.program budget (tree_of searched.tree) (ended_of searched)) }
+    ensures ok { IfOk result (λ searched. IsSearch rows.now.program given budget (tree_of searched.tree) (ended_of searched)) }
     ensures exact { IfOk result (λ searched. IsExact rows.now.program budget (ended_of searched)) }
 {
     let mut taker = TreeTaker::new(alloc, RowCopier);
-    match search_to(alloc, rows, budget, hinter, &mut taker, &mut ()) {
+    match search_to(alloc, rows, given, budget, hinter, &mut taker, &mut ()) {
         Ok(ended) => Ok(with_tree(ended, taker)),
         Err(_) => Err(AllocError),
     }

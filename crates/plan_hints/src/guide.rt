@@ -59,6 +59,7 @@ impl PlanGuide {
         Ok(Advice {
             cert: Some(bounded.cert),
             slot,
+            max: None,
         })
     }
 
@@ -94,6 +95,7 @@ impl Guide for PlanGuide {
         Ok(Advice {
             cert: Some(bounded.cert),
             slot,
+            max: None,
         })
     }
 }

@@ -4,9 +4,9 @@ use crate::tables::{
 };
 use branch_tree::{Advice, Guide, Hinter, search, search_guided, search_to};
 use dual_bound::{Cert, Mult};
-use proof_tree::{Capped, Item, NodeTaker, TakeStop};
+use proof_tree::{Capped, End, Item, NodeTaker, TakeStop};
 use row_kit::{Area, Entry, List, Program, Row};
-use row_relax::Rows;
+use row_relax::{RowProof, Rows};
 use std::alloc::{AllocError, Global};
 use std::test::Fail;
 
@@ -69,6 +69,7 @@ impl Guide for Liar {
         Ok(Advice {
             cert: Some(cert),
             slot: Some(4_000_000_000),
+            max: Some(255),
         })
     }
 }
@@ -104,6 +105,35 @@ impl Guide for Diver {
         Ok(Advice {
             cert: Some(cert),
             slot: None,
+            max: None,
+        })
+    }
+}
+
+// Advises to split the first slot at a value.
+#[derive(Drop)]
+struct Splitter {
+    max: u8,
+}
+
+impl Guide for Splitter {
+    fn leaves(&mut self, _program: &Program, _area: &Area, _depth: u32) -> bool {
+        false
+    }
+
+    fn advise(
+        &mut self,
+        _alloc: Global,
+        _program: &Program,
+        _area: &Area,
+        _depth: u32,
+        _best: Option<i128>,
+        _point: &mut [u8],
+    ) -> Result<Advice, AllocError> {
+        Ok(Advice {
+            cert: None,
+            slot: Some(0),
+            max: Some(self.max),
         })
     }
 }
@@ -136,6 +166,11 @@ impl NodeTaker<Rows, ()> for Cutoff {
     }
 }
 
+// The number of slots, none of which is a sum's.
+fn slot_count(rows: &Rows) -> u32 {
+    rows.program.root.len() as u32
+}
+
 // A program, a budget, the cap of its search, the worth of the best point, and whether a box is left open.
 const SEARCHED: [(Slots, Table, u32, Capped, Option<i128>, bool); 5] = [
     (CHAIN, CHAIN_ROWS, 7, Capped::AtMost(24), Some(24), false),
@@ -159,7 +194,8 @@ fn programs_are_searched(rt: HostRuntime) -> Result<(), Fail> {
         let rows = Rows {
             program: program(alloc, slots, rows)?.ok_or("bounds")?,
         };
-        let found = search(alloc, &rows, budget, &mut Boaster)?;
+        let given = slot_count(&rows);
+        let found = search(alloc, &rows, given, budget, &mut Boaster)?;
         assert_eq!(rt; (found.cap, found.left_open), (cap, left_open));
         assert_eq!(rt; found.best.map(|it| it.value), worth);
     }
@@ -174,7 +210,8 @@ fn a_lying_guide_costs_exactness_alone(rt: HostRuntime) -> Result<(), Fail> {
             program: program(alloc, slots, rows)?.ok_or("bounds")?,
         };
         let mut guide = Liar { leaves: false };
-        let (found, exact) = search_guided(alloc, &rows, budget, &mut Boaster, &mut guide)?;
+        let given = slot_count(&rows);
+        let (found, exact) = search_guided(alloc, &rows, given, budget, &mut Boaster, &mut guide)?;
         assert!(rt; exact);
         assert_eq!(rt; found.left_open, left_open);
         assert_eq!(rt; found.best.map(|it| it.value), worth);
@@ -184,7 +221,8 @@ fn a_lying_guide_costs_exactness_alone(rt: HostRuntime) -> Result<(), Fail> {
         program: program(alloc, CHAIN, CHAIN_ROWS)?.ok_or("bounds")?,
     };
     let mut guide = Liar { leaves: true };
-    let (found, exact) = search_guided(alloc, &rows, 7, &mut Boaster, &mut guide)?;
+    let given = slot_count(&rows);
+    let (found, exact) = search_guided(alloc, &rows, given, 7, &mut Boaster, &mut guide)?;
     assert!(rt; !exact && found.left_open);
     Ok(())
 }
@@ -199,6 +237,7 @@ fn items_are_put_while_the_search_runs(rt: HostRuntime) -> Result<(), Fail> {
     let broken = search_to(
         alloc,
         &rows,
+        slot_count(&rows),
         7,
         &mut hinter,
         &mut Cutoff { left: 1 },
@@ -210,6 +249,7 @@ fn items_are_put_while_the_search_runs(rt: HostRuntime) -> Result<(), Fail> {
     let ended = search_to(
         alloc,
         &rows,
+        slot_count(&rows),
         7,
         &mut hinter,
         &mut Cutoff { left: 1_000 },
@@ -217,6 +257,38 @@ fn items_are_put_while_the_search_runs(rt: HostRuntime) -> Result<(), Fail> {
     );
     assert!(rt; ended.is_ok());
     assert!(rt; hinter.asked >= 3);
+    Ok(())
+}
+
+// A slot that holds 0 to 10, each quantum worth 1.
+const TEN: Slots = &[(1, 10, 1)];
+
+// How many slots are given, an advised value, and where that slot is split: a given one at 0, and a sum's where it is advised,
+// or at 8, since its part from 0 to 9 could be split as often as before.
+const SPLITS: [(u32, u8, u8); 5] = [(1, 6, 0), (0, 6, 6), (0, 0, 0), (0, 9, 8), (0, 255, 8)];
+
+// The value at which the root is split.
+fn split_at(tree: &RowProof) -> Option<u8> {
+    match &tree.end {
+        End::Split(pick, ..) => Some(pick.max),
+        _ => None,
+    }
+}
+
+#[test]
+fn the_slot_of_a_sum_is_split_as_advised(rt: HostRuntime) -> Result<(), Fail> {
+    let alloc = rt.alloc();
+    let rows = Rows {
+        program: program(alloc, TEN, &[])?.ok_or("bounds")?,
+    };
+    for (given, max, at) in SPLITS {
+        let mut guide = Splitter { max };
+        let mut hinter = Silent { asked: 0 };
+        let (found, exact) = search_guided(alloc, &rows, given, 1_000, &mut hinter, &mut guide)?;
+        assert!(rt; exact && !found.left_open);
+        assert_eq!(rt; found.cap, Capped::AtMost(10));
+        assert_eq!(rt; split_at(&found.tree), Some(at));
+    }
     Ok(())
 }
 
@@ -248,7 +320,8 @@ fn a_deep_path_fits_the_stack(rt: HostRuntime) -> Result<(), Fail> {
         program: over_rows(alloc, 0, WIDE, list)?.ok_or("bounds")?,
     };
     let mut hinter = Silent { asked: 0 };
-    let (found, exact) = search_guided(alloc, &rows, 100_000, &mut hinter, &mut Diver)?;
+    let given = slot_count(&rows);
+    let (found, exact) = search_guided(alloc, &rows, given, 100_000, &mut hinter, &mut Diver)?;
     assert!(rt; !exact && found.left_open);
     assert_eq!(rt; found.cap, Capped::AtMost(130_559));
     assert!(rt; found.spent > 4_000);

@@ -30,13 +30,13 @@ item_fine program (Pending cert) fit = tt
 item_fine program (Split pick cert) fit = tt
 
 -- the items of the proof of a search lead to its cap
-search_led : (program : Program) (budget : ℕ) (tree : RowTree) (over : Ended) → IsSearch program budget tree over → walked {R = Rows} {A = Area} {F = Found} (row_steps program) (start (view_of program.root)) (tree_items tree) ≡ ended over.cap
+search_led : {given : ℕ} (program : Program) (budget : ℕ) (tree : RowTree) (over : Ended) → IsSearch program given budget tree over → walked {R = Rows} {A = Area} {F = Found} (row_steps program) (start (view_of program.root)) (tree_items tree) ≡ ended over.cap
 search_led program budget tree over made =
     walked-whole Rows Area Found (row_steps program) tree (view_of program.root)
     ∙ (ap outcome_of (sym made.cap) ∙ real_outcome over.cap made.defined)
 
 -- the proof of a search has no defect, and leads to its cap
-pub search_proved : (program : Program) (budget : ℕ) (tree : RowTree) (over : Ended) → IsSearch program budget tree over → IsProved (row_steps program) program (view_of program.root) (tree_items tree) over.cap
+pub search_proved : {given : ℕ} (program : Program) (budget : ℕ) (tree : RowTree) (over : Ended) → IsSearch program given budget tree over → IsProved (row_steps program) program (view_of program.root) (tree_items tree) over.cap
 search_proved program budget tree over made = record {
   sound = items_sound program (start (view_of program.root)) (tree_items tree) over.cap (All-weaker (IsFitItem program) (IsFine program) (item_fine program) (tree_items tree) made.writable.fit)
       (search_led program budget tree over made);

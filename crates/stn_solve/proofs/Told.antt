@@ -50,7 +50,7 @@ use Rattle.stn_solve.proofs.SmallClaim.{IsSmallClaim}
 use Rattle.stn_solve.proofs.ValidLog.{search-cap_short, valid-search}
 
 -- the found points of a search are lawful, and stand with their worth
-pub groups_of : (program : Program) (budget : ℕ) (tree : RowTree) (ended : Ended) → IsSearch program budget tree ended → All (IsGroup program) (found_points tree)
+pub groups_of : {given : ℕ} (program : Program) (budget : ℕ) (tree : RowTree) (ended : Ended) → IsSearch program given budget tree ended → All (IsGroup program) (found_points tree)
 groups_of program budget tree ended made = subst (All (IsGroup program)) (found_in-tree Rows Area tree) (fit-groups program (tree_items tree) made.writable.fit)
 
 best_group : (program : Program) (best : Option Found) (fs : List Found) → IsBest best fs → All (IsGroup program) fs → IfSome best (IsGroup program)
@@ -58,18 +58,18 @@ best_group program None fs best groups = tt
 best_group program (Some found) fs best groups = All-contains (IsGroup program) fs found groups best.0
 
 -- the best found point of a search is lawful, and stands with its worth
-pub best-group : (program : Program) (budget : ℕ) (tree : RowTree) (ended : Ended) → IsSearch program budget tree ended → IfSome ended.best (IsGroup program)
+pub best-group : {given : ℕ} (program : Program) (budget : ℕ) (tree : RowTree) (ended : Ended) → IsSearch program given budget tree ended → IfSome ended.best (IsGroup program)
 best-group program budget tree ended made = best_group program ended.best (found_points tree) made.best (groups_of program budget tree ended made)
 
 -- a proof that is justified counts a box: its root was not left open, since no certificate is held above it
-pub counted-some : (program : Program) (tree : RowTree) → IsJustified program tree → 0 < counted tree
-counted-some program (leaf cuts found no_point) just = omega arith
-counted-some program (leaf cuts found (dual cert)) just = omega arith
-counted-some program (leaf cuts found one_point) just = omega arith
-counted-some program (leaf cuts found (pending cert)) just =
+pub counted-some : (program : Program) (given : ℕ) (tree : RowTree) → IsJustified program given tree → 0 < counted tree
+counted-some program given (leaf cuts found no_point) just = omega arith
+counted-some program given (leaf cuts found (dual cert)) just = omega arith
+counted-some program given (leaf cuts found one_point) just = omega arith
+counted-some program given (leaf cuts found (pending cert)) just =
     let node = fact_of (after_cuts (row_steps program) (view_of program.root) cuts) _ just in
     let held = node.1.1.end.held in cc
-counted-some program (split cuts found pick cert a b) just = omega arith
+counted-some program given (split cuts found pick cert a b) just = omega arith
 
 -- what a search says of a part of a plant's choices
 module _ (plant : Plant) (part : Program) (sound : Sound plant) (is : IsPartOf plant part) where
@@ -100,13 +100,13 @@ ended_at best cap spent left_open = record { best = best; cap = cap; spent = spe
 
 module _ (plant : Plant) (part : Program) (sound : Sound plant) (is : IsPartOf plant part) (budget : ℕ) (tree : RowTree) where
   -- the number of boxes, and the proof, of an answer that is right
-  with_answer : (ended : Ended) (said : Answer) → IsSearch part budget tree ended
+  with_answer : (ended : Ended) (said : Answer) → IsSearch part (length part.root) budget tree ended
       → IsAnswerOf plant (IsAdmitted plant part) (least_plan plant part) (whole_count part) budget ended.spent said
       → IsSoundClaim part ended.cap (claim_of plant said) → IsSmallClaim (claim_of plant said)
       → IfSpent said (HasOpenBox part (view_of part.root) tree)
       → IsPartOutcome plant part budget (record { answer = said; boxes = ended.spent }) × IsProofOf plant part (record { answer = said; boxes = ended.spent }) tree
   with_answer ended said search right borne small open_box =
-      let some : 0 < counted tree = counted-some part tree search.justified in
+      let some : 0 < counted tree = counted-some part (length part.root) tree search.justified in
       let spent : ended.spent ≡ counted tree = search.spent in
       let few : ended.spent + 1 ≤ 2 * points_of part.root = search.few in (
         record { answer = right; some = omega (arith, some, spent); within = search.within; most = omega (arith, few) },
@@ -208,7 +208,7 @@ module _ (plant : Plant) (part : Program) (sound : Sound plant) (is : IsPartOf p
   told-right ended of told says = told_at ended.best ended.cap ended.spent ended.left_open of told says
 
 -- the best found point of a search has a value for each slot
-pub best-places : (plant : Plant) (part : Program) (sound : Sound plant) (is : IsPartOf plant part) (budget : ℕ) (tree : RowTree) (ended : Ended) → IsSearch part budget tree ended
+pub best-places : (plant : Plant) (part : Program) (sound : Sound plant) (is : IsPartOf plant part) (budget : ℕ) (tree : RowTree) (ended : Ended) → IsSearch part (length part.root) budget tree ended
     → IfSome ended.best (λ found. length found.point ≡ length (slots plant))
 best-places plant part sound is budget tree ended search = at ended.best (best-group part budget tree ended search)
   where

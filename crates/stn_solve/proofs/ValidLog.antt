@@ -19,12 +19,12 @@ use Rattle.stn_solve.proofs.NoDefect.{search_proved}
 pub use Rattle.stn_solve.proofs.SmallClaim.{IsSmallClaim}
 
 -- the cap of a search, where it is a number, has at most 30 digits: at `AtMost n` this is `IsShort n`
-pub search-cap_short : (program : Program) (budget : ℕ) (tree : RowTree) (ended : Ended) → IsSearch program budget tree ended → IsBelow (10 ^ 30) ended.cap
+pub search-cap_short : {given : ℕ} (program : Program) (budget : ℕ) (tree : RowTree) (ended : Ended) → IsSearch program given budget tree ended → IsBelow (10 ^ 30) ended.cap
 search-cap_short program budget tree ended made = subst (IsBelow (10 ^ 30)) (sym made.cap) (root_short program tree)
 
 -- the proof of a search, with a claim that its cap bears out, is a valid log
-pub valid-search : (program : Program) (budget : ℕ) (tree : RowTree) (ended : Ended) (claim : Claim)
-    → IsSearch program budget tree ended → IsSoundClaim program ended.cap claim → IsSmallClaim claim
+pub valid-search : {given : ℕ} (program : Program) (budget : ℕ) (tree : RowTree) (ended : Ended) (claim : Claim)
+    → IsSearch program given budget tree ended → IsSoundClaim program ended.cap claim → IsSmallClaim claim
     → IsVerdict program (depth_over program.root) (log_text 2 (tree_items tree) claim) (Yes claim)
 valid-search program budget tree ended claim made sound small =
     subst (λ defect. IsVerdictGiven program (log_text 2 (tree_items tree) claim) defect (Yes claim)) (sym (text_clean program tree claim ended.cap made.writable sound small))

@@ -1,5 +1,5 @@
 -- The proof of an outcome, and the log that holds it.
-use Rattle.std.specs.Prelude.{◌≡◌, ◌⊎◌, ℕ, ◌-◌, ⊤, List, ◌++◌, Option, Some, None, IfSome}
+use Rattle.std.specs.Prelude.{◌≡◌, ◌⊎◌, ℕ, ◌-◌, ⊤, List, ◌++◌, length, Option, Some, None, IfSome}
 use Rattle.std.specs.List.{sum_by}
 use Rattle.std.specs.Option.{option_map}
 use Rattle.stn_edge.specs.Files.{FileMap, file_of}
@@ -48,7 +48,8 @@ IfSpent (answer.BudgetSpent plan earned cap) P = P
 -- its text with the claim of the answer is a valid log. Where the budget was spent, a box with a point is open.
 pub record IsProofOf (plant : Plant) (part : Program) (outcome : Outcome) (tree : RowTree) : Type 0 where
   pub boxes : counted tree ≡ outcome.boxes
-  pub justified : IsJustified part tree
+  -- every slot is the plant's own, none a sum's
+  pub justified : IsJustified part (length part.root) tree
   pub valid : IsVerdict part (depth_over part.root) (proof_text plant outcome.answer tree) (Yes (claim_of plant outcome.answer))
   pub left_open : IfSpent outcome.answer (HasOpenBox part (view_of part.root) tree)
 

@@ -6,6 +6,7 @@ ghost use Rattle.proof_log.specs.Writer.{Keeps, writing};
 ghost use Rattle.stn_solve.specs.Proofs.{IsLeft};
 ghost use Rattle.stn_solve.specs.laws.Logging.{IsLogged, stored};
 
+use crate::searching::slot_count;
 use best_first::Advisers;
 use branch_tree::{Ended, Guide, Hinter, search_guided_to, search_to};
 use proof_log::LogWriter;
@@ -73,7 +74,16 @@ fn log_guided<H: Hinter, G: Guide, F: Shelf>(
     ensures failed { result ≡ Err Stop.Failed → Rose (F.write_faults files.old) (F.write_faults files.new) }
 {
     let mut writer = LogWriter::begin(alloc, files, name)?;
-    match search_guided_to(alloc, rows, budget, hinter, guide, &mut writer, files) {
+    match search_guided_to(
+        alloc,
+        rows,
+        slot_count(rows),
+        budget,
+        hinter,
+        guide,
+        &mut writer,
+        files,
+    ) {
         Ok(guided) => {
             let exact = guided.exact;
             let logged = Logged {
@@ -107,7 +117,15 @@ fn log_plain<H: Hinter, F: Shelf>(
     ensures failed { result ≡ Err Stop.Failed → Rose (F.write_faults files.old) (F.write_faults files.new) }
 {
     let mut writer = LogWriter::begin(alloc, files, name)?;
-    match search_to(alloc, rows, budget, hinter, &mut writer, files) {
+    match search_to(
+        alloc,
+        rows,
+        slot_count(rows),
+        budget,
+        hinter,
+        &mut writer,
+        files,
+    ) {
         Ok(ended) => Ok(Logged { ended, writer }),
         Err(stop) => Err(stop_of(stop)),
     }

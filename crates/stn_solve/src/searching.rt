@@ -1,5 +1,5 @@
 //! Searches with the advice on plans, and where that leaves boxes open though budget is left, anew without it.
-ghost use Rattle.std.specs.Prelude.{◌≤◌, IfOk};
+ghost use Rattle.std.specs.Prelude.{◌≡◌, ◌≤◌, IfOk, length};
 ghost use Rattle.proof_tree.specs.Tree.{tree_of};
 ghost use Rattle.branch_tree.specs.Searched.{ended_of};
 ghost use Rattle.stn_solve.specs.laws.Ended.{IsSearchOf, IsSearched};
@@ -9,6 +9,13 @@ use best_first::Advisers;
 use branch_tree::{Ended, Searched, search, search_guided, search_guided_to, search_to};
 use row_relax::Rows;
 use std::alloc::{AllocError, Global};
+
+// The number of slots, all of which are the plant's own.
+pub(crate) fn slot_count(rows: &Rows) -> u32
+    ensures { result ≡ length rows.now.program.root }
+{
+    rows.program.root.len() as u32
+}
 
 // Searches the root, and drops the proof.
 pub fn search_only(alloc: Global, rows: &Rows, budget: u32) -> Result<Ended, AllocError>
@@ -20,9 +27,11 @@ pub fn search_only(alloc: Global, rows: &Rows, budget: u32) -> Result<Ended, All
         mut hinter,
     } = Advisers::new(alloc, &rows.program, budget)?;
     let mut taker = ItemDropper;
+    let given = slot_count(rows);
     let Ok(guided) = search_guided_to(
         alloc,
         rows,
+        given,
         budget,
         &mut hinter,
         &mut guide,
@@ -34,7 +43,7 @@ pub fn search_only(alloc: Global, rows: &Rows, budget: u32) -> Result<Ended, All
     if guided.exact {
         return Ok(guided.ended);
     }
-    match search_to(alloc, rows, budget, &mut hinter, &mut taker, &mut ()) {
+    match search_to(alloc, rows, given, budget, &mut hinter, &mut taker, &mut ()) {
         Ok(ended) => Ok(ended),
         Err(_) => Err(AllocError),
     }
@@ -49,9 +58,10 @@ pub fn search_built(alloc: Global, rows: &Rows, budget: u32) -> Result<Searched,
         mut guide,
         mut hinter,
     } = Advisers::new(alloc, &rows.program, budget)?;
-    let (searched, exact) = search_guided(alloc, rows, budget, &mut hinter, &mut guide)?;
+    let given = slot_count(rows);
+    let (searched, exact) = search_guided(alloc, rows, given, budget, &mut hinter, &mut guide)?;
     if exact {
         return Ok(searched);
     }
-    search(alloc, rows, budget, &mut hinter)
+    search(alloc, rows, given, budget, &mut hinter)
 }

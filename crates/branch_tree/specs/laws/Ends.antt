@@ -1,5 +1,5 @@
 -- How the nodes of a search end, and what its choices are. Only clauses of private functions cite it.
-use Rattle.std.specs.Prelude.{◌≡◌, ◌≢◌, ℕ, ◌+◌, ◌-◌, nat_le, nat_lt, Bool, true, false, ◌&&◌, if◌then◌else◌, List, Option, Some, None, IfSome, ℤ, ◌≤ℤ◌, int_lt, ⊤}
+use Rattle.std.specs.Prelude.{◌≡◌, ◌≢◌, ℕ, Bool, true, false, if◌then◌else◌, List, Option, Some, None, IfSome, ℤ, ◌≤ℤ◌, int_lt, ⊤}
 use Rattle.std.specs.List.{All, Contains, sum_by}
 use Rattle.std.specs.Option.{IsSomeAnd}
 use Rattle.row_kit.specs.declared.domain.Domain.{Domain}
@@ -19,6 +19,7 @@ use Rattle.row_relax.specs.Steps.{row_steps}
 use Rattle.row_relax.specs.View.{Fits, domains_of}
 use Rattle.branch_tree.specs.Justified.{RowNode, IsGroup, IsPolished, IsParted, HasCause, IsLeftOpen, found_up_to}
 use Rattle.row_relax.specs.RowProofs.{RowItem}
+use Rattle.branch_tree.specs.Splits.{splits_of}
 
 -- a cap that leaves nothing above these found points: one of them is worth as much, or there is no point
 abbrev pub ClosedBy : Capped → List Found → Type 0
@@ -27,12 +28,12 @@ ClosedBy NoPoint found = ⊤
 ClosedBy Bad found = ⊥
 
 -- how a counted node ends, over its view after its cuts and with the found points up to it
-abbrev pub EndDone : Program → View → List Found → NodeEnd Cert RowPick → Type 0
-EndDone program view found (closed no_point) = (row_steps program).empty view ≡ true
-EndDone program view found (closed (dual cert)) = ClosedBy ((row_steps program).cap view cert) found
-EndDone program view found (closed one_point) = ClosedBy ((row_steps program).settle view) found
-EndDone program view found (closed (pending cert)) = ⊥
-EndDone program view found (parted pick cert) = HasCause program (domains_of view) found pick cert
+abbrev pub EndDone : Program → ℕ → View → List Found → NodeEnd Cert RowPick → Type 0
+EndDone program given view found (closed no_point) = (row_steps program).empty view ≡ true
+EndDone program given view found (closed (dual cert)) = ClosedBy ((row_steps program).cap view cert) found
+EndDone program given view found (closed one_point) = ClosedBy ((row_steps program).settle view) found
+EndDone program given view found (closed (pending cert)) = ⊥
+EndDone program given view found (parted pick cert) = HasCause program given (domains_of view) found pick cert
 
 -- a node that is left open has points, and a cap
 pub record OpenDone (program : Program) (node : RowNode) (cert : Cert) : Type 0 where
@@ -41,26 +42,26 @@ pub record OpenDone (program : Program) (node : RowNode) (cert : Cert) : Type 0 
   pub capped : (row_steps program).cap node.view cert ≢ Bad
 
 -- how a node ends
-abbrev pub NodeEndDone : Program → RowNode → NodeEnd Cert RowPick → Type 0
-NodeEndDone program node (closed (pending cert)) = OpenDone program node cert
-NodeEndDone program node (closed no_point) = EndDone program node.view (found_up_to node) (closed no_point)
-NodeEndDone program node (closed (dual cert)) = EndDone program node.view (found_up_to node) (closed (dual cert))
-NodeEndDone program node (closed one_point) = EndDone program node.view (found_up_to node) (closed one_point)
-NodeEndDone program node (parted pick cert) = EndDone program node.view (found_up_to node) (parted pick cert)
+abbrev pub NodeEndDone : Program → ℕ → RowNode → NodeEnd Cert RowPick → Type 0
+NodeEndDone program given node (closed (pending cert)) = OpenDone program node cert
+NodeEndDone program given node (closed no_point) = EndDone program given node.view (found_up_to node) (closed no_point)
+NodeEndDone program given node (closed (dual cert)) = EndDone program given node.view (found_up_to node) (closed (dual cert))
+NodeEndDone program given node (closed one_point) = EndDone program given node.view (found_up_to node) (closed one_point)
+NodeEndDone program given node (parted pick cert) = EndDone program given node.view (found_up_to node) (parted pick cert)
 
 -- a node of a search
-pub record NodeDone (program : Program) (node : RowNode) : Type 0 where
+pub record NodeDone (program : Program) (given : ℕ) (node : RowNode) : Type 0 where
   pub group : IfSome node.found (IsGroup program)
   pub fits : Fits program node.view
-  pub end : NodeEndDone program node node.end
+  pub end : NodeEndDone program given node node.end
 
 -- an item ends a counted node so
-abbrev pub ItemEnds : Program → View → List Found → RowItem → Type 0
-ItemEnds program view found Empty = EndDone program view found (closed no_point)
-ItemEnds program view found (Dual cert) = EndDone program view found (closed (dual cert))
-ItemEnds program view found Point = EndDone program view found (closed one_point)
-ItemEnds program view found (Split pick cert) = EndDone program view found (parted pick cert)
-ItemEnds program view found _ = ⊥
+abbrev pub ItemEnds : Program → ℕ → View → List Found → RowItem → Type 0
+ItemEnds program given view found Empty = EndDone program given view found (closed no_point)
+ItemEnds program given view found (Dual cert) = EndDone program given view found (closed (dual cert))
+ItemEnds program given view found Point = EndDone program given view found (closed one_point)
+ItemEnds program given view found (Split pick cert) = EndDone program given view found (parted pick cert)
+ItemEnds program given view found _ = ⊥
 
 -- a cap leaves something above the best worth
 abbrev pub is_over : Capped → Option ℤ → Bool
@@ -76,11 +77,11 @@ says_more (AtMost cap) (AtMost most) = int_lt cap most
 says_more _ _ = false
 
 -- what is judged of a box with points: a certificate leaves nothing above the best worth, it has one point, or it is to be split
-abbrev pub IsVerdict : Program → List Domain → Option ℤ → RowItem → Type 0
-IsVerdict program domains best (Dual cert) = is_over (cert_cap program domains cert) best ≡ false
-IsVerdict program domains best Point = All IsSingle domains
-IsVerdict program domains best (Split pick cert) = IsPolished program domains cert × IsParted domains pick × (is_over (cert_cap program domains cert) best ≡ true)
-IsVerdict program domains best _ = ⊥
+abbrev pub IsVerdict : Program → ℕ → List Domain → Option ℤ → RowItem → Type 0
+IsVerdict program given domains best (Dual cert) = is_over (cert_cap program domains cert) best ≡ false
+IsVerdict program given domains best Point = All IsSingle domains
+IsVerdict program given domains best (Split pick cert) = IsPolished program domains cert × IsParted given domains pick × (is_over (cert_cap program domains cert) best ≡ true)
+IsVerdict program given domains best _ = ⊥
 
 -- the one of two found points that is worth more, the first where both are worth the same
 abbrev pub better_of : Option Found → Option Found → Option Found
@@ -93,18 +94,6 @@ abbrev pub Reaches : Capped → Option Found → Type 0
 Reaches (AtMost cap) found = IsSomeAnd found (λ f. cap ≤ℤ f.value)
 Reaches NoPoint found = ⊤
 Reaches Bad found = ⊥
-
--- 1 where a number is above another
-abbrev pub step_at : ℕ → ℕ → ℕ
-step_at least n = if nat_lt least n then 1 else 0
-
--- how often so many values can be halved
-abbrev pub halvings : ℕ → ℕ
-halvings n = step_at 1 n + step_at 2 n + step_at 4 n + step_at 8 n + step_at 16 n + step_at 32 n + step_at 64 n + step_at 128 n
-
--- how often a domain can be split: once at 0, and as often as its other values can be halved
-abbrev pub splits_of : Domain → ℕ
-splits_of domain = (if domain.zero && nat_le domain.lo domain.hi then 1 else 0) + halvings (domain.hi + 1 - domain.lo)
 
 -- how many splits can stand one below another in a view
 abbrev pub view_splits : View → ℕ

@@ -56,9 +56,9 @@ abbrev pub IsOwnBest : Option Found → Option Found → Type 0
 IsOwnBest own best = IfSome own (λ f. IsSomeAnd best (λ b. f.value ≤ℤ b.value))
 
 -- a view is split here, with such a certificate
-pub record IsSplitAt (program : Program) (view : View) (pick : RowPick) (cert : Cert) : Type 0 where
+pub record IsSplitAt (program : Program) (given : ℕ) (view : View) (pick : RowPick) (cert : Cert) : Type 0 where
   pub polished : IsPolished program (domains_of view) cert
-  pub parted : IsParted (domains_of view) pick
+  pub parted : IsParted given (domains_of view) pick
 
 -- a part of a split with this certificate has points, and the certificate has a cap over it
 pub record IsPartOf (program : Program) (view : View) (cert : Cert) : Type 0 where

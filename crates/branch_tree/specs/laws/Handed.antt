@@ -63,12 +63,12 @@ opens (leaf cuts found (pending cert)) = 1
 opens (split cuts found pick cert a b) = opens a + opens b
 
 -- an end is as a search leaves it, over a view and with the found points up to it
-abbrev pub TailDone : Program → View → List Found → Tail → Type 0
-TailDone program view found (closing end) = EndDone program view found (closed end)
-TailDone program view found (parting pick cert a b) =
-    EndDone program view found (parted pick cert)
-    × IsSomeAnd ((row_steps program).left view pick) (λ x. EachNode (NodeDone program) (row_steps program) (Some cert) found x a)
-    × IsSomeAnd ((row_steps program).right view pick) (λ y. EachNode (NodeDone program) (row_steps program) (Some cert) (found ++ found_points a) y b)
+abbrev pub TailDone : Program → ℕ → View → List Found → Tail → Type 0
+TailDone program given view found (closing end) = EndDone program given view found (closed end)
+TailDone program given view found (parting pick cert a b) =
+    EndDone program given view found (parted pick cert)
+    × IsSomeAnd ((row_steps program).left view pick) (λ x. EachNode (NodeDone program given) (row_steps program) (Some cert) found x a)
+    × IsSomeAnd ((row_steps program).right view pick) (λ y. EachNode (NodeDone program given) (row_steps program) (Some cert) (found ++ found_points a) y b)
 
 -- the boxes that were counted of a tree, and whether one was left open before the budget was spent
 pub record CountsTo (budget : ℕ) (may_leave : Bool) (boxes left : ℕ) (spent spent_after : ℕ) : Type 0 where
@@ -83,18 +83,18 @@ pub record HeadHanded {T O : Type 0} (took : T → O → List RowItem → T → 
   pub handed : Grows took took t o (head_items cuts) t2 o2
 
 -- the found point of a box was put, if there is one, and this is the end of the box
-pub record LookHanded {T O : Type 0} (took : T → O → List RowItem → T → O → Type 0) (program : Program) (view : View) (item : RowItem) (old : Reached) (t : T) (o : O) (new : Reached) (t2 : T) (o2 : O) : Type 0 where
+pub record LookHanded {T O : Type 0} (took : T → O → List RowItem → T → O → Type 0) (program : Program) (given : ℕ) (view : View) (item : RowItem) (old : Reached) (t : T) (o : O) (new : Reached) (t2 : T) (o2 : O) : Type 0 where
   pub found : Option Found
   pub group : IfSome found (IsGroup program)
   pub best : (before : List Found) → IsBest old.best before → IsBest new.best (before ++ option_to_list found)
-  pub ends : (before : List Found) → IsBest old.best before → ItemEnds program view (before ++ option_to_list found) item
+  pub ends : (before : List Found) → IsBest old.best before → ItemEnds program given view (before ++ option_to_list found) item
   pub fit : IsFitItem program item
   pub handed : Grows took took t o (found_items found) t2 o2
 
 -- the end of a box was put, with what stands below it
-pub record TailHanded {T O : Type 0} (took : T → O → List RowItem → T → O → Type 0) (program : Program) (budget : ℕ) (may_leave : Bool) (view : View) (cap : Capped) (old : Reached) (t : T) (o : O) (new : Reached) (t2 : T) (o2 : O) : Type 0 where
+pub record TailHanded {T O : Type 0} (took : T → O → List RowItem → T → O → Type 0) (program : Program) (given budget : ℕ) (may_leave : Bool) (view : View) (cap : Capped) (old : Reached) (t : T) (o : O) (new : Reached) (t2 : T) (o2 : O) : Type 0 where
   pub tail : Tail
-  pub done : (found : List Found) → IsBest old.best found → TailDone program view found tail
+  pub done : (found : List Found) → IsBest old.best found → TailDone program given view found tail
   pub best : (found : List Found) → IsBest old.best found → IsBest new.best (found ++ tail_found tail)
   pub capped : (cuts : List RowCut) (found : Option Found) (first : View) → after_cuts (row_steps program) first cuts ≡ Some view → cap ≡ tree_cap (row_steps program) first (node_of cuts found tail)
   pub counts : (cuts : List RowCut) (found : Option Found) (spent : ℕ) → old.spent ≡ spent + 1 → CountsTo budget may_leave (counted (node_of cuts found tail)) (opens (node_of cuts found tail)) spent new.spent
@@ -102,11 +102,11 @@ pub record TailHanded {T O : Type 0} (took : T → O → List RowItem → T → 
   pub handed : Grows took took t o (tail_items tail) t2 o2
 
 -- both parts of a split were put
-pub record PartsHanded {T O : Type 0} (took : T → O → List RowItem → T → O → Type 0) (program : Program) (budget : ℕ) (may_leave : Bool) (view : View) (pick : RowPick) (cert : Cert) (cap : Capped) (old : Reached) (t : T) (o : O) (new : Reached) (t2 : T) (o2 : O) : Type 0 where
+pub record PartsHanded {T O : Type 0} (took : T → O → List RowItem → T → O → Type 0) (program : Program) (given budget : ℕ) (may_leave : Bool) (view : View) (pick : RowPick) (cert : Cert) (cap : Capped) (old : Reached) (t : T) (o : O) (new : Reached) (t2 : T) (o2 : O) : Type 0 where
   pub first : RowTree
   pub second : RowTree
-  pub first_done : (found : List Found) → IsBest old.best found → IsSomeAnd ((row_steps program).left view pick) (λ x. EachNode (NodeDone program) (row_steps program) (Some cert) found x first)
-  pub second_done : (found : List Found) → IsBest old.best found → IsSomeAnd ((row_steps program).right view pick) (λ y. EachNode (NodeDone program) (row_steps program) (Some cert) (found ++ found_points first) y second)
+  pub first_done : (found : List Found) → IsBest old.best found → IsSomeAnd ((row_steps program).left view pick) (λ x. EachNode (NodeDone program given) (row_steps program) (Some cert) found x first)
+  pub second_done : (found : List Found) → IsBest old.best found → IsSomeAnd ((row_steps program).right view pick) (λ y. EachNode (NodeDone program given) (row_steps program) (Some cert) (found ++ found_points first) y second)
   pub best : (found : List Found) → IsBest old.best found → IsBest new.best (found ++ (found_points first ++ found_points second))
   pub capped : cap ≡ greater (cap_if ((row_steps program).left view pick) (λ x. tree_cap (row_steps program) x first)) (cap_if ((row_steps program).right view pick) (λ y. tree_cap (row_steps program) y second))
   pub counts : CountsTo budget may_leave (counted first + counted second) (opens first + opens second) old.spent new.spent
@@ -114,9 +114,9 @@ pub record PartsHanded {T O : Type 0} (took : T → O → List RowItem → T →
   pub handed : Grows took took t o (tree_items first ++ tree_items second) t2 o2
 
 -- a box was put that hangs below such a parent
-pub record BoxHanded {T O : Type 0} (took : T → O → List RowItem → T → O → Type 0) (IsParent : Option Cert → Type 0) (program : Program) (budget : ℕ) (may_leave : Bool) (view : View) (cap : Capped) (old : Reached) (t : T) (o : O) (new : Reached) (t2 : T) (o2 : O) : Type 0 where
+pub record BoxHanded {T O : Type 0} (took : T → O → List RowItem → T → O → Type 0) (IsParent : Option Cert → Type 0) (program : Program) (given budget : ℕ) (may_leave : Bool) (view : View) (cap : Capped) (old : Reached) (t : T) (o : O) (new : Reached) (t2 : T) (o2 : O) : Type 0 where
   pub tree : RowTree
-  pub done : (parent : Option Cert) (before : List Found) → IsParent parent → IsBest old.best before → EachNode (NodeDone program) (row_steps program) parent before view tree
+  pub done : (parent : Option Cert) (before : List Found) → IsParent parent → IsBest old.best before → EachNode (NodeDone program given) (row_steps program) parent before view tree
   pub best : (before : List Found) → IsBest old.best before → IsBest new.best (before ++ found_points tree)
   pub capped : cap ≡ tree_cap (row_steps program) view tree
   pub counts : CountsTo budget may_leave (counted tree) (opens tree) old.spent new.spent

@@ -1,13 +1,13 @@
 -- Searches that ended, with a count that is exact.
-use Rattle.std.specs.Prelude.{ℕ}
+use Rattle.std.specs.Prelude.{ℕ, length}
 use Rattle.row_kit.specs.declared.program.Program.{Program}
 use Rattle.row_relax.specs.RowProofs.{RowTree}
 use Rattle.branch_tree.specs.declared.ended.Ended.{Ended}
 use Rattle.branch_tree.specs.Searched.{IsExact, IsSearch}
 
--- this proof is that of a search, whose count is exact
+-- this proof is that of a search, in which every slot is the plant's own, and whose count is exact
 pub record IsSearchOf (program : Program) (budget : ℕ) (ended : Ended) (tree : RowTree) : Type 0 where
-  pub search : IsSearch program budget tree ended
+  pub search : IsSearch program (length program.root) budget tree ended
   pub exact : IsExact program budget ended
 
 -- a search came to this, with a count that is exact, and there is a proof that it made

@@ -1,5 +1,5 @@
 -- Logs of searches, before their claim.
-use Rattle.std.specs.Prelude.{◌≡◌, ℕ, Bool, List, [], ◌∷◌, flat_map, Option}
+use Rattle.std.specs.Prelude.{◌≡◌, ℕ, Bool, List, [], ◌∷◌, length, flat_map, Option}
 use Rattle.stn_edge.specs.Files.{FileMap}
 use Rattle.row_kit.specs.declared.program.Program.{Program}
 use Rattle.proof_tree.specs.Items.{tree_items}
@@ -10,10 +10,10 @@ use Rattle.log_lines.specs.declared.line.Line.TheVariants.{Header}
 use Rattle.proof_log.specs.Log.{item_lines, lines_text}
 use Rattle.proof_log.specs.Writer.{Writing, IsWhole, Took}
 
--- a writer for the file of this name took the header, and then the items of the proof of a search
+-- a writer for the file of this name took the header, and then the items of the proof of a search, in which every slot is the plant's own
 pub record IsLogged (program : Program) (budget : ℕ) (name : List ℕ) (ended : Ended) (at : Writing) : Type 0 where
   pub tree : RowTree
-  pub search : IsSearch program budget tree ended
+  pub search : IsSearch program (length program.root) budget tree ended
   pub named : at.name ≡ name
   pub first : Writing
   pub header : IsWhole first (lines_text (Header 2 ∷ []))

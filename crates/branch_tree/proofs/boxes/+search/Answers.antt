@@ -52,8 +52,8 @@ search_box-search_end-requires g t c =
     let none : c.look.new.reached.own ≡ None = c.in_ok-item.ensures.none in
     let room : HaveRoom program.rows (domains_of (seen c.open_box.new.area)) = subst (HaveRoom program.rows) (sym (domains-views c.open_box.new.area)) c.in_ok-open_box.ensures.room in
     let here = IsBest-itself old in
-    let ends : (fs : List Found) → IsBest c.look.new.reached.best fs → ItemEnds program (seen c.open_box.new.area) fs c.in_ok-item.item =
-    λ fs best. ends-same program (seen c.open_box.new.area) c.in_ok-item.item c.look.new.reached.best (option_to_list old ++ option_to_list look.found) fs (look.best (option_to_list old) here) best (look.ends (option_to_list old) here) in
+    let ends : (fs : List Found) → IsBest c.look.new.reached.best fs → ItemEnds program c.args.ground.now.given (seen c.open_box.new.area) fs c.in_ok-item.item =
+    λ fs best. ends-same program c.args.ground.now.given (seen c.open_box.new.area) c.in_ok-item.item c.look.new.reached.best (option_to_list old ++ option_to_list look.found) fs (look.best (option_to_list old) here) best (look.ends (option_to_list old) here) in
     let fit : IsFitItem program c.in_ok-item.item = look.fit in
     let ready : g.T.NodeTaker.ready c.look.new.taker c.look.new.out = c.in_ok-item.ensures.ready in
     search rules
@@ -72,7 +72,7 @@ search_box-returns-clause-own g t c =
 
 pub search_box-returns-clause-handed : goal.search_box-returns-clause-handed
 search_box-returns-clause-handed g t c =
-    box_handed g.T.NodeTaker.took (program_of c.args.ground.now) c.args.ground.now.budget c.args.ground.now.may_leave (seen c.args.area.now) (seen c.open_box.new.area) c.in_ok-cap.cap c.in_ok-item.item
+    box_handed g.T.NodeTaker.took (program_of c.args.ground.now) c.args.ground.now.given c.args.ground.now.budget c.args.ground.now.may_leave (seen c.args.area.now) (seen c.open_box.new.area) c.in_ok-cap.cap c.in_ok-item.item
     c.args.reached.now _ c.look.new.reached c.search_end.new.reached _ _ _ _ _ _ _ _ c.in_ok-open_box.ensures.fits refl c.look.ensures.spent c.in_ok-open_box.ensures.handed c.in_ok-item.ensures.handed c.in_ok-cap.ensures.handed
 
 pub search_end-returns-in_err-put-clause-err : goal.search_end-returns-in_err-put-clause-err
@@ -80,45 +80,45 @@ search_end-returns-in_err-put-clause-err g t c =
     let program = program_of c.args.ground.now in
     let fs = option_to_list c.args.reached.now.best in
     let ends = c.requires.ends fs (IsBest-itself c.args.reached.now.best) in
-    at_err _ _ (tail_at_item g.T.NodeTaker.took g.T.NodeTaker.broke program (seen c.args.area.now) c.args.item fs _ _ _ _ ends c.requires.fit (ends-room program (seen c.args.area.now) fs c.args.item c.requires.stands.fits ends) c.in_err-put.ensures.broke)
+    at_err _ _ (tail_at_item g.T.NodeTaker.took g.T.NodeTaker.broke program c.args.ground.now.given (seen c.args.area.now) c.args.item fs _ _ _ _ ends c.requires.fit (ends-room program c.args.ground.now.given (seen c.args.area.now) fs c.args.item ends) c.in_err-put.ensures.broke)
 
 pub search_end-returns-in-Empty-clause-handed : goal.search_end-returns-in-Empty-clause-handed
 search_end-returns-in-Empty-clause-handed g t c =
     let program = program_of c.args.ground.now in
-    let ends = subst (λ item. (fs : List Found) → IsBest c.args.reached.now.best fs → ItemEnds program (seen c.args.area.now) fs item) c.in-Empty.is c.requires.ends in
+    let ends = subst (λ item. (fs : List Found) → IsBest c.args.reached.now.best fs → ItemEnds program c.args.ground.now.given (seen c.args.area.now) fs item) c.in-Empty.is c.requires.ends in
     let taken = subst (λ item. Grows g.T.NodeTaker.took g.T.NodeTaker.took c.args.taker.now c.args.out.now (item ∷ []) c.put.new.self c.put.new.out) c.in-Empty.is c.in_ok-put.ensures.took in
-    tail_empty g.T.NodeTaker.took program c.args.ground.now.budget c.args.ground.now.may_leave (seen c.args.area.now) c.args.reached.now _ _ _ _ ends taken
+    tail_empty g.T.NodeTaker.took program c.args.ground.now.given c.args.ground.now.budget c.args.ground.now.may_leave (seen c.args.area.now) c.args.reached.now _ _ _ _ ends taken
 
 pub search_end-returns-in-Dual-clause-handed : goal.search_end-returns-in-Dual-clause-handed
 search_end-returns-in-Dual-clause-handed g t c =
     let program = program_of c.args.ground.now in
-    let ends = subst (λ item. (fs : List Found) → IsBest c.args.reached.now.best fs → ItemEnds program (seen c.args.area.now) fs item) c.in-Dual.is c.requires.ends in
+    let ends = subst (λ item. (fs : List Found) → IsBest c.args.reached.now.best fs → ItemEnds program c.args.ground.now.given (seen c.args.area.now) fs item) c.in-Dual.is c.requires.ends in
     let fit = subst (IsFitItem program) c.in-Dual.is c.requires.fit in
     let taken = subst (λ item. Grows g.T.NodeTaker.took g.T.NodeTaker.took c.args.taker.now c.args.out.now (item ∷ []) c.put.new.self c.put.new.out) c.in-Dual.is c.in_ok-put.ensures.took in
-    tail_dual g.T.NodeTaker.took program c.args.ground.now.budget c.args.ground.now.may_leave (seen c.args.area.now) c.in-Dual.cert c.cap.result c.args.reached.now _ _ _ _ ends c.cap.ensures fit taken
+    tail_dual g.T.NodeTaker.took program c.args.ground.now.given c.args.ground.now.budget c.args.ground.now.may_leave (seen c.args.area.now) c.in-Dual.cert c.cap.result c.args.reached.now _ _ _ _ ends c.cap.ensures fit taken
 
 pub search_end-returns-in-Point-clause-handed : goal.search_end-returns-in-Point-clause-handed
 search_end-returns-in-Point-clause-handed g t c =
     let program = program_of c.args.ground.now in
-    let ends = subst (λ item. (fs : List Found) → IsBest c.args.reached.now.best fs → ItemEnds program (seen c.args.area.now) fs item) c.in-Point.is c.requires.ends in
+    let ends = subst (λ item. (fs : List Found) → IsBest c.args.reached.now.best fs → ItemEnds program c.args.ground.now.given (seen c.args.area.now) fs item) c.in-Point.is c.requires.ends in
     let taken = subst (λ item. Grows g.T.NodeTaker.took g.T.NodeTaker.took c.args.taker.now c.args.out.now (item ∷ []) c.put.new.self c.put.new.out) c.in-Point.is c.in_ok-put.ensures.took in
-    tail_point g.T.NodeTaker.took program c.args.ground.now.budget c.args.ground.now.may_leave (seen c.args.area.now) c.settle.result c.args.reached.now _ _ _ _ ends c.settle.ensures taken
+    tail_point g.T.NodeTaker.took program c.args.ground.now.given c.args.ground.now.budget c.args.ground.now.may_leave (seen c.args.area.now) c.settle.result c.args.reached.now _ _ _ _ ends c.settle.ensures taken
 
 pub search_end-search_parts-requires : goal.search_end-search_parts-requires
 search_end-search_parts-requires g t c =
     let program = program_of c.args.ground.now in
-    let ends = subst (λ item. ItemEnds program (seen c.args.area.now) (option_to_list c.args.reached.now.best) item) c.in-Split.is (c.requires.ends (option_to_list c.args.reached.now.best) (IsBest-itself c.args.reached.now.best)) in
-    let cause : IsSplitAt program (seen c.args.area.now) c.in-Split.pick c.in-Split.cert = record { polished = ends.polished; parted = ends.parted } in
+    let ends = subst (λ item. ItemEnds program c.args.ground.now.given (seen c.args.area.now) (option_to_list c.args.reached.now.best) item) c.in-Split.is (c.requires.ends (option_to_list c.args.reached.now.best) (IsBest-itself c.args.reached.now.best)) in
+    let cause : IsSplitAt program c.args.ground.now.given (seen c.args.area.now) c.in-Split.pick c.in-Split.cert = record { polished = ends.polished; parted = ends.parted } in
     search rules
 
 pub search_end-returns-in-Split-clause-handed : goal.search_end-returns-in-Split-clause-handed
 search_end-returns-in-Split-clause-handed g t c =
     let program = program_of c.args.ground.now in
-    let ends = subst (λ item. (fs : List Found) → IsBest c.args.reached.now.best fs → ItemEnds program (seen c.args.area.now) fs item) c.in-Split.is c.requires.ends in
+    let ends = subst (λ item. (fs : List Found) → IsBest c.args.reached.now.best fs → ItemEnds program c.args.ground.now.given (seen c.args.area.now) fs item) c.in-Split.is c.requires.ends in
     let fit = subst (IsFitItem program) c.in-Split.is c.requires.fit in
     let taken = subst (λ item. Grows g.T.NodeTaker.took g.T.NodeTaker.took c.args.taker.now c.args.out.now (item ∷ []) c.put.new.self c.put.new.out) c.in-Split.is c.in_ok-put.ensures.took in
     IfOk-weaker c.search_parts.result _ _
-    (λ cap parts. tail_split g.T.NodeTaker.took program c.args.ground.now.budget c.args.ground.now.may_leave (seen c.args.area.now) c.in-Split.pick c.in-Split.cert cap c.args.reached.now c.search_parts.new.reached _ _ _ _ _ _ ends fit taken parts)
+    (λ cap parts. tail_split g.T.NodeTaker.took program c.args.ground.now.given c.args.ground.now.budget c.args.ground.now.may_leave (seen c.args.area.now) c.in-Split.pick c.in-Split.cert cap c.args.reached.now c.search_parts.new.reached _ _ _ _ _ _ ends fit taken parts)
     c.search_parts.ensures.handed
 
 pub search_end-returns-in-Split-clause-err : goal.search_end-returns-in-Split-clause-err
@@ -132,7 +132,7 @@ search_end-returns-in-Split-clause-err g t c =
 
 pub search_end-unreachable-requires : goal.search_end-unreachable-requires
 search_end-unreachable-requires g t c =
-    ends-only (program_of c.args.ground.now) (seen c.args.area.now) (option_to_list c.args.reached.now.best) c.args.item (c.requires.ends (option_to_list c.args.reached.now.best) (IsBest-itself c.args.reached.now.best))
+    ends-only (program_of c.args.ground.now) c.args.ground.now.given (seen c.args.area.now) (option_to_list c.args.reached.now.best) c.args.item (c.requires.ends (option_to_list c.args.reached.now.best) (IsBest-itself c.args.reached.now.best))
     c.in_default.not-Empty c.in_default.not-Dual c.in_default.not-Point c.in_default.not-Split
 
 pub search_part-is_left-requires-clause-slots : goal.search_part-is_left-requires-clause-slots
@@ -151,7 +151,7 @@ search_part-returns-then-reached-ground-clause-handed g t c =
       | search_part-then-reached-ground-via-else-reached-ground+then-is_left w ↦ absurd (may_not c.args.ground.now.may_leave never (w.is_left.ensures w.if-is_left.true))
     ] in
     both_ok c.leave_open.result _ _ c.leave_open.ensures.cap c.leave_open.ensures.handed
-    (λ cap is taken. open_handed g.T.NodeTaker.took program c.args.ground.now.budget c.args.ground.now.may_leave view c.args.cert.now cap c.args.reached.now _ _ _ _ c.requires.stands.fits c.requires.part.some c.requires.part.capped is full (pending-fit program view c.args.cert.now c.requires.part.capped) taken)
+    (λ cap is taken. open_handed g.T.NodeTaker.took program c.args.ground.now.given c.args.ground.now.budget c.args.ground.now.may_leave view c.args.cert.now cap c.args.reached.now _ _ _ _ c.requires.stands.fits c.requires.part.some c.requires.part.capped is full (pending-fit program view c.args.cert.now c.requires.part.capped) taken)
 
 pub search_part-returns-then-reached-ground-clause-err : goal.search_part-returns-then-reached-ground-clause-err
 search_part-returns-then-reached-ground-clause-err g t c =
@@ -186,7 +186,7 @@ search_parts-returns-in_err-first-clause-err g t c =
     let parts = c.requires.split.parted in
     let part = left_there program view pick parts in
     let left = moved_to ((row_steps program).left view pick) (map view_of c.args.area.now) (map view_of c.left.new.area) c.left.result part.0 part.1 c.left.ensures.moves in
-    at_err _ _ (parts_in_first g.T.NodeTaker.took g.T.NodeTaker.broke program view (seen c.left.new.area) _ _ _ _ (splits-left program view (seen c.left.new.area) pick c.requires.stands.fits parts left.0) c.in_err-first.ensures.err)
+    at_err _ _ (parts_in_first g.T.NodeTaker.took g.T.NodeTaker.broke program view (seen c.left.new.area) _ _ _ _ (splits-left program view (seen c.left.new.area) pick parts left.0) c.in_err-first.ensures.err)
 
 pub search_parts-back-requires-clause-within : goal.search_parts-back-requires-clause-within
 search_parts-back-requires-clause-within g t c =
@@ -232,9 +232,9 @@ search_parts-returns-in_err-second-clause-err g t c =
     let right = moved_to ((row_steps program).right view pick) (map view_of c.args.area.now) (map view_of c.right.new.area) c.right.result other.0 other.1 moves in
     let first = c.in_ok-first.ensures.handed in
     let done = first.done (Some c.args.cert.now) (option_to_list c.args.reached.now.best) refl (IsBest-itself c.args.reached.now.best) in
-    let deep = tree-depth program first.tree (Some c.args.cert.now) (option_to_list c.args.reached.now.best) (seen c.left.new.area) c.left.ensures.fits done in
-    let less = splits-left program view (seen c.left.new.area) pick c.requires.stands.fits parts left.0 in
-    at_err _ _ (parts_in_second g.T.NodeTaker.took g.T.NodeTaker.broke program view (seen c.right.new.area) first.tree _ _ _ _ _ _ (omega (arith, deep, less)) (splits-right program view (seen c.right.new.area) pick c.requires.stands.fits parts right.0) first.fit first.handed c.in_err-second.ensures.err)
+    let deep = tree-depth program c.args.ground.now.given first.tree (Some c.args.cert.now) (option_to_list c.args.reached.now.best) (seen c.left.new.area) c.left.ensures.fits done in
+    let less = splits-left program view (seen c.left.new.area) pick parts left.0 in
+    at_err _ _ (parts_in_second g.T.NodeTaker.took g.T.NodeTaker.broke program view (seen c.right.new.area) first.tree _ _ _ _ _ _ (omega (arith, deep, less)) (splits-right program view (seen c.right.new.area) pick parts right.0) first.fit first.handed c.in_err-second.ensures.err)
 
 pub search_parts-back-requires-2-clause-within : goal.search_parts-back-requires-2-clause-within
 search_parts-back-requires-2-clause-within g t c =
@@ -279,7 +279,7 @@ search_parts-returns-clause-handed g t c =
     let other = right_there program view pick parts in
     let moves = subst (λ views. MovesTo ((row_steps program).right (last_view views) pick) views (map view_of c.right.new.area) c.right.result) same c.right.ensures.moves in
     let right = moved_to ((row_steps program).right view pick) (map view_of c.args.area.now) (map view_of c.right.new.area) c.right.result other.0 other.1 moves in
-    let all = parts_handed g.T.NodeTaker.took program c.args.ground.now.budget c.args.ground.now.may_leave view (seen c.left.new.area) (seen c.right.new.area) pick c.args.cert.now c.in_ok-first.first c.in_ok-second.second
+    let all = parts_handed g.T.NodeTaker.took program c.args.ground.now.given c.args.ground.now.budget c.args.ground.now.may_leave view (seen c.left.new.area) (seen c.right.new.area) pick c.args.cert.now c.in_ok-first.first c.in_ok-second.second
     c.args.reached.now (record c.args.reached.now { changed = Some pick.slot }) c.search_part.new.reached (record c.search_part.new.reached { changed = Some pick.slot }) c.search_part-2.new.reached _ _ _ _ _ _
     refl refl refl refl c.in_ok-second.ensures.within left.0 right.0 c.in_ok-first.ensures.handed c.in_ok-second.ensures.handed in
-    subst (λ cap. PartsHanded g.T.NodeTaker.took program c.args.ground.now.budget c.args.ground.now.may_leave view pick c.args.cert.now cap c.args.reached.now c.args.taker.now c.args.out.now c.search_part-2.new.reached c.search_part-2.new.taker c.search_part-2.new.out) (sym c.greater_cap.ensures) all
+    subst (λ cap. PartsHanded g.T.NodeTaker.took program c.args.ground.now.given c.args.ground.now.budget c.args.ground.now.may_leave view pick c.args.cert.now cap c.args.reached.now c.args.taker.now c.args.out.now c.search_part-2.new.reached c.search_part-2.new.taker c.search_part-2.new.out) (sym c.greater_cap.ensures) all

@@ -59,14 +59,14 @@ returns-clause-handed g c =
     let same : c.advised.new.reached.best ≡ old = ap (λ r. r.best) c.advised.ensures.same in
     let new : c.put_found.new.best ≡ better_of old found = c.in_ok-put_found.ensures.best ∙ ap (λ b. better_of b found) same in
     let worth : c.worth_of-best.result ≡ option_map (λ f. f.value) c.put_found.new.best = c.worth_of-best.ensures in
-    let verdict = subst (λ best. IsVerdict program (present marks) best c.in_ok-judge.field-0) worth c.in_ok-judge.ensures in
+    let verdict = subst (λ best. IsVerdict program c.args.ground.now.given (present marks) best c.in_ok-judge.field-0) worth c.in_ok-judge.ensures in
     let best = λ (before : List Found) (is : IsBest old before). subst (λ b. IsBest b (before ++ option_to_list found)) (sym new) (IsBest-more old found before is) in
     record {
       found = found;
       group = c.in_ok-found.ensures.group;
       best = best;
-      ends = λ before is. verdict-ends program marks c.in_ok-judge.field-0 found c.put_found.new.best before c.requires.done (open_of (present marks) c.has_empty.result c.if-has_empty.false c.has_empty.ensures.bare.1) c.in_ok-found.ensures.only (best before is) verdict;
-      fit = verdict-fit program (present marks) (option_map (λ f. f.value) c.put_found.new.best) c.in_ok-judge.field-0 (fits_normal program marks c.requires.stands.fits) (fits_slots program marks c.requires.stands.fits) verdict;
+      ends = λ before is. verdict-ends program c.args.ground.now.given marks c.in_ok-judge.field-0 found c.put_found.new.best before c.requires.done (open_of (present marks) c.has_empty.result c.if-has_empty.false c.has_empty.ensures.bare.1) c.in_ok-found.ensures.only (best before is) verdict;
+      fit = verdict-fit program c.args.ground.now.given (present marks) (option_map (λ f. f.value) c.put_found.new.best) c.in_ok-judge.field-0 (fits_normal program marks c.requires.stands.fits) (fits_slots program marks c.requires.stands.fits) verdict;
       handed = c.in_ok-put_found.ensures.handed;
     }
 

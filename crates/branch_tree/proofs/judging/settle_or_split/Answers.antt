@@ -13,6 +13,6 @@ returns c =
     let domains = present c.args.area.now in
     let over : is_over (cert_cap program domains c.polish.new.cert) c.args.best ≡ true = ap (λ cap. is_over cap c.args.best) (sym c.cap.ensures.cap) ∙ sym c.exceeds.ensures ∙ c.if-not-exceeds.false in (
       polished program domains c.args.cert c.polish.new.cert c.args.best c.requires.no_higher c.requires.over c.polish.ensures.scale c.polish.ensures.total c.in_ok-polish.ensures.best over,
-      c.pick_of.ensures,
+      c.pick_of.ensures.parted,
       over,
     )
