@@ -2,6 +2,7 @@ pub mod BegunLog
 pub mod Both
 pub mod CapShort
 pub mod CleanText
+pub mod EachGiven
 pub mod LogsLeft
 pub mod NoDefect
 pub mod PartPlans

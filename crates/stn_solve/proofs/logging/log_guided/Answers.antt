@@ -4,6 +4,7 @@ use Rattle.branch_tree.proofs.Stopping.{at_err}
 use Rattle.proof_log.specs.Writer.{writing}
 use Rattle.stn_solve.specs.Proofs.{IsLogBegun, bytes_in}
 use Rattle.stn_solve.proofs.BegunLog.{begun-broken, begun-clear}
+use Rattle.stn_solve.proofs.EachGiven.{each_given}
 use Rattle.stn_solve.proofs.LogsLeft.{handed-keeps, kept-handed, others-clear, others-may_clear}
 use Rattle.stn_solve.proofs.logging.log_guided.Goals as goal
 
@@ -25,7 +26,7 @@ returns-in-Ok-clause-logged g c =
     let found = c.in-Ok.ensures.ok in
     record {
       tree = found.tree;
-      search = found.search;
+      search = each_given c.args.rows.now.program c.slot_count.result c.args.budget found.tree c.in-Ok.guided.ended c.slot_count.ensures found.search;
       named = found.handed.keeps.name ∙ c.in_ok-writer.ensures.name;
       first = writing g.F.Shelf.files g.F.Shelf.read_faults g.F.Shelf.may_read g.F.Shelf.may_write c.in_ok-writer.writer c.begin.new.files;
       header = c.in_ok-writer.ensures.whole;
