@@ -6,6 +6,7 @@
 
 mod completion;
 mod counts;
+mod declared;
 mod larger;
 mod law;
 mod multiples;
@@ -15,6 +16,7 @@ mod sum;
 mod tags;
 
 pub use completion::complete;
+pub use declared::is_declared;
 pub use larger::with_sums;
 pub use law::sums_law;
 pub use shown::is_shown;

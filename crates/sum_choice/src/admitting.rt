@@ -1,0 +1,47 @@
+ghost use Rattle.std.specs.Prelude.{◌+◌, ◌*◌, ◌≤◌, length, IfOk, IsTrue};
+ghost use Rattle.std.specs.List.{All};
+ghost use Rattle.sum_slots.specs.Shown.{IsShown};
+ghost use Rattle.sum_slots.specs.Sum.{IsDeclared};
+
+use row_kit::{List, MOST_ROWS, MOST_SLOTS, Program};
+use std::alloc::{AllocError, Global};
+use sum_slots::{Sum, is_declared, is_shown};
+
+// Those of the offered sums that are declared and shown, as far as there is room.
+pub fn admitted(
+    alloc: Global,
+    program: &Program,
+    offered: Vec<Sum>,
+) -> Result<List<Sum>, AllocError>
+    ensures declared { IfOk result (λ sums. All (IsDeclared (length program.now.root)) sums) }
+    ensures shown { IfOk result (λ sums. All (IsShown program.now) sums) }
+    ensures few { IfOk result (λ sums. length program.now.root + length sums ≤ 512) }
+    ensures rows { IfOk result (λ sums. length program.now.rows + 2 * length sums ≤ 45904) }
+{
+    let room = room_of(program);
+    let mut sums = List::new(alloc);
+    for sum in offered {
+        if sums.len() < room && is_admitted(program, &sum) {
+            sums.push(sum)?;
+        }
+    }
+    Ok(sums)
+}
+
+// Whether a sum is declared and shown.
+fn is_admitted(program: &Program, sum: &Sum) -> bool
+    ensures declared { IsTrue result → IsDeclared (length program.now.root) sum.now }
+    ensures shown { IsTrue result → IsShown program.now sum.now }
+{
+    is_declared(sum, program.root.len()) && is_shown(program, sum)
+}
+
+// How many sums a program has room for.
+pub fn room_of(program: &Program) -> usize
+    ensures slots { length program.now.root + result ≤ 512 }
+    ensures rows { length program.now.rows + 2 * result ≤ 45904 }
+{
+    let slots = MOST_SLOTS - program.root.len();
+    let rows = (MOST_ROWS - program.rows.len()) / 2;
+    if slots <= rows { slots } else { rows }
+}

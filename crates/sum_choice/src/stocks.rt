@@ -1,0 +1,158 @@
+//! The stocks of states.
+use crate::forming::{put_sums, span_of};
+use crate::runs::is_of_run;
+use row_kit::{Entry, Program, Tag};
+use std::alloc::{AllocError, Global};
+use sum_slots::Sum;
+
+/// Offers the stocks of all states at all times, one for each row that keeps a stock, as far as they differ. Where there is no room
+/// for all sums of them, a part of them is taken that is spread evenly over the rows.
+pub fn offer_stocks(
+    alloc: Global,
+    program: &Program,
+    room: usize,
+    into: &mut Vec<Sum>,
+) -> Result<(), AllocError> {
+    let mut stocks = Vec::new(alloc);
+    let mut total = 0usize;
+    for number in 0..program.rows.len() {
+        let entries = program.rows.get(number).entries.as_slice();
+        if is_stock(program.tags.as_slice(), entries) && !is_known(program, &stocks, entries) {
+            let terms = stock_terms(alloc, entries)?;
+            let count = span_of(program, terms.as_slice()).count() as usize;
+            if count >= 1 {
+                total = total.saturating_add(count);
+                stocks.push(number)?;
+            }
+        }
+    }
+    let most = fitting(stocks.len(), total, room);
+    for place in 0..stocks.len() {
+        if is_taken(place, most, stocks.len()) && stocks[place] < program.rows.len() {
+            let entries = program.rows.get(stocks[place]).entries.as_slice();
+            let terms = stock_terms(alloc, entries)?;
+            put_sums(alloc, program, terms.as_slice(), into)?;
+        }
+    }
+    Ok(())
+}
+
+// How many of so many stocks there is room for.
+fn fitting(stocks: usize, total: usize, room: usize) -> usize {
+    if total <= room {
+        stocks
+    } else {
+        stocks.saturating_mul(room) / total.max(1)
+    }
+}
+
+// Whether the stock at a place is one of so many that are spread evenly over all.
+fn is_taken(place: usize, most: usize, all: usize) -> bool {
+    let all = all.max(1);
+    let before = place.saturating_mul(most) / all;
+    place.saturating_add(1).saturating_mul(most) / all > before
+}
+
+// Whether entries are those of a row that keeps a stock: two at least, none with a fixed part, and either one counts less than
+// nothing, or those of each run are its first slots.
+fn is_stock(tags: &[Tag], entries: &[Entry]) -> bool {
+    entries.len() >= 2
+        && entries.iter().all(|entry| entry.fixed == 0)
+        && (entries.iter().any(|entry| entry.per < 0) || are_first(tags, entries))
+}
+
+// Whether the entries of each run are those of its first slots.
+fn are_first(tags: &[Tag], entries: &[Entry]) -> bool {
+    for place in 0..entries.len() {
+        let slot = entries[place].slot as usize;
+        if slot >= 1 && slot < tags.len() && is_of_run(&tags[slot - 1], &tags[slot]) {
+            if place == 0 || entries[place - 1].slot as usize != slot - 1 {
+                return false;
+            }
+        }
+    }
+    true
+}
+
+// Whether a stock has been listed whose row has the same entries, or their opposites, but for a factor.
+fn is_known(program: &Program, stocks: &[usize], entries: &[Entry]) -> bool {
+    for stock in stocks {
+        if *stock < program.rows.len() {
+            let others = program.rows.get(*stock).entries.as_slice();
+            if are_alike(entries, others) {
+                return true;
+            }
+        }
+    }
+    false
+}
+
+// Whether entries are others times a number.
+fn are_alike(entries: &[Entry], others: &[Entry]) -> bool {
+    if entries.len() != others.len() || entries.is_empty() || others.is_empty() {
+        return false;
+    }
+    let (one, other) = (entries[0].per, others[0].per);
+    for place in 0..entries.len() {
+        if place >= others.len() || !is_alike(&entries[place], &others[place], one, other) {
+            return false;
+        }
+    }
+    true
+}
+
+// Whether an entry is to another as one number is to another.
+fn is_alike(entry: &Entry, other_entry: &Entry, one: i64, other: i64) -> bool {
+    entry.slot == other_entry.slot
+        && i128::from(entry.per).saturating_mul(i128::from(other))
+            == i128::from(other_entry.per).saturating_mul(i128::from(one))
+}
+
+// What a stock counts: the opposites of a row's entries, divided by what divides them all.
+fn stock_terms(alloc: Global, entries: &[Entry]) -> Result<Vec<Entry>, AllocError> {
+    let divisor = common_divisor(entries);
+    let mut terms = Vec::with_capacity(alloc, entries.len())?;
+    for entry in entries {
+        terms.push(Entry {
+            slot: entry.slot,
+            fixed: 0,
+            per: 0i64.saturating_sub(divided(entry.per, divisor)),
+        })?;
+    }
+    Ok(terms)
+}
+
+// A number divided by one of 1 or more.
+fn divided(number: i64, divisor: u64) -> i64 {
+    match i64::try_from(divisor) {
+        Ok(divisor) if divisor >= 1 => number / divisor,
+        _ => number,
+    }
+}
+
+// The greatest number that divides what each entry counts for a quantum.
+fn common_divisor(entries: &[Entry]) -> u64 {
+    let mut divisor = 0u64;
+    for entry in entries {
+        divisor = greatest_divisor(divisor, entry.per.unsigned_abs());
+    }
+    divisor.max(1)
+}
+
+// The most divisions that lead to the greatest common divisor of two numbers.
+const MOST_DIVISIONS: u32 = 100;
+
+// The greatest number that divides two others.
+fn greatest_divisor(one: u64, other: u64) -> u64 {
+    let mut one = one;
+    let mut other = other;
+    for _ in 0..MOST_DIVISIONS {
+        if other == 0 {
+            return one;
+        }
+        let rest = one % other;
+        one = other;
+        other = rest;
+    }
+    1
+}
