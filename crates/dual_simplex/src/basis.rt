@@ -88,10 +88,11 @@ pub fn start_from(
     program: &Program,
     scales: &Scales,
     domains: &[Domain],
+    given: u32,
     basis: &Basis,
 ) -> Result<(), OutOfRange> {
     for row in &basis.rows {
-        let _ = add_row(dictionary, program, scales, domains, *row)?;
+        let _ = add_row(dictionary, program, scales, domains, given, *row)?;
     }
     for variable in &basis.variables {
         bring_in(dictionary, *variable)?;

@@ -94,10 +94,14 @@ pub struct Dictionary {
 const MOST_LINES: usize = 1_024;
 
 impl Dictionary {
-    /// A dictionary without lines or columns, with room for those of a program.
-    pub fn new(alloc: Global, program: &Program) -> Result<Dictionary, AllocError> {
-        let columns = program.root.len().saturating_mul(2);
-        let variables = columns.saturating_add(program.rows.len()).saturating_add(1);
+    /// A dictionary without lines or columns, with room for the columns of so many first slots of a program, and for its rows.
+    pub fn new(alloc: Global, program: &Program, given: u32) -> Result<Dictionary, AllocError> {
+        let slots = program.root.len();
+        let columns = slots.min(given as usize).saturating_mul(2);
+        let variables = slots
+            .saturating_mul(2)
+            .saturating_add(program.rows.len())
+            .saturating_add(1);
         let lines = columns
             .saturating_add(program.rows.len().min(MOST_LINES))
             .saturating_add(1);

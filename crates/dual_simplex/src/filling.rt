@@ -1,7 +1,7 @@
 use crate::dictionary::{Dictionary, Line, Place};
 use crate::number::{ONE, OutOfRange, cleaned, less_times, raised, sum};
 use crate::reserved::{at, numbered, put, put_last};
-use crate::scales::{Scales, counted};
+use crate::scales::{Scales, counted, first};
 use row_kit::{Domain, Entry, Program, Row};
 
 /// The variable of a slot that says how far it stands at its domain's least value.
@@ -20,14 +20,16 @@ pub fn slack_variable(program: &Program, row: u32) -> u32 {
     low_variable(numbered(program.root.len())).saturating_add(row)
 }
 
-/// Puts the columns of slots with these domains, each at the end that brings more.
+/// Puts the columns of so many first slots with these domains, each at the end that brings more.
 pub fn fill_columns(
     dictionary: &mut Dictionary,
     program: &Program,
     scales: &Scales,
     domains: &[Domain],
+    given: u32,
 ) -> Result<(), OutOfRange> {
     dictionary.clear();
+    let domains = first(domains, given);
     for slot in 0..domains.len() {
         add_slot(dictionary, numbered(slot), &domains[slot]);
     }
@@ -90,8 +92,8 @@ fn high_amount(entry: &Entry, domain: &Domain) -> i128 {
     }
 }
 
-// What an entry counts where both variables of its slot are 0.
-fn base_amount(entry: &Entry, domain: &Domain) -> i128 {
+/// What an entry counts where both variables of its slot are 0.
+pub fn base_amount(entry: &Entry, domain: &Domain) -> i128 {
     if domain.zero || domain.lo > domain.hi {
         0
     } else {
@@ -99,8 +101,8 @@ fn base_amount(entry: &Entry, domain: &Domain) -> i128 {
     }
 }
 
-// The least that an entry counts over a domain.
-fn least_amount(entry: &Entry, domain: &Domain) -> i128 {
+/// The least that an entry counts over a domain.
+pub fn least_amount(entry: &Entry, domain: &Domain) -> i128 {
     if domain.lo > domain.hi {
         return 0;
     }
@@ -110,16 +112,18 @@ fn least_amount(entry: &Entry, domain: &Domain) -> i128 {
 
 /// What slots with these domains bring, beside what their variables do: what they bring where all of these are 0.
 pub fn base_worth(program: &Program, domains: &[Domain]) -> i128 {
-    let (base, _) = totals(program.profit.as_slice(), domains);
+    let (base, _) = totals(program.profit.as_slice(), domains, u32::MAX);
     program.base.saturating_add(base)
 }
 
-/// Puts the line of a row: what the row has left. False where there is no room for it.
+/// Puts the line of a row: what the row has left. A slot from `given` on stands at the end of its domain that is best for the row.
+/// False where there is no room for it.
 pub fn add_row(
     dictionary: &mut Dictionary,
     program: &Program,
     scales: &Scales,
     domains: &[Domain],
+    given: u32,
     number: u32,
 ) -> Result<bool, OutOfRange> {
     let row = match program.rows.as_slice().get(number as usize) {
@@ -131,7 +135,7 @@ pub fn add_row(
         Some(line) => line,
     };
     let down = scales.down(number);
-    let written = write_row(dictionary, row, down, domains, &mut line);
+    let written = write_row(dictionary, row, down, domains, given, &mut line);
     line.variable = slack_variable(program, number);
     put_line(dictionary, line);
     written?;
@@ -151,9 +155,10 @@ fn write_row(
     row: &Row,
     down: u32,
     domains: &[Domain],
+    given: u32,
     line: &mut Line,
 ) -> Result<(), OutOfRange> {
-    let (base, least) = totals(row.entries.as_slice(), domains);
+    let (base, least) = totals(row.entries.as_slice(), domains, given);
     let exponent = 30i32.saturating_sub_unsigned(down);
     line.blank(dictionary.columns.len());
     line.bound = raised(&row.limit.saturating_sub(least).max(0), exponent)?;
@@ -168,21 +173,26 @@ fn write_row(
     Ok(())
 }
 
-// What entries count where all variables of slots are 0, and the least that they count.
-fn totals(entries: &[Entry], domains: &[Domain]) -> (i128, i128) {
+// What entries count where all variables of slots are 0, and those from `given` on at their best, and the least that they count.
+fn totals(entries: &[Entry], domains: &[Domain], given: u32) -> (i128, i128) {
     let mut base = 0i128;
     let mut least = 0i128;
     for entry in entries {
         if let Some(domain) = domains.get(entry.slot as usize) {
-            base = base.saturating_add(base_amount(entry, domain));
-            least = least.saturating_add(least_amount(entry, domain));
+            let own_least = least_amount(entry, domain);
+            least = least.saturating_add(own_least);
+            base = base.saturating_add(if entry.slot < given {
+                base_amount(entry, domain)
+            } else {
+                own_least
+            });
         }
     }
     (base, least)
 }
 
-// Takes an entry off a line, for both variables of its slot.
-fn take_entry(
+/// Takes an entry off a line, for both variables of its slot.
+pub fn take_entry(
     dictionary: &Dictionary,
     line: &mut Line,
     entry: &Entry,

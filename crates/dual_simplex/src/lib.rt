@@ -20,6 +20,7 @@ mod scales;
 mod solving;
 mod splitting;
 mod stepping;
+mod sums;
 mod trial;
 mod workspace;
 

@@ -14,9 +14,10 @@ pub struct Scales {
 }
 
 impl Scales {
-    /// The scales of a program: the greatest entry of a row comes to 1 to 2 over the root, and the greatest profit to 128 to 256.
-    pub fn new(alloc: Global, program: &Program) -> Result<Scales, AllocError> {
-        let root = program.root.as_slice();
+    /// The scales of a program: the greatest entry of a row comes to 1 to 2 over the root, and the greatest profit to 128 to 256. Only
+    /// so many first slots count.
+    pub fn new(alloc: Global, program: &Program, given: u32) -> Result<Scales, AllocError> {
+        let root = first(program.root.as_slice(), given);
         let mut downs = Vec::with_capacity(alloc, program.rows.len())?;
         for row in program.rows.as_slice() {
             downs.push(greatest_bits(row.entries.as_slice(), root))?;
@@ -34,6 +35,16 @@ impl Scales {
             None => 0,
             Some(down) => *down,
         }
+    }
+}
+
+/// The first domains, so many at most.
+pub fn first(domains: &[Domain], most: u32) -> &[Domain] {
+    let most = most as usize;
+    if most < domains.len() {
+        &domains[..most]
+    } else {
+        domains
     }
 }
 

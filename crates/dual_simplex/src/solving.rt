@@ -5,6 +5,7 @@ ghost use Rattle.row_kit.specs.Domain.{IsOpen};
 ghost use Rattle.dual_simplex.specs.Solved.{HasTotal, IsNoWorseThanPlain, IsPlainOrBetter, IsBelow};
 
 use crate::basis::Basis;
+use crate::reserved::numbered;
 use crate::workspace::{Outcome, Workspace};
 use dual_bound::{Cert, cap};
 use proof_tree::Capped;
@@ -43,7 +44,7 @@ pub fn solve_dual(alloc: Global, program: &Program, area: &Area) -> Result<Cert,
 fn found_cert(alloc: Global, program: &Program, area: &Area) -> Result<Cert, AllocError>
     requires { length (present area.now) ≡ length program.now.root }
 {
-    let mut workspace = Workspace::new(alloc, program)?;
+    let mut workspace = Workspace::new(alloc, program, numbered(program.root.len()))?;
     let start = Basis::new(alloc, program)?;
     let outcome = workspace.bound(program, area, &start, None, MOST_PIVOTS);
     if outcome == Outcome::NoPoint {

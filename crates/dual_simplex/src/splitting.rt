@@ -1,8 +1,9 @@
 use crate::dictionary::{Column, Dictionary, Line};
-use crate::filling::{high_variable, low_variable, take_variable};
-use crate::number::{ONE, OutOfRange, difference, over, times};
+use crate::filling::{base_amount, high_variable, low_variable, take_entry, take_variable};
+use crate::number::{ONE, OutOfRange, difference, over, raised, times};
 use crate::reserved::at;
-use row_kit::Domain;
+use crate::sums::{Sides, least_above, most_at};
+use row_kit::{Domain, Entry};
 
 /// The part of a slot's values that a split keeps.
 #[derive(Clone, Copy, PartialEq, Eq, Debug)]
@@ -45,9 +46,79 @@ pub fn write_stand(
     take_variable(dictionary, stand, high_variable(slot), -ONE)
 }
 
-/// The end that a side leaves to how far a slot has come: it is at most that of the values up to the split's, and at least that of
+/// The ends that a split leaves to how far a slot has come: it is at most that of the values up to the split's, and at least that of
 /// the values above.
-pub fn end_of(domain: &Domain, max: u8, side: Side) -> Result<i64, OutOfRange> {
+#[derive(Clone, Copy)]
+pub struct Ends {
+    pub at_most: i64,
+    pub above: i64,
+}
+
+impl Ends {
+    /// The end of a side.
+    pub fn of(&self, side: Side) -> i64 {
+        match side {
+            Side::AtMost => self.at_most,
+            Side::Above => self.above,
+        }
+    }
+}
+
+/// The ends that a split leaves to how far a slot with this domain has come.
+pub fn ends_of(domain: &Domain, max: u8) -> Result<Ends, OutOfRange> {
+    Ok(Ends {
+        at_most: end_of(domain, max, Side::AtMost)?,
+        above: end_of(domain, max, Side::Above)?,
+    })
+}
+
+/// The ends that a split leaves to what a sum counts, divided by a power of two.
+pub fn sum_ends(sides: &Sides, down: u32, max: u8) -> Result<Ends, OutOfRange> {
+    let exponent = 30i32.saturating_sub_unsigned(down);
+    Ok(Ends {
+        at_most: raised(&most_at(sides, max), exponent)?,
+        above: raised(&least_above(sides, max), exponent)?,
+    })
+}
+
+/// Writes what a sum counts, divided by a power of two.
+pub fn write_sum(
+    dictionary: &Dictionary,
+    terms: &[Entry],
+    down: u32,
+    domains: &[Domain],
+    stand: &mut Line,
+) -> Result<(), OutOfRange> {
+    let exponent = 30i32.saturating_sub_unsigned(down);
+    let mut base = 0i128;
+    for term in terms {
+        if let Some(domain) = domains.get(term.slot as usize) {
+            base = base.saturating_add(base_amount(term, domain));
+        }
+    }
+    stand.blank(dictionary.columns.len());
+    stand.constant = raised(&base, exponent)?;
+    stand.value = stand.constant;
+    for term in terms {
+        if let Some(domain) = domains.get(term.slot as usize) {
+            let own = opposite(term);
+            take_entry(dictionary, stand, &own, domain, exponent)?;
+        }
+    }
+    Ok(())
+}
+
+// The opposite of a term.
+fn opposite(term: &Entry) -> Entry {
+    Entry {
+        slot: term.slot,
+        fixed: 0i64.saturating_sub(term.fixed),
+        per: 0i64.saturating_sub(term.per),
+    }
+}
+
+// The end of the values up to a split's, or of the first above them.
+fn end_of(domain: &Domain, max: u8, side: Side) -> Result<i64, OutOfRange> {
     let next = match side {
         Side::AtMost => 0,
         Side::Above => 1,
@@ -60,14 +131,9 @@ pub fn end_of(domain: &Domain, max: u8, side: Side) -> Result<i64, OutOfRange> {
 }
 
 /// The prices of a split, from how far its slot has come.
-pub fn prices_of(
-    columns: &[Column],
-    stand: &Line,
-    domain: &Domain,
-    max: u8,
-) -> Result<Prices, OutOfRange> {
-    let fall = difference(stand.value, end_of(domain, max, Side::AtMost)?)?;
-    let rise = difference(end_of(domain, max, Side::Above)?, stand.value)?;
+pub fn prices_of(columns: &[Column], stand: &Line, ends: &Ends) -> Result<Prices, OutOfRange> {
+    let fall = difference(stand.value, ends.at_most)?;
+    let rise = difference(ends.above, stand.value)?;
     let parts = stand.parts.as_slice();
     Ok(Prices {
         at_most: price(fall, least_rate(columns, parts, false)),

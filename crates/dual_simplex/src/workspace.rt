@@ -13,19 +13,23 @@ use crate::dictionary::{Dictionary, Line};
 use crate::filling::{base_worth, fill_columns, slack_variable};
 use crate::leaving::Broken;
 use crate::mults::{Source, list_mults};
-use crate::number::{OutOfRange, difference, raised, whole};
+use crate::number::{ONE, OutOfRange, difference, raised, whole, wide};
 use crate::reserved::{numbered, put_last};
 use crate::rounding::rounded;
-use crate::scales::Scales;
-use crate::splitting::{Prices, Side, end_of, prices_of, write_stand};
+use crate::scales::{Scales, first};
+use crate::splitting::{Ends, Prices, Side, ends_of, prices_of, sum_ends, write_stand, write_sum};
 use crate::stepping::{Stepped, objective, step};
+use crate::sums::{are_two_free, most_at, sides_of, terms_of};
 use crate::trial::{Trial, copy_dictionary, restrict, try_steps};
 use dual_bound::{Cert, Mult};
-use row_kit::{Area, Domain, List, Program};
+use row_kit::{Area, Domain, Entry, List, Program};
 use std::alloc::{AllocError, Global};
 
 // Rows that are put into a dictionary at a time.
 const MOST_ADDED: usize = 20;
+
+// What is left to a whole number where a sum counts as come to it: about 1 in 10,000.
+const HALF_TINY: i128 = 107_374;
 
 // The scale of certificates: 2 to the power 14.
 const SCALE: u32 = 16_384;
@@ -53,6 +57,7 @@ pub struct Workspace {
     dictionary: Dictionary,
     trial: Dictionary,
     stand: Line,
+    given: u32,
     domains: Vec<Domain>,
     amounts: Vec<Amount>,
     broken: Vec<(i64, u32)>,
@@ -63,15 +68,18 @@ pub struct Workspace {
 }
 
 impl Workspace {
-    /// A workspace for a program.
-    pub fn new(alloc: Global, program: &Program) -> Result<Workspace, AllocError> {
+    /// A workspace for a program. The slots from `given` on are those of sums, of which the last rows are, two for each: they need
+    /// no columns, and count in each row with the end of their domain that is best for it. Where there are no sums, `given` is the
+    /// number of slots.
+    pub fn new(alloc: Global, program: &Program, given: u32) -> Result<Workspace, AllocError> {
         let slots = program.root.len();
         let rows = program.rows.len();
         Ok(Workspace {
-            scales: Scales::new(alloc, program)?,
-            dictionary: Dictionary::new(alloc, program)?,
-            trial: Dictionary::new(alloc, program)?,
-            stand: Line::new(alloc, slots.saturating_mul(2))?,
+            scales: Scales::new(alloc, program, given)?,
+            dictionary: Dictionary::new(alloc, program, given)?,
+            trial: Dictionary::new(alloc, program, given)?,
+            stand: Line::new(alloc, slots.min(given as usize).saturating_mul(2))?,
+            given,
             domains: Vec::with_capacity(alloc, slots)?,
             amounts: Vec::with_capacity(alloc, slots)?,
             broken: Vec::with_capacity(alloc, rows)?,
@@ -125,8 +133,16 @@ impl Workspace {
         aim: Option<i128>,
     ) -> Result<(), OutOfRange> {
         let domains = self.domains.as_slice();
-        fill_columns(&mut self.dictionary, program, &self.scales, domains)?;
-        start_from(&mut self.dictionary, program, &self.scales, domains, start)?;
+        let given = self.given;
+        fill_columns(&mut self.dictionary, program, &self.scales, domains, given)?;
+        start_from(
+            &mut self.dictionary,
+            program,
+            &self.scales,
+            domains,
+            given,
+            start,
+        )?;
         self.base = base_worth(program, domains);
         self.aim = match aim {
             None => i64::MIN,
@@ -186,11 +202,13 @@ impl Workspace {
     // Adds the rows that are broken most; how many.
     fn add_broken(&mut self, program: &Program) -> Result<usize, OutOfRange> {
         let domains = self.domains.as_slice();
-        list_amounts(&self.dictionary, domains, &mut self.amounts)?;
+        let own = first(domains, self.given);
+        list_amounts(&self.dictionary, own, &mut self.amounts)?;
         list_broken(
             &self.dictionary,
             program,
             &self.scales,
+            domains,
             self.amounts.as_slice(),
             &mut self.broken,
         )?;
@@ -200,6 +218,7 @@ impl Workspace {
             program,
             &self.scales,
             domains,
+            self.given,
             self.broken.as_slice(),
             MOST_ADDED,
         )
@@ -308,17 +327,70 @@ impl Workspace {
     }
 
     /// What a split of a slot costs by one dual step; None where there is no such slot, or a number would leave its range.
-    pub fn prices(&mut self, slot: u32, max: u8) -> Option<Prices> {
-        match self.domains.get(slot as usize) {
-            None => None,
-            Some(domain) => {
-                let written = write_stand(&self.dictionary, slot, domain, &mut self.stand);
-                match written {
-                    Err(OutOfRange) => None,
-                    Ok(()) => found_prices(&self.dictionary, &self.stand, domain, max),
-                }
+    pub fn prices(&mut self, program: &Program, slot: u32, max: u8) -> Option<Prices> {
+        match self.stand_at(program, slot, max) {
+            Err(OutOfRange) => None,
+            Ok(ends) => found_prices(&self.dictionary, &self.stand, &ends),
+        }
+    }
+
+    // Writes how far a slot has come; the ends that a split leaves to it on both sides.
+    fn stand_at(&mut self, program: &Program, slot: u32, max: u8) -> Result<Ends, OutOfRange> {
+        let domain = match self.domains.get(slot as usize) {
+            None => return Err(OutOfRange),
+            Some(domain) => domain,
+        };
+        match sides_of(program, self.given, slot) {
+            None => {
+                write_stand(&self.dictionary, slot, domain, &mut self.stand)?;
+                ends_of(domain, max)
+            }
+            Some(sides) => {
+                let down = self.scales.down(sides.row);
+                let terms = terms_of(program, sides.row);
+                let domains = self.domains.as_slice();
+                write_sum(&self.dictionary, terms, down, domains, &mut self.stand)?;
+                sum_ends(&sides, down, max)
             }
         }
+    }
+
+    /// What the terms of the sum of a slot come to above the most that they may where its value is at most `max`, with 30 bits of
+    /// fraction: from 0 to 1 where the split at that value cuts the solution off on both sides. None where the slot is not one of a
+    /// sum.
+    pub fn sum_above(&self, program: &Program, slot: u32, max: u8) -> Option<i64> {
+        let sides = sides_of(program, self.given, slot)?;
+        let terms = terms_of(program, sides.row);
+        let count = self.sum_count(terms);
+        let most = most_at(&sides, max).saturating_mul(i128::from(ONE));
+        i64::try_from(count.saturating_sub(most)).ok()
+    }
+
+    /// The value of the sum of a slot, rounded down, where its terms come to what they do; None where the slot is not one of a sum,
+    /// or fewer than two of its terms' slots have two values.
+    pub fn sum_value(&self, program: &Program, slot: u32) -> Option<i64> {
+        let sides = sides_of(program, self.given, slot)?;
+        let terms = terms_of(program, sides.row);
+        if !are_two_free(terms, self.domains.as_slice()) || sides.width < 1 {
+            return None;
+        }
+        let count = self.sum_count(terms).saturating_add(HALF_TINY);
+        let whole = count
+            .div_euclid(i128::from(ONE))
+            .saturating_add(sides.offset);
+        i64::try_from(whole.div_euclid(i128::from(sides.width))).ok()
+    }
+
+    // What terms come to, with 30 bits of fraction.
+    fn sum_count(&self, terms: &[Entry]) -> i128 {
+        let mut sum = 0i128;
+        for term in terms {
+            let amount = self.amount(term.slot);
+            sum = sum
+                .saturating_add(wide(amount.started, term.fixed))
+                .saturating_add(wide(amount.quanta, term.per));
+        }
+        sum
     }
 
     /// Bounds one side of a split by at most this many steps, on a copy; None where there is no such slot, or a number would leave its
@@ -345,12 +417,7 @@ impl Workspace {
         max: u8,
         side: Side,
     ) -> Result<(), OutOfRange> {
-        let domain = match self.domains.get(slot as usize) {
-            None => return Err(OutOfRange),
-            Some(domain) => domain,
-        };
-        write_stand(&self.dictionary, slot, domain, &mut self.stand)?;
-        let end = end_of(domain, max, side)?;
+        let end = self.stand_at(program, slot, max)?.of(side);
         copy_dictionary(&mut self.trial, &self.dictionary);
         self.trial.stop = self.aim;
         let variable = slack_variable(program, numbered(program.rows.len()));
@@ -367,8 +434,8 @@ fn found_trial(dictionary: &mut Dictionary, most: u32) -> Option<Trial> {
 }
 
 // The prices of a split, where no number would leave its range.
-fn found_prices(dictionary: &Dictionary, stand: &Line, domain: &Domain, max: u8) -> Option<Prices> {
-    match prices_of(dictionary.columns.as_slice(), stand, domain, max) {
+fn found_prices(dictionary: &Dictionary, stand: &Line, ends: &Ends) -> Option<Prices> {
+    match prices_of(dictionary.columns.as_slice(), stand, ends) {
         Ok(prices) => Some(prices),
         Err(OutOfRange) => None,
     }
