@@ -36,21 +36,33 @@ pub struct Advisers {
 const MOST_POINTS: u64 = 50_000;
 
 impl Advisers {
-    /// The advisers of a search of at most so many boxes: of more than 50,000 points best first, else depth first.
-    pub fn new(alloc: Global, program: &Program, budget: u32) -> Result<Advisers, AllocError> {
+    /// The advisers of a search of at most so many boxes: of more than 50,000 points best first, else depth first. The slots from
+    /// `given` on are those of sums, of which the last rows of the program are, two for each; where there are none, `given` is the
+    /// number of slots.
+    pub fn new(
+        alloc: Global,
+        program: &Program,
+        given: u32,
+        budget: u32,
+    ) -> Result<Advisers, AllocError> {
         if point_count(program) > MOST_POINTS {
-            return Advisers::explored(alloc, program, budget);
+            return Advisers::explored(alloc, program, given, budget);
         }
         Ok(Advisers {
-            guide: SearchGuide::Depth(PlanGuide::new(alloc, program)?),
-            hinter: SearchHinter::Depth(PlanHinter::new(alloc, program)?),
+            guide: SearchGuide::Depth(PlanGuide::new(alloc, program, given)?),
+            hinter: SearchHinter::Depth(PlanHinter::new(alloc, program, given)?),
         })
     }
 
     // The advisers of a search that is explored first.
-    fn explored(alloc: Global, program: &Program, budget: u32) -> Result<Advisers, AllocError> {
-        let Explored { tree, best } = explore(alloc, program, budget)?;
-        let guide = KeptGuide::new(alloc, program, tree.nodes, best.worth, budget)?;
+    fn explored(
+        alloc: Global,
+        program: &Program,
+        given: u32,
+        budget: u32,
+    ) -> Result<Advisers, AllocError> {
+        let Explored { tree, best } = explore(alloc, program, given, budget)?;
+        let guide = KeptGuide::new(alloc, program, given, tree.nodes, best.worth, budget)?;
         Ok(Advisers {
             guide: SearchGuide::Best(guide),
             hinter: SearchHinter::Best(KeptHinter::new(best)),

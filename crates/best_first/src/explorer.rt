@@ -8,7 +8,7 @@ use crate::caps::exceeds;
 use crate::tree::{Tree, cap_of};
 use branch_tree::{Advice, Hinter};
 use dual_simplex::Basis;
-use plan_hints::{Kept, PlanGuide, PlanHinter, split_value};
+use plan_hints::{Kept, PlanGuide, PlanHinter, may_split, split_value};
 use range_prop::{RowIndex, cut_by_index};
 use row_kit::{Area, Domain, Program};
 use std::alloc::{AllocError, Global};
@@ -35,13 +35,18 @@ struct Explorer {
 const MOST_LOOKS: u32 = 4;
 
 /// Searches a program best first, until the tree that is left counts so many boxes, or is closed.
-pub fn explore(alloc: Global, program: &Program, budget: u32) -> Result<Explored, AllocError> {
+pub fn explore(
+    alloc: Global,
+    program: &Program,
+    given: u32,
+    budget: u32,
+) -> Result<Explored, AllocError> {
     let index = RowIndex::new(alloc, program)?;
     let mut explorer = Explorer {
         alloc,
         tree: Tree::new(alloc, program)?,
-        guide: PlanGuide::new(alloc, program)?,
-        hinter: PlanHinter::new(alloc, program)?,
+        guide: PlanGuide::new(alloc, program, given)?,
+        hinter: PlanHinter::new(alloc, program, given)?,
         best: Kept::new(alloc, program)?,
         counted: 0,
     };
@@ -120,7 +125,7 @@ impl Explorer {
     ) -> Result<(), AllocError>
         requires slots { length (present area.old) ≡ length program.now.root }
     {
-        let Advice { cert, slot, .. } = advice;
+        let Advice { cert, slot, max } = advice;
         let held = self.tree.cap_above(program, area, number);
         let own = cap_of(program, area, &cert);
         if own < held {
@@ -128,8 +133,8 @@ impl Explorer {
         }
         match slot_of(area, slot) {
             Some(slot) if exceeds(own.min(held), self.best.worth) => {
-                self.tree.put_split(number, slot, basis);
-                self.split(program, area, number, slot)
+                self.tree.put_split(number, slot, max, basis);
+                self.split(program, area, number, slot, max)
             }
             _ => Ok(()),
         }
@@ -142,13 +147,14 @@ impl Explorer {
         area: &mut Area,
         number: u32,
         slot: u32,
+        advised: Option<u8>,
     ) -> Result<(), AllocError>
         requires slots { length (present area.old) ≡ length program.now.root }
     {
         if slot >= area.slot_count() {
             return Ok(());
         }
-        let max = split_value(&area.domain(slot));
+        let max = max_of(&area.domain(slot), advised);
         let mark = area.mark();
         area.at_most(slot, max);
         self.tree.put_part(self.alloc, program, area, number)?;
@@ -171,6 +177,14 @@ fn slot_of(area: &Area, advised: Option<u32>) -> Option<u32> {
         }
     }
     None
+}
+
+// The value after which a domain is split: the advised one where it may be split there, else that of any slot.
+fn max_of(domain: &Domain, advised: Option<u8>) -> u8 {
+    match advised {
+        Some(max) if may_split(domain, max) => max,
+        _ => split_value(domain),
+    }
 }
 
 // Whether a slot is there, and its domain has two values or more.

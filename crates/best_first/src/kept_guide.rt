@@ -33,13 +33,14 @@ impl KeptGuide {
     pub fn new(
         alloc: Global,
         program: &Program,
+        given: u32,
         nodes: Vec<Node>,
         best: Option<i128>,
         budget: u32,
     ) -> Result<KeptGuide, AllocError> {
         let depths = program.root.len().saturating_mul(MOST_SPLITS);
         let mut guide = KeptGuide {
-            plain: PlanGuide::new(alloc, program)?,
+            plain: PlanGuide::new(alloc, program, given)?,
             nodes,
             path: vec![in alloc; NONE; depths.saturating_add(1)]?,
             best,
@@ -189,7 +190,7 @@ impl Guide for KeptGuide {
             return Ok(Advice {
                 cert: node.cert.take(),
                 slot: node.slot,
-                max: None,
+                max: node.max,
             });
         }
         self.plain.advise(alloc, program, area, depth, best, point)

@@ -26,6 +26,8 @@ pub struct Node {
     pub basis: Option<Basis>,
     /// The slot that it is split at.
     pub slot: Option<u32>,
+    /// The value after which that is advised to be split, where one is advised.
+    pub max: Option<u8>,
     /// The first of its two parts, which stand side by side.
     pub parts: u32,
     /// How many of its parts the loop has come to.
@@ -49,6 +51,7 @@ impl Node {
             source,
             basis: None,
             slot: None,
+            max: None,
             parts: NONE,
             entered: 0,
             size: 0,

@@ -69,13 +69,14 @@ impl Tree {
         }
     }
 
-    /// Notes the slot at which a box is split whose bound has ended there. Its parts are the boxes that are put next.
-    pub fn put_split(&mut self, number: u32, slot: u32, basis: Basis) {
+    /// Notes the slot at which a box is split whose bound has ended there, and the value that is advised. Its parts are the boxes that are put next.
+    pub fn put_split(&mut self, number: u32, slot: u32, max: Option<u8>, basis: Basis) {
         let place = number as usize;
         let parts = numbered(self.nodes.len());
         if place < self.nodes.len() {
             let node = &mut self.nodes[place];
             node.slot = Some(slot);
+            node.max = max;
             node.basis = Some(basis);
             node.parts = parts;
         }

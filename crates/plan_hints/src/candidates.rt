@@ -1,6 +1,6 @@
 //! The slots that a bound leaves fractional.
 use dual_simplex::{Amount, Workspace};
-use row_kit::{Area, Domain};
+use row_kit::{Area, Domain, Program};
 
 // The number 1 of amounts.
 const ONE: i64 = 1_073_741_824;
@@ -11,28 +11,108 @@ const LEAST_START: i64 = 10_737;
 // Quanta count as fractional from here on: about 1 in 10,000.
 const LEAST_QUANTA: i64 = 107_374;
 
-/// A slot that may be split, the value at which the search splits it, and how fractional it is, with 30 bits of fraction.
+/// A slot that may be split, the value at which the search splits it, how fractional it is, with 30 bits of fraction, and whether it
+/// is one of a sum.
 #[derive(Clone, Copy)]
 pub struct Candidate {
     pub slot: u32,
     pub max: u8,
     pub fraction: i64,
+    pub sum: bool,
 }
 
-/// Lists the fractional slots of an area, as far as there is room.
-pub fn list_fractional(workspace: &Workspace, area: &Area, candidates: &mut Vec<Candidate>) {
+/// Lists the fractional ones of so many first slots of an area, as far as there is room.
+pub fn list_fractional(
+    workspace: &Workspace,
+    area: &Area,
+    given: u32,
+    candidates: &mut Vec<Candidate>,
+) {
     candidates.clear();
-    for slot in 0..area.slot_count() {
+    for slot in 0..area.slot_count().min(given) {
         let domain = area.domain(slot);
         let fraction = fraction(&domain, &workspace.amount(slot));
-        if fraction > 0 && candidates.len() < candidates.capacity() {
-            candidates.push_reserved(Candidate {
+        put_candidate(
+            candidates,
+            Candidate {
                 slot,
                 max: split_value(&domain),
                 fraction,
-            });
+                sum: false,
+            },
+        );
+    }
+}
+
+/// Lists after these the slots of sums, from `given` on, of which both parts of a split cut the solution of the bound off, as far as
+/// there is room.
+pub fn list_sums(
+    workspace: &Workspace,
+    program: &Program,
+    area: &Area,
+    given: u32,
+    candidates: &mut Vec<Candidate>,
+) {
+    for slot in given..area.slot_count() {
+        if let Some(candidate) = sum_candidate(workspace, program, area, slot) {
+            put_candidate(candidates, candidate);
         }
     }
+}
+
+// The split of the slot of a sum at what the bound's solution comes to, where the search can split it there.
+fn sum_candidate(
+    workspace: &Workspace,
+    program: &Program,
+    area: &Area,
+    slot: u32,
+) -> Option<Candidate> {
+    if slot >= area.slot_count() {
+        return None;
+    }
+    let max = u8::try_from(workspace.sum_value(program, slot)?).ok()?;
+    if !may_split(&area.domain(slot), max) {
+        return None;
+    }
+    let above = workspace.sum_above(program, slot, max)?;
+    if above < LEAST_QUANTA || above > ONE - LEAST_QUANTA {
+        return None;
+    }
+    Some(Candidate {
+        slot,
+        max,
+        fraction: from_whole(above),
+        sum: true,
+    })
+}
+
+// Puts a candidate that is fractional, where there is room.
+fn put_candidate(candidates: &mut Vec<Candidate>, candidate: Candidate) {
+    if candidate.fraction > 0 && candidates.len() < candidates.capacity() {
+        candidates.push_reserved(candidate);
+    }
+}
+
+/// Whether the search may split a domain after a value: both parts have values and can be split less often than the domain, where
+/// each split but that at 0 halves the values.
+pub fn may_split(domain: &Domain, max: u8) -> bool {
+    if domain.lo > domain.hi || max >= domain.hi {
+        return false;
+    }
+    if max < domain.lo {
+        return domain.zero;
+    }
+    let all = halvings(domain.hi - domain.lo);
+    if domain.zero {
+        halvings(max - domain.lo) < all
+    } else {
+        halvings(max - domain.lo) < all && halvings(domain.hi - max - 1) < all
+    }
+}
+
+// How often a range can be halved, from its last place.
+fn halvings(last: u8) -> u32 {
+    8 - last.leading_zeros()
 }
 
 /// The value at which the search splits a domain with two values or more: 0 where it holds 0, else the middle.

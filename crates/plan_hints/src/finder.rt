@@ -63,7 +63,7 @@ impl Finder {
         Ok(Finder {
             tables: Tables::new(alloc, program)?,
             field: Field::new(alloc, program)?,
-            workspace: Workspace::new(alloc, program)?,
+            workspace: Workspace::new(alloc, program, numbered(slots))?,
             start: Basis::new(alloc, program)?,
             bases,
             frames: Vec::with_capacity(alloc, MOST_DEPTH)?,

@@ -5,9 +5,11 @@ ghost use Rattle.row_kit.specs.Area.{present};
 ghost use Rattle.row_kit.specs.Domain.{IsOpen};
 
 use crate::bounding::bound_box;
+use crate::candidates::Candidate;
 use crate::path::Path;
 use crate::picking::Picker;
 use branch_tree::{Advice, Guide};
+use dual_bound::Cert;
 use dual_simplex::{Basis, Workspace};
 use row_kit::{Area, Program};
 use std::alloc::{AllocError, Global};
@@ -24,12 +26,12 @@ pub struct PlanGuide {
 }
 
 impl PlanGuide {
-    /// A guide for searches of a program.
-    pub fn new(alloc: Global, program: &Program) -> Result<PlanGuide, AllocError> {
+    /// A guide for searches of a program, of which the slots from `given` on are those of sums, and the last rows, two for each, too.
+    pub fn new(alloc: Global, program: &Program, given: u32) -> Result<PlanGuide, AllocError> {
         Ok(PlanGuide {
-            workspace: Workspace::new(alloc, program)?,
+            workspace: Workspace::new(alloc, program, given)?,
             path: Path::new(alloc, program)?,
-            picker: Picker::new(alloc, program)?,
+            picker: Picker::new(alloc, program, given)?,
         })
     }
 
@@ -50,23 +52,33 @@ impl PlanGuide {
     {
         let bounded = bound_box(alloc, &mut self.workspace, program, area, basis, best)?;
         self.workspace.round(area, point);
-        let slot = if bounded.closes {
+        let pick = if bounded.closes {
             None
         } else {
             self.workspace.save(program, basis);
             self.picker.pick(&mut self.workspace, program, area)
         };
-        Ok(Advice {
-            cert: Some(bounded.cert),
-            slot,
-            max: None,
-        })
+        Ok(advice_of(bounded.cert, pick))
     }
 
     // The slot to split in a box that stays open below so many splits.
-    fn slot_of(&mut self, program: &Program, area: &Area, depth: u32) -> Option<u32> {
+    fn pick_at(&mut self, program: &Program, area: &Area, depth: u32) -> Option<Candidate> {
         self.path.keep(depth, &self.workspace, program);
         self.picker.pick(&mut self.workspace, program, area)
+    }
+}
+
+// The advice of a certificate and of the slot to split. The value to split after is told where the slot is one of a sum.
+fn advice_of(cert: Cert, pick: Option<Candidate>) -> Advice {
+    let (slot, max) = match pick {
+        None => (None, None),
+        Some(pick) if pick.sum => (Some(pick.slot), Some(pick.max)),
+        Some(pick) => (Some(pick.slot), None),
+    };
+    Advice {
+        cert: Some(cert),
+        slot,
+        max,
     }
 }
 
@@ -87,15 +99,11 @@ impl Guide for PlanGuide {
         let start = self.path.above(depth);
         let bounded = bound_box(alloc, &mut self.workspace, program, area, start, best)?;
         self.workspace.round(area, point);
-        let slot = if bounded.closes {
+        let pick = if bounded.closes {
             None
         } else {
-            self.slot_of(program, area, depth)
+            self.pick_at(program, area, depth)
         };
-        Ok(Advice {
-            cert: Some(bounded.cert),
-            slot,
-            max: None,
-        })
+        Ok(advice_of(bounded.cert, pick))
     }
 }

@@ -5,6 +5,7 @@ use crate::hoods::{Hood, LEVELS, Leveled, list_hoods};
 use crate::kept::Kept;
 use crate::reserved::{copy, numbered};
 use crate::small_search::Picking;
+use crate::sums::{put_sums, without_sums};
 use branch_tree::Hinter;
 use dual_simplex::Amount;
 use row_kit::{Area, Program};
@@ -13,8 +14,19 @@ use std::alloc::{AllocError, Global};
 /// Offers plans, each once and only where it is worth more than those before: what the guide left, repaired; greatest batches;
 /// dives by the bound; and what searches in the neighbourhoods of the best plan find. `offer` takes no memory, and its work is
 /// counted in steps.
+///
+/// Values are chosen for the given slots alone, in the program without its sums; an offered point has the values that the sums have
+/// there.
 #[derive(Drop)]
 pub struct PlanHinter {
+    own: Option<Program>,
+    given: u32,
+    looker: Looker,
+}
+
+// What looks for plans of a program without sums.
+#[derive(Drop)]
+struct Looker {
     finder: Finder,
     best: Kept,
     hoods: Vec<Leveled>,
@@ -54,9 +66,22 @@ const MOST_TOTAL: u64 = 300_000_000;
 const CHANCES: u32 = 24;
 
 impl PlanHinter {
-    /// A hinter for a program. It has room for all that can come.
-    pub fn new(alloc: Global, program: &Program) -> Result<PlanHinter, AllocError> {
-        Ok(PlanHinter {
+    /// A hinter for a program, of which the slots from `given` on are those of sums, and the last rows, two for each, too. It has room
+    /// for all that can come.
+    pub fn new(alloc: Global, program: &Program, given: u32) -> Result<PlanHinter, AllocError> {
+        let own = without_sums(alloc, program, given)?;
+        let looker = match &own {
+            None => Looker::new(alloc, program)?,
+            Some(own) => Looker::new(alloc, own)?,
+        };
+        Ok(PlanHinter { own, given, looker })
+    }
+}
+
+impl Looker {
+    // What looks for plans of a program.
+    fn new(alloc: Global, program: &Program) -> Result<Looker, AllocError> {
+        Ok(Looker {
             finder: Finder::new(alloc, program)?,
             best: Kept::new(alloc, program)?,
             hoods: list_hoods(alloc, program)?,
@@ -254,6 +279,20 @@ fn put_only(area: &Area, point: &mut [u8]) {
 }
 
 impl Hinter for PlanHinter {
+    fn offer(&mut self, program: &Program, area: &Area, point: &mut [u8]) -> bool {
+        let offers = match &self.own {
+            None => self.looker.offer(program, area, point),
+            Some(own) => self.looker.offer(own, area, point),
+        };
+        if offers {
+            put_sums(program, self.given, point);
+        }
+        offers
+    }
+}
+
+impl Looker {
+    // Offers a plan: whether its values are in the first places of the point.
     fn offer(&mut self, program: &Program, area: &Area, point: &mut [u8]) -> bool {
         self.boxes = self.boxes.saturating_add(1);
         if area.is_point() {

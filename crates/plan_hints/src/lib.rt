@@ -21,12 +21,13 @@ mod ranges;
 mod ranking;
 mod reserved;
 mod small_search;
+mod sums;
 mod tables;
 mod trying;
 mod waiting;
 mod weights;
 
-pub use candidates::split_value;
+pub use candidates::{may_split, split_value};
 pub use guide::PlanGuide;
 pub use hinter::PlanHinter;
 pub use kept::Kept;

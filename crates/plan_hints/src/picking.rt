@@ -1,5 +1,5 @@
 //! Where a box is split.
-use crate::candidates::{Candidate, list_fractional};
+use crate::candidates::{Candidate, list_fractional, list_sums};
 use crate::ranking::{Ranked, rank};
 use crate::trying::{Tried, try_first};
 use crate::weights::{most_fractional, weights_of};
@@ -16,34 +16,42 @@ const LEAST_GAP: i64 = 1_048_576;
 /// What is needed to choose the slot to split. It has room for all slots of its program.
 #[derive(Drop)]
 pub struct Picker {
+    given: u32,
+    has_sums: bool,
     candidates: Vec<Candidate>,
     ranked: Vec<Ranked>,
     weights: Vec<u64>,
 }
 
 impl Picker {
-    /// A picker for a program.
-    pub fn new(alloc: Global, program: &Program) -> Result<Picker, AllocError> {
+    /// A picker for a program, of which the slots from `given` on are those of sums.
+    pub fn new(alloc: Global, program: &Program, given: u32) -> Result<Picker, AllocError> {
         let slots = program.root.len();
         Ok(Picker {
+            given,
+            has_sums: (given as usize) < slots,
             candidates: Vec::with_capacity(alloc, slots)?,
             ranked: Vec::with_capacity(alloc, slots)?,
             weights: weights_of(alloc, program)?,
         })
     }
 
-    /// The slot of an area to split, after its bound: the one that gains most by trial bounds, or, where none gains much, the most
-    /// fractional of those that may bring most. None where no slot is fractional.
+    /// The slot of an area to split, after its bound, and the value to split it after: the one that gains most by trial bounds, or,
+    /// where none gains much, the most fractional of those that may bring most. Sums are tried only where a plan is known. None where
+    /// nothing is fractional.
     pub fn pick(
         &mut self,
         workspace: &mut Workspace,
         program: &Program,
         area: &Area,
-    ) -> Option<u32> {
+    ) -> Option<Candidate> {
         let gap = gap_of(workspace);
-        list_fractional(workspace, area, &mut self.candidates);
+        list_fractional(workspace, area, self.given, &mut self.candidates);
+        if workspace.gap().is_some() {
+            list_sums(workspace, program, area, self.given, &mut self.candidates);
+        }
         match self.tried(workspace, program, gap.saturating_mul(2)) {
-            Some(tried) if tried.gain >= least_gain(gap) => Some(tried.slot),
+            Some(tried) if tried.gain >= least_gain(gap, self.has_sums) => Some(tried.candidate),
             _ => most_fractional(self.candidates.as_slice(), self.weights.as_slice()),
         }
     }
@@ -51,8 +59,9 @@ impl Picker {
     // The candidate that gains most by trial bounds. No side of a split counts more than so much.
     fn tried(&mut self, workspace: &mut Workspace, program: &Program, most: i64) -> Option<Tried> {
         let candidates = self.candidates.as_slice();
-        rank(workspace, candidates, most, &mut self.ranked);
-        try_first(workspace, program, candidates, self.ranked.as_slice(), most)
+        rank(workspace, program, candidates, most, &mut self.ranked);
+        let ranked = self.ranked.as_slice();
+        try_first(workspace, program, candidates, ranked, most, self.has_sums)
     }
 }
 
@@ -64,7 +73,12 @@ fn gap_of(workspace: &Workspace) -> i64 {
     }
 }
 
-// The least that counts as a gain: a 10,000th of the square of the gap.
-fn least_gain(gap: i64) -> i128 {
-    i128::from(gap).saturating_mul(i128::from(gap)) / 10_000
+// The least that counts as a gain: a 10,000th of the square of the gap, and a 100,000th where there are sums.
+fn least_gain(gap: i64, sums: bool) -> i128 {
+    let square = i128::from(gap).saturating_mul(i128::from(gap));
+    if sums {
+        square / 100_000
+    } else {
+        square / 10_000
+    }
 }

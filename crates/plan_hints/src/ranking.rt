@@ -1,6 +1,7 @@
 //! The order in which slots are tried.
 use crate::candidates::Candidate;
 use dual_simplex::Workspace;
+use row_kit::Program;
 
 /// The place of a candidate in the order: minus what its split costs, minus how fractional it is, and its number.
 pub type Ranked = (i128, i64, u32);
@@ -9,6 +10,7 @@ pub type Ranked = (i128, i64, u32);
 /// counts so much at most; then the most fractional first. Those for which there is no room are left out.
 pub fn rank(
     workspace: &mut Workspace,
+    program: &Program,
     candidates: &[Candidate],
     most: i64,
     ranked: &mut Vec<Ranked>,
@@ -16,7 +18,7 @@ pub fn rank(
     ranked.clear();
     for number in 0..candidates.len() {
         let candidate = candidates[number];
-        let cost = cost(workspace, &candidate, most);
+        let cost = cost(workspace, program, &candidate, most);
         if let Ok(number) = u32::try_from(number) {
             if ranked.len() < ranked.capacity() {
                 ranked.push_reserved((
@@ -31,8 +33,8 @@ pub fn rank(
 }
 
 // What the split of a candidate costs by one dual step.
-fn cost(workspace: &mut Workspace, candidate: &Candidate, most: i64) -> i128 {
-    match workspace.prices(candidate.slot, candidate.max) {
+fn cost(workspace: &mut Workspace, program: &Program, candidate: &Candidate, most: i64) -> i128 {
+    match workspace.prices(program, candidate.slot, candidate.max) {
         None => 0,
         Some(prices) => product(prices.at_most.min(most), prices.above.min(most), most),
     }

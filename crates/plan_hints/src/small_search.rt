@@ -136,7 +136,7 @@ impl Finder {
 
     // The slot whose split costs most on both sides, by trials of those that one step ranks highest.
     fn tried(&mut self, program: &Program) -> Option<(u32, u8)> {
-        self.rank_prices();
+        self.rank_prices(program);
         if self.order.is_empty() {
             return self.furthest(program);
         }
@@ -155,10 +155,10 @@ impl Finder {
     }
 
     // Orders the slots that lie between their ends by what their splits cost.
-    fn rank_prices(&mut self) {
+    fn rank_prices(&mut self, program: &Program) {
         self.order.clear();
         for slot in 0..self.field.slot_count() {
-            if let Some(rank) = self.price_rank(numbered(slot)) {
+            if let Some(rank) = self.price_rank(program, numbered(slot)) {
                 put_last(&mut self.order, (rank, numbered(slot)));
             }
         }
@@ -166,12 +166,12 @@ impl Finder {
     }
 
     // What the split of a slot costs by one step, the dearest first; None where it does not lie between its ends.
-    fn price_rank(&mut self, slot: u32) -> Option<i64> {
+    fn price_rank(&mut self, program: &Program, slot: u32) -> Option<i64> {
         let domain = self.field.domain(slot);
         if is_single(domain) || urgency(domain, self.amount(slot)) <= 1 {
             return None;
         }
-        match self.workspace.prices(slot, middle(domain)) {
+        match self.workspace.prices(program, slot, middle(domain)) {
             None => None,
             Some(prices) => {
                 let score = product(prices.at_most, prices.above) >> 60;

@@ -7,8 +7,8 @@ use row_kit::Program;
 // The most candidates that are tried.
 const MOST_TRIED: usize = 16;
 
-// The most that are tried in a row without gaining more.
-const MOST_IDLE: u32 = 6;
+// The most that are tried in a row without gaining more, where there are no sums.
+const MOST_IDLE: usize = 6;
 
 // The most steps of a trial.
 const MOST_STEPS: u32 = 15;
@@ -16,10 +16,10 @@ const MOST_STEPS: u32 = 15;
 // What a side counts that closes: more than any product, 2 to the power 124.
 const CLOSING: i128 = 21_267_647_932_558_653_966_460_912_964_485_513_216;
 
-/// A slot, and what its split gains by trial bounds.
+/// A candidate, and what its split gains by trial bounds.
 #[derive(Clone, Copy)]
 pub struct Tried {
-    pub slot: u32,
+    pub candidate: Candidate,
     pub gain: i128,
 }
 
@@ -27,19 +27,19 @@ pub struct Tried {
 #[derive(Clone, Copy)]
 struct Lead {
     best: Option<Tried>,
-    idle: u32,
+    idle: usize,
 }
 
 impl Lead {
     // The lead after one more candidate has been tried.
-    fn after(self, slot: u32, gain: i128) -> Lead {
+    fn after(self, candidate: Candidate, gain: i128) -> Lead {
         match self.best {
             Some(tried) if tried.gain >= gain => Lead {
                 best: self.best,
                 idle: self.idle.saturating_add(1),
             },
             _ => Lead {
-                best: Some(Tried { slot, gain }),
+                best: Some(Tried { candidate, gain }),
                 idle: 0,
             },
         }
@@ -47,23 +47,24 @@ impl Lead {
 }
 
 /// The one of the first 16 candidates of an order whose split gains most by trial bounds of both sides, the first of these. After 6 in
-/// a row that gain no more it looks no further. None where there is no candidate.
+/// a row that gain no more it looks no further, unless there are sums. None where there is no candidate.
 pub fn try_first(
     workspace: &mut Workspace,
     program: &Program,
     candidates: &[Candidate],
     ranked: &[Ranked],
     most: i64,
+    sums: bool,
 ) -> Option<Tried> {
     let mut lead = Lead {
         best: None,
         idle: 0,
     };
     for ranked in ranked.iter().take(MOST_TRIED) {
-        if lead.idle < MOST_IDLE {
+        if sums || lead.idle < MOST_IDLE {
             if let Some(candidate) = candidates.get(ranked.2 as usize) {
                 let gain = gain(workspace, program, candidate, most);
-                lead = lead.after(candidate.slot, gain);
+                lead = lead.after(*candidate, gain);
             }
         }
     }

@@ -31,14 +31,17 @@ fn size_at(entry: &Entry, value: u8) -> u64 {
 }
 
 /// The most fractional of the candidates that weigh at least three fifths of the heaviest; the first of these.
-pub fn most_fractional(candidates: &[Candidate], weights: &[u64]) -> Option<u32> {
+pub fn most_fractional(candidates: &[Candidate], weights: &[u64]) -> Option<Candidate> {
     let least = heaviest(candidates, weights) / 5 * 3;
     let mut most = 0i64;
     let mut found = None;
     for candidate in candidates {
-        if candidate.fraction > most && weight_at(weights, candidate.slot) >= least {
+        if !candidate.sum
+            && candidate.fraction > most
+            && weight_at(weights, candidate.slot) >= least
+        {
             most = candidate.fraction;
-            found = Some(candidate.slot);
+            found = Some(*candidate);
         }
     }
     found

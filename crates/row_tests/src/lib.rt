@@ -16,6 +16,8 @@ mod searches;
 #[cfg(test)]
 mod simplex;
 #[cfg(test)]
+mod sums;
+#[cfg(test)]
 mod tables;
 #[cfg(test)]
 mod trees;

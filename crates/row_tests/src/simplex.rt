@@ -73,7 +73,7 @@ fn splits_are_priced_and_tried(rt: HostRuntime) -> Result<(), Fail> {
     let alloc = rt.alloc();
     let program = program(alloc, CHAIN, CHAIN_ROWS)?.ok_or("bounds")?;
     let area = Area::new(alloc, &program)?;
-    let mut workspace = Workspace::new(alloc, &program)?;
+    let mut workspace = Workspace::new(alloc, &program, 2)?;
     let mut basis = Basis::new(alloc, &program)?;
     let ended = bounded(&mut workspace, &program, &area, &mut basis);
     assert_eq!(rt; (ended.0, ended.1), (Outcome::Settled, Some(40)));
@@ -89,7 +89,7 @@ fn bounds_start_from_a_basis(rt: HostRuntime) -> Result<(), Fail> {
     let alloc = rt.alloc();
     let program = program(alloc, CHAIN, CHAIN_ROWS)?.ok_or("bounds")?;
     let mut area = Area::new(alloc, &program)?;
-    let mut workspace = Workspace::new(alloc, &program)?;
+    let mut workspace = Workspace::new(alloc, &program, 2)?;
     let mut basis = Basis::new(alloc, &program)?;
     let first = bounded(&mut workspace, &program, &area, &mut basis);
     let again = bounded(&mut workspace, &program, &area, &mut basis);
@@ -107,7 +107,7 @@ fn a_bound_ends_at_its_aim(rt: HostRuntime) -> Result<(), Fail> {
     let alloc = rt.alloc();
     let program = program(alloc, CHAIN, CHAIN_ROWS)?.ok_or("bounds")?;
     let area = Area::new(alloc, &program)?;
-    let mut workspace = Workspace::new(alloc, &program)?;
+    let mut workspace = Workspace::new(alloc, &program, 2)?;
     let basis = Basis::new(alloc, &program)?;
     let reached = workspace.bound(&program, &area, &basis, Some(60), 2_000);
     let after = workspace.go_on(&program, 2_000);
@@ -120,7 +120,7 @@ fn solutions_are_rounded(rt: HostRuntime) -> Result<(), Fail> {
     let alloc = rt.alloc();
     let program = program(alloc, CHAIN, CHAIN_ROWS)?.ok_or("bounds")?;
     let area = Area::new(alloc, &program)?;
-    let mut workspace = Workspace::new(alloc, &program)?;
+    let mut workspace = Workspace::new(alloc, &program, 2)?;
     let mut basis = Basis::new(alloc, &program)?;
     let _ = bounded(&mut workspace, &program, &area, &mut basis);
     let mut point = [0u8; 2];

@@ -41,10 +41,11 @@ pub fn search_logged<F: Shelf>(
     ensures later { F.write_faults files.old ≤ F.write_faults files.new }
     ensures failed { result ≡ Err Stop.Failed → Rose (F.write_faults files.old) (F.write_faults files.new) }
 {
+    let given = slot_count(rows);
     let Advisers {
         mut guide,
         mut hinter,
-    } = Advisers::new(alloc, &rows.program, budget)?;
+    } = Advisers::new(alloc, &rows.program, given, budget)?;
     let (logged, exact) = log_guided(alloc, rows, budget, &mut hinter, &mut guide, files, name)?;
     if exact {
         return Ok(logged);

@@ -22,12 +22,12 @@ pub fn search_only(alloc: Global, rows: &Rows, budget: u32) -> Result<Ended, All
     requires budget { (1 ≤ budget) × (budget ≤ 100000) }
     ensures { IfOk result (IsSearched rows.now.program budget) }
 {
+    let given = slot_count(rows);
     let Advisers {
         mut guide,
         mut hinter,
-    } = Advisers::new(alloc, &rows.program, budget)?;
+    } = Advisers::new(alloc, &rows.program, given, budget)?;
     let mut taker = ItemDropper;
-    let given = slot_count(rows);
     let Ok(guided) = search_guided_to(
         alloc,
         rows,
@@ -54,11 +54,11 @@ pub fn search_built(alloc: Global, rows: &Rows, budget: u32) -> Result<Searched,
     requires budget { (1 ≤ budget) × (budget ≤ 100000) }
     ensures { IfOk result (λ searched. IsSearchOf rows.now.program budget (ended_of searched) (tree_of searched.tree)) }
 {
+    let given = slot_count(rows);
     let Advisers {
         mut guide,
         mut hinter,
-    } = Advisers::new(alloc, &rows.program, budget)?;
-    let given = slot_count(rows);
+    } = Advisers::new(alloc, &rows.program, given, budget)?;
     let (searched, exact) = search_guided(alloc, rows, given, budget, &mut hinter, &mut guide)?;
     if exact {
         return Ok(searched);

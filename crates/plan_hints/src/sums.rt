@@ -1,0 +1,99 @@
+//! Programs with sums, and without.
+use crate::reserved::numbered;
+use row_kit::{Entry, List, Program, Row};
+use std::alloc::{AllocError, Global};
+
+/// The program without its sums: its first slots, so many, and all its rows but the last, two for each slot more. None where there
+/// are no sums.
+pub fn without_sums(
+    alloc: Global,
+    program: &Program,
+    given: u32,
+) -> Result<Option<Program>, AllocError> {
+    let slots = given as usize;
+    if slots >= program.root.len() || slots > program.tags.len() {
+        return Ok(None);
+    }
+    let sums = program.root.len() - slots;
+    let count = program.rows.len().saturating_sub(sums.saturating_mul(2));
+    let rows = first_rows(alloc, program.rows.as_slice(), count)?;
+    Ok(Program::checked(
+        rows,
+        List::from_slice(alloc, program.profit.as_slice())?,
+        program.base,
+        List::from_slice(alloc, &program.root.as_slice()[..slots])?,
+        List::from_slice(alloc, &program.tags.as_slice()[..slots])?,
+        List::from_slice(alloc, program.changes.as_slice())?,
+    ))
+}
+
+// Copies of the first rows, so many.
+fn first_rows(alloc: Global, rows: &[Row], count: usize) -> Result<List<Row>, AllocError> {
+    let mut copies = List::new(alloc);
+    for row in rows.iter().take(count) {
+        copies.push(Row {
+            entries: List::from_slice(alloc, row.entries.as_slice())?,
+            limit: row.limit,
+        })?;
+    }
+    Ok(copies)
+}
+
+/// Writes the values of the sums of a program, of which the slots from `given` on are theirs, into a point with values for the others.
+pub fn put_sums(program: &Program, given: u32, point: &mut [u8]) {
+    let slots = program.root.len();
+    let rows = program.rows.as_slice();
+    let sums = slots.saturating_sub(given as usize);
+    let first = rows.len().saturating_sub(sums.saturating_mul(2));
+    for number in 0..sums {
+        let slot = (given as usize).saturating_add(number);
+        if let Some(row) = rows.get(first.saturating_add(number.saturating_mul(2))) {
+            let value = value_of(row, numbered(slot), point);
+            if slot < point.len() {
+                point[slot] = value;
+            }
+        }
+    }
+}
+
+// The value of a sum by its first row, which says that the terms less the width times the value are at most the limit.
+fn value_of(row: &Row, slot: u32, point: &[u8]) -> u8 {
+    let mut sum = 0i128;
+    let mut width = 1i64;
+    for entry in row.entries.as_slice() {
+        if entry.slot == slot {
+            width = 0i64.saturating_sub(entry.per);
+        } else {
+            sum = sum.saturating_add(counted(entry, point));
+        }
+    }
+    let offset = i128::from(width)
+        .saturating_sub(1)
+        .saturating_sub(row.limit);
+    let value = whole_quotient(sum.saturating_add(offset), width);
+    match u8::try_from(value) {
+        Ok(value) => value,
+        Err(_) => if value < 0 { 0 } else { u8::MAX },
+    }
+}
+
+// The whole quotient of a number by one of 1 or more.
+fn whole_quotient(number: i128, divisor: i64) -> i128 {
+    if divisor >= 1 {
+        number.div_euclid(i128::from(divisor))
+    } else {
+        number
+    }
+}
+
+// What an entry counts at a point.
+fn counted(entry: &Entry, point: &[u8]) -> i128 {
+    match point.get(entry.slot as usize) {
+        None => 0,
+        Some(0) => 0,
+        Some(value) => {
+            let part = i128::from(entry.per).saturating_mul(i128::from(*value));
+            i128::from(entry.fixed).saturating_add(part)
+        }
+    }
+}
