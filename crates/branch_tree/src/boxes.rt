@@ -85,14 +85,16 @@ fn look<H: Hinter, G: Guide, O, T: NodeTaker<Rows, O>>(
     requires done { AreDone (program_of ground.now).rows (present area.now) }
     requires ready { T.ready taker.old out.old }
     ensures ready { OnOk result (T.ready taker.new out.new) }
-    ensures handed { IfOk result (λ item. LookHanded T.took (program_of ground.now) ground.now.given (seen area.now) item
+    ensures handed { IfOk result
+        (λ item. LookHanded T.took (program_of ground.now) ground.now.given (seen area.now) item
         reached.old taker.old out.old reached.new taker.new out.new) }
     ensures own { OnOk result (IsOwnBest reached.old.own reached.new.best) }
     ensures spent { reached.new.spent ≡ reached.old.spent }
     ensures changed { reached.new.changed ≡ reached.old.changed }
     ensures none { OnOk result (reached.new.own ≡ None) }
     ensures places { length reached.new.point.items ≡ length reached.old.point.items }
-    ensures err { OnErr result (LookStopped T.took T.broke (program_of ground.now) taker.old out.old taker.new out.new) }
+    ensures err { OnErr result (LookStopped T.took T.broke (program_of ground.now) taker.old
+        out.old taker.new out.new) }
     ensures later { T.faults out.old ≤ T.faults out.new }
     ensures failed { IsErrOf result TakeStop.Failed → Rose (T.faults out.old) (T.faults out.new) }
 {
@@ -128,9 +130,12 @@ pub(crate) fn search_box<H: Hinter, G: Guide, O, T: NodeTaker<Rows, O>>(
     ensures none { OnOk result (reached.new.own ≡ None) }
     ensures own { OnOk result (IsOwnBest reached.old.own reached.new.best) }
     ensures places { length reached.new.point.items ≡ length reached.old.point.items }
-    ensures handed { IfOk result (λ cap. BoxHanded T.took (λ _. ⊤) (program_of ground.now) ground.now.given ground.now.budget ground.now.may_leave
+    ensures handed { IfOk result
+        (λ cap. BoxHanded T.took (λ _. ⊤) (program_of ground.now) ground.now.given
+        ground.now.budget ground.now.may_leave
         (seen area.old) cap reached.old taker.old out.old reached.new taker.new out.new) }
-    ensures err { OnErr result (BoxStopped T.took T.broke (program_of ground.now) (seen area.old) taker.old out.old taker.new out.new) }
+    ensures err { OnErr result (BoxStopped T.took T.broke (program_of ground.now)
+        (seen area.old) taker.old out.old taker.new out.new) }
     ensures later { T.faults out.old ≤ T.faults out.new }
     ensures failed { IsErrOf result TakeStop.Failed → Rose (T.faults out.old) (T.faults out.new) }
 {
@@ -162,7 +167,8 @@ fn search_end<H: Hinter, G: Guide, O, T: NodeTaker<Rows, O>>(
     requires within { reached.old.spent ≤ ground.now.budget }
     requires none { reached.old.own ≡ None }
     requires room { HaveRoom (program_of ground.now).rows (domains_of (seen area.old)) }
-    requires ends { (found : Listed Found) → IsBest reached.old.best found → ItemEnds (program_of ground.now) ground.now.given (seen area.old) found item }
+    requires ends { (found : Listed Found) → IsBest reached.old.best found
+        → ItemEnds (program_of ground.now) ground.now.given (seen area.old) found item }
     requires fit { IsFitItem (program_of ground.now) item }
     requires ready { T.ready taker.old out.old }
     ensures as_before { OnOk result (map view_of area.new ≡ map view_of area.old) }
@@ -170,9 +176,12 @@ fn search_end<H: Hinter, G: Guide, O, T: NodeTaker<Rows, O>>(
     ensures within { OnOk result (reached.new.spent ≤ ground.now.budget) }
     ensures none { OnOk result (reached.new.own ≡ None) }
     ensures places { length reached.new.point.items ≡ length reached.old.point.items }
-    ensures handed { IfOk result (λ cap. TailHanded T.took (program_of ground.now) ground.now.given ground.now.budget ground.now.may_leave
+    ensures handed { IfOk result
+        (λ cap. TailHanded T.took (program_of ground.now) ground.now.given ground.now.budget
+        ground.now.may_leave
         (seen area.old) cap reached.old taker.old out.old reached.new taker.new out.new) }
-    ensures err { OnErr result (TailStopped T.took T.broke (program_of ground.now) (seen area.old) taker.old out.old taker.new out.new) }
+    ensures err { OnErr result (TailStopped T.took T.broke (program_of ground.now)
+        (seen area.old) taker.old out.old taker.new out.new) }
     ensures later { T.faults out.old ≤ T.faults out.new }
     ensures failed { IsErrOf result TakeStop.Failed → Rose (T.faults out.old) (T.faults out.new) }
 {
@@ -206,16 +215,21 @@ fn search_parts<H: Hinter, G: Guide, O, T: NodeTaker<Rows, O>>(
     requires within { reached.old.spent ≤ ground.now.budget }
     requires none { reached.old.own ≡ None }
     requires room { HaveRoom (program_of ground.now).rows (domains_of (seen area.old)) }
-    requires split { IsSplitAt (program_of ground.now) ground.now.given (seen area.old) pick.now cert.now }
+    requires split { IsSplitAt (program_of ground.now) ground.now.given (seen area.old)
+        pick.now cert.now }
     requires ready { T.ready taker.old out.old }
     ensures as_before { OnOk result (map view_of area.new ≡ map view_of area.old) }
     ensures ready { OnOk result (T.ready taker.new out.new) }
     ensures within { OnOk result (reached.new.spent ≤ ground.now.budget) }
     ensures none { OnOk result (reached.new.own ≡ None) }
     ensures places { length reached.new.point.items ≡ length reached.old.point.items }
-    ensures handed { IfOk result (λ cap. PartsHanded T.took (program_of ground.now) ground.now.given ground.now.budget ground.now.may_leave
-        (seen area.old) pick.now cert.now cap reached.old taker.old out.old reached.new taker.new out.new) }
-    ensures err { OnErr result (PartsStopped T.took T.broke (program_of ground.now) (seen area.old) taker.old out.old taker.new out.new) }
+    ensures handed { IfOk result
+        (λ cap. PartsHanded T.took (program_of ground.now) ground.now.given ground.now.budget
+        ground.now.may_leave
+        (seen area.old) pick.now cert.now cap reached.old taker.old out.old reached.new taker.new
+        out.new) }
+    ensures err { OnErr result (PartsStopped T.took T.broke (program_of ground.now)
+        (seen area.old) taker.old out.old taker.new out.new) }
     ensures later { T.faults out.old ≤ T.faults out.new }
     ensures failed { IsErrOf result TakeStop.Failed → Rose (T.faults out.old) (T.faults out.new) }
 {
@@ -274,9 +288,13 @@ fn search_part<H: Hinter, G: Guide, O, T: NodeTaker<Rows, O>>(
     ensures within { OnOk result (reached.new.spent ≤ ground.now.budget) }
     ensures none { OnOk result (reached.new.own ≡ None) }
     ensures places { length reached.new.point.items ≡ length reached.old.point.items }
-    ensures handed { IfOk result (λ cap. BoxHanded T.took (λ parent. parent ≡ Some cert.now) (program_of ground.now) ground.now.given
-        ground.now.budget ground.now.may_leave (seen area.old) cap reached.old taker.old out.old reached.new taker.new out.new) }
-    ensures err { OnErr result (BoxStopped T.took T.broke (program_of ground.now) (seen area.old) taker.old out.old taker.new out.new) }
+    ensures handed { IfOk result
+        (λ cap. BoxHanded T.took (λ parent. parent
+        ≡ Some cert.now) (program_of ground.now) ground.now.given
+        ground.now.budget ground.now.may_leave (seen area.old) cap reached.old taker.old out.old
+        reached.new taker.new out.new) }
+    ensures err { OnErr result (BoxStopped T.took T.broke (program_of ground.now)
+        (seen area.old) taker.old out.old taker.new out.new) }
     ensures later { T.faults out.old ≤ T.faults out.new }
     ensures failed { IsErrOf result TakeStop.Failed → Rose (T.faults out.old) (T.faults out.new) }
 {

@@ -29,8 +29,11 @@ pub(crate) fn cut_box(
         × HaveRoomBut (program_of ground.now).rows (slot ∷ []) (domains_of (seen area.old))) }
     ensures fits { OnOk result (Fits (program_of ground.now) (seen area.new)) }
     ensures keeps { OnOk result (KeepsViews (map view_of area.old) (map view_of area.new)) }
-    ensures moved { IfOk result (λ cuts. after_cuts (row_steps (program_of ground.now)) (seen area.old) cuts.items ≡ Some (seen area.new)) }
-    ensures fit { IfOk result (λ cuts. All (IsFitItem (program_of ground.now)) (head_items cuts.items)) }
+    ensures moved { IfOk result
+        (λ cuts. after_cuts (row_steps (program_of ground.now)) (seen area.old) cuts.items
+        ≡ Some (seen area.new)) }
+    ensures fit { IfOk result (λ cuts. All (IsFitItem (program_of ground.now))
+        (head_items cuts.items)) }
     ensures done { OnOk result (AreDone (program_of ground.now).rows (present area.new)) }
     ensures room { OnOk result (HaveRoom (program_of ground.now).rows (present area.new)) }
 {
@@ -58,8 +61,11 @@ fn cut_changed(
     requires slots { length (present area.old) ≡ length program.now.root }
     requires index { IsIndex program.now.rows index.now }
     requires lists { length index.now ≡ length program.now.root }
-    requires room { IfSome changed (λ slot. (slot < length program.now.root) × HaveRoomBut program.now.rows (slot ∷ []) (present area.old)) }
-    ensures cut { OnOk result (HasCut program.now.rows area.old area.new cuts.old.items cuts.new.items) }
+    requires room { IfSome changed
+        (λ slot. (slot < length program.now.root)
+        × HaveRoomBut program.now.rows (slot ∷ []) (present area.old)) }
+    ensures cut { OnOk result (HasCut program.now.rows area.old area.new cuts.old.items
+        cuts.new.items) }
     ensures done { OnOk result (AreDone program.now.rows (present area.new)) }
     ensures room { OnOk result (HaveRoom program.now.rows (present area.new)) }
 {

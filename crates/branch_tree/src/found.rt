@@ -121,7 +121,8 @@ pub(crate) fn found_at<H: Hinter>(
     requires each_open { All IsOpen (present area.now) }
     requires own { IfSome own (IsGroup (program_of ground.now)) }
     ensures group { IfOk result (λ found. IfSome found (IsGroup (program_of ground.now))) }
-    ensures own { IfOk result (λ found. IfSome own (λ f. IsSomeAnd found (λ best. f.value ≤ℤ best.value))) }
+    ensures own { IfOk result (λ found. IfSome own
+        (λ f. IsSomeAnd found (λ best. f.value ≤ℤ best.value))) }
     ensures only { IfOk result (λ found. All IsSingle (present area.now)
         → Reaches (settled (program_of ground.now) (present area.now)) found) }
 {

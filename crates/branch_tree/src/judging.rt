@@ -98,7 +98,8 @@ pub(crate) fn judge(
 ) -> Result<Item<Rows>, AllocError>
     requires slots { length (present area.now) ≡ length (program_of ground.now).root }
     requires each_open { All IsOpen (present area.now) }
-    ensures { IfOk result (IsVerdict (program_of ground.now) ground.now.given (present area.now) best) }
+    ensures { IfOk result (IsVerdict (program_of ground.now) ground.now.given
+        (present area.now) best) }
 {
     let Advice { cert, slot, max } = advice;
     if area.is_point() {
@@ -125,7 +126,8 @@ fn settle_or_split(
     requires more { ¬ All IsSingle (present area.now) }
     requires no_higher { IsNoWorseThanPlain (program_of ground.now) (present area.now) cert }
     requires over { is_over (cert_cap (program_of ground.now) (present area.now) cert) best ≡ true }
-    ensures { IfOk result (IsVerdict (program_of ground.now) ground.now.given (present area.now) best) }
+    ensures { IfOk result (IsVerdict (program_of ground.now) ground.now.given
+        (present area.now) best) }
 {
     let mut cert = cert;
     polish(ground.alloc, &ground.rows.program, area, &mut cert, best)?;

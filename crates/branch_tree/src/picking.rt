@@ -96,7 +96,8 @@ fn value_of(domain: Domain, is_sum: bool, advised: Option<u8>) -> u8
     requires two { 2 ≤ count_of domain }
     ensures allowed { IsAllowed domain result }
     ensures given { is_sum ≡ false → result ≡ split_value domain }
-    ensures own { IfSome advised (λ value. IsTrue is_sum → IsAllowed domain value → result ≡ value) }
+    ensures own { IfSome advised
+        (λ value. IsTrue is_sum → IsAllowed domain value → result ≡ value) }
 {
     match advised {
         Some(value) if is_sum => nearest(domain, value),

@@ -33,8 +33,10 @@ fn put_cuts<O, T: NodeTaker<Rows, O>>(
 ) -> Result<(), TakeStop>
     requires { T.ready taker.old out.old }
     ensures ready { OnOk result (T.ready taker.new out.new) }
-    ensures handed { OnOk result (Grows T.took T.took taker.old out.old (map CutItem cuts.now) taker.new out.new) }
-    ensures err { OnErr result (Stopped T.took T.broke taker.old out.old (map CutItem cuts.now) taker.new out.new) }
+    ensures handed { OnOk result
+        (Grows T.took T.took taker.old out.old (map CutItem cuts.now) taker.new out.new) }
+    ensures err { OnErr result (Stopped T.took T.broke taker.old out.old (map CutItem cuts.now)
+        taker.new out.new) }
     ensures later { T.faults out.old ≤ T.faults out.new }
     ensures failed { IsErrOf result TakeStop.Failed → Rose (T.faults out.old) (T.faults out.new) }
 {
@@ -62,8 +64,11 @@ pub(crate) fn open_box<O, T: NodeTaker<Rows, O>>(
     ensures done { OnOk result (AreDone (program_of ground.now).rows (present area.new)) }
     ensures room { OnOk result (HaveRoom (program_of ground.now).rows (present area.new)) }
     ensures ready { OnOk result (T.ready taker.new out.new) }
-    ensures handed { OnOk result (HeadHanded T.took (program_of ground.now) (seen area.old) taker.old out.old (seen area.new) taker.new out.new) }
-    ensures err { OnErr result (HeadStopped T.took T.broke (program_of ground.now) taker.old out.old taker.new out.new) }
+    ensures handed { OnOk result
+        (HeadHanded T.took (program_of ground.now) (seen area.old) taker.old out.old
+        (seen area.new) taker.new out.new) }
+    ensures err { OnErr result (HeadStopped T.took T.broke (program_of ground.now) taker.old
+        out.old taker.new out.new) }
     ensures later { T.faults out.old ≤ T.faults out.new }
     ensures failed { IsErrOf result TakeStop.Failed → Rose (T.faults out.old) (T.faults out.new) }
 {
@@ -81,8 +86,10 @@ fn put_one<O, T: NodeTaker<Rows, O>>(
     requires { T.ready taker.old out.old }
     ensures ready { OnOk result (T.ready taker.new out.new) }
     ensures same { IfOk result (λ f. f ≡ found) }
-    ensures handed { OnOk result (Grows T.took T.took taker.old out.old (FoundItem found ∷ []) taker.new out.new) }
-    ensures err { OnErr result (Stopped T.took T.broke taker.old out.old (FoundItem found ∷ []) taker.new out.new) }
+    ensures handed { OnOk result
+        (Grows T.took T.took taker.old out.old (FoundItem found ∷ []) taker.new out.new) }
+    ensures err { OnErr result (Stopped T.took T.broke taker.old out.old (FoundItem found ∷ [])
+        taker.new out.new) }
     ensures later { T.faults out.old ≤ T.faults out.new }
     ensures failed { IsErrOf result TakeStop.Failed → Rose (T.faults out.old) (T.faults out.new) }
 {
@@ -112,8 +119,10 @@ pub(crate) fn put_found<O, T: NodeTaker<Rows, O>>(
     requires { T.ready taker.old out.old }
     ensures ready { OnOk result (T.ready taker.new out.new) }
     ensures best { OnOk result (best.new ≡ better_of best.old found) }
-    ensures handed { OnOk result (Grows T.took T.took taker.old out.old (found_items found) taker.new out.new) }
-    ensures err { OnErr result (Stopped T.took T.broke taker.old out.old (found_items found) taker.new out.new) }
+    ensures handed { OnOk result
+        (Grows T.took T.took taker.old out.old (found_items found) taker.new out.new) }
+    ensures err { OnErr result (Stopped T.took T.broke taker.old out.old (found_items found)
+        taker.new out.new) }
     ensures later { T.faults out.old ≤ T.faults out.new }
     ensures failed { IsErrOf result TakeStop.Failed → Rose (T.faults out.old) (T.faults out.new) }
 {
@@ -136,9 +145,13 @@ pub(crate) fn leave_open<O, T: NodeTaker<Rows, O>>(
     requires fits { Fits (program_of ground.now) (seen area.now) }
     requires ready { T.ready taker.old out.old }
     ensures ready { OnOk result (T.ready taker.new out.new) }
-    ensures cap { IfOk result (λ cap. cap ≡ (row_steps (program_of ground.now)).cap (seen area.now) held.now) }
-    ensures handed { OnOk result (Grows T.took T.took taker.old out.old (NodeItem ∷ (PendingItem held.now ∷ [])) taker.new out.new) }
-    ensures err { OnErr result (Stopped T.took T.broke taker.old out.old (NodeItem ∷ (PendingItem held.now ∷ [])) taker.new out.new) }
+    ensures cap { IfOk result (λ cap. cap
+        ≡ (row_steps (program_of ground.now)).cap (seen area.now) held.now) }
+    ensures handed { OnOk result
+        (Grows T.took T.took taker.old out.old (NodeItem ∷ (PendingItem held.now ∷ [])) taker.new
+        out.new) }
+    ensures err { OnErr result (Stopped T.took T.broke taker.old out.old
+        (NodeItem ∷ (PendingItem held.now ∷ [])) taker.new out.new) }
     ensures later { T.faults out.old ≤ T.faults out.new }
     ensures failed { IsErrOf result TakeStop.Failed → Rose (T.faults out.old) (T.faults out.new) }
 {

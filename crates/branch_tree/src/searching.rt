@@ -49,10 +49,16 @@ fn search_root<H: Hinter, G: Guide, O, T: NodeTaker<Rows, O>>(
     requires budget { 1 ≤ ground.now.budget }
     requires ready { T.ready taker.old out.old }
     ensures ready { OnOk result (T.ready taker.new out.new) }
-    ensures ok { IfOk result (λ ended. IsSearchedTo T.took (program_of ground.now) ground.now.given ground.now.budget ended taker.old out.old taker.new out.new) }
-    ensures exact { IfOk result (λ ended. ground.now.may_leave ≡ false → IsExact (program_of ground.now) ground.now.budget ended) }
-    ensures guided { IfOk result (λ ended. ended.spent ≡ ground.now.budget → IsExact (program_of ground.now) ground.now.budget ended) }
-    ensures err { OnErr result (IsBrokenOff T.took T.broke (program_of ground.now) taker.old out.old taker.new out.new) }
+    ensures ok { IfOk result (λ ended. IsSearchedTo T.took (program_of ground.now)
+        ground.now.given ground.now.budget ended taker.old out.old taker.new out.new) }
+    ensures exact { IfOk result
+        (λ ended. ground.now.may_leave ≡ false
+        → IsExact (program_of ground.now) ground.now.budget ended) }
+    ensures guided { IfOk result
+        (λ ended. ended.spent ≡ ground.now.budget
+        → IsExact (program_of ground.now) ground.now.budget ended) }
+    ensures err { OnErr result (IsBrokenOff T.took T.broke (program_of ground.now) taker.old
+        out.old taker.new out.new) }
     ensures later { T.faults out.old ≤ T.faults out.new }
     ensures failed { IsErrOf result TakeStop.Failed → Rose (T.faults out.old) (T.faults out.new) }
 {
@@ -95,10 +101,15 @@ pub fn search_guided_to<H: Hinter, G: Guide, O, T: NodeTaker<Rows, O>>(
     requires budget { (1 ≤ budget) × (budget ≤ 100000) }
     requires ready { T.ready taker.old out.old }
     ensures ready { OnOk result (T.ready taker.new out.new) }
-    ensures ok { IfOk result (λ guided. IsSearchedTo T.took rows.now.program given budget guided.ended taker.old out.old taker.new out.new) }
-    ensures exact { IfOk result (λ guided. guided.exact ≡ true → IsExact rows.now.program budget guided.ended) }
-    ensures inexact { IfOk result (λ guided. guided.exact ≡ false → (guided.ended.left_open ≡ true) × (guided.ended.spent ≢ budget)) }
-    ensures err { OnErr result (IsBrokenOff T.took T.broke rows.now.program taker.old out.old taker.new out.new) }
+    ensures ok { IfOk result (λ guided. IsSearchedTo T.took rows.now.program given budget
+        guided.ended taker.old out.old taker.new out.new) }
+    ensures exact { IfOk result
+        (λ guided. guided.exact ≡ true → IsExact rows.now.program budget guided.ended) }
+    ensures inexact { IfOk result
+        (λ guided. guided.exact ≡ false
+        → (guided.ended.left_open ≡ true) × (guided.ended.spent ≢ budget)) }
+    ensures err { OnErr result (IsBrokenOff T.took T.broke rows.now.program taker.old out.old
+        taker.new out.new) }
     ensures later { T.faults out.old ≤ T.faults out.new }
     ensures failed { IsErrOf result TakeStop.Failed → Rose (T.faults out.old) (T.faults out.new) }
 {
@@ -132,9 +143,11 @@ pub fn search_to<H: Hinter, O, T: NodeTaker<Rows, O>>(
     requires budget { (1 ≤ budget) × (budget ≤ 100000) }
     requires ready { T.ready taker.old out.old }
     ensures ready { OnOk result (T.ready taker.new out.new) }
-    ensures ok { IfOk result (λ ended. IsSearchedTo T.took rows.now.program given budget ended taker.old out.old taker.new out.new) }
+    ensures ok { IfOk result (λ ended. IsSearchedTo T.took rows.now.program given budget ended
+        taker.old out.old taker.new out.new) }
     ensures exact { IfOk result (IsExact rows.now.program budget) }
-    ensures err { OnErr result (IsBrokenOff T.took T.broke rows.now.program taker.old out.old taker.new out.new) }
+    ensures err { OnErr result (IsBrokenOff T.took T.broke rows.now.program taker.old out.old
+        taker.new out.new) }
     ensures later { T.faults out.old ≤ T.faults out.new }
     ensures failed { IsErrOf result TakeStop.Failed → Rose (T.faults out.old) (T.faults out.new) }
 {
@@ -161,9 +174,12 @@ pub fn search_guided<H: Hinter, G: Guide>(
     guide: &mut G,
 ) -> Result<(Searched, bool), AllocError>
     requires { (1 ≤ budget) × (budget ≤ 100000) }
-    ensures ok { IfOk result (λ found. IsSearch rows.now.program given budget (tree_of found.0.tree) (ended_of found.0)) }
-    ensures exact { IfOk result (λ found. found.1 ≡ true → IsExact rows.now.program budget (ended_of found.0)) }
-    ensures inexact { IfOk result (λ found. found.1 ≡ false → (found.0.left_open ≡ true) × (found.0.spent ≢ budget)) }
+    ensures ok { IfOk result (λ found. IsSearch rows.now.program given budget
+        (tree_of found.0.tree) (ended_of found.0)) }
+    ensures exact { IfOk result
+        (λ found. found.1 ≡ true → IsExact rows.now.program budget (ended_of found.0)) }
+    ensures inexact { IfOk result
+        (λ found. found.1 ≡ false → (found.0.left_open ≡ true) × (found.0.spent ≢ budget)) }
 {
     let mut taker = TreeTaker::new(alloc, RowCopier);
     match search_guided_to(
@@ -193,7 +209,8 @@ pub fn search<H: Hinter>(
     hinter: &mut H,
 ) -> Result<Searched, AllocError>
     requires { (1 ≤ budget) × (budget ≤ 100000) }
-    ensures ok { IfOk result (λ searched. IsSearch rows.now.program given budget (tree_of searched.tree) (ended_of searched)) }
+    ensures ok { IfOk result (λ searched. IsSearch rows.now.program given budget
+        (tree_of searched.tree) (ended_of searched)) }
     ensures exact { IfOk result (λ searched. IsExact rows.now.program budget (ended_of searched)) }
 {
     let mut taker = TreeTaker::new(alloc, RowCopier);
@@ -207,7 +224,8 @@ pub fn search<H: Hinter>(
 fn with_tree(ended: Ended, taker: TreeTaker<Rows, RowCopier>) -> Searched
     requires { (tree : RowTree) × HoldsItems (tree_items tree) taker }
     ensures ended { ended_of result ≡ ended }
-    ensures tree { (tree : RowTree) → HoldsItems (tree_items tree) taker → tree_of result.tree ≡ tree }
+    ensures tree { (tree : RowTree) → HoldsItems (tree_items tree) taker
+        → tree_of result.tree ≡ tree }
 {
     let Ended {
         best,

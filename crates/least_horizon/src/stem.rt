@@ -78,7 +78,8 @@ fn judge<F: Shelf>(
     requires within { Within 1 plant.now.periods horizon }
     requires allowed { IsTrue (F.may_read files.old (log_name stem.now horizon)) }
     ensures judged { IfOk result (λ found. IfSome (F.files files.old)
-        (λ m. IsJudged (plant_at plant.now horizon) (file_of m (log_name stem.now horizon)) found)) }
+        (λ m. IsJudged (plant_at plant.now horizon) (file_of m (log_name stem.now horizon))
+        found)) }
     ensures says { IfOk result (λ found. found ≡ None → NoPlan (plant_at plant.now horizon)) }
     ensures fault { result ≡ Err CheckStop.Fault
         → Rose (F.read_faults files.old) (F.read_faults files.new) }

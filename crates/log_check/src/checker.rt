@@ -34,8 +34,10 @@ fn defect_before(rows: &Rows, rooms: &mut RowRooms, area: &Area, item: &Item<Row
     requires rooms { IsRoomsOf rows.now.program rooms.old }
     ensures rooms { IsRoomsOf rows.now.program rooms.new }
     ensures defect { MatchOption result
-        (IsTested (row_steps rows.now.program) rows.now.program (present (map view_of area.now)) item.now)
-        (λ kind. ItemDefect (row_steps rows.now.program) rows.now.program (present (map view_of area.now)) item.now kind) }
+        (IsTested (row_steps rows.now.program) rows.now.program (present (map view_of area.now))
+        item.now)
+        (λ kind. ItemDefect (row_steps rows.now.program) rows.now.program
+        (present (map view_of area.now)) item.now kind) }
 {
     match item {
         Item::Found(found) => {
@@ -72,7 +74,8 @@ fn course_of(took: Took, line: u64, kind: u8) -> Course
 impl Checker {
     /// A check that has taken nothing, over the rows' root.
     pub fn new(alloc: Global, rows: &Rows) -> Result<Checker, AllocError>
-        ensures fits { IfOk result (λ checker. Fits rows.now.program (present (map view_of checker.area))) }
+        ensures fits { IfOk result
+            (λ checker. Fits rows.now.program (present (map view_of checker.area))) }
         ensures area { IfOk result (λ checker. checker.area ≡ rows.now.program.root ∷ []) }
         ensures course { IfOk result (λ checker. checker.course ≡ Course.Going) }
         ensures first { IfOk result (λ checker. checker.walk.first ≡ None) }
@@ -100,18 +103,23 @@ impl Checker {
     /// After a defect it changes nothing.
     pub fn take(&mut self, rows: &Rows, line: u64, item: Item<Rows>) -> Result<(), AllocError>
         requires fits { Fits rows.now.program (present (map view_of self.old.area)) }
-        requires ready { IsReady (row_steps rows.now.program) self.old.course self.old.walk (map view_of self.old.area) }
+        requires ready { IsReady (row_steps rows.now.program) self.old.course self.old.walk
+            (map view_of self.old.area) }
         requires may { MayTake (row_steps rows.now.program) self.old.course self.old.walk
             (present (map view_of self.old.area)) item }
         requires rooms { IsRoomsOf rows.now.program self.old.rooms }
         ensures fits { Fits rows.now.program (present (map view_of self.new.area)) }
         ensures rooms { IsRoomsOf rows.now.program self.new.rooms }
-        ensures ready { OnOk result (IsReady (row_steps rows.now.program) self.new.course self.new.walk
+        ensures ready { OnOk result
+            (IsReady (row_steps rows.now.program) self.new.course self.new.walk
             (map view_of self.new.area)) }
-        ensures stands { OnOk result ((root : View) (items : Items RowItem) → line ≡ line_after items
-            → StandsAt (row_steps rows.now.program) rows.now.program root items self.old.course self.old.walk
+        ensures stands { OnOk result ((root : View) (items : Items RowItem)
+            → line ≡ line_after items
+            → StandsAt (row_steps rows.now.program) rows.now.program root items self.old.course
+            self.old.walk
             (map view_of self.old.area)
-            → StandsAt (row_steps rows.now.program) rows.now.program root (items ++ item ∷ []) self.new.course self.new.walk
+            → StandsAt (row_steps rows.now.program) rows.now.program root (items
+            ++ item ∷ []) self.new.course self.new.walk
             (map view_of self.new.area)) }
     {
         match self.course {
@@ -124,18 +132,23 @@ impl Checker {
     // Takes an item that may come, before any defect.
     fn advance(&mut self, rows: &Rows, line: u64, item: &Item<Rows>) -> Result<(), AllocError>
         requires fits { Fits rows.now.program (present (map view_of self.old.area)) }
-        requires ready { Stands (row_steps rows.now.program) self.old.walk (map view_of self.old.area) }
+        requires ready { Stands (row_steps rows.now.program) self.old.walk
+            (map view_of self.old.area) }
         requires may { MayTake (row_steps rows.now.program) Course.Going self.old.walk
             (present (map view_of self.old.area)) item.now }
         requires rooms { IsRoomsOf rows.now.program self.old.rooms }
         ensures fits { Fits rows.now.program (present (map view_of self.new.area)) }
         ensures rooms { IsRoomsOf rows.now.program self.new.rooms }
-        ensures ready { OnOk result (IsReady (row_steps rows.now.program) self.new.course self.new.walk
+        ensures ready { OnOk result
+            (IsReady (row_steps rows.now.program) self.new.course self.new.walk
             (map view_of self.new.area)) }
-        ensures stands { OnOk result ((root : View) (items : Items RowItem) → line ≡ line_after items
-            → StandsAt (row_steps rows.now.program) rows.now.program root items Course.Going self.old.walk
+        ensures stands { OnOk result ((root : View) (items : Items RowItem)
+            → line ≡ line_after items
+            → StandsAt (row_steps rows.now.program) rows.now.program root items Course.Going
+            self.old.walk
             (map view_of self.old.area)
-            → StandsAt (row_steps rows.now.program) rows.now.program root (items ++ item.now ∷ []) self.new.course self.new.walk
+            → StandsAt (row_steps rows.now.program) rows.now.program root (items
+            ++ item.now ∷ []) self.new.course self.new.walk
             (map view_of self.new.area)) }
     {
         if let Some(kind) = defect_before(rows, &mut self.rooms, &self.area, item) {

@@ -73,7 +73,8 @@ pub fn check_rows<F: Shelf>(
     ensures verdict { IfOk result (λ verdict. IfSome (F.files files.old)
         (λ m. IsVerdict rows.now.program depth (file_of m name.now) verdict)) }
     ensures holds { IfOk result (YesHolds rows.now.program) }
-    ensures fault { result ≡ Err CheckStop.Fault → Rose (F.read_faults files.old) (F.read_faults files.new) }
+    ensures fault { result ≡ Err CheckStop.Fault
+        → Rose (F.read_faults files.old) (F.read_faults files.new) }
     ensures same { F.files files.new ≡ F.files files.old }
     ensures readable { F.may_read files.new ≡ F.may_read files.old }
     ensures writable { F.may_write files.new ≡ F.may_write files.old }
@@ -97,7 +98,8 @@ pub fn check_behind<F: Shelf>(
     ensures verdict { IfOk result (λ verdict. IfSome (F.files files.old)
         (λ m. IsVerdict rows.now.program depth (behind head (file_of m name.now)) verdict)) }
     ensures holds { IfOk result (YesHolds rows.now.program) }
-    ensures fault { result ≡ Err CheckStop.Fault → Rose (F.read_faults files.old) (F.read_faults files.new) }
+    ensures fault { result ≡ Err CheckStop.Fault
+        → Rose (F.read_faults files.old) (F.read_faults files.new) }
     ensures same { F.files files.new ≡ F.files files.old }
     ensures readable { F.may_read files.new ≡ F.may_read files.old }
     ensures writable { F.may_write files.new ≡ F.may_write files.old }

@@ -38,7 +38,8 @@ fn capped_defect(
     most: &i128,
     point: &[u8],
 ) -> Option<u8>
-    ensures { MatchOption result (IsWorth program.now value.now point.now × (¬ IsAbove cap most.now))
+    ensures { MatchOption result (IsWorth program.now value.now point.now
+        × (¬ IsAbove cap most.now))
         (λ kind. CappedDefect program.now cap value.now most.now point.now kind) }
 {
     let kind = point_defect(program, value, point);

@@ -62,13 +62,15 @@ impl RowRooms {
     fn turn(&mut self, slot: usize, value: u8)
         requires columns { slot < length self.old.columns.items }
         requires point { slot < length self.old.point.items }
-        requires named { All (λ cell. cell.row < length self.old.rooms.items) (column_at self.old.columns.items slot) }
+        requires named { All (λ cell. cell.row < length self.old.rooms.items)
+            (column_at self.old.columns.items slot) }
         requires small { All (λ room. unsigned_abs room ≤ 2 ^ 64) self.old.rooms.items }
         requires few { length self.old.rooms.items < 2 ^ 32 }
         requires broken { self.old.broken ≡ sum_by broken_by self.old.rooms.items }
         ensures columns { self.new.columns ≡ self.old.columns }
         ensures point { self.new.point.items ≡ slice_set self.old.point.items slot value }
-        ensures rooms { IsTurned (column_at self.old.columns.items slot) (slice_index_or self.old.point.items slot 0) value
+        ensures rooms { IsTurned (column_at self.old.columns.items slot)
+            (slice_index_or self.old.point.items slot 0) value
             self.old.rooms.items self.new.rooms.items }
         ensures broken { self.new.broken ≡ sum_by broken_by self.new.rooms.items }
     {
@@ -231,9 +233,11 @@ fn put_row(columns: &mut Vec<List<Cell>>, number: u32, entries: &[Entry]) -> Res
     ensures length { length columns.new.items ≡ length columns.old.items }
     ensures counts { OnOk result ((slot row value : ℕ) → slot < length columns.old.items
         → cells_at (column_at columns.new.items slot) row value
-        ≡ cells_at (column_at columns.old.items slot) row value +ℤ entries_in number entries.now row slot value) }
+        ≡ cells_at (column_at columns.old.items slot) row value +ℤ entries_in number entries.now
+        row slot value) }
     ensures within { OnOk result ((most : ℕ) → number < most
-        → All (All (λ cell. cell.row < most)) columns.old.items → All (All (λ cell. cell.row < most)) columns.new.items) }
+        → All (All (λ cell. cell.row < most)) columns.old.items
+        → All (All (λ cell. cell.row < most)) columns.new.items) }
 {
     for entry in entries {
         columns[entry.slot as usize].push(cell_of(number, entry))?;

@@ -55,9 +55,14 @@ impl Ahead {
         name: &str,
     ) -> Result<Option<u8>, Failed>
         requires allowed { IsTrue (F.may_read files.old name.now) }
-        requires ahead { IfSome (F.files files.old) (λ m. IsAhead (file_of m name.now) self.old.place self.old.bytes) }
-        ensures told { IfOk result (λ byte. IfSome (F.files files.old) (λ m. GivesByte (file_of m name.now) self.old self.new byte)) }
-        ensures place { IfOk result (λ byte. MatchOption byte (self.new.place ≡ self.old.place) (λ _. self.new.place ≡ self.old.place + 1)) }
+        requires ahead { IfSome (F.files files.old)
+            (λ m. IsAhead (file_of m name.now) self.old.place self.old.bytes) }
+        ensures told { IfOk result
+            (λ byte. IfSome (F.files files.old)
+            (λ m. GivesByte (file_of m name.now) self.old self.new byte)) }
+        ensures place { IfOk result
+            (λ byte. MatchOption byte (self.new.place ≡ self.old.place)
+            (λ _. self.new.place ≡ self.old.place + 1)) }
         ensures same { F.files files.new ≡ F.files files.old }
         ensures readable { F.may_read files.new ≡ F.may_read files.old }
         ensures writable { F.may_write files.new ≡ F.may_write files.old }
@@ -75,11 +80,16 @@ impl Ahead {
     // Reads on where nothing is held, and says whether something is.
     fn fill<F: Shelf>(&mut self, files: &mut F, name: &str) -> Result<bool, Failed>
         requires allowed { IsTrue (F.may_read files.old name.now) }
-        requires ahead { IfSome (F.files files.old) (λ m. IsAhead (file_of m name.now) self.old.place self.old.bytes) }
+        requires ahead { IfSome (F.files files.old)
+            (λ m. IsAhead (file_of m name.now) self.old.place self.old.bytes) }
         ensures some { IfOk result (λ more. IsTrue more ↔ (0 < length self.new.bytes)) }
         ensures place { self.new.place ≡ self.old.place }
-        ensures told { IfOk result (λ more. IfSome (F.files files.old) (λ m. IsAhead (file_of m name.now) self.new.place self.new.bytes)) }
-        ensures at_end { IfOk result (λ more. IfSome (F.files files.old) (λ m. more ≡ false → length (file_of m name.now) ≤ self.old.place)) }
+        ensures told { IfOk result
+            (λ more. IfSome (F.files files.old)
+            (λ m. IsAhead (file_of m name.now) self.new.place self.new.bytes)) }
+        ensures at_end { IfOk result
+            (λ more. IfSome (F.files files.old)
+            (λ m. more ≡ false → length (file_of m name.now) ≤ self.old.place)) }
         ensures same { F.files files.new ≡ F.files files.old }
         ensures readable { F.may_read files.new ≡ F.may_read files.old }
         ensures writable { F.may_write files.new ≡ F.may_write files.old }

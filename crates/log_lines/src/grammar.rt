@@ -95,7 +95,9 @@ impl Grammar {
     /// a defect or want of memory the grammar is as before.
     pub fn take(&mut self, limits: &Limits, line: &Line) -> Result<Option<u8>, AllocError>
         ensures kind { IfOk result (λ kind. kind ≡ line_defect limits.now self.old line.now) }
-        ensures moves { IfOk result (λ kind. MatchOption kind (next self.old line.now ≡ Some self.new) (λ _. self.new ≡ self.old)) }
+        ensures moves { IfOk result
+            (λ kind. MatchOption kind (next self.old line.now ≡ Some self.new)
+            (λ _. self.new ≡ self.old)) }
         ensures err { OnErr result (self.new ≡ self.old) }
     {
         match step_of(self.version, self.place, line) {

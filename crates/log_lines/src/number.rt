@@ -18,7 +18,9 @@ pub(crate) fn read_natural(word: &[u8]) -> Option<u128>
 
 // The number that the word is; it may have a minus, which a zero has not.
 pub(crate) fn read_signed(word: &[u8]) -> Option<i128>
-    ensures { MatchOption result ((number : ℤ) → IsShort number → word.now ≢ signed_decimal number) (λ number. IsShort number × (word.now ≡ signed_decimal number)) }
+    ensures { MatchOption result ((number : ℤ) → IsShort number
+        → word.now ≢ signed_decimal number)
+        (λ number. IsShort number × (word.now ≡ signed_decimal number)) }
 {
     match word {
         [b'-', digits @ ..] => read_negative(digits),
@@ -31,7 +33,9 @@ pub(crate) fn read_signed(word: &[u8]) -> Option<i128>
 
 // The number that a minus and the digits are.
 fn read_negative(digits: &[u8]) -> Option<i128>
-    ensures { MatchOption result ((number : ℤ) → IsShort number → 45 ∷ digits.now ≢ signed_decimal number) (λ number. IsShort number × (45 ∷ digits.now ≡ signed_decimal number)) }
+    ensures { MatchOption result ((number : ℤ) → IsShort number
+        → 45 ∷ digits.now ≢ signed_decimal number)
+        (λ number. IsShort number × (45 ∷ digits.now ≡ signed_decimal number)) }
 {
     match read_natural(digits) {
         Some(number) => {

@@ -17,7 +17,8 @@ pub(crate) fn natural(text: &[u8]) -> Option<u128>
 
 // Two numbers without sign.
 pub(crate) fn pair(text: &[u8]) -> Option<(u128, u128)>
-    ensures { Reads (false ∷ false ∷ []) text.now (option_map (λ read. pos read.0 ∷ pos read.1 ∷ []) result) }
+    ensures { Reads (false ∷ false ∷ []) text.now (option_map
+        (λ read. pos read.0 ∷ pos read.1 ∷ []) result) }
 {
     match first_natural(text) {
         Some((number, rest)) => match natural(rest) {
@@ -30,7 +31,8 @@ pub(crate) fn pair(text: &[u8]) -> Option<(u128, u128)>
 
 // Three numbers without sign.
 fn three(text: &[u8]) -> Option<(u128, u128, u128)>
-    ensures { Reads (false ∷ false ∷ false ∷ []) text.now (option_map (λ read. pos read.0 ∷ pos read.1 ∷ pos read.2 ∷ []) result) }
+    ensures { Reads (false ∷ false ∷ false ∷ []) text.now (option_map
+        (λ read. pos read.0 ∷ pos read.1 ∷ pos read.2 ∷ []) result) }
 {
     match first_natural(text) {
         Some((number, rest)) => match pair(rest) {
@@ -67,7 +69,8 @@ pub(crate) fn signed(text: &[u8]) -> Option<i128>
 
 // A number, and one without sign.
 pub(crate) fn signed_pair(text: &[u8]) -> Option<(i128, u128)>
-    ensures { Reads (true ∷ false ∷ []) text.now (option_map (λ read. read.0 ∷ pos read.1 ∷ []) result) }
+    ensures { Reads (true ∷ false ∷ []) text.now (option_map
+        (λ read. read.0 ∷ pos read.1 ∷ []) result) }
 {
     match first_signed(text) {
         Some((number, rest)) => match natural(rest) {
@@ -80,7 +83,8 @@ pub(crate) fn signed_pair(text: &[u8]) -> Option<(i128, u128)>
 
 // Two numbers, and one without sign.
 pub(crate) fn signed_three(text: &[u8]) -> Option<(i128, i128, u128)>
-    ensures { Reads (true ∷ true ∷ false ∷ []) text.now (option_map (λ read. read.0 ∷ read.1 ∷ pos read.2 ∷ []) result) }
+    ensures { Reads (true ∷ true ∷ false ∷ []) text.now (option_map
+        (λ read. read.0 ∷ read.1 ∷ pos read.2 ∷ []) result) }
 {
     match first_signed(text) {
         Some((number, rest)) => match signed_pair(rest) {

@@ -18,10 +18,14 @@ pub(crate) fn read_part<F: Shelf>(
 ) -> Result<(LineEnd, usize), Failed>
     requires room { length part.old ≡ 200 }
     requires allowed { IsTrue (F.may_read files.old name.now) }
-    requires ahead { IfSome (F.files files.old) (λ m. IsAhead (file_of m name.now) ahead.old.place ahead.old.bytes) }
+    requires ahead { IfSome (F.files files.old)
+        (λ m. IsAhead (file_of m name.now) ahead.old.place ahead.old.bytes) }
     ensures most { IfOk result (λ read. read.1 ≤ 200) }
-    ensures told { IfOk result (λ read. IfSome (F.files files.old) (λ m. EndsPart (file_of m name.now) ahead.old.place ahead.new (take read.1 part.new) read.0)) }
-    ensures part { IfOk result (λ read. IsPart ahead.old.place ahead.new.place (take read.1 part.new) read.0) }
+    ensures told { IfOk result (λ read. IfSome (F.files files.old)
+        (λ m. EndsPart (file_of m name.now) ahead.old.place ahead.new (take read.1 part.new)
+        read.0)) }
+    ensures part { IfOk result (λ read. IsPart ahead.old.place ahead.new.place
+        (take read.1 part.new) read.0) }
     ensures same { F.files files.new ≡ F.files files.old }
     ensures readable { F.may_read files.new ≡ F.may_read files.old }
     ensures writable { F.may_write files.new ≡ F.may_write files.old }

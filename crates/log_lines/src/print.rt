@@ -76,7 +76,8 @@ fn put(
     naturals: &[u128],
     text: &mut Vec<u8>,
 ) -> Result<(), AllocError>
-    ensures { OnOk result (text.new.items ≡ text.old.items ++ (name.now ++ number_text (signed.now ++ map pos naturals.now))) }
+    ensures { OnOk result (text.new.items
+        ≡ text.old.items ++ (name.now ++ number_text (signed.now ++ map pos naturals.now))) }
 {
     text.extend_from_slice(name)?;
     put_signed(alloc, signed, text)?;
@@ -86,7 +87,8 @@ fn put(
 
 // Appends numbers, each after a blank.
 fn put_signed(alloc: Global, numbers: &[i128], text: &mut Vec<u8>) -> Result<(), AllocError>
-    ensures { OnOk result (text.new.items ≡ text.old.items ++ flat_map (λ number. 32 ∷ signed_decimal number) numbers.now) }
+    ensures { OnOk result (text.new.items ≡ text.old.items ++ flat_map
+        (λ number. 32 ∷ signed_decimal number) numbers.now) }
 {
     for number in numbers {
         put_one_signed(alloc, number, text)?;
@@ -96,7 +98,8 @@ fn put_signed(alloc: Global, numbers: &[i128], text: &mut Vec<u8>) -> Result<(),
 
 // Appends numbers without sign, each after a blank.
 fn put_naturals(alloc: Global, numbers: &[u128], text: &mut Vec<u8>) -> Result<(), AllocError>
-    ensures { OnOk result (text.new.items ≡ text.old.items ++ flat_map (λ number. 32 ∷ decimal number) numbers.now) }
+    ensures { OnOk result (text.new.items ≡ text.old.items ++ flat_map
+        (λ number. 32 ∷ decimal number) numbers.now) }
 {
     for number in numbers {
         put_one_natural(alloc, *number, text)?;

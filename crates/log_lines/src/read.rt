@@ -13,7 +13,8 @@ use crate::numbers::{cut_word, four, natural, pair, signed, signed_pair, signed_
 
 /// The line that the bytes are, without a line feed; None exactly where they are no line. It takes no memory.
 pub fn read_line(bytes: &[u8]) -> Option<Line>
-    ensures is { MatchOption result ((line : Line) → IsLine line → line_text line ≢ bytes.now) (λ line. IsLine line × (line_text line ≡ bytes.now)) }
+    ensures is { MatchOption result ((line : Line) → IsLine line → line_text line ≢ bytes.now)
+        (λ line. IsLine line × (line_text line ≡ bytes.now)) }
     ensures said { result ≡ line_said bytes.now }
 {
     read(bytes)
@@ -21,7 +22,8 @@ pub fn read_line(bytes: &[u8]) -> Option<Line>
 
 // The same.
 fn read(bytes: &[u8]) -> Option<Line>
-    ensures { MatchOption result ((line : Line) → IsLine line → line_text line ≢ bytes.now) (λ line. IsLine line × (line_text line ≡ bytes.now)) }
+    ensures { MatchOption result ((line : Line) → IsLine line → line_text line ≢ bytes.now)
+        (λ line. IsLine line × (line_text line ≡ bytes.now)) }
 {
     let (name, rest) = cut_name(bytes);
     match form_of(name) {

@@ -75,8 +75,11 @@ impl LineReader {
     pub fn next<F: Shelf>(&mut self, files: &mut F, name: &str) -> Result<LineEnd, Failed>
         requires open { self.old.ended ≡ false }
         requires allowed { IsTrue (F.may_read files.old name.now) }
-        requires ahead { IfSome (F.files files.old) (λ m. IsAhead (file_of m name.now) self.old.place self.old.ahead) }
-        ensures told { IfOk result (λ end. IfSome (F.files files.old) (λ m. EndsLine (file_of m name.now) self.old self.new end)) }
+        requires ahead { IfSome (F.files files.old)
+            (λ m. IsAhead (file_of m name.now) self.old.place self.old.ahead) }
+        ensures told { IfOk result
+            (λ end. IfSome (F.files files.old)
+            (λ m. EndsLine (file_of m name.now) self.old self.new end)) }
         ensures end { IfOk result (λ end. IsEnd self.old self.new end) }
         ensures failed { OnErr result (self.new.ended ≡ true) }
         ensures as_before { OnErr result (self.new.line ≡ self.old.line) }

@@ -39,11 +39,13 @@ pub(crate) fn check_parts<F: Shelf>(
     requires least { 1 ≤ levels }
     requires most { levels ≤ 8 }
     requires slots { levels ≤ length (slots plant.now) }
-    requires allowed { (part : ℕ) → part < 2 ^ levels → IsTrue (F.may_read files.old (log_name stem.now part)) }
+    requires allowed { (part : ℕ) → part < 2 ^ levels
+        → IsTrue (F.may_read files.old (log_name stem.now part)) }
     ensures checked { IfOk result (λ said. IfSome (F.files files.old)
         (λ m. AreChecked plant.now levels (logs_of m stem.now) said)) }
     ensures says { IfOk result (AllSay plant.now levels) }
-    ensures fault { result ≡ Err CheckStop.Fault → Rose (F.read_faults files.old) (F.read_faults files.new) }
+    ensures fault { result ≡ Err CheckStop.Fault
+        → Rose (F.read_faults files.old) (F.read_faults files.new) }
     ensures same { F.files files.new ≡ F.files files.old }
     ensures readable { F.may_read files.new ≡ F.may_read files.old }
     ensures writable { F.may_write files.new ≡ F.may_write files.old }
@@ -78,7 +80,8 @@ fn check_log<F: Shelf>(
     ensures checked { IfOk result (λ verdict. IfSome (F.files files.old)
         (λ m. IsPartVerdict plant.now levels part (logs_of m stem.now part) verdict)) }
     ensures says { IfOk result (IfYes (SaysOf plant.now (IsOfPart plant.now levels part))) }
-    ensures fault { result ≡ Err CheckStop.Fault → Rose (F.read_faults files.old) (F.read_faults files.new) }
+    ensures fault { result ≡ Err CheckStop.Fault
+        → Rose (F.read_faults files.old) (F.read_faults files.new) }
     ensures same { F.files files.new ≡ F.files files.old }
     ensures readable { F.may_read files.new ≡ F.may_read files.old }
     ensures writable { F.may_write files.new ≡ F.may_write files.old }

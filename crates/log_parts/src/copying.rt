@@ -20,9 +20,11 @@ pub(crate) fn put_item<F: Shelf>(
     item: &Item<Rows>,
 ) -> Result<(), JoinStop>
     requires { IsTrue (F.may_write files.old (name_of writer.old)) }
-    ensures ok { OnOk result ((items : Items RowItem) → HasItems writer.old (F.files files.old) items
+    ensures ok { OnOk result ((items : Items RowItem)
+        → HasItems writer.old (F.files files.old) items
         → HasItems writer.new (F.files files.new) (items ++ item.now ∷ [])) }
-    ensures err { OnErr result ((items : Items RowItem) → HasItems writer.old (F.files files.old) items
+    ensures err { OnErr result ((items : Items RowItem)
+        → HasItems writer.old (F.files files.old) items
         → IsBegun (name_of writer.old) (F.files files.new) (items ++ item.now ∷ [])) }
     ensures named { name_of writer.new ≡ name_of writer.old }
     ensures others { OthersStay (name_of writer.old) (F.files files.old) (F.files files.new) }
@@ -30,7 +32,8 @@ pub(crate) fn put_item<F: Shelf>(
     ensures writable { F.may_write files.new ≡ F.may_write files.old }
     ensures reads { F.read_faults files.new ≡ F.read_faults files.old }
     ensures writes { F.write_faults files.old ≤ F.write_faults files.new }
-    ensures write_fault { result ≡ Err JoinStop.WriteFault → Rose (F.write_faults files.old) (F.write_faults files.new) }
+    ensures write_fault { result ≡ Err JoinStop.WriteFault
+        → Rose (F.write_faults files.old) (F.write_faults files.new) }
     ensures no_fault { result ≢ Err JoinStop.ReadFault }
 {
     match writer.put(files, item) {
@@ -61,16 +64,20 @@ pub(crate) fn copy_log<F: Shelf>(
     requires may_read { IsTrue (F.may_read files.old name.now) }
     requires may_write { IsTrue (F.may_write files.old (name_of writer.old)) }
     requires apart { name_of writer.old ≢ name.now }
-    ensures copied { IfOk result (HasCopied limits name.now (F.files files.old) writer.old (F.files files.new) writer.new) }
-    ensures err { OnErr result (HasBrokenOff limits name.now (F.files files.old) writer.old (F.files files.new)) }
+    ensures copied { IfOk result
+        (HasCopied limits name.now (F.files files.old) writer.old (F.files files.new) writer.new) }
+    ensures err { OnErr result (HasBrokenOff limits name.now (F.files files.old) writer.old
+        (F.files files.new)) }
     ensures named { name_of writer.new ≡ name_of writer.old }
     ensures others { OthersStay (name_of writer.old) (F.files files.old) (F.files files.new) }
     ensures readable { F.may_read files.new ≡ F.may_read files.old }
     ensures writable { F.may_write files.new ≡ F.may_write files.old }
     ensures reads { F.read_faults files.old ≤ F.read_faults files.new }
     ensures writes { F.write_faults files.old ≤ F.write_faults files.new }
-    ensures read_fault { result ≡ Err JoinStop.ReadFault → Rose (F.read_faults files.old) (F.read_faults files.new) }
-    ensures write_fault { result ≡ Err JoinStop.WriteFault → Rose (F.write_faults files.old) (F.write_faults files.new) }
+    ensures read_fault { result ≡ Err JoinStop.ReadFault
+        → Rose (F.read_faults files.old) (F.read_faults files.new) }
+    ensures write_fault { result ≡ Err JoinStop.WriteFault
+        → Rose (F.write_faults files.old) (F.write_faults files.new) }
 {
     let mut reader = LogReader::begin(alloc, limits)?;
     'parts: for _ in 0..u64::MAX {

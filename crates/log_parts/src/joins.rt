@@ -89,19 +89,25 @@ pub fn join<F: Shelf>(
     requires least { 1 ≤ levels }
     requires most { levels ≤ 8 }
     requires slots { levels ≤ length (slots plant.now) }
-    requires may_read { (part : ℕ) → part < 2 ^ levels → IsTrue (F.may_read files.old (log_name stem.now part)) }
+    requires may_read { (part : ℕ) → part < 2 ^ levels
+        → IsTrue (F.may_read files.old (log_name stem.now part)) }
     requires may_write { IsTrue (F.may_write files.old name.now) }
     requires apart { (part : ℕ) → part < 2 ^ levels → name.now ≢ log_name stem.now part }
-    ensures joined { IfOk result (IsJoiningIn plant.now levels stem.now name.now (F.files files.old) (F.files files.new)) }
+    ensures joined { IfOk result
+        (IsJoiningIn plant.now levels stem.now name.now (F.files files.old) (F.files files.new)) }
 
     // What the joined claim says holds of all plans, whether the files are told or not.
     ensures says { IfOk result (JoinSays plant.now) }
     ensures kept { IfOk result (λ said. IsNo said → F.files files.new ≡ F.files files.old) }
-    ensures err { OnErr result (LeavesJoin plant.now levels stem.now name.now (F.files files.old) (F.files files.new)) }
+    ensures err { OnErr result (LeavesJoin plant.now levels stem.now name.now
+        (F.files files.old) (F.files files.new)) }
     ensures others { OthersStay name.now (F.files files.old) (F.files files.new) }
-    ensures read_fault { result ≡ Err JoinStop.ReadFault → Rose (F.read_faults files.old) (F.read_faults files.new) }
-    ensures write_fault { result ≡ Err JoinStop.WriteFault → Rose (F.write_faults files.old) (F.write_faults files.new) }
-    ensures written { result ≡ Err JoinStop.WriteFault → AllAreValid plant.now levels stem.now (F.files files.old) }
+    ensures read_fault { result ≡ Err JoinStop.ReadFault
+        → Rose (F.read_faults files.old) (F.read_faults files.new) }
+    ensures write_fault { result ≡ Err JoinStop.WriteFault
+        → Rose (F.write_faults files.old) (F.write_faults files.new) }
+    ensures written { result ≡ Err JoinStop.WriteFault
+        → AllAreValid plant.now levels stem.now (F.files files.old) }
     ensures readable { F.may_read files.new ≡ F.may_read files.old }
     ensures writable { F.may_write files.new ≡ F.may_write files.old }
     ensures reads { F.read_faults files.old ≤ F.read_faults files.new }

@@ -70,9 +70,11 @@ fn open_split<F: Shelf>(
     files: &mut F,
 ) -> Result<(), JoinStop>
     requires { IsTrue (F.may_write files.old (name_of writer.old)) }
-    ensures ok { OnOk result ((items : Items RowItem) → HasItems writer.old (F.files files.old) items
+    ensures ok { OnOk result ((items : Items RowItem)
+        → HasItems writer.old (F.files files.old) items
         → HasItems writer.new (F.files files.new) (items ++ split_items slot)) }
-    ensures err { OnErr result ((items : Items RowItem) → HasItems writer.old (F.files files.old) items
+    ensures err { OnErr result ((items : Items RowItem)
+        → HasItems writer.old (F.files files.old) items
         → IsBegun (name_of writer.old) (F.files files.new) (items ++ split_items slot)) }
     ensures named { name_of writer.new ≡ name_of writer.old }
     ensures others { OthersStay (name_of writer.old) (F.files files.old) (F.files files.new) }
@@ -80,7 +82,8 @@ fn open_split<F: Shelf>(
     ensures writable { F.may_write files.new ≡ F.may_write files.old }
     ensures reads { F.read_faults files.new ≡ F.read_faults files.old }
     ensures writes { F.write_faults files.old ≤ F.write_faults files.new }
-    ensures write_fault { result ≡ Err JoinStop.WriteFault → Rose (F.write_faults files.old) (F.write_faults files.new) }
+    ensures write_fault { result ≡ Err JoinStop.WriteFault
+        → Rose (F.write_faults files.old) (F.write_faults files.new) }
     ensures no_fault { result ≢ Err JoinStop.ReadFault }
 {
     put_item(writer, files, &Item::Node)?;
@@ -100,9 +103,12 @@ fn copy_part<F: Shelf>(
     requires may_read { IsTrue (F.may_read files.old (log_name logs.stem.now part)) }
     requires may_write { IsTrue (F.may_write files.old (name_of writer.old)) }
     requires apart { name_of writer.old ≢ log_name logs.stem.now part }
-    ensures joined { IfOk result (HasJoined logs.entry.limits (2 ^ logs.entry.levels) logs.entry.stem.now
-        (items_over logs.entry.levels 0 part) (F.files files.old) writer.old (F.files files.new) writer.new) }
-    ensures err { OnErr result (HasJoinBroken logs.entry.limits (2 ^ logs.entry.levels) logs.entry.stem.now
+    ensures joined { IfOk result
+        (HasJoined logs.entry.limits (2 ^ logs.entry.levels) logs.entry.stem.now
+        (items_over logs.entry.levels 0 part) (F.files files.old) writer.old (F.files files.new)
+        writer.new) }
+    ensures err { OnErr result (HasJoinBroken logs.entry.limits (2 ^ logs.entry.levels)
+        logs.entry.stem.now
         (items_over logs.entry.levels 0 part) (F.files files.old) writer.old (F.files files.new)) }
     ensures named { name_of writer.new ≡ name_of writer.old }
     ensures others { OthersStay (name_of writer.old) (F.files files.old) (F.files files.new) }
@@ -110,8 +116,10 @@ fn copy_part<F: Shelf>(
     ensures writable { F.may_write files.new ≡ F.may_write files.old }
     ensures reads { F.read_faults files.old ≤ F.read_faults files.new }
     ensures writes { F.write_faults files.old ≤ F.write_faults files.new }
-    ensures read_fault { result ≡ Err JoinStop.ReadFault → Rose (F.read_faults files.old) (F.read_faults files.new) }
-    ensures write_fault { result ≡ Err JoinStop.WriteFault → Rose (F.write_faults files.old) (F.write_faults files.new) }
+    ensures read_fault { result ≡ Err JoinStop.ReadFault
+        → Rose (F.read_faults files.old) (F.read_faults files.new) }
+    ensures write_fault { result ≡ Err JoinStop.WriteFault
+        → Rose (F.write_faults files.old) (F.write_faults files.new) }
 {
     let name = log_name(alloc, logs.stem, part)?;
     match copy_log(alloc, logs.limits, writer, files, name.as_str())? {
@@ -127,7 +135,8 @@ fn right_part(levels: u32, slot: u32, part: u32) -> u32
     requires part { part + 2 ^ (levels - slot) ≤ 2 ^ levels }
     ensures right { result ≡ part + 2 ^ (levels - (slot + 1)) }
     ensures left_within { part + 2 ^ (levels - (slot + 1)) ≤ 2 ^ levels }
-    ensures right_within { part + 2 ^ (levels - (slot + 1)) + 2 ^ (levels - (slot + 1)) ≤ 2 ^ levels }
+    ensures right_within { part + 2 ^ (levels - (slot + 1)) + 2 ^ (levels - (slot + 1))
+        ≤ 2 ^ levels }
     ensures one_less { levels - slot ≡ suc (levels - (slot + 1)) }
 {
     part + (1 << (levels - (slot + 1)))
@@ -146,21 +155,28 @@ fn write_tree<F: Shelf>(
     requires most { logs.levels ≤ 8 }
     requires slot { slot ≤ logs.levels }
     requires part { part + 2 ^ (logs.levels - slot) ≤ 2 ^ logs.levels }
-    requires may_read { (p : ℕ) → p < 2 ^ logs.levels → IsTrue (F.may_read files.old (log_name logs.stem.now p)) }
+    requires may_read { (p : ℕ) → p < 2 ^ logs.levels
+        → IsTrue (F.may_read files.old (log_name logs.stem.now p)) }
     requires may_write { IsTrue (F.may_write files.old (name_of writer.old)) }
     requires apart { (p : ℕ) → p < 2 ^ logs.levels → name_of writer.old ≢ log_name logs.stem.now p }
-    ensures joined { IfOk result (HasJoined logs.entry.limits (2 ^ logs.entry.levels) logs.entry.stem.now
-        (items_over slot (logs.entry.levels - slot) part) (F.files files.old) writer.old (F.files files.new) writer.new) }
-    ensures err { OnErr result (HasJoinBroken logs.entry.limits (2 ^ logs.entry.levels) logs.entry.stem.now
-        (items_over slot (logs.entry.levels - slot) part) (F.files files.old) writer.old (F.files files.new)) }
+    ensures joined { IfOk result
+        (HasJoined logs.entry.limits (2 ^ logs.entry.levels) logs.entry.stem.now
+        (items_over slot (logs.entry.levels - slot) part) (F.files files.old) writer.old
+        (F.files files.new) writer.new) }
+    ensures err { OnErr result (HasJoinBroken logs.entry.limits (2 ^ logs.entry.levels)
+        logs.entry.stem.now
+        (items_over slot (logs.entry.levels - slot) part) (F.files files.old) writer.old
+        (F.files files.new)) }
     ensures named { name_of writer.new ≡ name_of writer.old }
     ensures others { OthersStay (name_of writer.old) (F.files files.old) (F.files files.new) }
     ensures readable { F.may_read files.new ≡ F.may_read files.old }
     ensures writable { F.may_write files.new ≡ F.may_write files.old }
     ensures reads { F.read_faults files.old ≤ F.read_faults files.new }
     ensures writes { F.write_faults files.old ≤ F.write_faults files.new }
-    ensures read_fault { result ≡ Err JoinStop.ReadFault → Rose (F.read_faults files.old) (F.read_faults files.new) }
-    ensures write_fault { result ≡ Err JoinStop.WriteFault → Rose (F.write_faults files.old) (F.write_faults files.new) }
+    ensures read_fault { result ≡ Err JoinStop.ReadFault
+        → Rose (F.read_faults files.old) (F.read_faults files.new) }
+    ensures write_fault { result ≡ Err JoinStop.WriteFault
+        → Rose (F.write_faults files.old) (F.write_faults files.new) }
 {
     if slot == logs.levels {
         return copy_part(alloc, logs, part, writer, files);
@@ -209,7 +225,8 @@ fn begin_log<F: Shelf>(alloc: Global, files: &mut F, name: &str) -> Result<LogWr
     ensures writable { F.may_write files.new ≡ F.may_write files.old }
     ensures reads { F.read_faults files.new ≡ F.read_faults files.old }
     ensures writes { F.write_faults files.old ≤ F.write_faults files.new }
-    ensures write_fault { result ≡ Err JoinStop.WriteFault → Rose (F.write_faults files.old) (F.write_faults files.new) }
+    ensures write_fault { result ≡ Err JoinStop.WriteFault
+        → Rose (F.write_faults files.old) (F.write_faults files.new) }
     ensures no_fault { result ≢ Err JoinStop.ReadFault }
 {
     match LogWriter::begin(alloc, files, name) {
@@ -230,7 +247,8 @@ fn finish_log<F: Shelf>(writer: LogWriter, files: &mut F, claim: &Claim) -> Resu
     ensures writable { F.may_write files.new ≡ F.may_write files.old }
     ensures reads { F.read_faults files.new ≡ F.read_faults files.old }
     ensures writes { F.write_faults files.old ≤ F.write_faults files.new }
-    ensures write_fault { result ≡ Err JoinStop.WriteFault → Rose (F.write_faults files.old) (F.write_faults files.new) }
+    ensures write_fault { result ≡ Err JoinStop.WriteFault
+        → Rose (F.write_faults files.old) (F.write_faults files.new) }
     ensures no_fault { result ≢ Err JoinStop.ReadFault }
 {
     match writer.finish(files, claim) {
@@ -251,21 +269,26 @@ pub(crate) fn write_joined<F: Shelf>(
 ) -> Result<Joined, JoinStop>
     requires sound { Sound plant.now }
     requires most { levels ≤ 8 }
-    requires may_read { (part : ℕ) → part < 2 ^ levels → IsTrue (F.may_read files.old (log_name stem.now part)) }
+    requires may_read { (part : ℕ) → part < 2 ^ levels
+        → IsTrue (F.may_read files.old (log_name stem.now part)) }
     requires may_write { IsTrue (F.may_write files.old name.now) }
     requires apart { (part : ℕ) → part < 2 ^ levels → name.now ≢ log_name stem.now part }
-    ensures written { IfOk result (HasWritten (part_limits plant.now levels) levels stem.now name.now claim
+    ensures written { IfOk result
+        (HasWritten (part_limits plant.now levels) levels stem.now name.now claim
         (F.files files.old) (F.files files.new)) }
     ensures claim { IfOk result (IsClaim claim) }
-    ensures err { OnErr result (HasLeft (part_limits plant.now levels) levels stem.now name.now claim
+    ensures err { OnErr result (HasLeft (part_limits plant.now levels) levels stem.now name.now
+        claim
         (F.files files.old) (F.files files.new)) }
     ensures others { OthersStay name.now (F.files files.old) (F.files files.new) }
     ensures readable { F.may_read files.new ≡ F.may_read files.old }
     ensures writable { F.may_write files.new ≡ F.may_write files.old }
     ensures reads { F.read_faults files.old ≤ F.read_faults files.new }
     ensures writes { F.write_faults files.old ≤ F.write_faults files.new }
-    ensures read_fault { result ≡ Err JoinStop.ReadFault → Rose (F.read_faults files.old) (F.read_faults files.new) }
-    ensures write_fault { result ≡ Err JoinStop.WriteFault → Rose (F.write_faults files.old) (F.write_faults files.new) }
+    ensures read_fault { result ≡ Err JoinStop.ReadFault
+        → Rose (F.read_faults files.old) (F.read_faults files.new) }
+    ensures write_fault { result ≡ Err JoinStop.WriteFault
+        → Rose (F.write_faults files.old) (F.write_faults files.new) }
 {
     let limits = limits_of(alloc, plant, levels)?;
     let mut writer = begin_log(alloc, files, name)?;

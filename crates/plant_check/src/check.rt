@@ -32,7 +32,8 @@ pub fn check_stream<F: Shelf>(
 
     // What the claim of a yes says holds of all plans, whether the files are told or not.
     ensures says { IfOk result (YesSays plant.now) }
-    ensures fault { result ≡ Err CheckStop.Fault → Rose (F.read_faults files.old) (F.read_faults files.new) }
+    ensures fault { result ≡ Err CheckStop.Fault
+        → Rose (F.read_faults files.old) (F.read_faults files.new) }
     ensures same { F.files files.new ≡ F.files files.old }
     ensures readable { F.may_read files.new ≡ F.may_read files.old }
     ensures writable { F.may_write files.new ≡ F.may_write files.old }

@@ -32,7 +32,8 @@ pub fn check_log(
         (log_text log.now.version (tree_items (tree_of log.now.tree)) log.now.claim)) }
 
     // Over the rows' slots, and without a text defect, the answer is that on this very proof and claim.
-    ensures meant { IsLogOver (length rows.now.program.root) log.now.version (tree_of log.now.tree) log.now.claim
+    ensures meant { IsLogOver (length rows.now.program.root) log.now.version
+        (tree_of log.now.tree) log.now.claim
         → log_text_defect (limits_of rows.now.program 4608)
         (log_text log.now.version (tree_items (tree_of log.now.tree)) log.now.claim) ≡ None
         → IfOk result (IsVerdictOn rows.now.program (tree_of log.now.tree) log.now.claim) }

@@ -12,7 +12,8 @@ use std::alloc::{AllocError, Global};
 
 /// Appends the lines of the claim and the end of its log. After an error `into` is as before.
 pub fn put_claim(alloc: Global, claim: &Claim, into: &mut Vec<u8>) -> Result<(), AllocError>
-    ensures ok { OnOk result (into.new.items ≡ into.old.items ++ lines_text (claim_lines claim.now ++ Line.End ∷ [])) }
+    ensures ok { OnOk result (into.new.items
+        ≡ into.old.items ++ lines_text (claim_lines claim.now ++ Line.End ∷ [])) }
     ensures err { OnErr result (into.new.items ≡ into.old.items) }
 
     // Behind the lines of a proof that makes the text of a log.
@@ -32,7 +33,8 @@ pub(crate) fn append_rest(
     claim: &Claim,
     into: &mut Vec<u8>,
 ) -> Result<(), AllocError>
-    ensures { OnOk result (into.new.items ≡ into.old.items ++ lines_text (claim_lines claim.now ++ Line.End ∷ [])) }
+    ensures { OnOk result (into.new.items
+        ≡ into.old.items ++ lines_text (claim_lines claim.now ++ Line.End ∷ [])) }
 {
     append_claim(alloc, claim, into)?;
     put_line(alloc, &Line::End, into)
@@ -62,7 +64,8 @@ fn put_optimal(
     into: &mut Vec<u8>,
 ) -> Result<(), AllocError>
     ensures { OnOk result (into.new.items
-        ≡ into.old.items ++ lines_text (Line.ClaimOptimal profit.now (started point.now) ∷ value_lines 0 point.now)) }
+        ≡ into.old.items ++ lines_text
+        (Line.ClaimOptimal profit.now (started point.now) ∷ value_lines 0 point.now)) }
 {
     let count = started(point);
     let profit = *profit;
@@ -80,7 +83,8 @@ fn put_between(
     into: &mut Vec<u8>,
 ) -> Result<(), AllocError>
     ensures { OnOk result (into.new.items
-        ≡ into.old.items ++ lines_text (Line.ClaimBetween profit.now cap.now (started point.now) ∷ value_lines 0 point.now)) }
+        ≡ into.old.items ++ lines_text
+        (Line.ClaimBetween profit.now cap.now (started point.now) ∷ value_lines 0 point.now)) }
 {
     let count = started(point);
     let profit = *profit;

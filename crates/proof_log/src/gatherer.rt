@@ -61,7 +61,8 @@ impl Gatherer {
     /// A gatherer that has taken the first line of a log of version 2.
     pub(crate) fn headed(alloc: Global, limits: Limits) -> Result<Gatherer, AllocError>
         ensures limits { IfOk result (λ gatherer. gatherer.limits ≡ limits) }
-        ensures grammar { IfOk result (λ gatherer. next new_standing (AnyLine.Header 2) ≡ Some gatherer.grammar) }
+        ensures grammar { IfOk result
+            (λ gatherer. next new_standing (AnyLine.Header 2) ≡ Some gatherer.grammar) }
         ensures gathered { IfOk result (HasGathered (AnyLine.Header 2 ∷ []) [] None) }
     {
         let mut grammar = Grammar::new(alloc);
@@ -81,9 +82,12 @@ impl Gatherer {
         requires gathered { (lines : Items AnyLine) × (items : Items RowItem) × (claim : _)
             × HasGathered lines items claim self.old }
         ensures limits { self.new.limits ≡ self.old.limits }
-        ensures moves { IfOk result (λ gathered. MovesAs self.old.limits self.old.grammar line self.new.grammar gathered) }
-        ensures made { IfOk result (λ gathered. (lines : Items AnyLine) (items : Items RowItem) (claim : _)
-            → HasGathered lines items claim self.old → HasMade (lines ++ line ∷ []) items claim self.new gathered) }
+        ensures moves { IfOk result
+            (λ gathered. MovesAs self.old.limits self.old.grammar line self.new.grammar gathered) }
+        ensures made { IfOk result
+            (λ gathered. (lines : Items AnyLine) (items : Items RowItem) (claim : _)
+            → HasGathered lines items claim self.old
+            → HasMade (lines ++ line ∷ []) items claim self.new gathered) }
     {
         // No log has as many lines.
         if self.number >= u64::MAX - 1 {
@@ -101,13 +105,17 @@ impl Gatherer {
     // Takes a line that the grammar has taken. The header and the end line make nothing.
     fn go_on(&mut self, alloc: Global, line: Line) -> Result<Gathered, AllocError>
         requires room { self.old.number + 1 < 2 ^ 64 }
-        requires comes { (before : Standing) × (lines : Items AnyLine) × (items : Items RowItem) × (claim : _)
+        requires comes { (before : Standing) × (lines : Items AnyLine)
+            × (items : Items RowItem) × (claim : _)
             × LineComes before lines items claim line self.old }
         ensures limits { self.new.limits ≡ self.old.limits }
         ensures grammar { self.new.grammar ≡ self.old.grammar }
         ensures good { IfOk result IsGood }
-        ensures made { IfOk result (λ gathered. (before : Standing) (lines : Items AnyLine) (items : Items RowItem) (claim : _)
-            → LineComes before lines items claim line self.old → HasMade (lines ++ line ∷ []) items claim self.new gathered) }
+        ensures made { IfOk result
+            (λ gathered. (before : Standing) (lines : Items AnyLine) (items : Items RowItem)
+            (claim : _)
+            → LineComes before lines items claim line self.old
+            → HasMade (lines ++ line ∷ []) items claim self.new gathered) }
     {
         if is_body(line) {
             return self.gather(alloc, line);
@@ -119,13 +127,17 @@ impl Gatherer {
     fn gather(&mut self, alloc: Global, line: Line) -> Result<Gathered, AllocError>
         requires body { IsBody line }
         requires room { self.old.number + 1 < 2 ^ 64 }
-        requires comes { (before : Standing) × (lines : Items AnyLine) × (items : Items RowItem) × (claim : _)
+        requires comes { (before : Standing) × (lines : Items AnyLine)
+            × (items : Items RowItem) × (claim : _)
             × LineComes before lines items claim line self.old }
         ensures limits { self.new.limits ≡ self.old.limits }
         ensures grammar { self.new.grammar ≡ self.old.grammar }
         ensures good { IfOk result IsGood }
-        ensures made { IfOk result (λ gathered. (before : Standing) (lines : Items AnyLine) (items : Items RowItem) (claim : _)
-            → LineComes before lines items claim line self.old → HasMade (lines ++ line ∷ []) items claim self.new gathered) }
+        ensures made { IfOk result
+            (λ gathered. (before : Standing) (lines : Items AnyLine) (items : Items RowItem)
+            (claim : _)
+            → LineComes before lines items claim line self.old
+            → HasMade (lines ++ line ∷ []) items claim self.new gathered) }
     {
         match self.grow(alloc, line)? {
             Grown::More(group) => {
@@ -148,7 +160,8 @@ impl Gatherer {
     fn grow(&mut self, alloc: Global, line: Line) -> Result<Grown, AllocError>
         requires { MayFollow self.old.limits.slots self.old.group line }
         ensures same { self.new ≡ record self.old { group = Group.Nothing } }
-        ensures grown { IfOk result (λ grown. grown ≡ followed self.old.limits.slots self.old.group line) }
+        ensures grown { IfOk result
+            (λ grown. grown ≡ followed self.old.limits.slots self.old.group line) }
     {
         let group = std::mem::replace(&mut self.group, Group::Nothing);
         follow(alloc, self.limits.slots as usize, group, line)

@@ -45,7 +45,8 @@ pub struct LogReader {
 impl LogReader {
     /// A reader at the first byte of a file, whose numbers are to keep the limits.
     pub fn begin(alloc: Global, limits: Limits) -> Result<LogReader, AllocError>
-        ensures { IfOk result (λ reader. (told : Option FileMap) (name : Items ℕ) → HasRead told name 0 limits [] None reader) }
+        ensures { IfOk result (λ reader. (told : Option FileMap) (name : Items ℕ)
+            → HasRead told name 0 limits [] None reader) }
     {
         let lines = LineReader::begin(alloc)?;
         let gatherer = Gatherer::new(alloc, limits);
@@ -59,7 +60,8 @@ impl LogReader {
     /// A reader behind a head of so many bytes, or at the first byte of the file where they are none. What it reads behind a head
     /// is a log of version 2 whose first line was read; lines are counted from that one on.
     pub fn begin_behind(alloc: Global, limits: Limits, head: u64) -> Result<LogReader, AllocError>
-        ensures { IfOk result (λ reader. (told : Option FileMap) (name : Items ℕ) → HasRead told name head limits [] None reader) }
+        ensures { IfOk result (λ reader. (told : Option FileMap) (name : Items ℕ)
+            → HasRead told name head limits [] None reader) }
     {
         if head == 0 {
             return LogReader::begin(alloc, limits);
@@ -79,7 +81,8 @@ impl LogReader {
         requires allowed { IsTrue (F.may_read files.old name.now) }
         requires open { (head : _) × (limits : _) × (items : Items RowItem) × (claim : _)
             × HasRead (F.files files.old) name.now head limits items claim self.old }
-        ensures part { IfOk result (λ part. (head : _) (limits : _) (items : Items RowItem) (claim : _)
+        ensures part { IfOk result
+            (λ part. (head : _) (limits : _) (items : Items RowItem) (claim : _)
             → HasRead (F.files files.old) name.now head limits items claim self.old
             → IsPartAfter (F.files files.old) name.now head limits items claim self.new part) }
         ensures same { F.files files.new ≡ F.files files.old }
@@ -87,7 +90,8 @@ impl LogReader {
         ensures writable { F.may_write files.new ≡ F.may_write files.old }
         ensures later { F.read_faults files.old ≤ F.read_faults files.new }
         ensures no_write { F.write_faults files.new ≡ F.write_faults files.old }
-        ensures fault { result ≡ Err Stop.Failed → Rose (F.read_faults files.old) (F.read_faults files.new) }
+        ensures fault { result ≡ Err Stop.Failed
+            → Rose (F.read_faults files.old) (F.read_faults files.new) }
     {
         'lines: for _ in 0..u64::MAX {
             match self.step(files, name)? {
@@ -104,16 +108,19 @@ impl LogReader {
         requires allowed { IsTrue (F.may_read files.old name.now) }
         requires open { (head : _) × (limits : _) × (items : Items RowItem) × (claim : _)
             × HasRead (F.files files.old) name.now head limits items claim self.old }
-        ensures part { IfOk result (λ part. (head : _) (limits : _) (items : Items RowItem) (claim : _)
+        ensures part { IfOk result
+            (λ part. (head : _) (limits : _) (items : Items RowItem) (claim : _)
             → HasRead (F.files files.old) name.now head limits items claim self.old
-            → MatchOption part (HasRead (F.files files.old) name.now head limits items claim self.new)
+            → MatchOption part (HasRead (F.files files.old) name.now head limits items claim
+            self.new)
             (IsPartAfter (F.files files.old) name.now head limits items claim self.new)) }
         ensures same { F.files files.new ≡ F.files files.old }
         ensures readable { F.may_read files.new ≡ F.may_read files.old }
         ensures writable { F.may_write files.new ≡ F.may_write files.old }
         ensures later { F.read_faults files.old ≤ F.read_faults files.new }
         ensures no_write { F.write_faults files.new ≡ F.write_faults files.old }
-        ensures fault { result ≡ Err Stop.Failed → Rose (F.read_faults files.old) (F.read_faults files.new) }
+        ensures fault { result ≡ Err Stop.Failed
+            → Rose (F.read_faults files.old) (F.read_faults files.new) }
     {
         let end = self.lines.next(files, name)?;
         let part = advance(&mut self.gatherer, self.alloc, end, self.lines.line())?;
@@ -135,10 +142,12 @@ fn advance(
     end: LineEnd,
     part: &[u8],
 ) -> Result<Option<LogPart>, AllocError>
-    requires gathered { (lines : Items Line) × (items : Items RowItem) × (claim : _) × HasGathered lines items claim gatherer.old }
+    requires gathered { (lines : Items Line) × (items : Items RowItem) × (claim : _)
+        × HasGathered lines items claim gatherer.old }
     requires part { IsPartOf part.now end }
     ensures limits { gatherer.new.limits ≡ gatherer.old.limits }
-    ensures text { IfOk result (IsStepped gatherer.old.limits gatherer.old.grammar (gatherer.old.number + 1)
+    ensures text { IfOk result (IsStepped gatherer.old.limits gatherer.old.grammar
+        (gatherer.old.number + 1)
         part.now end gatherer.new.grammar) }
     ensures made { IfOk result (HasStepped part.now end gatherer.old gatherer.new) }
 {
@@ -162,7 +171,8 @@ fn advance(
 fn after_end(gatherer: &Gatherer, line: u64, end: LineEnd, part: &[u8]) -> LogPart
     requires done { gatherer.now.grammar.place ≡ Done }
     requires part { IsPartOf part.now end }
-    ensures text { IsStepped gatherer.now.limits gatherer.now.grammar line part.now end gatherer.now.grammar (Some result) }
+    ensures text { IsStepped gatherer.now.limits gatherer.now.grammar line part.now end
+        gatherer.now.grammar (Some result) }
     ensures made { HasStepped part.now end gatherer.now gatherer.now (Some result) }
 {
     let _ = part;
@@ -181,11 +191,13 @@ fn take_line(
     line: u64,
     part: &[u8],
 ) -> Result<Option<LogPart>, AllocError>
-    requires gathered { (lines : Items Line) × (items : Items RowItem) × (claim : _) × HasGathered lines items claim gatherer.old }
+    requires gathered { (lines : Items Line) × (items : Items RowItem) × (claim : _)
+        × HasGathered lines items claim gatherer.old }
     requires going { gatherer.old.grammar.place ≢ Done }
     requires part { IsPartOf part.now Whole }
     ensures limits { gatherer.new.limits ≡ gatherer.old.limits }
-    ensures text { IfOk result (IsStepped gatherer.old.limits gatherer.old.grammar line part.now Whole gatherer.new.grammar) }
+    ensures text { IfOk result (IsStepped gatherer.old.limits gatherer.old.grammar line
+        part.now Whole gatherer.new.grammar) }
     ensures made { IfOk result (HasStepped part.now Whole gatherer.old gatherer.new) }
 {
     match read_line(part) {

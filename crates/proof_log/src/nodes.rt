@@ -45,7 +45,8 @@ pub(crate) fn append_proof(
 #[cycle(nodes)]
 #[tactic(auto, unfolding(crate::specs::Log::lines_text, crate::specs::Log::item_lines))]
 fn append_node(alloc: Global, tree: &RowProof, into: &mut Vec<u8>) -> Result<(), AllocError>
-    ensures { OnOk result (into.new.items ≡ into.old.items ++ lines_text (tree_lines (tree_of tree.now))) }
+    ensures { OnOk result (into.new.items
+        ≡ into.old.items ++ lines_text (tree_lines (tree_of tree.now))) }
 {
     put_line(alloc, &Line::Node, into)?;
     put_cuts(alloc, tree.cuts.as_slice(), into)?;
@@ -79,7 +80,8 @@ fn append_end(
 // Appends the lines of the cuts.
 #[tactic(auto, unfolding(crate::specs::Log::lines_text, crate::specs::Log::item_lines))]
 fn put_cuts(alloc: Global, cuts: &[RowCut], into: &mut Vec<u8>) -> Result<(), AllocError>
-    ensures { OnOk result (into.new.items ≡ into.old.items ++ lines_text (flat_map item_lines (map Item.Cut cuts.now))) }
+    ensures { OnOk result (into.new.items
+        ≡ into.old.items ++ lines_text (flat_map item_lines (map Item.Cut cuts.now))) }
 {
     for cut in cuts {
         put_cut(alloc, cut, into)?;
@@ -91,7 +93,8 @@ fn put_cuts(alloc: Global, cuts: &[RowCut], into: &mut Vec<u8>) -> Result<(), Al
 #[tactic(auto, unfolding(crate::specs::Log::lines_text, crate::specs::Log::item_lines))]
 fn put_found_if(alloc: Global, found: &Option<Found>, into: &mut Vec<u8>) -> Result<(), AllocError>
     ensures { OnOk result (into.new.items
-        ≡ into.old.items ++ lines_text (flat_map item_lines (map Item.Found (option_to_list found.now)))) }
+        ≡ into.old.items ++ lines_text
+        (flat_map item_lines (map Item.Found (option_to_list found.now)))) }
 {
     match found {
         Some(found) => put_found(alloc, found, into),

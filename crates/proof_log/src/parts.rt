@@ -21,7 +21,8 @@ pub(crate) fn started(point: &[u8]) -> u128
 // Appends the lines of the values of the point.
 #[tactic(auto, unfolding(crate::specs::Log::lines_text, crate::specs::Log::item_lines))]
 pub(crate) fn put_values(alloc: Global, point: &[u8], into: &mut Vec<u8>) -> Result<(), AllocError>
-    ensures { OnOk result (into.new.items ≡ into.old.items ++ lines_text (value_lines 0 point.now)) }
+    ensures { OnOk result (into.new.items
+        ≡ into.old.items ++ lines_text (value_lines 0 point.now)) }
 {
     for (slot, value) in point.iter().enumerate() {
         put_value(alloc, slot, *value, into)?;
@@ -51,7 +52,8 @@ fn put_value(alloc: Global, slot: usize, value: u8, into: &mut Vec<u8>) -> Resul
 // Appends the lines of the multipliers.
 #[tactic(auto, unfolding(crate::specs::Log::lines_text, crate::specs::Log::item_lines))]
 fn put_mults(alloc: Global, mults: &[Mult], into: &mut Vec<u8>) -> Result<(), AllocError>
-    ensures { OnOk result (into.new.items ≡ into.old.items ++ lines_text (map mult_line mults.now)) }
+    ensures { OnOk result (into.new.items
+        ≡ into.old.items ++ lines_text (map mult_line mults.now)) }
 {
     for mult in mults {
         let row = u128::from(mult.row);
@@ -64,7 +66,8 @@ fn put_mults(alloc: Global, mults: &[Mult], into: &mut Vec<u8>) -> Result<(), Al
 // Appends the line of a cut.
 #[tactic(auto, unfolding(crate::specs::Log::lines_text, crate::specs::Log::item_lines))]
 pub(crate) fn put_cut(alloc: Global, cut: &RowCut, into: &mut Vec<u8>) -> Result<(), AllocError>
-    ensures { OnOk result (into.new.items ≡ into.old.items ++ lines_text (item_lines (Item.Cut cut.now))) }
+    ensures { OnOk result (into.new.items
+        ≡ into.old.items ++ lines_text (item_lines (Item.Cut cut.now))) }
 {
     let row = u128::from(cut.row);
     let slot = u128::from(cut.slot);
@@ -74,7 +77,8 @@ pub(crate) fn put_cut(alloc: Global, cut: &RowCut, into: &mut Vec<u8>) -> Result
 // Appends the lines of a point that was found.
 #[tactic(auto, unfolding(crate::specs::Log::lines_text, crate::specs::Log::item_lines))]
 pub(crate) fn put_found(alloc: Global, found: &Found, into: &mut Vec<u8>) -> Result<(), AllocError>
-    ensures { OnOk result (into.new.items ≡ into.old.items ++ lines_text (item_lines (Item.Found found.now))) }
+    ensures { OnOk result (into.new.items
+        ≡ into.old.items ++ lines_text (item_lines (Item.Found found.now))) }
 {
     let point = found.point.as_slice();
     let count = started(point);
@@ -92,7 +96,8 @@ pub(crate) fn put_found(alloc: Global, found: &Found, into: &mut Vec<u8>) -> Res
 // Appends the lines of an end that a certificate caps.
 #[tactic(auto, unfolding(crate::specs::Log::lines_text, crate::specs::Log::item_lines))]
 pub(crate) fn put_dual(alloc: Global, cert: &Cert, into: &mut Vec<u8>) -> Result<(), AllocError>
-    ensures { OnOk result (into.new.items ≡ into.old.items ++ lines_text (item_lines (Item.Dual cert.now))) }
+    ensures { OnOk result (into.new.items
+        ≡ into.old.items ++ lines_text (item_lines (Item.Dual cert.now))) }
 {
     let scale = u128::from(cert.scale);
     let count = cert.mults.len() as u128;
@@ -103,7 +108,8 @@ pub(crate) fn put_dual(alloc: Global, cert: &Cert, into: &mut Vec<u8>) -> Result
 // Appends the lines of an end that is left open.
 #[tactic(auto, unfolding(crate::specs::Log::lines_text, crate::specs::Log::item_lines))]
 pub(crate) fn put_pending(alloc: Global, cert: &Cert, into: &mut Vec<u8>) -> Result<(), AllocError>
-    ensures { OnOk result (into.new.items ≡ into.old.items ++ lines_text (item_lines (Item.Pending cert.now))) }
+    ensures { OnOk result (into.new.items
+        ≡ into.old.items ++ lines_text (item_lines (Item.Pending cert.now))) }
 {
     let scale = u128::from(cert.scale);
     let count = cert.mults.len() as u128;
@@ -119,7 +125,8 @@ pub(crate) fn put_split(
     cert: &Cert,
     into: &mut Vec<u8>,
 ) -> Result<(), AllocError>
-    ensures { OnOk result (into.new.items ≡ into.old.items ++ lines_text (item_lines (Item.Split pick.now cert.now))) }
+    ensures { OnOk result (into.new.items
+        ≡ into.old.items ++ lines_text (item_lines (Item.Split pick.now cert.now))) }
 {
     let slot = u128::from(pick.slot);
     let scale = u128::from(cert.scale);

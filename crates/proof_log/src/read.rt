@@ -53,7 +53,8 @@ pub fn read_log(alloc: Global, bytes: &[u8], limits: &Limits) -> Result<Log, Log
 fn read_parts(alloc: Global, shelf: &mut FixedShelf, limits: Limits) -> Result<Log, LogStop>
     ensures log { IfOk result (λ log. IsRead limits (file_of shelf.old.files (codes "log")) log) }
     ensures defect { (defect : Defect) → result ≡ Err (LogStop.Defect defect)
-        → log_text_defect limits (file_of shelf.old.files (codes "log")) ≡ Some (defect.line, defect.kind) }
+        → log_text_defect limits (file_of shelf.old.files (codes "log"))
+        ≡ Some (defect.line, defect.kind) }
 {
     let mut reader = LogReader::begin(alloc, limits)?;
     let mut built = Built::More(TreeBuilder::new(alloc));
@@ -91,12 +92,16 @@ pub enum Reached {
 
 // Takes the next part of a log.
 fn take_part(built: Built<Rows>, claim: Option<Claim>, part: LogPart) -> Result<Reached, LogStop>
-    requires { (told : Option FileMap) × (name : Items ℕ) × (limits : Limits) × (items : Items RowItem) × (reader : LogReader)
+    requires { (told : Option FileMap) × (name : Items ℕ) × (limits : Limits)
+        × (items : Items RowItem) × (reader : LogReader)
         × IsPartAfter told name 0 limits items claim reader part × IsBuilt items built }
-    ensures reached { IfOk result (λ reached. (told : Option FileMap) (name : Items ℕ) (limits : Limits)
-        → (items : Items RowItem) (reader : LogReader) → IsPartAfter told name 0 limits items claim reader part → IsBuilt items built
+    ensures reached { IfOk result
+        (λ reached. (told : Option FileMap) (name : Items ℕ) (limits : Limits)
+        → (items : Items RowItem) (reader : LogReader)
+        → IsPartAfter told name 0 limits items claim reader part → IsBuilt items built
         → HasReached told name limits reader reached) }
-    ensures defect { (defect : Defect) → result ≡ Err (LogStop.Defect defect) → part ≡ LogPart.Bad defect }
+    ensures defect { (defect : Defect) → result ≡ Err (LogStop.Defect defect)
+        → part ≡ LogPart.Bad defect }
 {
     match part {
         LogPart::Item { line: _, item } => {
@@ -132,7 +137,8 @@ fn whole_log(version: u8, built: Built<Rows>, claim: Option<Claim>) -> Log
     requires whole { (items : Items RowItem) × IsBuilt items built × AreWhole items }
     requires claimed { claim ≢ None }
     ensures version { result.version ≡ version }
-    ensures tree { (items : Items RowItem) → IsBuilt items built → AreWhole items → items ≡ tree_items (tree_of result.tree) }
+    ensures tree { (items : Items RowItem) → IsBuilt items built → AreWhole items
+        → items ≡ tree_items (tree_of result.tree) }
     ensures claim { claim ≡ Some result.claim }
 {
     match built {

@@ -24,13 +24,15 @@ pub fn first_defect<F: Shelf>(
 ) -> Result<Option<Defect>, Stop>
     requires allowed { IsTrue (F.may_read files.old name.now) }
     ensures defect { IfOk result (λ defect. IfSome (F.files files.old)
-        (λ m. log_text_defect limits (behind head (file_of m name.now)) ≡ option_map (λ d. (d.line, d.kind)) defect)) }
+        (λ m. log_text_defect limits (behind head (file_of m name.now)) ≡ option_map
+        (λ d. (d.line, d.kind)) defect)) }
     ensures same { F.files files.new ≡ F.files files.old }
     ensures readable { F.may_read files.new ≡ F.may_read files.old }
     ensures writable { F.may_write files.new ≡ F.may_write files.old }
     ensures later { F.read_faults files.old ≤ F.read_faults files.new }
     ensures no_write { F.write_faults files.new ≡ F.write_faults files.old }
-    ensures fault { result ≡ Err Stop.Failed → Rose (F.read_faults files.old) (F.read_faults files.new) }
+    ensures fault { result ≡ Err Stop.Failed
+        → Rose (F.read_faults files.old) (F.read_faults files.new) }
 {
     let mut reader = LogReader::begin_behind(alloc, limits, head)?;
     'parts: for _ in 0..u64::MAX {

@@ -12,7 +12,8 @@ use std::alloc::{AllocError, Global};
 /// Appends the text of the log, in the lines of its version. After an error `into` is as before.
 pub fn put_log(alloc: Global, log: &Log, into: &mut Vec<u8>) -> Result<(), AllocError>
     ensures ok { OnOk result (into.new.items
-        ≡ into.old.items ++ log_text log.now.version (tree_items (tree_of log.now.tree)) log.now.claim) }
+        ≡ into.old.items ++ log_text log.now.version (tree_items (tree_of log.now.tree))
+        log.now.claim) }
     ensures err { OnErr result (into.new.items ≡ into.old.items) }
 {
     let mut lines = Vec::new(alloc);

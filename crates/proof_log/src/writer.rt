@@ -35,17 +35,20 @@ impl LogWriter {
     pub fn begin<F: Shelf>(alloc: Global, files: &mut F, name: &str) -> Result<LogWriter, Stop>
         requires { IsTrue (F.may_write files.old name.now) }
         ensures name { IfOk result (λ writer. string_bytes writer.name ≡ name.now) }
-        ensures header { IfOk result (λ writer. writer.buffer.items ≡ lines_text (Line.Header 2 ∷ [])) }
+        ensures header { IfOk result
+            (λ writer. writer.buffer.items ≡ lines_text (Line.Header 2 ∷ [])) }
         ensures whole { IfOk result (λ writer.
             IsWhole (writing F.files F.read_faults F.may_read F.may_write writer files.new)
             (lines_text (Line.Header 2 ∷ []))) }
-        ensures ok { OnOk result (F.files files.new ≡ option_map (cleared name.now) (F.files files.old)) }
+        ensures ok { OnOk result (F.files files.new
+            ≡ option_map (cleared name.now) (F.files files.old)) }
         ensures err { OnErr result (MayClear name.now (F.files files.old) (F.files files.new)) }
         ensures readable { F.may_read files.new ≡ F.may_read files.old }
         ensures writable { F.may_write files.new ≡ F.may_write files.old }
         ensures later { F.write_faults files.old ≤ F.write_faults files.new }
         ensures no_read { F.read_faults files.new ≡ F.read_faults files.old }
-        ensures cause { result ≡ Err Stop.Failed → Rose (F.write_faults files.old) (F.write_faults files.new) }
+        ensures cause { result ≡ Err Stop.Failed
+            → Rose (F.write_faults files.old) (F.write_faults files.new) }
     {
         let mut line = Vec::new(alloc);
         put_line(alloc, &Line::Header { version: 2 }, &mut line)?;
@@ -64,14 +67,17 @@ impl LogWriter {
         ensures name { IfOk result (λ writer. string_bytes writer.name ≡ name.now) }
         ensures header { IfOk result (λ writer. writer.buffer.items ≡ head.now) }
         ensures whole { IfOk result (λ writer.
-            IsWhole (writing F.files F.read_faults F.may_read F.may_write writer files.new) head.now) }
-        ensures ok { OnOk result (F.files files.new ≡ option_map (cleared name.now) (F.files files.old)) }
+            IsWhole (writing F.files F.read_faults F.may_read F.may_write writer files.new)
+            head.now) }
+        ensures ok { OnOk result (F.files files.new
+            ≡ option_map (cleared name.now) (F.files files.old)) }
         ensures err { OnErr result (MayClear name.now (F.files files.old) (F.files files.new)) }
         ensures readable { F.may_read files.new ≡ F.may_read files.old }
         ensures writable { F.may_write files.new ≡ F.may_write files.old }
         ensures later { F.write_faults files.old ≤ F.write_faults files.new }
         ensures no_read { F.read_faults files.new ≡ F.read_faults files.old }
-        ensures cause { result ≡ Err Stop.Failed → Rose (F.write_faults files.old) (F.write_faults files.new) }
+        ensures cause { result ≡ Err Stop.Failed
+            → Rose (F.write_faults files.old) (F.write_faults files.new) }
     {
         let mut buffer = Vec::with_capacity(alloc, PIECE)?;
         buffer.extend_from_slice(head)?;
@@ -100,18 +106,21 @@ impl LogWriter {
         ensures log { OnOk result ((items : List RowItem)
             → IsWhole (writing F.files F.read_faults F.may_read F.may_write self files.old)
             (lines_text (Line.Header 2 ∷ flat_map item_lines items))
-            → IfSome (F.files files.new) (λ m. file_of m (string_bytes self.name) ≡ log_text 2 items claim.now)) }
+            → IfSome (F.files files.new)
+            (λ m. file_of m (string_bytes self.name) ≡ log_text 2 items claim.now)) }
 
         // The same behind any text in the place of the first line.
         ensures file { OnOk result ((text : List ℕ) (items : List RowItem)
             → IsWhole (writing F.files F.read_faults F.may_read F.may_write self files.old)
             (text ++ lines_text (flat_map item_lines items))
             → IfSome (F.files files.new) (λ m. file_of m (string_bytes self.name)
-            ≡ text ++ lines_text (flat_map item_lines items ++ (claim_lines claim.now ++ Line.End ∷ [])))) }
+            ≡ text ++ lines_text (flat_map item_lines items
+            ++ (claim_lines claim.now ++ Line.End ∷ [])))) }
         ensures readable { F.may_read files.new ≡ F.may_read files.old }
         ensures writable { F.may_write files.new ≡ F.may_write files.old }
         ensures later { F.write_faults files.old ≤ F.write_faults files.new }
-        ensures cause { result ≡ Err Stop.Failed → Rose (F.write_faults files.old) (F.write_faults files.new) }
+        ensures cause { result ≡ Err Stop.Failed
+            → Rose (F.write_faults files.old) (F.write_faults files.new) }
     {
         let mut writer = self;
         put_claim(writer.alloc, claim, &mut writer.buffer)?;
@@ -132,7 +141,8 @@ impl LogWriter {
         ensures name { string_bytes self.new.name ≡ string_bytes self.old.name }
         ensures writable { F.may_write files.new ≡ F.may_write files.old }
         ensures later { F.write_faults files.old ≤ F.write_faults files.new }
-        ensures cause { result ≡ Err Stop.Failed → Rose (F.write_faults files.old) (F.write_faults files.new) }
+        ensures cause { result ≡ Err Stop.Failed
+            → Rose (F.write_faults files.old) (F.write_faults files.new) }
     {
         put_item(self.alloc, item, &mut self.buffer)?;
         if self.buffer.len() < PIECE {
@@ -155,7 +165,8 @@ impl LogWriter {
         ensures readable { F.may_read files.new ≡ F.may_read files.old }
         ensures writable { F.may_write files.new ≡ F.may_write files.old }
         ensures later { F.write_faults files.old ≤ F.write_faults files.new }
-        ensures cause { result ≡ Err Stop.Failed → Rose (F.write_faults files.old) (F.write_faults files.new) }
+        ensures cause { result ≡ Err Stop.Failed
+            → Rose (F.write_faults files.old) (F.write_faults files.new) }
     {
         files.append(self.name.as_str(), self.buffer.as_slice())?;
         self.buffer.clear();

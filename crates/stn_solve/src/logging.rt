@@ -35,11 +35,13 @@ pub fn search_logged<F: Shelf>(
     ensures logged { IfOk result (λ logged. IsLogged rows.now.program budget name.now logged.ended
         (writing F.files F.read_faults F.may_read F.may_write logged.writer files.new)) }
     ensures exact { IfOk result (λ logged. IsExact rows.now.program budget logged.ended) }
-    ensures err { OnErr result (IsLeft rows.now.program name.now (F.files files.old) (F.files files.new)) }
+    ensures err { OnErr result (IsLeft rows.now.program name.now (F.files files.old)
+        (F.files files.new)) }
     ensures kept { Keeps (stored F.files F.read_faults F.may_read F.may_write name.now files.old)
         (stored F.files F.read_faults F.may_read F.may_write name.now files.new) }
     ensures later { F.write_faults files.old ≤ F.write_faults files.new }
-    ensures failed { result ≡ Err Stop.Failed → Rose (F.write_faults files.old) (F.write_faults files.new) }
+    ensures failed { result ≡ Err Stop.Failed
+        → Rose (F.write_faults files.old) (F.write_faults files.new) }
 {
     let given = slot_count(rows);
     let Advisers {
@@ -67,12 +69,15 @@ fn log_guided<H: Hinter, G: Guide, F: Shelf>(
     requires allowed { IsTrue (F.may_write files.old name.now) }
     ensures logged { IfOk result (λ found. IsLogged rows.now.program budget name.now found.0.ended
         (writing F.files F.read_faults F.may_read F.may_write found.0.writer files.new)) }
-    ensures exact { IfOk result (λ found. found.1 ≡ true → IsExact rows.now.program budget found.0.ended) }
-    ensures err { OnErr result (IsLeft rows.now.program name.now (F.files files.old) (F.files files.new)) }
+    ensures exact { IfOk result
+        (λ found. found.1 ≡ true → IsExact rows.now.program budget found.0.ended) }
+    ensures err { OnErr result (IsLeft rows.now.program name.now (F.files files.old)
+        (F.files files.new)) }
     ensures kept { Keeps (stored F.files F.read_faults F.may_read F.may_write name.now files.old)
         (stored F.files F.read_faults F.may_read F.may_write name.now files.new) }
     ensures later { F.write_faults files.old ≤ F.write_faults files.new }
-    ensures failed { result ≡ Err Stop.Failed → Rose (F.write_faults files.old) (F.write_faults files.new) }
+    ensures failed { result ≡ Err Stop.Failed
+        → Rose (F.write_faults files.old) (F.write_faults files.new) }
 {
     let mut writer = LogWriter::begin(alloc, files, name)?;
     match search_guided_to(
@@ -111,11 +116,13 @@ fn log_plain<H: Hinter, F: Shelf>(
     ensures logged { IfOk result (λ logged. IsLogged rows.now.program budget name.now logged.ended
         (writing F.files F.read_faults F.may_read F.may_write logged.writer files.new)) }
     ensures exact { IfOk result (λ logged. IsExact rows.now.program budget logged.ended) }
-    ensures err { OnErr result (IsLeft rows.now.program name.now (F.files files.old) (F.files files.new)) }
+    ensures err { OnErr result (IsLeft rows.now.program name.now (F.files files.old)
+        (F.files files.new)) }
     ensures kept { Keeps (stored F.files F.read_faults F.may_read F.may_write name.now files.old)
         (stored F.files F.read_faults F.may_read F.may_write name.now files.new) }
     ensures later { F.write_faults files.old ≤ F.write_faults files.new }
-    ensures failed { result ≡ Err Stop.Failed → Rose (F.write_faults files.old) (F.write_faults files.new) }
+    ensures failed { result ≡ Err Stop.Failed
+        → Rose (F.write_faults files.old) (F.write_faults files.new) }
 {
     let mut writer = LogWriter::begin(alloc, files, name)?;
     match search_to(

@@ -46,9 +46,12 @@ pub fn solve_rows(
     requires sound { Sound plant.now }
     requires part { IsPartOf plant.now rows.now.program }
     requires budget { (1 ≤ budget) × (budget ≤ 100000) }
-    ensures outcome { IfOk result (λ solved. IsPartOutcome plant.now rows.now.program budget solved.outcome) }
-    ensures proof { IfOk result (λ solved. IsProofOf plant.now rows.now.program solved.outcome (tree_of solved.tree)) }
-    ensures claim { IfOk result (λ solved. solved.claim ≡ claim_of plant.now solved.outcome.answer) }
+    ensures outcome { IfOk result
+        (λ solved. IsPartOutcome plant.now rows.now.program budget solved.outcome) }
+    ensures proof { IfOk result
+        (λ solved. IsProofOf plant.now rows.now.program solved.outcome (tree_of solved.tree)) }
+    ensures claim { IfOk result
+        (λ solved. solved.claim ≡ claim_of plant.now solved.outcome.answer) }
 {
     let Searched {
         tree,
@@ -87,14 +90,17 @@ pub fn solve_rows_to<F: Shelf>(
     requires budget { (1 ≤ budget) × (budget ≤ 100000) }
     requires allowed { IsTrue (F.may_write files.old name.now) }
     ensures outcome { IfOk result (IsPartOutcome plant.now rows.now.program budget) }
-    ensures proof { IfOk result (HasProof plant.now rows.now.program (bytes_in name.now (F.files files.new))) }
-    ensures err { OnErr result (IsLeft rows.now.program name.now (F.files files.old) (F.files files.new)) }
+    ensures proof { IfOk result
+        (HasProof plant.now rows.now.program (bytes_in name.now (F.files files.new))) }
+    ensures err { OnErr result (IsLeft rows.now.program name.now (F.files files.old)
+        (F.files files.new)) }
     ensures others { OthersStay name.now (F.files files.old) (F.files files.new) }
     ensures readable { F.may_read files.new ≡ F.may_read files.old }
     ensures writable { F.may_write files.new ≡ F.may_write files.old }
     ensures no_read { F.read_faults files.new ≡ F.read_faults files.old }
     ensures later { F.write_faults files.old ≤ F.write_faults files.new }
-    ensures failed { result ≡ Err Stop.Failed → Rose (F.write_faults files.old) (F.write_faults files.new) }
+    ensures failed { result ≡ Err Stop.Failed
+        → Rose (F.write_faults files.old) (F.write_faults files.new) }
 {
     let Logged { ended, writer } = search_logged(alloc, rows, budget, files, name)?;
     let told = told_of(alloc, plant, ended)?;

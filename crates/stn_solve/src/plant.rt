@@ -32,8 +32,10 @@ pub fn solve(alloc: Global, plant: &Plant, budget: u32) -> Result<Solved, AllocE
     requires sound { Sound plant.now }
     requires budget { (1 ≤ budget) × (budget ≤ 100000) }
     ensures outcome { IfOk result (λ solved. IsOutcome plant.now budget solved.outcome) }
-    ensures proof { IfOk result (λ solved. IsPlantProof plant.now solved.outcome (tree_of solved.tree)) }
-    ensures claim { IfOk result (λ solved. solved.claim ≡ claim_of plant.now solved.outcome.answer) }
+    ensures proof { IfOk result
+        (λ solved. IsPlantProof plant.now solved.outcome (tree_of solved.tree)) }
+    ensures claim { IfOk result
+        (λ solved. solved.claim ≡ claim_of plant.now solved.outcome.answer) }
 {
     let program = program_of(alloc, plant)?;
     let rows = Rows { program };
@@ -54,13 +56,15 @@ pub fn solve_to<F: Shelf>(
     requires allowed { IsTrue (F.may_write files.old name.now) }
     ensures outcome { IfOk result (IsOutcome plant.now budget) }
     ensures proof { IfOk result (HasPlantProof plant.now (bytes_in name.now (F.files files.new))) }
-    ensures err { OnErr result (IsLeftOf plant.now name.now (F.files files.old) (F.files files.new)) }
+    ensures err { OnErr result (IsLeftOf plant.now name.now (F.files files.old)
+        (F.files files.new)) }
     ensures others { OthersStay name.now (F.files files.old) (F.files files.new) }
     ensures readable { F.may_read files.new ≡ F.may_read files.old }
     ensures writable { F.may_write files.new ≡ F.may_write files.old }
     ensures no_read { F.read_faults files.new ≡ F.read_faults files.old }
     ensures later { F.write_faults files.old ≤ F.write_faults files.new }
-    ensures failed { result ≡ Err Stop.Failed → Rose (F.write_faults files.old) (F.write_faults files.new) }
+    ensures failed { result ≡ Err Stop.Failed
+        → Rose (F.write_faults files.old) (F.write_faults files.new) }
 {
     let program = program_of(alloc, plant)?;
     let rows = Rows { program };

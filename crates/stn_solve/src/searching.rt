@@ -52,7 +52,8 @@ pub fn search_only(alloc: Global, rows: &Rows, budget: u32) -> Result<Ended, All
 // Searches the root, and builds the proof.
 pub fn search_built(alloc: Global, rows: &Rows, budget: u32) -> Result<Searched, AllocError>
     requires budget { (1 ≤ budget) × (budget ≤ 100000) }
-    ensures { IfOk result (λ searched. IsSearchOf rows.now.program budget (ended_of searched) (tree_of searched.tree)) }
+    ensures { IfOk result (λ searched. IsSearchOf rows.now.program budget (ended_of searched)
+        (tree_of searched.tree)) }
 {
     let given = slot_count(rows);
     let Advisers {

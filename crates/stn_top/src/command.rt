@@ -448,7 +448,8 @@ fn fall_of(digits: &[u8]) -> Option<i64>
 }
 
 fn count_of(word: &str) -> Option<u32>
-    ensures { MatchOption result ((n : ℕ) → ¬ IsStepCount word.now n) (λ count. IsStepCount word.now count) }
+    ensures { MatchOption result ((n : ℕ) → ¬ IsStepCount word.now n)
+        (λ count. IsStepCount word.now count) }
 {
     match read_number(word.as_bytes(), MAX_STEPS as u64 + 1) {
         Some(number) if 0 < number => Some(number as u32),

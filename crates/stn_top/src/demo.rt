@@ -134,7 +134,8 @@ fn spent_line(
     cap: &i128,
 ) -> Result<Vec<u8>, AllocError>
     ensures { IfOk result (λ line. line.items ≡ codes "budget-spent "
-        ++ (profit_word plan.now profit.now ++ (codes " " ++ (signed_decimal cap.now ++ codes "\n")))) }
+        ++ (profit_word plan.now profit.now
+        ++ (codes " " ++ (signed_decimal cap.now ++ codes "\n")))) }
 {
     match plan {
         Some(_) => {

@@ -60,7 +60,8 @@ pub fn estimate_file<F: Shelf>(
     requires plant_readable { IsTrue (F.may_read files.old plant.now) }
     requires log_readable { IsTrue (F.may_read files.old log.now) }
     ensures answer { IfReplied result (λ reply. IsAnswer (F.files files.old) (F.files files.new)
-        (Estimating plant.now log.now state.now steps.step steps.count) reply.status reply.text.items) }
+        (Estimating plant.now log.now state.now steps.step steps.count) reply.status
+        reply.text.items) }
     ensures fault { result ≡ Err Stopped.ReadFault
         → Rose (F.read_faults files.old) (F.read_faults files.new) }
     ensures unwritten { result ≢ Err Stopped.WriteFault }
@@ -85,8 +86,10 @@ fn estimate_log<F: Shelf>(
 ) -> Result<Reply, Stopped>
     requires allowed { IsTrue (F.may_read files.old log.now) }
     requires sound { Sound plant }
-    ensures answer { IfOk result (λ reply. OnBytes (option_map (λ m. file_of m log.now) (F.files files.old))
-        (λ bytes. Estimated state.now steps.step steps.count bytes plant reply.status reply.text.items)) }
+    ensures answer { IfOk result
+        (λ reply. OnBytes (option_map (λ m. file_of m log.now) (F.files files.old))
+        (λ bytes. Estimated state.now steps.step steps.count bytes plant reply.status
+        reply.text.items)) }
     ensures none { IfRefused result (λ _. ⊥) }
     ensures fault { result ≡ Err Stopped.ReadFault
         → Rose (F.read_faults files.old) (F.read_faults files.new) }
@@ -133,7 +136,8 @@ fn is_tank(state: &State, name: &[u8]) -> bool
 
 // The refusal of a name that is not that of a state with limits.
 fn refused_state(alloc: Global) -> Result<Reply, AllocError>
-    ensures { IfOk result (λ reply. (reply.status ≡ 5) × (reply.text.items ≡ codes "refused state\n")) }
+    ensures { IfOk result (λ reply. (reply.status ≡ 5)
+        × (reply.text.items ≡ codes "refused state\n")) }
 {
     let text = Vec::from_slice(alloc, "refused state\n".as_bytes())?;
     Ok(Reply { status: 5, text })
@@ -151,7 +155,8 @@ fn estimate_tank<F: Shelf>(
     requires allowed { IsTrue (F.may_read files.old log.now) }
     requires sound { Sound plant }
     requires there { number < length plant.states }
-    ensures answer { IfOk result (λ reply. OnBytes (option_map (λ m. file_of m log.now) (F.files files.old))
+    ensures answer { IfOk result
+        (λ reply. OnBytes (option_map (λ m. file_of m log.now) (F.files files.old))
         (λ bytes. OnTank plant number steps.step steps.count bytes reply.status reply.text.items)) }
     ensures none { IfRefused result (λ _. ⊥) }
     ensures fault { result ≡ Err Stopped.ReadFault
@@ -190,7 +195,8 @@ fn estimate_bytes(
     requires sound { Sound plant }
     requires there { number < length plant.states }
     requires short { length bytes.now ≤ 67108864 }
-    ensures { IfOk result (λ reply. OnTank plant number steps.step steps.count bytes.now reply.status reply.text.items) }
+    ensures { IfOk result (λ reply. OnTank plant number steps.step steps.count bytes.now
+        reply.status reply.text.items) }
 {
     match old_log(alloc, &plant, bytes)? {
         OldLog::Valid(log) => estimate_plants(alloc, plant, number, &log, steps),
@@ -245,7 +251,8 @@ fn put_lines(
     requires there { number < length plant.states }
     requires short { IfSome plan.now (λ starts. length starts < 2 ^ 32) }
     ensures { OnOk result ((lines : Items ℕ) × ((text.new.items ≡ text.old.items ++ lines)
-        × AreLines (λ times. IsTankLine (raised plant number steps.step times) (tree_of proof.now) plan.now times)
+        × AreLines (λ times. IsTankLine (raised plant number steps.step times) (tree_of proof.now)
+        plan.now times)
         (steps.count + 1) lines)) }
 {
     let mut raised = plant;

@@ -77,7 +77,8 @@ fn join_parts<F: Shelf>(
     requires may_write { IsTrue (F.may_write files.old log.now) }
     requires apart { IsNoPartLog log.now stem.now levels.number }
     ensures answer { IfOk result (λ reply. OnLevels plant.now levels.number
-        (JoinAnswered (F.files files.old) (F.files files.new) levels.number stem.now log.now plant.now)
+        (JoinAnswered (F.files files.old) (F.files files.new) levels.number stem.now log.now
+        plant.now)
         reply.status reply.text.items) }
     ensures refused { IfOk result (λ reply. IsUnwritten reply.status
         → F.files files.new ≡ F.files files.old) }

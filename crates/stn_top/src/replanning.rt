@@ -80,7 +80,8 @@ pub fn log_replan_file<F: Shelf>(
     requires plan_readable { IsTrue (F.may_read files.old plan.now) }
     requires log_writable { IsTrue (F.may_write files.old log.now) }
     ensures answer { IfReplied result (λ reply. IsAnswer (F.files files.old) (F.files files.new)
-        (ReplanLogging plant.now plan.now period.number budget.boxes log.now) reply.status reply.text.items) }
+        (ReplanLogging plant.now plan.now period.number budget.boxes log.now) reply.status
+        reply.text.items) }
     ensures fault { result ≡ Err Stopped.ReadFault
         → Rose (F.read_faults files.old) (F.read_faults files.new) }
     ensures unread { result ≡ Err Stopped.ReadFault → F.files files.new ≡ F.files files.old }
@@ -197,7 +198,8 @@ fn check_replan<F: Shelf>(
     requires sound { Sound plant.now }
     requires short { length plan.now < 2 ^ 32 }
     requires allowed { IsTrue (F.may_read files.old log.now) }
-    ensures answer { IfOk result (λ reply. ReplanChecked (bytes_in log.now (F.files files.old)) plant.now
+    ensures answer { IfOk result
+        (λ reply. ReplanChecked (bytes_in log.now (F.files files.old)) plant.now
         period.number (kept_starts period.number plan.now) ⊤ reply.status reply.text.items) }
     ensures none { IfRefused result (λ _. ⊥) }
     ensures fault { result ≡ Err Stopped.ReadFault
@@ -258,7 +260,8 @@ pub fn log_part<F: Shelf>(
     ensures no_fault { result ≢ Err Stopped.ReadFault }
     ensures write_fault { result ≡ Err Stopped.WriteFault
         → Rose (F.write_faults files.old) (F.write_faults files.new) }
-    ensures left { LeavesLog plant.now rows.now.program log.now (F.files files.old) (F.files files.new) }
+    ensures left { LeavesLog plant.now rows.now.program log.now (F.files files.old)
+        (F.files files.new) }
     ensures others { OthersStay log.now (F.files files.old) (F.files files.new) }
     ensures readable { F.may_read files.new ≡ F.may_read files.old }
     ensures writable { F.may_write files.new ≡ F.may_write files.old }

@@ -66,7 +66,8 @@ pub fn trace_file<F: Shelf>(
         → Rose (F.write_faults files.old) (F.write_faults files.new) }
     ensures begun { result ≡ Err Stopped.WriteFault
         → GetsToWriting (F.files files.old) (Tracing name.now budget.boxes stem.now) }
-    ensures left { IsLeft (Tracing name.now budget.boxes stem.now) (F.files files.old) (F.files files.new) }
+    ensures left { IsLeft (Tracing name.now budget.boxes stem.now) (F.files files.old)
+        (F.files files.new) }
     ensures others { OthersStayBelow stem.now 337 (F.files files.old) (F.files files.new) }
     ensures readable { F.may_read files.new ≡ F.may_read files.old }
     ensures writable { F.may_write files.new ≡ F.may_write files.old }
@@ -185,7 +186,8 @@ fn plan_text(
 
 fn plan_head(alloc: Global, horizon: u32, profit: &i128) -> Result<String, AllocError>
     ensures { IfOk result (λ head. string_bytes head
-        ≡ codes "# least " ++ (decimal horizon ++ (codes "\n# feasible " ++ (signed_decimal profit.now ++ codes "\n")))) }
+        ≡ codes "# least " ++ (decimal horizon
+        ++ (codes "\n# feasible " ++ (signed_decimal profit.now ++ codes "\n")))) }
 {
     format!(in alloc; "# least {horizon}\n# feasible {profit}\n")
 }
@@ -197,7 +199,8 @@ fn nowhere_text(alloc: Global) -> Result<Vec<u8>, AllocError>
 }
 
 fn open_text(alloc: Global, horizon: u32) -> Result<Vec<u8>, AllocError>
-    ensures { IfOk result (λ text. text.items ≡ codes "# open " ++ (decimal horizon ++ codes "\n")) }
+    ensures { IfOk result (λ text. text.items
+        ≡ codes "# open " ++ (decimal horizon ++ codes "\n")) }
 {
     let line = format!(in alloc; "# open {horizon}\n")?;
     Vec::from_slice(alloc, line.as_bytes())

@@ -73,7 +73,8 @@ pub fn log_file<F: Shelf>(
         → Rose (F.write_faults files.old) (F.write_faults files.new) }
     ensures begun { result ≡ Err Stopped.WriteFault
         → GetsToWriting (F.files files.old) (Logging name.now budget.boxes log.now) }
-    ensures left { IsLeft (Logging name.now budget.boxes log.now) (F.files files.old) (F.files files.new) }
+    ensures left { IsLeft (Logging name.now budget.boxes log.now) (F.files files.old)
+        (F.files files.new) }
     ensures others { OthersStay log.now (F.files files.old) (F.files files.new) }
     ensures readable { F.may_read files.new ≡ F.may_read files.old }
     ensures writable { F.may_write files.new ≡ F.may_write files.old }
@@ -112,7 +113,8 @@ fn log_plant<F: Shelf>(
     ensures write_fault { result ≡ Err Stopped.WriteFault
         → Rose (F.write_faults files.old) (F.write_faults files.new) }
     ensures left { IsLeftOf plant.now log.now (F.files files.old) (F.files files.new)
-        ⊎ ((outcome : Outcome) × HasPlantProof plant.now (bytes_in log.now (F.files files.new)) outcome) }
+        ⊎ ((outcome : Outcome) × HasPlantProof plant.now (bytes_in log.now (F.files files.new))
+        outcome) }
     ensures others { OthersStay log.now (F.files files.old) (F.files files.new) }
     ensures readable { F.may_read files.new ≡ F.may_read files.old }
     ensures writable { F.may_write files.new ≡ F.may_write files.old }

@@ -56,7 +56,8 @@ pub fn run<F: Shelf, K: Sink>(alloc: Global, words: &[&str], files: &mut F, out:
     requires may_write { MayWriteAll (F.may_write files.old) (texts words.now) }
 
     // Below 7 the status and the text that was put are the answer's, and so is the log that was written.
-    ensures answer { result < 7 → Answered (IsReply (texts words.now) (F.files files.old) (F.files files.new))
+    ensures answer { result < 7
+        → Answered (IsReply (texts words.now) (F.files files.old) (F.files files.new))
         result (K.written out.old) (K.written out.new) }
     ensures words { result < 7 → (result ≡ 2) ↔ HasNoForm (texts words.now) }
     ensures read_fault { result ≡ 7 → Rose (F.read_faults files.old) (F.read_faults files.new) }
@@ -64,10 +65,12 @@ pub fn run<F: Shelf, K: Sink>(alloc: Global, words: &[&str], files: &mut F, out:
 
     // 8 comes only where the sink failed, or the file of a log whose plant was read.
     ensures write_fault { result ≡ 8 → Rose (K.faults out.old) (K.faults out.new)
-        ⊎ LogFailed (texts words.now) (F.files files.old) (F.write_faults files.old) (F.write_faults files.new) }
+        ⊎ LogFailed (texts words.now) (F.files files.old) (F.write_faults files.old)
+        (F.write_faults files.new) }
 
     // After 8 and 9 nothing or a first part of an answer was put.
-    ensures part { 7 < result → IsCutOff (IsReply (texts words.now) (F.files files.old) (F.files files.new))
+    ensures part { 7 < result → IsCutOff
+        (IsReply (texts words.now) (F.files files.old) (F.files files.new))
         (K.written out.old) (K.written out.new) }
     ensures known { result ≤ 9 }
 
@@ -98,14 +101,17 @@ fn answer<F: Shelf, K: Sink>(alloc: Global, command: Command, files: &mut F, out
     requires may_read { MayRead (F.may_read files.old) (meaning command) }
     requires may_write { MayWrite (F.may_write files.old) (meaning command) }
     requires apart { WritesApart (meaning command) }
-    ensures answer { result < 7 → Answered (IsAnswer (F.files files.old) (F.files files.new) (meaning command.entry))
+    ensures answer { result < 7
+        → Answered (IsAnswer (F.files files.old) (F.files files.new) (meaning command.entry))
         result (K.written out.old) (K.written out.new) }
     ensures asked { result ≢ 2 }
     ensures read_fault { result ≡ 7 → Rose (F.read_faults files.old) (F.read_faults files.new) }
     ensures nothing { result ≡ 7 → K.written out.new ≡ K.written out.old }
     ensures write_fault { result ≡ 8 → Rose (K.faults out.old) (K.faults out.new)
-        ⊎ (Rose (F.write_faults files.old) (F.write_faults files.new) × GetsToWriting (F.files files.old) (meaning command.entry)) }
-    ensures part { 7 < result → IsCutOff (IsAnswer (F.files files.old) (F.files files.new) (meaning command.entry))
+        ⊎ (Rose (F.write_faults files.old) (F.write_faults files.new)
+        × GetsToWriting (F.files files.old) (meaning command.entry)) }
+    ensures part { 7 < result → IsCutOff
+        (IsAnswer (F.files files.old) (F.files files.new) (meaning command.entry))
         (K.written out.old) (K.written out.new) }
     ensures known { result ≤ 9 }
     ensures files { OthersKept (meaning command.entry) (F.files files.old) (F.files files.new) }
@@ -161,7 +167,8 @@ fn reply_to<F: Shelf>(alloc: Global, command: Command, files: &mut F) -> Result<
     ensures unread { result ≡ Err Stopped.ReadFault → IsNoJoining (meaning command.entry)
         → F.files files.new ≡ F.files files.old }
     ensures write_fault { result ≡ Err Stopped.WriteFault
-        → Rose (F.write_faults files.old) (F.write_faults files.new) × GetsToWriting (F.files files.old) (meaning command.entry) }
+        → Rose (F.write_faults files.old) (F.write_faults files.new)
+        × GetsToWriting (F.files files.old) (meaning command.entry) }
     ensures files { OthersKept (meaning command.entry) (F.files files.old) (F.files files.new) }
     ensures left { IsLeft (meaning command.entry) (F.files files.old) (F.files files.new) }
     ensures readable { F.may_read files.new ≡ F.may_read files.old }

@@ -112,7 +112,8 @@ fn read_signed(word: &[u8], limit: u128) -> Option<i128>
 // The number that a minus and the digits are.
 fn read_negative(digits: &[u8], limit: u128) -> Option<i128>
     requires { limit ≤ 10 ^ 30 }
-    ensures { ReadsWord (λ number. unsigned_abs number < limit) signed_decimal (45 ∷ digits.now) result }
+    ensures { ReadsWord (λ number. unsigned_abs number < limit) signed_decimal
+        (45 ∷ digits.now) result }
 {
     match read_some(digits, limit) {
         Some(number) => Some(-(number as i128)),

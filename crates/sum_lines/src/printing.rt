@@ -55,7 +55,8 @@ fn put_opening(alloc: Global, sum: &Sum, text: &mut Vec<u8>) -> Result<(), Alloc
 
 // Appends the lines of terms.
 fn put_terms(alloc: Global, terms: &[Entry], text: &mut Vec<u8>) -> Result<(), AllocError>
-    ensures { OnOk result (text.new.items ≡ text.old.items ++ lines_text (map term_line terms.now)) }
+    ensures { OnOk result (text.new.items
+        ≡ text.old.items ++ lines_text (map term_line terms.now)) }
 {
     for term in terms {
         put_term(alloc, term, text)?;
@@ -65,7 +66,8 @@ fn put_terms(alloc: Global, terms: &[Entry], text: &mut Vec<u8>) -> Result<(), A
 
 // Appends the line of a term.
 fn put_term(alloc: Global, term: &Entry, text: &mut Vec<u8>) -> Result<(), AllocError>
-    ensures { OnOk result (text.new.items ≡ text.old.items ++ (head_line_text (term_line term.now) ++ 10 ∷ [])) }
+    ensures { OnOk result (text.new.items
+        ≡ text.old.items ++ (head_line_text (term_line term.now) ++ 10 ∷ [])) }
 {
     text.extend_from_slice(b"term")?;
     put_natural(alloc, term.slot as u64, text)?;

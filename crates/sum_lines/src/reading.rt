@@ -9,7 +9,8 @@ use crate::words::{cut_word, five_words, three_words};
 
 /// The line of a head that the bytes are, without a line feed; None exactly where they are none. It takes no memory.
 pub fn read_head_line(bytes: &[u8]) -> Option<HeadLine>
-    ensures is { MatchOption result ((line : HeadLine) → IsHeadLine line → head_line_text line ≢ bytes.now)
+    ensures is { MatchOption result ((line : HeadLine) → IsHeadLine line
+        → head_line_text line ≢ bytes.now)
         (λ line. IsHeadLine line × (head_line_text line ≡ bytes.now)) }
 {
     let (name, rest) = cut_word(bytes);

@@ -161,10 +161,12 @@ fn next_sum<F: Shelf>(
         → HasPassed (F.files files.old) name.now (lines ++ sum_lines sum) walk.new)) }
     ensures ends { result ≡ Ok None → (lines : Items HeadLine)
         → HasPassed (F.files files.old) name.now lines walk.old
-        → IfSome (F.files files.old) (λ m. NoneFirst (MayOpen limits.now.slots) (rest_after lines (file_of m name.now))) }
+        → IfSome (F.files files.old)
+        (λ m. NoneFirst (MayOpen limits.now.slots) (rest_after lines (file_of m name.now))) }
     ensures bad { (defect : Defect) → result ≡ Err (Halt.Bad defect)
         → (lines : Items HeadLine) → HasPassed (F.files files.old) name.now lines walk.old
-        → IfSome (F.files files.old) (λ m. IsBadAt limits.now before lines (file_of m name.now) defect) }
+        → IfSome (F.files files.old)
+        (λ m. IsBadAt limits.now before lines (file_of m name.now) defect) }
     ensures fault { result ≡ Err (Halt.Stopped Failed)
         → Rose (F.read_faults files.old) (F.read_faults files.new) }
     ensures same { F.files files.new ≡ F.files files.old }

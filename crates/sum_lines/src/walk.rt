@@ -100,7 +100,8 @@ impl Walk {
         requires short { length self.old.reader.line ≤ 200 }
         ensures reader { self.new.reader ≡ self.old.reader }
         ensures line { OnOk result (self.new.line ≡ self.old.line + 1) }
-        ensures bytes { OnOk result (self.new.bytes ≡ self.old.bytes + (length self.old.reader.line + 1)) }
+        ensures bytes { OnOk result (self.new.bytes
+            ≡ self.old.bytes + (length self.old.reader.line + 1)) }
         ensures memory { IfErr result (λ stop. stop ≡ Stop.Memory) }
     {
         if self.line > u64::MAX - MOST_LINE || self.bytes > u64::MAX - MOST_LINE {
@@ -116,7 +117,8 @@ impl Walk {
 // A walk past the line that was read, where it is the first one of a head.
 fn past_first(reader: LineReader) -> Option<Walk>
     ensures { MatchOption result (reader.line ≢ first_line)
-        (λ walk. (reader.line ≡ first_line) × (walk ≡ record { reader = reader; line = 2; bytes = 10 })) }
+        (λ walk. (reader.line ≡ first_line)
+        × (walk ≡ record { reader = reader; line = 2; bytes = 10 })) }
 {
     if reader.line() == b"stn-log 3".as_slice() {
         Some(Walk {

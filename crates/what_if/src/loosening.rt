@@ -27,7 +27,8 @@ pub fn loose(alloc: Global, rows: &Rows, area: &mut Area, proof: &RowProof) -> O
     ensures cap { said result ≡ loose_cap rows.now.program (shown area.old) (tree_of proof.now) }
 
     // No lawful point of the area is worth more, and where it is none the area has no lawful point.
-    ensures bounds { Bounds (IsIn (shown area.old)) (IsLawful rows.now.program) (worth_of rows.now.program)
+    ensures bounds { Bounds (IsIn (shown area.old)) (IsLawful rows.now.program)
+        (worth_of rows.now.program)
         (said result) }
 
     // It is the proof's own cap, where that is defined.
