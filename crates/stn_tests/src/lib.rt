@@ -32,4 +32,6 @@ mod replans;
 #[cfg(test)]
 mod runs;
 #[cfg(test)]
+mod sums;
+#[cfg(test)]
 mod tanks;

@@ -6,7 +6,8 @@ use Rattle.proof_log.specs.declared.claim.Claim.{Claim}
 use Rattle.proof_log.specs.declared.claim.Claim.TheVariants as claim
 use Rattle.log_check.specs.declared.verdict.LogVerdict.{LogVerdict}
 use Rattle.log_check.specs.declared.verdict.LogVerdict.TheVariants.{Yes, No}
-use Rattle.plant_check.specs.Claims.{IsChecked, YesSays}
+use Rattle.plant_check.specs.Claims.{YesSays}
+use Rattle.log_sums.specs.PlantLogs.{IsAnyChecked}
 
 -- a claim in words, to the end of the line
 unfoldable pub claim_words : Claim → List ℕ
@@ -38,6 +39,6 @@ pub record Judged (IsRight : List ℕ → LogVerdict → Type 0) (Holds : LogVer
   pub status_is : status ≡ checked_status verdict
   pub text_is : text ≡ checked_text verdict
 
--- the answer of `check`: after a yes what the claim says holds of all plans
+-- the answer of `check` on a log of any version: after a yes what the claim says holds of all plans
 abbrev pub Checked : Option (List ℕ) → Plant → ℕ → List ℕ → Type 0
-Checked log plant status text = Judged (IsChecked plant) (YesSays plant) log status text
+Checked log plant status text = Judged (IsAnyChecked plant) (YesSays plant) log status text

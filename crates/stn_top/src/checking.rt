@@ -15,7 +15,7 @@ use crate::reply::Reply;
 use crate::sources::plant_in;
 use crate::stopped::Stopped;
 use log_check::{CheckStop, LogVerdict};
-use plant_check::check_stream;
+use log_sums::check_plant;
 use proof_log::{Claim, Defect};
 use std::alloc::{AllocError, Global};
 use stn_edge::Shelf;
@@ -67,7 +67,7 @@ fn check_log<F: Shelf>(
     ensures later { F.read_faults files.old ≤ F.read_faults files.new }
     ensures no_write { F.write_faults files.new ≡ F.write_faults files.old }
 {
-    match check_stream(alloc, plant, files, name) {
+    match check_plant(alloc, plant, files, name) {
         Ok(verdict) => Ok(checked(alloc, &verdict)?),
         Err(CheckStop::Fault) => Err(Stopped::ReadFault),
         Err(CheckStop::Memory) => Err(Stopped::Memory),

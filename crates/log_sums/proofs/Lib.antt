@@ -1,0 +1,4 @@
+pub mod FirstBad
+pub mod Holding
+pub mod PlantSaying
+pub mod ShownVerdicts

@@ -1,0 +1,44 @@
+//! The check of a log of any version against a plant.
+ghost use Rattle.std.specs.Prelude.{◌≡◌, ◌≤◌, Err, IsTrue, IfOk, IfSome};
+ghost use Rattle.stn_edge.specs.Count.{Rose};
+ghost use Rattle.stn_edge.specs.Files.{file_of};
+ghost use Rattle.stn_model.specs.Sound.{Sound};
+ghost use Rattle.plant_check.specs.Claims.{YesSays};
+ghost use Rattle.log_sums.specs.PlantLogs.{IsAnyChecked};
+
+use crate::check::check_any;
+use log_check::{CheckStop, LogVerdict};
+use plant_check::MOST_DEPTH;
+use row_set::program_of;
+use std::alloc::Global;
+use stn_edge::Shelf;
+use stn_model::Plant;
+
+/// Checks the log of any version in a file against a plant. A log of version 3 is read in two passes, its head and what follows,
+/// others once; what is held of it is its sums, and grows with the depth of its tree. The files are as before. `Fault` comes
+/// only where a read failed.
+pub fn check_plant<F: Shelf>(
+    alloc: Global,
+    plant: &Plant,
+    files: &mut F,
+    name: &str,
+) -> Result<LogVerdict, CheckStop>
+    requires sound { Sound plant.now }
+    requires allowed { IsTrue (F.may_read files.old name.now) }
+    ensures checked { IfOk result (λ verdict. IfSome (F.files files.old)
+        (λ m. IsAnyChecked plant.now (file_of m name.now) verdict)) }
+
+    // What the claim of a yes says holds of all plans, whether the files are told or not.
+    ensures says { IfOk result (YesSays plant.now) }
+    ensures fault { result ≡ Err CheckStop.Fault → Rose (F.read_faults files.old) (F.read_faults files.new) }
+    ensures same { F.files files.new ≡ F.files files.old }
+    ensures readable { F.may_read files.new ≡ F.may_read files.old }
+    ensures writable { F.may_write files.new ≡ F.may_write files.old }
+    ensures later { F.read_faults files.old ≤ F.read_faults files.new }
+    ensures no_write { F.write_faults files.new ≡ F.write_faults files.old }
+{
+    match program_of(alloc, plant) {
+        Ok(program) => check_any(alloc, program, MOST_DEPTH, files, name),
+        Err(_) => Err(CheckStop::Memory),
+    }
+}
