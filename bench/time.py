@@ -88,22 +88,32 @@ def cuts(size):
     return "stn-log 2\nnode\n" + "cut 0 0\n" * (size // 8) + "dual 1 0\nclaim optimal 60 2\nvalue 0 3\nvalue 1 3\nend\n"
 
 
-def founds(size, worth):
-    """A log of about this many bytes, most of them found groups: in each of its boxes doing nothing is found, which is worth this."""
+def founds(size, worth, started):
+    """A log of about this many bytes, most of them found groups: in its boxes doing nothing is found, which is worth the one, or in
+    turn with it a quantum in slot 0, where that is worth the other."""
     group, split = f"node\nfound {worth} 0\n", "split 0 0 1 0\n"
-    empty, first, second = group + "empty\n", group + "dual 1 0\n", group + "dual 1 0\n"
+    other = group if started is None else f"node\nfound {started} 1\nvalue 0 1\n"
+    empty, first, second = other + "empty\n", group + "dual 1 0\n", group + "dual 1 0\n"
     while 3 * len(empty) < size:
         # Slot 0 is split at 0 again and again: a part of the first part is it or empty, and so is one of the second.
         empty, first, second = group + split + 2 * empty, group + split + first + empty, group + split + empty + second
     return "stn-log 2\n" + group + split + first + second + "claim below 1000000000000\nend\n"
 
 
+def earned(folder, plant, start):
+    """What a plan of one start, or of none, earns over a plant."""
+    path = os.path.join(folder, "one.plan")
+    with open(path, "w") as out:
+        out.write(start)
+    return subprocess.run([program, "simulate", plant, path], capture_output=True, text=True).stdout.split()[-1]
+
+
 def found_runs(folder, plants):
-    """The check of a log of found groups over each plant, of about so many bytes."""
-    for number, (plant, size) in enumerate(plants):
-        said = subprocess.run([program, "simulate", plant, os.devnull], capture_output=True, text=True).stdout
-        text = founds(size, said.split()[-1])
-        path = os.path.join(folder, f"found{number}-of-{len(text)}-bytes.log")
+    """The check of a log of found groups over each plant, of about so many bytes, where a start in slot 0 is one of them or none."""
+    for number, (plant, size, start) in enumerate(plants):
+        text = founds(size, earned(folder, plant, ""), earned(folder, plant, start) if start else None)
+        kind = "turned" if start else "found"
+        path = os.path.join(folder, f"{kind}{number}-of-{len(text)}-bytes.log")
         with open(path, "w") as out:
             out.write(text)
         yield ["check", plant, path]
@@ -133,7 +143,9 @@ def main():
         # The check makes the plant's program before it reads the log.
         runs += [["check", entries, no_log], ["check", os.path.join(top, "examples", "tiny.toml"), cut_log]]
         tiny, five = (os.path.join(top, "examples", name + ".toml") for name in ("tiny", "five"))
-        runs += found_runs(folder, [(tiny, 1_000_000), (tiny, 10_000_000), (tiny, 100_000_000), (five, 1_000_000), (five, 10_000_000), (plant, 1_000_000), (entries, 50_000)])
+        nothing = [(tiny, 10_000_000), (tiny, 100_000_000), (five, 10_000_000), (plant, 10_000_000), (entries, 10_000_000)]
+        turned = [(tiny, 10_000_000, "0 U make 1\n"), (plant, 1_000_000, "0 u0 t0 1\n"), (entries, 1_000_000, "0 u0 t0 1\n")]
+        runs += found_runs(folder, [(plant, size, "") for plant, size in nothing] + turned)
         runs += [["solve", p, "1000"] for p in sys.argv[1:]]
         print(f"{'seconds':>8} {'of cpu':>8} {'MiB':>7} status  words: first line")
         for words in runs:
