@@ -1,0 +1,4 @@
+pub mod GivenBest
+pub mod Least
+pub mod ToldBySums
+pub mod ValidSums
