@@ -11,6 +11,7 @@ use Rattle.stn_model.specs.Sound.{Sound}
 use Rattle.stn_model.specs.Best.{BestOf, NoneOf}
 use Rattle.stn_model.specs.Profit.{profit}
 use Rattle.stn_model.specs.Answers.{IsAnswerOf, IsSpent}
+use Rattle.time_grid.specs.Slots.{slots}
 use Rattle.time_grid.specs.PlanPoint.{IsPlanOf, plan_point}
 use Rattle.row_kit.specs.declared.found.Found.{Found}
 use Rattle.row_kit.specs.declared.program.Program.{Program}
@@ -38,11 +39,11 @@ use Rattle.stn_solve.specs.Outcomes.{IsPartOutcome, least_plan, whole_count}
 use Rattle.stn_solve.specs.Proofs.{IfSpent, claim_of}
 use Rattle.stn_solve.specs.laws.Telling.{IsTold, told_bare, told_plan}
 use Rattle.stn_solve.specs.declared.telling.Told.{Told}
-use Rattle.stn_solve.proofs.PartPlans.{lawful-plan, least-point}
+use Rattle.stn_solve.proofs.PartPlans.{lawful-places, lawful-plan, least-point}
 use Rattle.stn_solve.proofs.SmallClaim.{IsSmallClaim}
 use Rattle.stn_solve.proofs.Told.{best-group, counted-some}
 use Rattle.stn_solve.proofs.ValidLog.{search-cap_short}
-use Rattle.sums_told.specs.Given.{given_best, worth_found}
+use Rattle.sums_told.specs.Given.{IsGivenEnded, given_best, worth_found}
 use Rattle.sums_told.specs.Law.{IsToldBySums, MayHead, SumsAreTold}
 use Rattle.sums_told.specs.SumProofs.{IsSumsProofOf}
 use Rattle.sums_told.proofs.GivenBest.{given-bounds, given-group, given-least, open-left}
@@ -210,3 +211,14 @@ told-by_sums plant part larger sums budget tree ended given told sound is may en
     told_at plant part larger sums sound is may enlarged many budget few tree ended search (given_best part ended.best) ended.cap (is_over ended.cap (worth_found (given_best part ended.best)))
     (given_best-is plant part larger sums sound is may enlarged many budget few tree ended search exact) refl refl told
     (subst (λ (end : Ended). IsTold plant end told) given_is says)
+
+-- the best point as of the part has a value for each slot of the plant
+pub given-places : {budget : ℕ} (plant : Plant) (part larger : Program) (sums : List Sum) (tree : RowTree) (ended given : Ended) → Sound plant → IsPartOf plant part → MayHead part sums → IsWithSums part sums larger
+    → IsSearch larger (length part.root) budget tree ended → IsGivenEnded part ended given → IfSome given.best (λ found. length found.point ≡ length (slots plant))
+given-places {budget = budget} plant part larger sums tree ended given sound is may enlarged search given_is =
+    subst (λ (end : Ended). IfSome end.best (λ found. length found.point ≡ length (slots plant))) (sym given_is)
+    (at (given_best part ended.best) (given-group part larger sums (same-given part larger sums may enlarged) ended.best (best-group larger budget tree ended search)))
+  where
+    at : (best : Option Found) → IfSome best (IsGroup part) → IfSome best (λ found. length found.point ≡ length (slots plant))
+    at None group = tt
+    at (Some found) group = lawful-places plant part sound is found.point group.lawful
