@@ -1,2 +1,3 @@
 pub mod AnyVersion
 pub mod PlantLogs
+pub mod SumTexts

@@ -3,7 +3,7 @@ ghost use Rattle.std.specs.Prelude.{◌≡◌, ◌+◌, ◌*◌, ◌≤◌, Err,
 ghost use Rattle.std.specs.List.{All};
 ghost use Rattle.stn_edge.specs.Count.{Rose};
 ghost use Rattle.stn_edge.specs.Files.{file_of};
-ghost use Rattle.sum_slots.specs.Shown.{IsShown};
+ghost use Rattle.sum_slots.specs.Shown.{AreRanges, IsShown};
 ghost use Rattle.sum_lines.specs.Head.{IsKept};
 ghost use Rattle.log_check.specs.Verdict.{YesHolds, limits_of};
 ghost use Rattle.log_sums.specs.AnyVersion.{IsAnyVerdict, IsHeadVerdict, IsShownVerdict, IsUnshown, IsUnshownVerdict, limits_with};
@@ -13,7 +13,7 @@ use crate::unshown::first_unshown;
 use log_check::{CheckStop, LogVerdict, check_behind, check_rows};
 use log_lines::Limits;
 use proof_log::{Defect, first_defect};
-use row_kit::Program;
+use row_kit::{Domain, Program};
 use row_relax::Rows;
 use std::alloc::Global;
 use stn_edge::Shelf;
@@ -36,6 +36,7 @@ fn limits_with(program: &Program, depth: u32, sums: usize) -> Limits
 }
 
 /// Checks the log of any version that lies in a file of the shelf, over the program, with at most so many splits one in another.
+/// Its sums are to be shown by domains in which the program's points lie.
 /// A log of version 3 is read in two passes: its head, and what follows. It takes memory as `check_rows` does, and for the
 /// declared sums and the larger program.
 ///
@@ -45,13 +46,15 @@ fn limits_with(program: &Program, depth: u32, sums: usize) -> Limits
 pub fn check_any<F: Shelf>(
     alloc: Global,
     program: Program,
+    ranges: &[Domain],
     depth: u32,
     files: &mut F,
     name: &str,
 ) -> Result<LogVerdict, CheckStop>
-    requires { IsTrue (F.may_read files.old name.now) }
+    requires ranges { AreRanges program ranges.now }
+    requires allowed { IsTrue (F.may_read files.old name.now) }
     ensures verdict { IfOk result (λ verdict. IfSome (F.files files.old)
-        (λ m. IsAnyVerdict program depth (file_of m name.now) verdict)) }
+        (λ m. IsAnyVerdict program ranges.now depth (file_of m name.now) verdict)) }
     ensures holds { IfOk result (YesHolds program) }
     ensures fault { result ≡ Err CheckStop.Fault → Rose (F.read_faults files.old) (F.read_faults files.new) }
     ensures same { F.files files.new ≡ F.files files.old }
@@ -67,7 +70,7 @@ pub fn check_any<F: Shelf>(
             check_rows(alloc, &rows, depth, files, name)
         }
         Front::Bad(defect) => Ok(LogVerdict::No(defect)),
-        Front::Headed(head) => check_headed(alloc, program, depth, &head, files, name),
+        Front::Headed(head) => check_headed(alloc, program, ranges, depth, &head, files, name),
     }
 }
 
@@ -75,15 +78,17 @@ pub fn check_any<F: Shelf>(
 fn check_headed<F: Shelf>(
     alloc: Global,
     program: Program,
+    ranges: &[Domain],
     depth: u32,
     head: &Head,
     files: &mut F,
     name: &str,
 ) -> Result<LogVerdict, CheckStop>
     requires allowed { IsTrue (F.may_read files.old name.now) }
+    requires ranges { AreRanges program ranges.now }
     requires kept { IsKept (limits_of program depth) head.now }
     ensures verdict { IfOk result (λ verdict. IfSome (F.files files.old)
-        (λ m. IsHeadVerdict program depth (file_of m name.now) head.now verdict)) }
+        (λ m. IsHeadVerdict program ranges.now depth (file_of m name.now) head.now verdict)) }
     ensures holds { IfOk result (YesHolds program) }
     ensures fault { result ≡ Err CheckStop.Fault → Rose (F.read_faults files.old) (F.read_faults files.new) }
     ensures same { F.files files.new ≡ F.files files.old }
@@ -92,9 +97,14 @@ fn check_headed<F: Shelf>(
     ensures later { F.read_faults files.old ≤ F.read_faults files.new }
     ensures no_write { F.write_faults files.new ≡ F.write_faults files.old }
 {
-    match first_unshown(&program, head.sums.as_slice(), head.lines.as_slice()) {
-        Some(line) => check_text(alloc, &program, depth, head, line, files, name),
-        None => check_shown(alloc, program, depth, head, files, name),
+    match first_unshown(
+        &program,
+        ranges,
+        head.sums.as_slice(),
+        head.lines.as_slice(),
+    ) {
+        Some(line) => check_text(alloc, &program, ranges, depth, head, line, files, name),
+        None => check_shown(alloc, program, ranges, depth, head, files, name),
     }
 }
 
@@ -102,6 +112,7 @@ fn check_headed<F: Shelf>(
 fn check_text<F: Shelf>(
     alloc: Global,
     program: &Program,
+    ranges: &[Domain],
     depth: u32,
     head: &Head,
     line: u64,
@@ -110,7 +121,7 @@ fn check_text<F: Shelf>(
 ) -> Result<LogVerdict, CheckStop>
     requires allowed { IsTrue (F.may_read files.old name.now) }
     requires kept { IsKept (limits_of program.now depth) head.now }
-    requires unshown { IsUnshown program.now head.now.sums head.now.lines line }
+    requires unshown { IsUnshown program.now ranges.now head.now.sums head.now.lines line }
     ensures verdict { IfOk result (λ verdict. IfSome (F.files files.old)
         (λ m. IsUnshownVerdict program.now depth (file_of m name.now) head.now line verdict)) }
     ensures holds { IfOk result (YesHolds program.now) }
@@ -135,16 +146,18 @@ fn check_text<F: Shelf>(
 fn check_shown<F: Shelf>(
     alloc: Global,
     program: Program,
+    ranges: &[Domain],
     depth: u32,
     head: &Head,
     files: &mut F,
     name: &str,
 ) -> Result<LogVerdict, CheckStop>
     requires allowed { IsTrue (F.may_read files.old name.now) }
+    requires ranges { AreRanges program ranges.now }
     requires kept { IsKept (limits_of program depth) head.now }
-    requires shown { All (IsShown program) head.now.sums }
+    requires shown { All (IsShown program ranges.now) head.now.sums }
     ensures verdict { IfOk result (λ verdict. IfSome (F.files files.old)
-        (λ m. IsShownVerdict program depth (file_of m name.now) head.now verdict)) }
+        (λ m. IsShownVerdict program ranges.now depth (file_of m name.now) head.now verdict)) }
     ensures holds { IfOk result (YesHolds program) }
     ensures fault { result ≡ Err CheckStop.Fault → Rose (F.read_faults files.old) (F.read_faults files.new) }
     ensures same { F.files files.new ≡ F.files files.old }
@@ -154,7 +167,7 @@ fn check_shown<F: Shelf>(
     ensures no_write { F.write_faults files.new ≡ F.write_faults files.old }
 {
     let slots = program.root.len();
-    let program = with_sums(alloc, program, head.sums.as_slice())?;
+    let program = with_sums(alloc, program, ranges, head.sums.as_slice())?;
     let rows = Rows { program };
     let own = check_behind(alloc, &rows, depth, head.bytes, files, name)?;
     given_verdict(alloc, slots, head.count, own)

@@ -7,8 +7,8 @@ use proof_log::{Claim, Defect};
 use row_kit::List;
 use std::alloc::{AllocError, Global};
 
-// A defect behind a head of so many lines, by its line in the file.
-pub(crate) fn in_file(count: u64, defect: Defect) -> Result<Defect, CheckStop>
+/// A defect behind a head of so many lines, by its line in the file. `Memory` comes only where no file has as many lines.
+pub fn in_file(count: u64, defect: Defect) -> Result<Defect, CheckStop>
     requires { 1 ≤ count }
     ensures defect { IfOk result (λ own. own ≡ in_file count defect) }
     ensures no_fault { result ≢ Err CheckStop.Fault }
@@ -41,8 +41,8 @@ pub(crate) fn given_verdict(
     }
 }
 
-// A claim with its point cut back to so many slots.
-fn given_claim(alloc: Global, slots: usize, claim: Claim) -> Result<Claim, AllocError>
+/// A claim with its point cut back to so many slots. It takes memory for the point.
+pub fn given_claim(alloc: Global, slots: usize, claim: Claim) -> Result<Claim, AllocError>
     ensures { IfOk result (λ given. given ≡ given_claim slots claim) }
 {
     match claim {

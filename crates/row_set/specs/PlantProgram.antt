@@ -29,6 +29,10 @@ plant_rows plant = busy_rows plant ++ (stock_rows plant ++ (load_rows plant ++ g
 abbrev pub slot_domain : Plant → ℕ × ℕ → Domain
 slot_domain plant slot = record { zero = true; lo = (run_at plant slot.0).min; hi = (run_at plant slot.0).max }
 
+-- what the slots of a plant may have
+abbrev pub plant_root : Plant → List Domain
+plant_root plant = map (slot_domain plant) (slots plant)
+
 -- a slot lies in its unit's lane, at its period, and is of its task's kind
 abbrev pub slot_tag : Plant → ℕ × ℕ → Tag
 slot_tag plant slot = record { lane = (run_at plant slot.0).unit; place = slot.1; kind = (run_at plant slot.0).task }
@@ -50,7 +54,7 @@ pub record IsMadeOf (plant : Plant) (program : Program) : Type 0 where
   pub rows_are : program.rows ≡ plant_rows plant
   pub profit_is : program.profit ≡ entries_from 0 (map (profit_part plant) (slots plant))
   pub base_is : program.base ≡ profit plant []
-  pub root_is : program.root ≡ map (slot_domain plant) (slots plant)
+  pub root_is : program.root ≡ plant_root plant
   pub tags_are : program.tags ≡ map (slot_tag plant) (slots plant)
   pub changes_are : program.changes ≡ plant_changes plant
 

@@ -8,4 +8,5 @@ mod profit;
 mod program;
 mod worth;
 
+pub use parts::plant_root;
 pub use program::program_of;

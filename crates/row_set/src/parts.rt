@@ -4,7 +4,7 @@ ghost use Rattle.stn_model.specs.Sound.{Sound};
 ghost use Rattle.time_grid.specs.Slots.{slots, IsGrid, IsSlotOf};
 ghost use Rattle.row_kit.specs.Row.{entries_from};
 ghost use Rattle.row_set.specs.ProfitParts.{profit_part};
-ghost use Rattle.row_set.specs.PlantProgram.{slot_domain, slot_tag, gap_change, has_cost, plant_changes};
+ghost use Rattle.row_set.specs.PlantProgram.{slot_domain, slot_tag, gap_change, has_cost, plant_changes, plant_root};
 
 use crate::profit::{each_profit, fixed_profit};
 use row_kit::{Change, Domain, Entry, List, Tag, entries_of};
@@ -43,6 +43,15 @@ fn profit_part(plant: &Plant, slot: (u32, u32)) -> (i64, i64)
     ensures { result ≡ profit_part plant.now slot }
 {
     (fixed_profit(plant, slot), each_profit(plant, slot))
+}
+
+/// What each slot of a plant may have: no start, or a batch of one of the sizes of its run. It takes memory for the slots.
+pub fn plant_root(alloc: Global, plant: &Plant) -> Result<List<Domain>, AllocError>
+    requires { Sound plant.now }
+    ensures { IfOk result (λ root. root ≡ plant_root plant.now) }
+{
+    let grid = Grid::new(alloc, plant)?;
+    root_of(alloc, plant, &grid)
 }
 
 // What the slots may have.

@@ -18,12 +18,12 @@ fn told(sums: &List<Sum>, place: usize) -> (u32, i64, Option<u32>, Option<u32>) 
 fn starts_and_stocks_are_chosen(rt: HostRuntime) -> Result<(), Fail> {
     let alloc = rt.alloc();
     let tiny = program(alloc, TINY, TINY_ROWS)?.ok_or("bounds")?;
-    let sums = choose_sums(alloc, &tiny)?;
+    let sums = choose_sums(alloc, &tiny, tiny.root.as_slice())?;
     assert_eq!(rt; sums.len(), 2);
     assert_eq!(rt; told(&sums, 0), (1, 0, None, None));
     assert_eq!(rt; told(&sums, 1), (1, 6, None, None));
     let odd = program(alloc, CHAIN, ODD_ROWS)?.ok_or("bounds")?;
-    let sums = choose_sums(alloc, &odd)?;
+    let sums = choose_sums(alloc, &odd, odd.root.as_slice())?;
     assert_eq!(rt; sums.len(), 2);
     assert_eq!(rt; told(&sums, 1), (1, 5, Some(3), None));
     Ok(())
@@ -41,8 +41,9 @@ fn money(trial: Option<Trial>) -> Option<i64> {
 fn splits_of_sums_are_tried(rt: HostRuntime) -> Result<(), Fail> {
     let alloc = rt.alloc();
     let odd = program(alloc, CHAIN, ODD_ROWS)?.ok_or("bounds")?;
-    let sums = choose_sums(alloc, &odd)?;
-    let program = with_sums(alloc, odd, sums.as_slice())?;
+    let sums = choose_sums(alloc, &odd, odd.root.as_slice())?;
+    let ranges = List::from_slice(alloc, odd.root.as_slice())?;
+    let program = with_sums(alloc, odd, ranges.as_slice(), sums.as_slice())?;
     let mut area = Area::new(alloc, &program)?;
     let mut workspace = Workspace::new(alloc, &program, 2)?;
     let basis = Basis::new(alloc, &program)?;

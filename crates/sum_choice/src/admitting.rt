@@ -1,9 +1,9 @@
-ghost use Rattle.std.specs.Prelude.{◌+◌, ◌*◌, ◌≤◌, length, IfOk, IsTrue};
+ghost use Rattle.std.specs.Prelude.{◌≡◌, ◌+◌, ◌*◌, ◌≤◌, length, IfOk, IsTrue};
 ghost use Rattle.std.specs.List.{All};
 ghost use Rattle.sum_slots.specs.Shown.{IsShown};
 ghost use Rattle.sum_slots.specs.Sum.{IsDeclared};
 
-use row_kit::{List, MOST_ROWS, MOST_SLOTS, Program};
+use row_kit::{Domain, List, MOST_ROWS, MOST_SLOTS, Program};
 use std::alloc::{AllocError, Global};
 use sum_slots::{Sum, is_declared, is_shown};
 
@@ -11,17 +11,19 @@ use sum_slots::{Sum, is_declared, is_shown};
 pub fn admitted(
     alloc: Global,
     program: &Program,
+    ranges: &[Domain],
     offered: Vec<Sum>,
 ) -> Result<List<Sum>, AllocError>
+    requires { length ranges.now ≡ length program.now.root }
     ensures declared { IfOk result (λ sums. All (IsDeclared (length program.now.root)) sums) }
-    ensures shown { IfOk result (λ sums. All (IsShown program.now) sums) }
+    ensures shown { IfOk result (λ sums. All (IsShown program.now ranges.now) sums) }
     ensures few { IfOk result (λ sums. length program.now.root + length sums ≤ 512) }
     ensures rows { IfOk result (λ sums. length program.now.rows + 2 * length sums ≤ 45904) }
 {
     let room = room_of(program);
     let mut sums = List::new(alloc);
     for sum in offered {
-        if sums.len() < room && is_admitted(program, &sum) {
+        if sums.len() < room && is_admitted(program, ranges, &sum) {
             sums.push(sum)?;
         }
     }
@@ -29,11 +31,12 @@ pub fn admitted(
 }
 
 // Whether a sum is declared and shown.
-fn is_admitted(program: &Program, sum: &Sum) -> bool
+fn is_admitted(program: &Program, ranges: &[Domain], sum: &Sum) -> bool
+    requires { length ranges.now ≡ length program.now.root }
     ensures declared { IsTrue result → IsDeclared (length program.now.root) sum.now }
-    ensures shown { IsTrue result → IsShown program.now sum.now }
+    ensures shown { IsTrue result → IsShown program.now ranges.now sum.now }
 {
-    is_declared(sum, program.root.len()) && is_shown(program, sum)
+    is_declared(sum, program.root.len()) && is_shown(program, ranges, sum)
 }
 
 // How many sums a program has room for.

@@ -1,4 +1,4 @@
-ghost use Rattle.std.specs.Prelude.{◌+◌, ◌*◌, ◌≤◌, length, IfOk};
+ghost use Rattle.std.specs.Prelude.{◌≡◌, ◌+◌, ◌*◌, ◌≤◌, length, IfOk};
 ghost use Rattle.std.specs.List.{All};
 ghost use Rattle.sum_slots.specs.Shown.{IsShown};
 ghost use Rattle.sum_slots.specs.Sum.{IsDeclared};
@@ -6,24 +6,29 @@ ghost use Rattle.sum_slots.specs.Sum.{IsDeclared};
 use crate::admitting::{admitted, room_of};
 use crate::runs::offer_runs;
 use crate::stocks::offer_stocks;
-use row_kit::{List, Program};
+use row_kit::{Domain, List, Program};
 use std::alloc::{AllocError, Global};
 use sum_slots::Sum;
 
 /// The sums that a search of the program is to split on: how often each run starts, in two halves where that may be more than
-/// 255 times, and the stocks of all states at all times, of which a part is taken that is spread evenly where there is no room
-/// for all. Each is declared and shown over the program, and there is room for their slots and rows. A stock is a row without
+/// 255 times, and the stocks of all states at all times, of which those at the last times are taken where there is no room for
+/// all. Each is declared over the program and shown by these domains, and there is room for their slots and rows. A stock is a row without
 /// fixed parts, divided by what divides all its parts. It takes memory for the sums, and costs the square of the slots and for
 /// each stock all rows.
-pub fn choose_sums(alloc: Global, program: &Program) -> Result<List<Sum>, AllocError>
+pub fn choose_sums(
+    alloc: Global,
+    program: &Program,
+    ranges: &[Domain],
+) -> Result<List<Sum>, AllocError>
+    requires { length ranges.now ≡ length program.now.root }
     ensures declared { IfOk result (λ sums. All (IsDeclared (length program.now.root)) sums) }
-    ensures shown { IfOk result (λ sums. All (IsShown program.now) sums) }
+    ensures shown { IfOk result (λ sums. All (IsShown program.now ranges.now) sums) }
     ensures few { IfOk result (λ sums. length program.now.root + length sums ≤ 512) }
     ensures rows { IfOk result (λ sums. length program.now.rows + 2 * length sums ≤ 45904) }
 {
     let mut offered = Vec::new(alloc);
-    offer_runs(alloc, program, &mut offered)?;
+    offer_runs(alloc, program, ranges, &mut offered)?;
     let room = room_of(program).saturating_sub(offered.len());
-    offer_stocks(alloc, program, room, &mut offered)?;
-    admitted(alloc, program, offered)
+    offer_stocks(alloc, program, ranges, room, &mut offered)?;
+    admitted(alloc, program, ranges, offered)
 }

@@ -1,6 +1,6 @@
 //! Sums of given terms.
 use crate::ranges::{Most, most_of};
-use row_kit::{Entry, List, Program};
+use row_kit::{Domain, Entry, List, Program};
 use std::alloc::{AllocError, Global};
 use sum_slots::Sum;
 
@@ -21,9 +21,9 @@ const MOST_STEPS: i128 = 255;
 const MOST_SAME: u32 = 4;
 
 /// What the sums of terms are to tell apart.
-pub fn span_of(program: &Program, terms: &[Entry]) -> Span {
-    let high: Most = most_of(program, false, terms);
-    let low: Most = most_of(program, true, terms);
+pub fn span_of(program: &Program, ranges: &[Domain], terms: &[Entry]) -> Span {
+    let high: Most = most_of(program, ranges, false, terms);
+    let low: Most = most_of(program, ranges, true, terms);
     let least = 0i128.saturating_sub(low.count);
     Span {
         least,
@@ -61,10 +61,11 @@ impl Span {
 pub fn put_sums(
     alloc: Global,
     program: &Program,
+    ranges: &[Domain],
     terms: &[Entry],
     into: &mut Vec<Sum>,
 ) -> Result<(), AllocError> {
-    let span = span_of(program, terms);
+    let span = span_of(program, ranges, terms);
     for step in 0..span.count() {
         let offset = i128::from(step).saturating_sub(span.least);
         if let Ok(offset) = i64::try_from(offset) {

@@ -1,17 +1,17 @@
 //! What terms count at most.
 use row_kit::{Domain, Entry, Program, Row};
 
-/// The most that terms count, or their opposites, and the row that shows it; no row where the domains of the root do.
+/// The most that terms count, or their opposites, and the row that shows it; no row where the domains do.
 #[derive(Clone, Copy)]
 pub struct Most {
     pub count: i128,
     pub row: Option<u32>,
 }
 
-/// The most that terms, or where that is wanted their opposites, count over a program.
-pub fn most_of(program: &Program, turn: bool, terms: &[Entry]) -> Most {
+/// The most that terms, or where that is wanted their opposites, count where points of a program lie in these domains.
+pub fn most_of(program: &Program, ranges: &[Domain], turn: bool, terms: &[Entry]) -> Most {
     let mut most = Most {
-        count: greatest_sum(turn, terms, program.root.as_slice()),
+        count: greatest_sum(turn, terms, ranges),
         row: None,
     };
     let rows = program.rows.as_slice();

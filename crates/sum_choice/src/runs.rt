@@ -1,6 +1,6 @@
 //! How often runs start.
 use crate::forming::put_sums;
-use row_kit::{Entry, Program, Tag};
+use row_kit::{Domain, Entry, Program, Tag};
 use std::alloc::{AllocError, Global};
 use sum_slots::Sum;
 
@@ -9,12 +9,17 @@ const MOST_STARTS: usize = 255;
 
 /// Offers for each run, which is the slots of one lane and kind, how often it starts: in two halves where it has more than 255
 /// slots.
-pub fn offer_runs(alloc: Global, program: &Program, into: &mut Vec<Sum>) -> Result<(), AllocError> {
+pub fn offer_runs(
+    alloc: Global,
+    program: &Program,
+    ranges: &[Domain],
+    into: &mut Vec<Sum>,
+) -> Result<(), AllocError> {
     let tags = program.tags.as_slice();
     for slot in 0..tags.len() {
         if is_first(tags, slot) {
             let terms = starts_of(alloc, tags, &tags[slot])?;
-            put_starts(alloc, program, terms.as_slice(), into)?;
+            put_starts(alloc, program, ranges, terms.as_slice(), into)?;
         }
     }
     Ok(())
@@ -56,15 +61,16 @@ fn starts_of(alloc: Global, tags: &[Tag], run: &Tag) -> Result<Vec<Entry>, Alloc
 fn put_starts(
     alloc: Global,
     program: &Program,
+    ranges: &[Domain],
     terms: &[Entry],
     into: &mut Vec<Sum>,
 ) -> Result<(), AllocError> {
     let count = terms.len();
     if count > MOST_STARTS {
-        put_sums(alloc, program, &terms[..count / 2], into)?;
-        put_sums(alloc, program, &terms[count / 2..], into)
+        put_sums(alloc, program, ranges, &terms[..count / 2], into)?;
+        put_sums(alloc, program, ranges, &terms[count / 2..], into)
     } else if count >= 2 {
-        put_sums(alloc, program, terms, into)
+        put_sums(alloc, program, ranges, terms, into)
     } else {
         Ok(())
     }

@@ -1,56 +1,84 @@
 //! The stocks of states.
 use crate::forming::{put_sums, span_of};
 use crate::runs::is_of_run;
-use row_kit::{Entry, Program, Tag};
+use row_kit::{Domain, Entry, Program, Tag};
 use std::alloc::{AllocError, Global};
 use sum_slots::Sum;
 
+// A row that keeps a stock: its number, that of its entries, and that of the sums that are declared of its terms.
+#[derive(Clone, Copy)]
+struct Stock {
+    row: usize,
+    entries: usize,
+    sums: usize,
+}
+
 /// Offers the stocks of all states at all times, one for each row that keeps a stock, as far as they differ. Where there is no room
-/// for all sums of them, a part of them is taken that is spread evenly over the rows.
+/// for all sums of them, those with the most entries are taken: of each state those at its last times.
 pub fn offer_stocks(
     alloc: Global,
     program: &Program,
+    ranges: &[Domain],
     room: usize,
     into: &mut Vec<Sum>,
 ) -> Result<(), AllocError> {
-    let mut stocks = Vec::new(alloc);
-    let mut total = 0usize;
-    for number in 0..program.rows.len() {
-        let entries = program.rows.get(number).entries.as_slice();
-        if is_stock(program.tags.as_slice(), entries) && !is_known(program, &stocks, entries) {
+    let stocks = list_stocks(alloc, program, ranges)?;
+    let least = least_fitting(alloc, stocks.as_slice(), room)?;
+    for stock in &stocks {
+        if stock.entries >= least && stock.row < program.rows.len() {
+            let entries = program.rows.get(stock.row).entries.as_slice();
             let terms = stock_terms(alloc, entries)?;
-            let count = span_of(program, terms.as_slice()).count() as usize;
-            if count >= 1 {
-                total = total.saturating_add(count);
-                stocks.push(number)?;
-            }
-        }
-    }
-    let most = fitting(stocks.len(), total, room);
-    for place in 0..stocks.len() {
-        if is_taken(place, most, stocks.len()) && stocks[place] < program.rows.len() {
-            let entries = program.rows.get(stocks[place]).entries.as_slice();
-            let terms = stock_terms(alloc, entries)?;
-            put_sums(alloc, program, terms.as_slice(), into)?;
+            put_sums(alloc, program, ranges, terms.as_slice(), into)?;
         }
     }
     Ok(())
 }
 
-// How many of so many stocks there is room for.
-fn fitting(stocks: usize, total: usize, room: usize) -> usize {
-    if total <= room {
-        stocks
-    } else {
-        stocks.saturating_mul(room) / total.max(1)
+// Lists the rows that keep a stock, as far as they differ and their stocks have two values or more.
+fn list_stocks(
+    alloc: Global,
+    program: &Program,
+    ranges: &[Domain],
+) -> Result<Vec<Stock>, AllocError> {
+    let mut stocks = Vec::new(alloc);
+    for row in 0..program.rows.len() {
+        let entries = program.rows.get(row).entries.as_slice();
+        if is_stock(program.tags.as_slice(), entries) && !is_known(program, &stocks, entries) {
+            let terms = stock_terms(alloc, entries)?;
+            let sums = span_of(program, ranges, terms.as_slice()).count() as usize;
+            if sums >= 1 {
+                stocks.push(Stock {
+                    row,
+                    entries: entries.len(),
+                    sums,
+                })?;
+            }
+        }
     }
+    Ok(stocks)
 }
 
-// Whether the stock at a place is one of so many that are spread evenly over all.
-fn is_taken(place: usize, most: usize, all: usize) -> bool {
-    let all = all.max(1);
-    let before = place.saturating_mul(most) / all;
-    place.saturating_add(1).saturating_mul(most) / all > before
+// The least number of entries so that there is room for the sums of all stocks that have as many.
+fn least_fitting(alloc: Global, stocks: &[Stock], room: usize) -> Result<usize, AllocError> {
+    let mut sizes = sizes_of(alloc, stocks)?;
+    sizes.sort_unstable();
+    let mut used = 0usize;
+    for (missing, sums) in &sizes {
+        used = used.saturating_add(*sums);
+        if used > room {
+            return Ok((usize::MAX - *missing).saturating_add(1));
+        }
+    }
+    Ok(0)
+}
+
+// Of each stock how many entries are missing to the most that a number says, and how many sums it has.
+fn sizes_of(alloc: Global, stocks: &[Stock]) -> Result<Vec<(usize, usize)>, AllocError> {
+    let mut sizes = Vec::with_capacity(alloc, stocks.len())?;
+    for stock in stocks {
+        sizes.push((usize::MAX - stock.entries, stock.sums))?;
+    }
+    Ok(sizes)
 }
 
 // Whether entries are those of a row that keeps a stock: two at least, none with a fixed part, and either one counts less than
@@ -75,10 +103,10 @@ fn are_first(tags: &[Tag], entries: &[Entry]) -> bool {
 }
 
 // Whether a stock has been listed whose row has the same entries, or their opposites, but for a factor.
-fn is_known(program: &Program, stocks: &[usize], entries: &[Entry]) -> bool {
+fn is_known(program: &Program, stocks: &[Stock], entries: &[Entry]) -> bool {
     for stock in stocks {
-        if *stock < program.rows.len() {
-            let others = program.rows.get(*stock).entries.as_slice();
+        if stock.row < program.rows.len() {
+            let others = program.rows.get(stock.row).entries.as_slice();
             if are_alike(entries, others) {
                 return true;
             }

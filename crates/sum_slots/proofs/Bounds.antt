@@ -87,21 +87,21 @@ two_rows slot [] = refl
 two_rows slot (sum ∷ sums) = omega (arith, two_rows (slot + 1) sums)
 
 -- the domain of a shown sum's slot is normal and holds a value
-domain_normal : (program : Program) (sum : Sum) → IsShown program sum → IsNormal (sum_domain program sum)
-domain_normal program sum shown = record { positive = omega arith; byte = most_byte program sum shown; bare = λ less. (refl, omega arith) }
+domain_normal : (program : Program) (ranges : List Domain) (sum : Sum) → IsShown program ranges sum → IsNormal (sum_domain program ranges sum)
+domain_normal program ranges sum shown = record { positive = omega arith; byte = most_byte program ranges sum shown; bare = λ less. (refl, omega arith) }
 
 -- the larger program keeps the bounds
-pub keeps_bounds : (program : Program) (sums : List Sum) (lane : ℕ) (rows : List Row) (root : List Domain) (tags : List Tag) → length program.root + length sums ≤ 512 → length program.rows + 2 * length sums ≤ 45904 → All (IsDeclared (length program.root)) sums → All (IsShown program) sums →
-    rows ≡ program.rows ++ sum_rows (length program.root) sums → root ≡ program.root ++ map (sum_domain program) sums → tags ≡ program.tags ++ map (λ sum. sum_tag lane) sums → KeepsBounds rows program.profit program.base root tags program.changes
-keeps_bounds program sums lane rows root tags few_slots few_rows declared shown are_rows are_slots are_tags =
+pub keeps_bounds : (program : Program) (ranges : List Domain) (sums : List Sum) (lane : ℕ) (rows : List Row) (root : List Domain) (tags : List Tag) → length program.root + length sums ≤ 512 → length program.rows + 2 * length sums ≤ 45904 → All (IsDeclared (length program.root)) sums → All (IsShown program ranges) sums →
+    rows ≡ program.rows ++ sum_rows (length program.root) sums → root ≡ program.root ++ map (sum_domain program ranges) sums → tags ≡ program.tags ++ map (λ sum. sum_tag lane) sums → KeepsBounds rows program.profit program.base root tags program.changes
+keeps_bounds program ranges sums lane rows root tags few_slots few_rows declared shown are_rows are_slots are_tags =
     let n = length program.root in
-    let domains = map (sum_domain program) sums in
-    let slots : length root ≡ n + length sums = ap length are_slots ∙ length-append program.root domains ∙ ap (λ k. n + k) (length-map sums (sum_domain program)) in
+    let domains = map (sum_domain program ranges) sums in
+    let slots : length root ≡ n + length sums = ap length are_slots ∙ length-append program.root domains ∙ ap (λ k. n + k) (length-map sums (sum_domain program ranges)) in
     let more : n ≤ length root = omega (arith, slots) in
     record {
       few_slots = omega (arith, slots);
-      root_normal = subst (All IsNormal) (sym are_slots) (All-append IsNormal program.root domains program.root_normal (All-map IsNormal (sum_domain program) sums (λ k d lt. domain_normal program (get_or sums k d) (shown k d lt))));
-      root_open = subst (All IsOpen) (sym are_slots) (All-append IsOpen program.root domains program.root_open (All-map IsOpen (sum_domain program) sums (λ k d lt. omega arith)));
+      root_normal = subst (All IsNormal) (sym are_slots) (All-append IsNormal program.root domains program.root_normal (All-map IsNormal (sum_domain program ranges) sums (λ k d lt. domain_normal program ranges (get_or sums k d) (shown k d lt))));
+      root_open = subst (All IsOpen) (sym are_slots) (All-append IsOpen program.root domains program.root_open (All-map IsOpen (sum_domain program ranges) sums (λ k d lt. omega arith)));
       few_rows = omega (arith, ap length are_rows, length-append program.rows (sum_rows n sums), two_rows n sums);
       rows_bounded = subst (All (IsBoundedRow (length root))) (sym are_rows) (All-append (IsBoundedRow (length root)) program.rows (sum_rows n sums)
           (λ k d lt. let row = program.rows_bounded k d lt in record { entries = AreBounded-more n (length root) 10000000 (get_or program.rows k d).entries more row.entries; limit = row.limit })

@@ -11,8 +11,8 @@ use Rattle.sum_slots.specs.Shown.{most_value, opposites}
 use Rattle.sum_slots.specs.Sum.{sum_value}
 
 -- the domain of a sum's slot: all values up to the greatest that it is shown to have
-abbrev pub sum_domain : Program → Sum → Domain
-sum_domain program sum = record { zero = true; lo = 1; hi = most_value program sum }
+abbrev pub sum_domain : Program → List Domain → Sum → Domain
+sum_domain program ranges sum = record { zero = true; lo = 1; hi = most_value program ranges sum }
 
 -- the entry of a sum's slot, which counts this much for each unit of its value
 abbrev pub slot_entry : ℕ → ℤ → Entry
@@ -38,12 +38,12 @@ sum_rows slot (sum ∷ sums) = row_below slot sum ∷ (row_above slot sum ∷ su
 abbrev pub sum_tag : ℕ → Tag
 sum_tag lane = record { lane = lane; place = 0; kind = 0 }
 
--- a program is another with sums: a slot for each after all others, without profit and in a lane that no other slot has, and two rows for each after all others
-pub record IsWithSums (program : Program) (sums : List Sum) (larger : Program) : Type 0 where
+-- a program is another with sums that are shown by these domains: a slot for each after all others, without profit and in a lane that no other slot has, and two rows for each after all others
+pub record IsWithSums (program : Program) (ranges : List Domain) (sums : List Sum) (larger : Program) : Type 0 where
   pub lane : ℕ
   pub free : All (λ tag. tag.lane ≡ lane → ⊥) program.tags
   pub tags : larger.tags ≡ program.tags ++ map (λ sum. sum_tag lane) sums
-  pub root : larger.root ≡ program.root ++ map (sum_domain program) sums
+  pub root : larger.root ≡ program.root ++ map (sum_domain program ranges) sums
   pub rows : larger.rows ≡ program.rows ++ sum_rows (length program.root) sums
   pub profit : larger.profit ≡ program.profit
   pub base : larger.base ≡ program.base

@@ -1,11 +1,12 @@
 -- That sums change neither the lawful points nor what they are worth.
 use Rattle.std.specs.Prelude.{◌≡◌, ◌↔◌, ℕ, List, length}
 use Rattle.std.specs.List.{All}
+use Rattle.row_kit.specs.declared.domain.Domain.{Domain}
 use Rattle.row_kit.specs.declared.program.Program.{Program}
 use Rattle.row_kit.specs.Point.{IsLawful, worth_of}
 use Rattle.sum_slots.specs.declared.sum.Sum.{Sum}
 use Rattle.sum_slots.specs.Larger.{IsWithSums, completed, given_of}
-use Rattle.sum_slots.specs.Shown.{IsShown}
+use Rattle.sum_slots.specs.Shown.{AreRanges, IsShown}
 use Rattle.sum_slots.specs.Sum.{IsByte, IsDeclared, sum_value}
 
 -- a point is a lawful point of a program, followed by the values that sums have there
@@ -19,7 +20,8 @@ pub record IsSameWithSums (program : Program) (sums : List Sum) (larger : Progra
   pub bytes : (point : List ℕ) → IsLawful program point → All (λ sum. IsByte (sum_value sum point)) sums
   pub worth : (point : List ℕ) → IsLawful program point → worth_of larger (completed sums point) ≡ worth_of program point
 
--- where each sum is declared and shown over a program, the program with the sums has the same lawful points, of the same worth
+-- where each sum is declared over a program, and shown by domains in which its points lie, the program with the sums has the same lawful points, of the same worth
 abbrev pub SumsLaw : Type 0
 SumsLaw =
-    (program larger : Program) (sums : List Sum) → All (IsDeclared (length program.root)) sums → All (IsShown program) sums → IsWithSums program sums larger → IsSameWithSums program sums larger
+    (program larger : Program) (ranges : List Domain) (sums : List Sum) → AreRanges program ranges → All (IsDeclared (length program.root)) sums
+    → All (IsShown program ranges) sums → IsWithSums program ranges sums larger → IsSameWithSums program sums larger

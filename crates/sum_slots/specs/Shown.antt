@@ -1,12 +1,14 @@
 -- How the range of a declared sum is shown.
-use Rattle.std.specs.Prelude.{ℕ, ◌/◌, ◌==◌, nat_le, nat_lt, Bool, true, false, ◌&&◌, if◌then◌else◌, List, [], ◌∷◌, map, Option, Some, None, ℤ, pos, neg_ℤ, ◌+ℤ◌, ◌*ℤ◌, ◌≤ℤ◌, unsigned_abs, MatchOption}
+use Rattle.std.specs.Prelude.{◌≡◌, ℕ, ◌/◌, ◌==◌, nat_le, nat_lt, Bool, true, false, ◌&&◌, if◌then◌else◌, List, [], ◌∷◌, length, map, Option, Some, None, ℤ, pos, neg_ℤ, ◌+ℤ◌, ◌*ℤ◌, ◌≤ℤ◌, unsigned_abs, MatchOption}
 use Rattle.std.specs.Int.{int_div_euclid, int_max}
+use Rattle.std.specs.List.{All}
 use Rattle.std.specs.Ordering.{int_eq}
 use Rattle.row_kit.specs.declared.domain.Domain.{Domain}
 use Rattle.row_kit.specs.declared.program.Program.{Program}
 use Rattle.row_kit.specs.declared.row.Entry.{Entry}
 use Rattle.row_kit.specs.declared.row.Row.{Row}
-use Rattle.row_kit.specs.Domain.{domain_at}
+use Rattle.row_kit.specs.Domain.{IsNormal, domain_at}
+use Rattle.row_kit.specs.Point.{LiesIn}
 use Rattle.row_kit.specs.Row.{counted, row_at}
 use Rattle.sum_slots.specs.declared.sum.Sum.{Sum}
 use Rattle.sum_slots.specs.Sum.{IsByte, value_at}
@@ -70,23 +72,29 @@ most_by_row terms row =
     let factor = factor_of terms row.entries in
     if nat_le 1 factor && are_multiples factor terms row.entries then Some (int_div_euclid row.limit (pos factor)) else None
 
--- the most that terms are shown to count: by the root's domains, or by a row of this number
-abbrev pub most_count : Program → Option ℕ → List Entry → Option ℤ
-most_count program None terms = Some (greatest_sum terms program.root)
-most_count program (Some number) terms = most_by_row terms (row_at program.rows number)
+-- domains in which a program's points lie: one for each slot, each normal
+pub record AreRanges (program : Program) (ranges : List Domain) : Type 0 where
+  pub same_length : length ranges ≡ length program.root
+  pub normal : All IsNormal ranges
+  pub hold : (point : List ℕ) → LiesIn program.root point → LiesIn ranges point
+
+-- the most that terms are shown to count: by the domains in which points lie, or by a row of this number
+abbrev pub most_count : Program → List Domain → Option ℕ → List Entry → Option ℤ
+most_count program ranges None terms = Some (greatest_sum terms ranges)
+most_count program ranges (Some number) terms = most_by_row terms (row_at program.rows number)
 
 -- the most that a sum's terms are shown to count
-abbrev pub high_count : Program → Sum → Option ℤ
-high_count program sum = most_count program sum.high sum.terms
+abbrev pub high_count : Program → List Domain → Sum → Option ℤ
+high_count program ranges sum = most_count program ranges sum.high sum.terms
 
 -- the most that the opposites of a sum's terms are shown to count
-abbrev pub low_count : Program → Sum → Option ℤ
-low_count program sum = most_count program sum.low (opposites sum.terms)
+abbrev pub low_count : Program → List Domain → Sum → Option ℤ
+low_count program ranges sum = most_count program ranges sum.low (opposites sum.terms)
 
 -- a sum is shown: either side of its count is, its least value is not below 0, and its greatest is that of a byte
-pub record IsShown (program : Program) (sum : Sum) : Type 0 where
-  pub low : MatchOption (low_count program sum) ⊥ (λ count. pos 0 ≤ℤ value_at sum (neg_ℤ count))
-  pub high : MatchOption (high_count program sum) ⊥ (λ count. IsByte (value_at sum count))
+pub record IsShown (program : Program) (ranges : List Domain) (sum : Sum) : Type 0 where
+  pub low : MatchOption (low_count program ranges sum) ⊥ (λ count. pos 0 ≤ℤ value_at sum (neg_ℤ count))
+  pub high : MatchOption (high_count program ranges sum) ⊥ (λ count. IsByte (value_at sum count))
 
 -- the greatest value of a sum whose terms are shown to count at most so much, and 0 where nothing is shown
 abbrev pub value_up_to : Sum → Option ℤ → ℕ
@@ -94,5 +102,5 @@ value_up_to sum None = 0
 value_up_to sum (Some count) = unsigned_abs (value_at sum count)
 
 -- the greatest value that a sum is shown to have
-abbrev pub most_value : Program → Sum → ℕ
-most_value program sum = value_up_to sum (high_count program sum)
+abbrev pub most_value : Program → List Domain → Sum → ℕ
+most_value program ranges sum = value_up_to sum (high_count program ranges sum)

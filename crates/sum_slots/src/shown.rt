@@ -12,33 +12,36 @@ use crate::sum::Sum;
 use row_kit::{Domain, Entry, Program};
 
 /// Whether a sum is shown over a program: either side of what it counts is bounded by the row that it names, or by the domains
-/// of the root, and so bounded its value lies in 0 to 255. It takes no memory, and costs the sum's terms.
-pub fn is_shown(program: &Program, sum: &Sum) -> bool
-    requires { IsDeclared (length program.now.root) sum.now }
-    ensures { IsTrue result ↔ IsShown program.now sum.now }
+/// in which points lie, and so bounded its value lies in 0 to 255. It takes no memory, and costs the sum's terms.
+pub fn is_shown(program: &Program, ranges: &[Domain], sum: &Sum) -> bool
+    requires same_slots { length ranges.now ≡ length program.now.root }
+    requires declared { IsDeclared (length program.now.root) sum.now }
+    ensures { IsTrue result ↔ IsShown program.now ranges.now sum.now }
 {
-    is_low_shown(program, sum) && is_high_shown(program, sum)
+    is_low_shown(program, ranges, sum) && is_high_shown(program, ranges, sum)
 }
 
 // Whether the least value of a sum is shown, and not below 0.
-fn is_low_shown(program: &Program, sum: &Sum) -> bool
-    requires { IsDeclared (length program.now.root) sum.now }
-    ensures { IsTrue result ↔ MatchOption (low_count program.now sum.now) ⊥
+fn is_low_shown(program: &Program, ranges: &[Domain], sum: &Sum) -> bool
+    requires same_slots { length ranges.now ≡ length program.now.root }
+    requires declared { IsDeclared (length program.now.root) sum.now }
+    ensures { IsTrue result ↔ MatchOption (low_count program.now ranges.now sum.now) ⊥
         (λ count. pos 0 ≤ℤ value_at sum.now (neg_ℤ count)) }
 {
-    match low_count(program, sum) {
+    match low_count(program, ranges, sum) {
         None => false,
         Some(count) => value_at(sum, 0 - count) >= 0,
     }
 }
 
 // Whether the greatest value of a sum is shown, and that of a byte.
-fn is_high_shown(program: &Program, sum: &Sum) -> bool
-    requires { IsDeclared (length program.now.root) sum.now }
-    ensures { IsTrue result ↔ MatchOption (high_count program.now sum.now) ⊥
+fn is_high_shown(program: &Program, ranges: &[Domain], sum: &Sum) -> bool
+    requires same_slots { length ranges.now ≡ length program.now.root }
+    requires declared { IsDeclared (length program.now.root) sum.now }
+    ensures { IsTrue result ↔ MatchOption (high_count program.now ranges.now sum.now) ⊥
         (λ count. IsByte (value_at sum.now count)) }
 {
-    match high_count(program, sum) {
+    match high_count(program, ranges, sum) {
         None => false,
         Some(count) => is_byte(value_at(sum, count)),
     }
@@ -52,58 +55,69 @@ fn is_byte(number: i128) -> bool
 }
 
 // The domain of a shown sum's slot.
-pub fn sum_domain(program: &Program, sum: &Sum) -> Domain
+pub fn sum_domain(program: &Program, ranges: &[Domain], sum: &Sum) -> Domain
+    requires same_slots { length ranges.now ≡ length program.now.root }
     requires declared { IsDeclared (length program.now.root) sum.now }
-    requires shown { IsShown program.now sum.now }
-    ensures { result ≡ sum_domain program.now sum.now }
+    requires shown { IsShown program.now ranges.now sum.now }
+    ensures { result ≡ sum_domain program.now ranges.now sum.now }
 {
     Domain {
         zero: true,
         lo: 1,
-        hi: most_value(program, sum),
+        hi: most_value(program, ranges, sum),
     }
 }
 
 // The greatest value that a sum is shown to have.
-fn most_value(program: &Program, sum: &Sum) -> u8
+fn most_value(program: &Program, ranges: &[Domain], sum: &Sum) -> u8
+    requires same_slots { length ranges.now ≡ length program.now.root }
     requires declared { IsDeclared (length program.now.root) sum.now }
-    requires shown { IsShown program.now sum.now }
-    ensures { result ≡ most_value program.now sum.now }
+    requires shown { IsShown program.now ranges.now sum.now }
+    ensures { result ≡ most_value program.now ranges.now sum.now }
 {
-    match high_count(program, sum) {
+    match high_count(program, ranges, sum) {
         None => 0,
         Some(count) => value_at(sum, count) as u8,
     }
 }
 
 // The most that a sum's terms are shown to count.
-fn high_count(program: &Program, sum: &Sum) -> Option<i128>
-    requires { IsDeclared (length program.now.root) sum.now }
-    ensures most { result ≡ high_count program.now sum.now }
+fn high_count(program: &Program, ranges: &[Domain], sum: &Sum) -> Option<i128>
+    requires same_slots { length ranges.now ≡ length program.now.root }
+    requires declared { IsDeclared (length program.now.root) sum.now }
+    ensures most { result ≡ high_count program.now ranges.now sum.now }
     ensures small { IfSome result (λ most. unsigned_abs most ≤ 2 ^ 41) }
 {
-    most_count(program, sum.high, false, sum.terms.as_slice())
+    most_count(program, ranges, sum.high, false, sum.terms.as_slice())
 }
 
 // The most that the opposites of a sum's terms are shown to count.
-fn low_count(program: &Program, sum: &Sum) -> Option<i128>
-    requires { IsDeclared (length program.now.root) sum.now }
-    ensures most { result ≡ low_count program.now sum.now }
+fn low_count(program: &Program, ranges: &[Domain], sum: &Sum) -> Option<i128>
+    requires same_slots { length ranges.now ≡ length program.now.root }
+    requires declared { IsDeclared (length program.now.root) sum.now }
+    ensures most { result ≡ low_count program.now ranges.now sum.now }
     ensures small { IfSome result (λ most. unsigned_abs most ≤ 2 ^ 41) }
 {
-    most_count(program, sum.low, true, sum.terms.as_slice())
+    most_count(program, ranges, sum.low, true, sum.terms.as_slice())
 }
 
 // The most that terms, or their opposites, are shown to count.
-fn most_count(program: &Program, by: Option<u32>, turn: bool, terms: &[Entry]) -> Option<i128>
+fn most_count(
+    program: &Program,
+    ranges: &[Domain],
+    by: Option<u32>,
+    turn: bool,
+    terms: &[Entry],
+) -> Option<i128>
+    requires same_slots { length ranges.now ≡ length program.now.root }
     requires bounded { AreBounded (length program.now.root) 10000000 terms.now }
     requires some { 1 ≤ length terms.now }
     requires counts { All (λ term. is_nothing (term.fixed, term.per) ≡ false) terms.now }
-    ensures most { result ≡ most_count program.now by (map (turned turn) terms.now) }
+    ensures most { result ≡ most_count program.now ranges.now by (map (turned turn) terms.now) }
     ensures small { IfSome result (λ most. unsigned_abs most ≤ 2 ^ 41) }
 {
     match by {
-        None => Some(greatest_sum(turn, terms, program.root.as_slice())),
+        None => Some(greatest_sum(turn, terms, ranges)),
         Some(number) => most_by_number(program, number, turn, terms),
     }
 }

@@ -12,7 +12,7 @@ use Rattle.log_sums.proofs.unshown.first_unshown.Goals as goal
 pub returns-then-not-is_shown : goal.returns-then-not-is_shown
 returns-then-not-is_shown c =
     let inv = c.loop-sum.invariant in
-    first_bad c.args.program.now c.args.sums.now c.args.lines.now c.loop-sum.sum-index _ c.sum-item.result
+    first_bad c.args.program.now c.args.ranges.now c.args.sums.now c.args.lines.now c.loop-sum.sum-index _ c.sum-item.result
     c.loop-sum-test.true c.requires.lines inv.shown (λ is. false≢true (sym c.if-not-is_shown.true ∙ c.is_shown.ensures.1 is))
     c.sum-item.is (ap (slice_index c.args.lines.now) inv.counted)
 
@@ -21,10 +21,10 @@ loop-sum-preserved c =
     let inv = c.loop-sum.invariant in
     record {
       counted = ap (λ n. n + 1) inv.counted;
-      shown = All-more (IsShown c.args.program.now) c.args.sums.now c.loop-sum.sum-index c.sum-item.result c.loop-sum-test.true inv.shown
-          (subst (IsShown c.args.program.now) c.sum-item.is (c.is_shown.ensures.0 c.if-not-is_shown.false));
+      shown = All-more (IsShown c.args.program.now c.args.ranges.now) c.args.sums.now c.loop-sum.sum-index c.sum-item.result c.loop-sum-test.true inv.shown
+          (subst (IsShown c.args.program.now c.args.ranges.now) c.sum-item.is (c.is_shown.ensures.0 c.if-not-is_shown.false));
     }
 
 pub returns : goal.returns
 returns c =
-    subst (All (IsShown c.args.program.now)) (take_all c.loop-sum.sum-index c.args.sums.now c.loop-sum-test.false) c.loop-sum.invariant.shown
+    subst (All (IsShown c.args.program.now c.args.ranges.now)) (take_all c.loop-sum.sum-index c.args.sums.now c.loop-sum-test.false) c.loop-sum.invariant.shown

@@ -7,5 +7,5 @@ use Rattle.log_sums.proofs.unshown.first_unshown.Given as goal
 abbrev pub invariant-loop-sum : goal.invariant-loop-sum
 invariant-loop-sum l = record {
   counted : l.place ≡ l.sum-index;
-  shown : All (IsShown l.program) (take l.sum-index l.sums);
+  shown : All (IsShown l.program l.ranges) (take l.sum-index l.sums);
 }

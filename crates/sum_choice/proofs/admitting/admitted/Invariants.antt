@@ -8,6 +8,6 @@ use Rattle.sum_choice.proofs.admitting.admitted.Given as goal
 abbrev pub invariant-loop-sum : goal.invariant-loop-sum
 invariant-loop-sum l = record {
   declared : All (IsDeclared (length l.program.root)) l.sums;
-  shown : All (IsShown l.program) l.sums;
+  shown : All (IsShown l.program l.ranges) l.sums;
   room : length l.sums ≤ l.room;
 }

@@ -13,7 +13,7 @@ invariant_of-result c =
     let program = c.args.program in
     let sums = c.args.sums.now in
     let rows = c.in_ok-add_rows.ensures ∙ ap (λ n. program.rows ++ sum_rows n sums) c.len-slots.ensures in
-    let kept = keeps_bounds program sums c.free_lane-lane.result c.add_rows.new.rows c.in_ok-root.root c.add_tags.new.tags c.requires.slots c.requires.rows c.requires.declared c.requires.shown rows c.in_ok-root.ensures c.in_ok-add_tags.ensures in
+    let kept = keeps_bounds program c.args.ranges.now sums c.free_lane-lane.result c.add_rows.new.rows c.in_ok-root.root c.add_tags.new.tags c.requires.slots c.requires.rows c.requires.declared c.requires.shown rows c.in_ok-root.ensures c.in_ok-add_tags.ensures in
     record {
       few_slots = kept.few_slots;
       root_normal = kept.root_normal;
@@ -41,4 +41,4 @@ returns-clause-made c =
     }
 
 pub returns-clause-means : goal.returns-clause-means
-returns-clause-means c = law c.args.program _ c.args.sums.now c.requires.declared c.requires.shown (returns-clause-made c)
+returns-clause-means c = law c.args.program _ c.args.ranges.now c.args.sums.now c.requires.ranges c.requires.declared c.requires.shown (returns-clause-made c)

@@ -7,4 +7,4 @@ use Rattle.sum_slots.proofs.shown.high_count.Goals as goal
 pub returns-clause-most : goal.returns-clause-most
 returns-clause-most c =
     let sum = c.args.sum.now in
-    c.most_count.ensures.most ∙ ap (most_count c.args.program.now sum.high) (map-id c.as_slice.result.now ∙ c.as_slice.ensures)
+    c.most_count.ensures.most ∙ ap (most_count c.args.program.now c.args.ranges.now sum.high) (map-id c.as_slice.result.now ∙ c.as_slice.ensures)
