@@ -80,7 +80,7 @@ impl Explorer {
         Ok(true)
     }
 
-    // Looks at a box that has points after its cuts.
+    // Looks at a box that has points after its cuts. With the first plan it is advised anew, since sums are split only with a plan.
     fn look(&mut self, program: &Program, area: &mut Area, number: u32) -> Result<(), AllocError>
         requires slots { length (present area.old) ≡ length program.now.root }
         requires each_open { All IsOpen (present area.old) }
@@ -91,16 +91,31 @@ impl Explorer {
             return Ok(());
         }
         let mut basis = self.tree.start_of(self.alloc, program, number)?;
-        let advice = self.guide.advise_from(
-            self.alloc,
-            program,
-            area,
-            &mut basis,
-            self.best.worth,
-            point.as_mut_slice(),
-        )?;
+        let mut advice = self.advised(program, area, &mut basis, point.as_mut_slice())?;
+        let has_plan = self.best.worth.is_some();
         self.hint(program, area, point.as_mut_slice());
+        if !has_plan && self.best.worth.is_some() {
+            basis.clear();
+            advice = self.advised(program, area, &mut basis, point.as_mut_slice())?;
+        }
         self.settle(program, area, number, advice, basis)
+    }
+
+    // What the guide advises on a box whose bound begins from a basis.
+    fn advised(
+        &mut self,
+        program: &Program,
+        area: &Area,
+        basis: &mut Basis,
+        point: &mut [u8],
+    ) -> Result<Advice, AllocError>
+        requires slots { length (present area.now) ≡ length program.now.root }
+        requires places { length point.old ≡ length program.now.root }
+        requires each_open { All IsOpen (present area.now) }
+    {
+        let best = self.best.worth;
+        self.guide
+            .advise_from(self.alloc, program, area, basis, best, point)
     }
 
     // Asks the hinter at a box. Where the plan is better, the boxes are counted anew.

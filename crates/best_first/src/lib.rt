@@ -9,6 +9,8 @@ mod explorer;
 mod kept_guide;
 mod kept_hinter;
 mod node;
+mod searching;
 mod tree;
 
 pub use advisers::{Advisers, SearchGuide, SearchHinter};
+pub use searching::{build_advised, build_hinted, search_advised, search_hinted};

@@ -11,13 +11,15 @@ const LEAST_START: i64 = 10_737;
 // Quanta count as fractional from here on: about 1 in 10,000.
 const LEAST_QUANTA: i64 = 107_374;
 
-/// A slot that may be split, the value at which the search splits it, how fractional it is, with 30 bits of fraction, and whether it
-/// is one of a sum.
+/// A slot that may be split, and the value at which the search splits it. With 30 bits of fraction: how fractional it is, and how
+/// far it lies above the part up to that value; the part above begins at 1.
 #[derive(Clone, Copy)]
 pub struct Candidate {
     pub slot: u32,
     pub max: u8,
     pub fraction: i64,
+    pub above: i64,
+    /// Whether it is the slot of a sum.
     pub sum: bool,
 }
 
@@ -30,17 +32,27 @@ pub fn list_fractional(
 ) {
     candidates.clear();
     for slot in 0..area.slot_count().min(given) {
-        let domain = area.domain(slot);
-        let fraction = fraction(&domain, &workspace.amount(slot));
-        put_candidate(
-            candidates,
-            Candidate {
-                slot,
-                max: split_value(&domain),
-                fraction,
-                sum: false,
-            },
-        );
+        let candidate = slot_candidate(slot, &area.domain(slot), &workspace.amount(slot));
+        put_candidate(candidates, candidate);
+    }
+}
+
+// The split of a slot with this domain that comes to an amount.
+fn slot_candidate(slot: u32, domain: &Domain, amount: &Amount) -> Candidate {
+    let max = split_value(domain);
+    let above = if domain.zero {
+        amount.started
+    } else {
+        amount
+            .quanta
+            .saturating_sub(ONE.saturating_mul(i64::from(max)))
+    };
+    Candidate {
+        slot,
+        max,
+        fraction: fraction(domain, amount),
+        above,
+        sum: false,
     }
 }
 
@@ -82,6 +94,7 @@ fn sum_candidate(
         slot,
         max,
         fraction: from_whole(above),
+        above,
         sum: true,
     })
 }

@@ -46,10 +46,16 @@ const MOST_BOXES: u32 = 400;
 
 const FIRST_BOXES: u32 = 20;
 
-// The boxes and the work of a small search.
+// The boxes and the work of a small search, in programs of at most so many slots and in larger ones.
+const FEW_SLOTS: usize = 256;
+
 const MOST_SMALL: u32 = 20;
 
+const MOST_LARGE: u32 = 100;
+
 const MOST_WORK: u64 = 40_000_000;
+
+const LARGE_WORK: u64 = 200_000_000;
 
 // The stages that are searched in a box, those without gain, without chance and with it, and the work, in the first box and in others.
 const MOST_TURNS: u32 = 100;
@@ -59,6 +65,8 @@ const FIRST_STAGES: u32 = 8;
 const MOST_STAGES: u32 = 14;
 
 const FIRST_TOTAL: u64 = 1_200_000_000;
+
+const LARGE_TOTAL: u64 = 16_000_000_000;
 
 const MOST_TOTAL: u64 = 300_000_000;
 
@@ -139,12 +147,7 @@ impl Looker {
     // cheapest again after each gain, until so many stages bring none.
     fn search_hoods(&mut self, program: &Program, most: u32) {
         self.finder.enter_root(program);
-        let total = if self.boxes == 1 {
-            FIRST_TOTAL
-        } else {
-            MOST_TOTAL
-        };
-        let end = self.finder.work.saturating_add(total);
+        let end = self.finder.work.saturating_add(self.most_total());
         let mut stage = 0u32;
         for turn in 0..MOST_TURNS {
             let ended = stage >= most || self.finder.work >= end;
@@ -156,6 +159,22 @@ impl Looker {
             } else {
                 stage.saturating_add(1)
             };
+        }
+    }
+
+    // Whether its program has many slots.
+    fn is_large(&self) -> bool {
+        self.seen.len() > FEW_SLOTS
+    }
+
+    // The work of the searches of a box.
+    fn most_total(&self) -> u64 {
+        if self.boxes != 1 {
+            MOST_TOTAL
+        } else if self.is_large() {
+            LARGE_TOTAL
+        } else {
+            FIRST_TOTAL
         }
     }
 
@@ -212,10 +231,15 @@ impl Looker {
 
     // Searches a neighbourhood.
     fn search_hood(&mut self, program: &Program, hood: Hood, picking: Picking) {
-        let limit = self.finder.work.saturating_add(MOST_WORK);
+        let (most, work) = if self.is_large() {
+            (MOST_LARGE, LARGE_WORK)
+        } else {
+            (MOST_SMALL, MOST_WORK)
+        };
+        let limit = self.finder.work.saturating_add(work);
         let seen = self.seen.as_slice();
         self.finder
-            .search_hood(program, hood, seen, picking, MOST_SMALL, limit);
+            .search_hood(program, hood, seen, picking, most, limit);
     }
 
     // Whether the search for plans begins anew, with another first plan: at first, and where the boxes have earned all its work so far.

@@ -14,6 +14,7 @@ mod hinter;
 mod hoods;
 mod kept;
 mod neighbourhoods;
+mod past;
 mod path;
 mod picking;
 mod plan;

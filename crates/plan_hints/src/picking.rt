@@ -1,5 +1,6 @@
 //! Where a box is split.
 use crate::candidates::{Candidate, list_fractional, list_sums};
+use crate::past::Past;
 use crate::ranking::{Ranked, rank};
 use crate::trying::{Tried, try_first};
 use crate::weights::{most_fractional, weights_of};
@@ -21,6 +22,7 @@ pub struct Picker {
     candidates: Vec<Candidate>,
     ranked: Vec<Ranked>,
     weights: Vec<u64>,
+    past: Past,
 }
 
 impl Picker {
@@ -33,6 +35,7 @@ impl Picker {
             candidates: Vec::with_capacity(alloc, slots)?,
             ranked: Vec::with_capacity(alloc, slots)?,
             weights: weights_of(alloc, program)?,
+            past: Past::new(alloc, program)?,
         })
     }
 
@@ -51,17 +54,33 @@ impl Picker {
             list_sums(workspace, program, area, self.given, &mut self.candidates);
         }
         match self.tried(workspace, program, gap.saturating_mul(2)) {
-            Some(tried) if tried.gain >= least_gain(gap, self.has_sums) => Some(tried.candidate),
+            Some(tried) if self.gains_much(&tried, gap) => Some(tried.candidate),
             _ => most_fractional(self.candidates.as_slice(), self.weights.as_slice()),
         }
+    }
+
+    // Whether a split gains much: by both sides together, or, where it is one of a sum, an even share of the gap among all slots on
+    // the lesser side.
+    fn gains_much(&self, tried: &Tried, gap: i64) -> bool {
+        let is_far = tried.candidate.sum && tried.lesser >= share_of(gap, self.weights.len());
+        is_far || tried.gain >= least_gain(gap, self.has_sums)
     }
 
     // The candidate that gains most by trial bounds. No side of a split counts more than so much.
     fn tried(&mut self, workspace: &mut Workspace, program: &Program, most: i64) -> Option<Tried> {
         let candidates = self.candidates.as_slice();
-        rank(workspace, program, candidates, most, &mut self.ranked);
+        let past = &mut self.past;
+        rank(workspace, program, candidates, most, past, &mut self.ranked);
         let ranked = self.ranked.as_slice();
-        try_first(workspace, program, candidates, ranked, most, self.has_sums)
+        try_first(
+            workspace,
+            program,
+            candidates,
+            ranked,
+            most,
+            self.has_sums,
+            past,
+        )
     }
 }
 
@@ -73,12 +92,16 @@ fn gap_of(workspace: &Workspace) -> i64 {
     }
 }
 
-// The least that counts as a gain: a 10,000th of the square of the gap, and a 100,000th where there are sums.
+// An even share of a gap among so many slots.
+fn share_of(gap: i64, slots: usize) -> i64 {
+    match i64::try_from(slots) {
+        Ok(slots) if slots >= 1 => gap / slots,
+        _ => gap,
+    }
+}
+
+// The least that counts as a gain: a 10,000th of the square of the gap, and a 250th where there are sums.
 fn least_gain(gap: i64, sums: bool) -> i128 {
     let square = i128::from(gap).saturating_mul(i128::from(gap));
-    if sums {
-        square / 100_000
-    } else {
-        square / 10_000
-    }
+    if sums { square / 250 } else { square / 10_000 }
 }
