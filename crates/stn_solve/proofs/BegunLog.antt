@@ -15,15 +15,16 @@ use Rattle.proof_tree.specs.Tree.{leaf, no_point}
 use Rattle.row_relax.specs.RowProofs.{RowItem, RowTree}
 use Rattle.branch_tree.specs.Searched.{IsBrokenOff, IsFitItem, IsWritable, spared}
 use Rattle.log_lines.specs.declared.line.Line.{Line}
-use Rattle.log_lines.specs.declared.line.Line.TheVariants.{Header, End}
+use Rattle.log_lines.specs.declared.line.Line.TheVariants.{End}
 use Rattle.proof_log.specs.declared.claim.Claim.{Claim}
 use Rattle.proof_log.specs.declared.claim.Claim.TheVariants.{Infeasible}
 use Rattle.proof_log.specs.declared.writer.LogWriter.{LogWriter}
-use Rattle.proof_log.specs.Log.{item_lines, claim_lines, lines_text, log_lines, log_text}
+use Rattle.proof_log.specs.Log.{item_lines, claim_lines, lines_text}
 use Rattle.proof_log.specs.Writer.{Writing, writing, whole, IsWhole, Took, Broke}
-use Rattle.proof_log.proofs.Lines.{lines_text-append, log_text-parts}
+use Rattle.proof_log.proofs.Lines.{lines_text-append}
 use Rattle.proof_log.proofs.Writing.{Took-broke}
-use Rattle.stn_solve.specs.Proofs.{IsLogBegun, IsLeft, bytes_in}
+use Rattle.plan_told.specs.Proofs.{bytes_in}
+use Rattle.stn_solve.specs.laws.Logging.{IsBegun, LeavesBegun}
 
 spared_one : (d : Domain) → spared d ≤ 1
 spared_one d = at (d.zero && leb d.lo d.hi)
@@ -36,47 +37,45 @@ spared_one d = at (d.zero && leb d.lo d.hi)
 bare_tree : RowTree
 bare_tree = leaf [] None no_point
 
-bare_writable : (part : Program) → IsWritable part bare_tree
+bare_writable : (program : Program) → IsWritable program bare_tree
 unfolding bare_tree
-bare_writable part = record {
-  fit = All-cons (IsFitItem part) Node (Empty ∷ []) tt (All-cons (IsFitItem part) Empty [] tt (All-nil (IsFitItem part)));
-  shallow = omega (arith, sum_by-le spared 1 part.root (λ k d within. spared_one (get_or part.root k d)), part.few_slots);
+bare_writable program = record {
+  fit = All-cons (IsFitItem program) Node (Empty ∷ []) tt (All-cons (IsFitItem program) Empty [] tt (All-nil (IsFitItem program)));
+  shallow = omega (arith, sum_by-le spared 1 program.root (λ k d within. spared_one (get_or program.root k d)), program.few_slots);
 }
 
 -- an empty file is a log that was begun
-pub begun-empty : (part : Program) → IsLogBegun part []
-begun-empty part = record {
+pub begun-empty : (program : Program) (head : List ℕ) → IsBegun program head []
+begun-empty program head = record {
   tree = bare_tree;
   claim = Infeasible;
-  writable = bare_writable part;
-  rest = log_text 2 (tree_items bare_tree) Infeasible;
+  writable = bare_writable program;
+  rest = head ++ lines_text (flat_map item_lines (tree_items bare_tree) ++ (claim_lines Infeasible ++ End ∷ []));
   text = refl;
 }
 
 -- a writer that was not made leaves the files as they were, or its file empty
-pub begun-clear : (part : Program) (name : List ℕ) (old new : Option FileMap) → MayClear name old new → IsLeft part name old new
-begun-clear part name old new may =
+pub begun-clear : (program : Program) (head name : List ℕ) (old new : Option FileMap) → MayClear name old new → LeavesBegun program head name old new
+begun-clear program head name old new may =
     ⊎_elim (λ (same : new ≡ old). inl same)
-    (λ (is : new ≡ option_map (cleared name) old). inr (subst (λ (told : Option FileMap). IfSome (bytes_in name told) (IsLogBegun part)) (sym is) (at old)))
+    (λ (is : new ≡ option_map (cleared name) old). inr (subst (λ (told : Option FileMap). IfSome (bytes_in name told) (IsBegun program head)) (sym is) (at old)))
     may
   where
-    at : (files : Option FileMap) → IfSome (bytes_in name (option_map (cleared name) files)) (IsLogBegun part)
+    at : (files : Option FileMap) → IfSome (bytes_in name (option_map (cleared name) files)) (IsBegun program head)
     at None = tt
-    at (Some m) = subst (IsLogBegun part) (sym (file_of-cleared name m)) (begun-empty part)
+    at (Some m) = subst (IsBegun program head) (sym (file_of-cleared name m)) (begun-empty program head)
 
--- the lines of first items, and those of the later ones, of the claim and of the end are those of the log
-log_first : (items later : List RowItem) (claim : Claim) → lines_text (Header 2 ∷ flat_map item_lines items) ++ lines_text (flat_map item_lines later ++ (claim_lines claim ++ End ∷ [])) ≡ log_text 2 (items ++ later) claim
-unfolding log_lines log_text
-log_first items later claim =
-    let tail = claim_lines claim ++ End ∷ [] in
-    sym (lines_text-append (Header 2 ∷ flat_map item_lines items) (flat_map item_lines later ++ tail))
-    ∙ ap (λ (lines : List Line). lines_text (Header 2 ∷ lines))
-    (sym (append_assoc (flat_map item_lines items) (flat_map item_lines later) tail) ∙ ap (λ (lines : List Line). lines ++ tail) (sym (flat_map-append item_lines items later)))
+-- the lines of first items, and those of the later ones, of the claim and of the end are those of all items, of the claim and of the end
+log_first : (items later : List RowItem) (tail : List Line) → lines_text (flat_map item_lines items) ++ lines_text (flat_map item_lines later ++ tail) ≡ lines_text (flat_map item_lines (items ++ later) ++ tail)
+log_first items later tail =
+    sym (lines_text-append (flat_map item_lines items) (flat_map item_lines later ++ tail))
+    ∙ ap lines_text (sym (append_assoc (flat_map item_lines items) (flat_map item_lines later) tail) ∙ ap (λ (lines : List Line). lines ++ tail) (sym (flat_map-append item_lines items later)))
 
--- bytes that the rest of the header and of first items follows
-begun_items : (part : Program) (tree : RowTree) (items later : List RowItem) (bytes rest : List ℕ) → IsWritable part tree → tree_items tree ≡ items ++ later → bytes ++ rest ≡ lines_text (Header 2 ∷ []) ++ lines_text (flat_map item_lines items) → IsLogBegun part bytes
-begun_items part tree items later bytes rest writable first is =
-    let more = lines_text (flat_map item_lines later ++ (claim_lines Infeasible ++ End ∷ [])) in
+-- bytes that the rest of a head and of first items follows
+begun_items : (program : Program) (head : List ℕ) (tree : RowTree) (items later : List RowItem) (bytes rest : List ℕ) → IsWritable program tree → tree_items tree ≡ items ++ later → bytes ++ rest ≡ head ++ lines_text (flat_map item_lines items) → IsBegun program head bytes
+begun_items program head tree items later bytes rest writable first is =
+    let tail = claim_lines Infeasible ++ End ∷ [] in
+    let more = lines_text (flat_map item_lines later ++ tail) in
     record {
       tree = tree;
       claim = Infeasible;
@@ -84,27 +83,21 @@ begun_items part tree items later bytes rest writable first is =
       rest = rest ++ more;
       text =
           sym (append_assoc bytes rest more)
-          ∙ ap (λ (text : List ℕ). text ++ more) (is ∙ sym (lines_text-append (Header 2 ∷ []) (flat_map item_lines items)))
-          ∙ log_first items later Infeasible
-          ∙ ap (λ (all : List RowItem). log_text 2 all Infeasible) (sym first);
+          ∙ ap (λ (text : List ℕ). text ++ more) is
+          ∙ append_assoc head (lines_text (flat_map item_lines items)) more
+          ∙ ap (λ (text : List ℕ). head ++ text) (log_first items later tail ∙ ap (λ (all : List RowItem). lines_text (flat_map item_lines all ++ tail)) (sym first));
     }
 
--- bytes that the rest of the header, of all items, of the claim and of the end follows
-begun_claim : (part : Program) (tree : RowTree) (claim : Claim) (bytes rest : List ℕ) → IsWritable part tree
-    → bytes ++ rest ≡ lines_text (Header 2 ∷ []) ++ (lines_text (flat_map item_lines (tree_items tree)) ++ lines_text (claim_lines claim ++ End ∷ [])) → IsLogBegun part bytes
-begun_claim part tree claim bytes rest writable is =
-    let items = flat_map item_lines (tree_items tree) in
-    let tail = lines_text (claim_lines claim ++ End ∷ []) in
-    record {
-      tree = tree;
-      claim = claim;
-      writable = writable;
-      rest = rest;
-      text =
-          is ∙ sym (append_assoc (lines_text (Header 2 ∷ [])) (lines_text items) tail)
-          ∙ ap (λ (text : List ℕ). text ++ tail) (sym (lines_text-append (Header 2 ∷ []) items))
-          ∙ log_text-parts 2 (tree_items tree) claim;
-    }
+-- bytes that the rest of a head, of all items, of the claim and of the end follows
+begun_claim : (program : Program) (head : List ℕ) (tree : RowTree) (claim : Claim) (bytes rest : List ℕ) → IsWritable program tree
+    → bytes ++ rest ≡ head ++ (lines_text (flat_map item_lines (tree_items tree)) ++ lines_text (claim_lines claim ++ End ∷ [])) → IsBegun program head bytes
+begun_claim program head tree claim bytes rest writable is = record {
+  tree = tree;
+  claim = claim;
+  writable = writable;
+  rest = rest;
+  text = is ∙ ap (λ (text : List ℕ). head ++ text) (sym (lines_text-append (flat_map item_lines (tree_items tree)) (claim_lines claim ++ End ∷ [])));
+}
 
 -- a file with what is held back, and a text that follows
 grown : (text more : List ℕ) (all : Option (List ℕ)) → IfSome all (λ x. x ≡ text) → IfSome (option_map (λ (x : List ℕ). x ++ more) all) (λ x. x ≡ text ++ more)
@@ -112,53 +105,53 @@ grown text more None is = tt
 grown text more (Some all) is = ap (λ (x : List ℕ). x ++ more) is
 
 -- a file that a rest follows
-told : (part : Program) (name rest text : List ℕ) (files : Option FileMap) → IfSome (option_map (λ (m : FileMap). file_of m name ++ rest) files) (λ x. x ≡ text) → ((bytes : List ℕ) → bytes ++ rest ≡ text → IsLogBegun part bytes) → IfSome (bytes_in name files) (IsLogBegun part)
-told part name rest text None is each = tt
-told part name rest text (Some m) is each = each (file_of m name) is
+told : (program : Program) (head name rest text : List ℕ) (files : Option FileMap) → IfSome (option_map (λ (m : FileMap). file_of m name ++ rest) files) (λ x. x ≡ text) → ((bytes : List ℕ) → bytes ++ rest ≡ text → IsBegun program head bytes) → IfSome (bytes_in name files) (IsBegun program head)
+told program head name rest text None is each = tt
+told program head name rest text (Some m) is each = each (file_of m name) is
 
--- after the header a text was not taken, or in part
-broken : (part : Program) (old new : Writing) (text : List ℕ) → IsWhole old (lines_text (Header 2 ∷ [])) → Broke old new text → ((bytes rest : List ℕ) → bytes ++ rest ≡ lines_text (Header 2 ∷ []) ++ text → IsLogBegun part bytes) → IfSome (bytes_in old.name new.files) (IsLogBegun part)
-broken part old new text header broke each =
-    let all = subst (λ (told : Option (List ℕ)). IfSome told (λ x. x ≡ lines_text (Header 2 ∷ []) ++ text)) (sym broke.part.1) (grown (lines_text (Header 2 ∷ [])) text (whole old) header) in
-    subst (λ (name : List ℕ). IfSome (bytes_in name new.files) (IsLogBegun part)) broke.keeps.name
-    (told part new.name broke.part.0 (lines_text (Header 2 ∷ []) ++ text) new.files all (λ bytes. each bytes broke.part.0))
+-- after the head a text was not taken, or in part
+broken : (program : Program) (head : List ℕ) (old new : Writing) (text : List ℕ) → IsWhole old head → Broke old new text → ((bytes rest : List ℕ) → bytes ++ rest ≡ head ++ text → IsBegun program head bytes) → IfSome (bytes_in old.name new.files) (IsBegun program head)
+broken program head old new text header broke each =
+    let all = subst (λ (told : Option (List ℕ)). IfSome told (λ x. x ≡ head ++ text)) (sym broke.part.1) (grown head text (whole old) header) in
+    subst (λ (name : List ℕ). IfSome (bytes_in name new.files) (IsBegun program head)) broke.keeps.name
+    (told program head new.name broke.part.0 (head ++ text) new.files all (λ bytes. each bytes broke.part.0))
 
 -- what was taken is also what was taken in part
 broke_of : (old new : Writing) (text : List ℕ) → Took old new text → Broke old new text
 broke_of old new text took = record { keeps = took.keeps; part = (new.held, took.grown) }
 
--- after the header some first items of a proof were not taken, or in part
-pub begun-broke : (part : Program) (old new : Writing) (tree : RowTree) (items later : List RowItem)
-    → IsWhole old (lines_text (Header 2 ∷ [])) → tree_items tree ≡ items ++ later → IsWritable part tree
-    → Broke old new (lines_text (flat_map item_lines items)) → IfSome (bytes_in old.name new.files) (IsLogBegun part)
-begun-broke part old new tree items later header first writable broke =
-    broken part old new (lines_text (flat_map item_lines items)) header broke (λ bytes rest is. begun_items part tree items later bytes rest writable first is)
+-- after the head some first items of a proof were not taken, or in part
+pub begun-broke : (program : Program) (head : List ℕ) (old new : Writing) (tree : RowTree) (items later : List RowItem)
+    → IsWhole old head → tree_items tree ≡ items ++ later → IsWritable program tree
+    → Broke old new (lines_text (flat_map item_lines items)) → IfSome (bytes_in old.name new.files) (IsBegun program head)
+begun-broke program head old new tree items later header first writable broke =
+    broken program head old new (lines_text (flat_map item_lines items)) header broke (λ bytes rest is. begun_items program head tree items later bytes rest writable first is)
 
--- after the header some first items of a proof were taken
-pub begun-took : (part : Program) (old new : Writing) (tree : RowTree) (items later : List RowItem)
-    → IsWhole old (lines_text (Header 2 ∷ [])) → tree_items tree ≡ items ++ later → IsWritable part tree
-    → Took old new (lines_text (flat_map item_lines items)) → IfSome (bytes_in old.name new.files) (IsLogBegun part)
-begun-took part old new tree items later header first writable took =
-    begun-broke part old new tree items later header first writable (broke_of old new (lines_text (flat_map item_lines items)) took)
+-- after the head some first items of a proof were taken
+pub begun-took : (program : Program) (head : List ℕ) (old new : Writing) (tree : RowTree) (items later : List RowItem)
+    → IsWhole old head → tree_items tree ≡ items ++ later → IsWritable program tree
+    → Took old new (lines_text (flat_map item_lines items)) → IfSome (bytes_in old.name new.files) (IsBegun program head)
+begun-took program head old new tree items later header first writable took =
+    begun-broke program head old new tree items later header first writable (broke_of old new (lines_text (flat_map item_lines items)) took)
 
--- after the header and all items of a proof the lines of the claim and the end were not taken, or in part
-pub begun-finish : (part : Program) (old between new : Writing) (tree : RowTree) (claim : Claim)
-    → IsWhole old (lines_text (Header 2 ∷ [])) → IsWritable part tree → Took old between (lines_text (flat_map item_lines (tree_items tree)))
-    → Broke between new (lines_text (claim_lines claim ++ End ∷ [])) → IfSome (bytes_in old.name new.files) (IsLogBegun part)
-begun-finish part old between new tree claim header writable took broke =
+-- after the head and all items of a proof the lines of the claim and the end were not taken, or in part
+pub begun-finish : (program : Program) (head : List ℕ) (old between new : Writing) (tree : RowTree) (claim : Claim)
+    → IsWhole old head → IsWritable program tree → Took old between (lines_text (flat_map item_lines (tree_items tree)))
+    → Broke between new (lines_text (claim_lines claim ++ End ∷ [])) → IfSome (bytes_in old.name new.files) (IsBegun program head)
+begun-finish program head old between new tree claim header writable took broke =
     let items = lines_text (flat_map item_lines (tree_items tree)) in
     let tail = lines_text (claim_lines claim ++ End ∷ []) in
-    broken part old new (items ++ tail) header (Took-broke old between new items tail took broke) (λ bytes rest is. begun_claim part tree claim bytes rest writable is)
+    broken program head old new (items ++ tail) header (Took-broke old between new items tail took broke) (λ bytes rest is. begun_claim program head tree claim bytes rest writable is)
 
 -- a search that broke off while a writer took its proof: the file is a log that was begun
-pub begun-broken : {S : Type 0} (files : S → Option FileMap) (reads : S → ℕ) (may_read may_write : S → List ℕ → Bool) (part : Program) (writer writer_after : LogWriter) (store store_after : S)
-    → IsWhole (writing files reads may_read may_write writer store) (lines_text (Header 2 ∷ []))
+pub begun-broken : {S : Type 0} (files : S → Option FileMap) (reads : S → ℕ) (may_read may_write : S → List ℕ → Bool) (program : Program) (head : List ℕ) (writer writer_after : LogWriter) (store store_after : S)
+    → IsWhole (writing files reads may_read may_write writer store) head
     → IsBrokenOff (λ (a : LogWriter) (s : S) (items : List RowItem) (b : LogWriter) (t : S). Took (writing files reads may_read may_write a s) (writing files reads may_read may_write b t) (lines_text (flat_map item_lines items)))
     (λ (a : LogWriter) (s : S) (items : List RowItem) (b : LogWriter) (t : S). Broke (writing files reads may_read may_write a s) (writing files reads may_read may_write b t) (lines_text (flat_map item_lines items)))
-    part writer store writer_after store_after
-    → IfSome (bytes_in (string_bytes writer.name) (files store_after)) (IsLogBegun part)
-begun-broken files reads may_read may_write part writer writer_after store store_after header broke =
+    program writer store writer_after store_after
+    → IfSome (bytes_in (string_bytes writer.name) (files store_after)) (IsBegun program head)
+begun-broken files reads may_read may_write program head writer writer_after store store_after header broke =
     let old = writing files reads may_read may_write writer store in
     let new = writing files reads may_read may_write writer_after store_after in
-    ⊎_elim (λ took. begun-took part old new broke.tree broke.items broke.later header broke.first broke.writable took)
-    (λ part_of. begun-broke part old new broke.tree broke.items broke.later header broke.first broke.writable part_of) broke.handed
+    ⊎_elim (λ took. begun-took program head old new broke.tree broke.items broke.later header broke.first broke.writable took)
+    (λ part_of. begun-broke program head old new broke.tree broke.items broke.later header broke.first broke.writable part_of) broke.handed

@@ -1,13 +1,5 @@
 pub mod BegunLog
 pub mod Both
-pub mod CapShort
-pub mod CleanText
-pub mod EachGiven
 pub mod LogsLeft
-pub mod NoDefect
-pub mod PartPlans
-pub mod SmallClaim
-pub mod Told
-pub mod ValidLog
-pub mod WholePlant
-pub mod WorthShort
+pub mod SearchTold
+pub mod SumsChosen

@@ -1,17 +1,21 @@
 //! Plant to answer: branch and bound over the program of a plant, with the proof of its answer.
 //!
 //! It promises a plan that no admitted plan out-earns, or that no plan is admitted, or, where the budget is spent, the best plan
-//! that was found and a cap; and a justified proof of it, whose log is valid.
+//! that was found and a cap; and a justified proof of it, whose log is valid. Where there are more than 50,000 points it searches
+//! with declared sums.
 #![tactic(auto)]
 
 mod item_dropper;
 mod logging;
 mod part;
+mod plain;
 mod plant;
 mod searching;
 mod solved;
-mod telling;
+mod summed;
+mod summing;
 
-pub use part::{plan_rows, solve_rows, solve_rows_to};
+pub use part::{plan_rows, solve_rows_to};
+pub use plain::solve_rows;
 pub use plant::{plan, solve, solve_to};
 pub use solved::Solved;

@@ -1,14 +1,12 @@
-//! Searches whose proof is written to a log while they go on.
+//! Searches whose proof is written to a log behind a head while they go on.
 ghost use Rattle.std.specs.Prelude.{◌≡◌, ◌≤◌, ◌↔◌, true, Err, IsTrue, IfOk, OnErr};
 ghost use Rattle.stn_edge.specs.Count.{Rose};
 ghost use Rattle.branch_tree.specs.Searched.{IsExact};
 ghost use Rattle.proof_log.specs.Writer.{Keeps, writing};
-ghost use Rattle.stn_solve.specs.Proofs.{IsLeft};
-ghost use Rattle.stn_solve.specs.laws.Logging.{IsLogged, stored};
+ghost use Rattle.stn_solve.specs.laws.Logging.{IsLogged, LeavesBegun, stored};
 
-use crate::searching::slot_count;
-use best_first::Advisers;
-use branch_tree::{Ended, Guide, Hinter, search_guided_to, search_to};
+use best_first::{search_advised, search_hinted};
+use branch_tree::Ended;
 use proof_log::LogWriter;
 use proof_tree::TakeStop;
 use row_relax::Rows;
@@ -22,20 +20,23 @@ pub struct Logged {
     pub writer: LogWriter,
 }
 
-// Searches the root with the advice on plans, and where its count is not exact anew without it, log and all.
+// Searches the root with the advice on plans, and where its count is not exact anew without it, log and all. The log begins with a
+// head. Slots from the number `given` on are sums.
 pub fn search_logged<F: Shelf>(
     alloc: Global,
     rows: &Rows,
+    given: u32,
     budget: u32,
+    head: &[u8],
     files: &mut F,
     name: &str,
 ) -> Result<Logged, Stop>
     requires budget { (1 ≤ budget) × (budget ≤ 100000) }
     requires allowed { IsTrue (F.may_write files.old name.now) }
-    ensures logged { IfOk result (λ logged. IsLogged rows.now.program budget name.now logged.ended
-        (writing F.files F.read_faults F.may_read F.may_write logged.writer files.new)) }
+    ensures logged { IfOk result (λ logged. IsLogged rows.now.program given budget head.now name.now
+        logged.ended (writing F.files F.read_faults F.may_read F.may_write logged.writer files.new)) }
     ensures exact { IfOk result (λ logged. IsExact rows.now.program budget logged.ended) }
-    ensures err { OnErr result (IsLeft rows.now.program name.now (F.files files.old)
+    ensures err { OnErr result (LeavesBegun rows.now.program head.now name.now (F.files files.old)
         (F.files files.new)) }
     ensures kept { Keeps (stored F.files F.read_faults F.may_read F.may_write name.now files.old)
         (stored F.files F.read_faults F.may_read F.may_write name.now files.new) }
@@ -43,35 +44,30 @@ pub fn search_logged<F: Shelf>(
     ensures failed { result ≡ Err Stop.Failed
         → Rose (F.write_faults files.old) (F.write_faults files.new) }
 {
-    let given = slot_count(rows);
-    let Advisers {
-        mut guide,
-        mut hinter,
-    } = Advisers::new(alloc, &rows.program, given, budget)?;
-    let (logged, exact) = log_guided(alloc, rows, budget, &mut hinter, &mut guide, files, name)?;
+    let (logged, exact) = log_advised(alloc, rows, given, budget, head, files, name)?;
     if exact {
         return Ok(logged);
     }
-    log_plain(alloc, rows, budget, &mut hinter, files, name)
+    log_hinted(alloc, rows, given, budget, head, files, name)
 }
 
-// Begins a log and writes the proof of a search with a guide. The answer also says whether its count is exact.
-fn log_guided<H: Hinter, G: Guide, F: Shelf>(
+// Begins a log and writes the proof of a search with both advisers. The answer also says whether its count is exact.
+fn log_advised<F: Shelf>(
     alloc: Global,
     rows: &Rows,
+    given: u32,
     budget: u32,
-    hinter: &mut H,
-    guide: &mut G,
+    head: &[u8],
     files: &mut F,
     name: &str,
 ) -> Result<(Logged, bool), Stop>
     requires budget { (1 ≤ budget) × (budget ≤ 100000) }
     requires allowed { IsTrue (F.may_write files.old name.now) }
-    ensures logged { IfOk result (λ found. IsLogged rows.now.program budget name.now found.0.ended
-        (writing F.files F.read_faults F.may_read F.may_write found.0.writer files.new)) }
+    ensures logged { IfOk result (λ found. IsLogged rows.now.program given budget head.now name.now
+        found.0.ended (writing F.files F.read_faults F.may_read F.may_write found.0.writer files.new)) }
     ensures exact { IfOk result
         (λ found. found.1 ≡ true → IsExact rows.now.program budget found.0.ended) }
-    ensures err { OnErr result (IsLeft rows.now.program name.now (F.files files.old)
+    ensures err { OnErr result (LeavesBegun rows.now.program head.now name.now (F.files files.old)
         (F.files files.new)) }
     ensures kept { Keeps (stored F.files F.read_faults F.may_read F.may_write name.now files.old)
         (stored F.files F.read_faults F.may_read F.may_write name.now files.new) }
@@ -79,17 +75,8 @@ fn log_guided<H: Hinter, G: Guide, F: Shelf>(
     ensures failed { result ≡ Err Stop.Failed
         → Rose (F.write_faults files.old) (F.write_faults files.new) }
 {
-    let mut writer = LogWriter::begin(alloc, files, name)?;
-    match search_guided_to(
-        alloc,
-        rows,
-        slot_count(rows),
-        budget,
-        hinter,
-        guide,
-        &mut writer,
-        files,
-    ) {
+    let mut writer = LogWriter::begin_with(alloc, files, name, head)?;
+    match search_advised(alloc, rows, given, budget, &mut writer, files) {
         Ok(guided) => {
             let exact = guided.exact;
             let logged = Logged {
@@ -102,21 +89,22 @@ fn log_guided<H: Hinter, G: Guide, F: Shelf>(
     }
 }
 
-// Begins a log and writes the proof of a search.
-fn log_plain<H: Hinter, F: Shelf>(
+// Begins a log and writes the proof of a search without a guide.
+fn log_hinted<F: Shelf>(
     alloc: Global,
     rows: &Rows,
+    given: u32,
     budget: u32,
-    hinter: &mut H,
+    head: &[u8],
     files: &mut F,
     name: &str,
 ) -> Result<Logged, Stop>
     requires budget { (1 ≤ budget) × (budget ≤ 100000) }
     requires allowed { IsTrue (F.may_write files.old name.now) }
-    ensures logged { IfOk result (λ logged. IsLogged rows.now.program budget name.now logged.ended
-        (writing F.files F.read_faults F.may_read F.may_write logged.writer files.new)) }
+    ensures logged { IfOk result (λ logged. IsLogged rows.now.program given budget head.now name.now
+        logged.ended (writing F.files F.read_faults F.may_read F.may_write logged.writer files.new)) }
     ensures exact { IfOk result (λ logged. IsExact rows.now.program budget logged.ended) }
-    ensures err { OnErr result (IsLeft rows.now.program name.now (F.files files.old)
+    ensures err { OnErr result (LeavesBegun rows.now.program head.now name.now (F.files files.old)
         (F.files files.new)) }
     ensures kept { Keeps (stored F.files F.read_faults F.may_read F.may_write name.now files.old)
         (stored F.files F.read_faults F.may_read F.may_write name.now files.new) }
@@ -124,16 +112,8 @@ fn log_plain<H: Hinter, F: Shelf>(
     ensures failed { result ≡ Err Stop.Failed
         → Rose (F.write_faults files.old) (F.write_faults files.new) }
 {
-    let mut writer = LogWriter::begin(alloc, files, name)?;
-    match search_to(
-        alloc,
-        rows,
-        slot_count(rows),
-        budget,
-        hinter,
-        &mut writer,
-        files,
-    ) {
+    let mut writer = LogWriter::begin_with(alloc, files, name, head)?;
+    match search_hinted(alloc, rows, given, budget, &mut writer, files) {
         Ok(ended) => Ok(Logged { ended, writer }),
         Err(stop) => Err(stop_of(stop)),
     }

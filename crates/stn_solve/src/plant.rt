@@ -5,9 +5,10 @@ ghost use Rattle.stn_edge.specs.Files.{OthersStay};
 ghost use Rattle.stn_model.specs.Sound.{Sound};
 ghost use Rattle.stn_model.specs.Answers.{IsOutcome};
 ghost use Rattle.proof_tree.specs.Tree.{tree_of};
-ghost use Rattle.stn_solve.specs.Proofs.{HasPlantProof, IsLeftOf, IsPlantProof, bytes_in, claim_of};
+ghost use Rattle.plan_told.specs.Proofs.{HasPlantProof, IsLeftOf, IsPlantProof, bytes_in, claim_of};
 
-use crate::part::{plan_rows, solve_rows, solve_rows_to};
+use crate::part::{plan_rows, solve_rows_to};
+use crate::plain::solve_rows;
 use crate::solved::Solved;
 use row_relax::Rows;
 use row_set::program_of;
@@ -23,11 +24,10 @@ pub fn plan(alloc: Global, plant: &Plant, budget: u32) -> Result<Outcome, AllocE
     ensures proof { IfOk result (HasPlantProof plant.now None) }
 {
     let program = program_of(alloc, plant)?;
-    let rows = Rows { program };
-    plan_rows(alloc, plant, &rows, budget)
+    plan_rows(alloc, plant, program, 0, budget)
 }
 
-/// Plans a plant with at most so many boxes, and keeps the proof.
+/// Plans a plant with at most so many boxes, and keeps the proof. No sums are declared.
 pub fn solve(alloc: Global, plant: &Plant, budget: u32) -> Result<Solved, AllocError>
     requires sound { Sound plant.now }
     requires budget { (1 ≤ budget) × (budget ≤ 100000) }
@@ -67,6 +67,5 @@ pub fn solve_to<F: Shelf>(
         → Rose (F.write_faults files.old) (F.write_faults files.new) }
 {
     let program = program_of(alloc, plant)?;
-    let rows = Rows { program };
-    solve_rows_to(alloc, plant, &rows, budget, files, name)
+    solve_rows_to(alloc, plant, program, 0, budget, files, name)
 }

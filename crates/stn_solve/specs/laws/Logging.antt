@@ -1,23 +1,37 @@
 -- Logs of searches, before their claim.
-use Rattle.std.specs.Prelude.{◌≡◌, ℕ, Bool, List, [], ◌∷◌, length, flat_map, Option}
+use Rattle.std.specs.Prelude.{◌≡◌, ◌⊎◌, ℕ, Bool, List, [], ◌∷◌, ◌++◌, flat_map, Option, IfSome}
 use Rattle.stn_edge.specs.Files.{FileMap}
 use Rattle.row_kit.specs.declared.program.Program.{Program}
 use Rattle.proof_tree.specs.Items.{tree_items}
 use Rattle.row_relax.specs.RowProofs.{RowTree}
 use Rattle.branch_tree.specs.declared.ended.Ended.{Ended}
-use Rattle.branch_tree.specs.Searched.{IsSearch}
-use Rattle.log_lines.specs.declared.line.Line.TheVariants.{Header}
-use Rattle.proof_log.specs.Log.{item_lines, lines_text}
+use Rattle.branch_tree.specs.Searched.{IsSearch, IsWritable}
+use Rattle.log_lines.specs.declared.line.Line.TheVariants.{End}
+use Rattle.proof_log.specs.declared.claim.Claim.{Claim}
+use Rattle.proof_log.specs.Log.{claim_lines, item_lines, lines_text}
 use Rattle.proof_log.specs.Writer.{Writing, IsWhole, Took}
+use Rattle.plan_told.specs.Proofs.{bytes_in}
 
--- a writer for the file of this name took the header, and then the items of the proof of a search, in which every slot is the plant's own
-pub record IsLogged (program : Program) (budget : ℕ) (name : List ℕ) (ended : Ended) (at : Writing) : Type 0 where
+-- a writer for the file of this name took a head, and then the items of the proof of a search
+pub record IsLogged (program : Program) (given budget : ℕ) (head name : List ℕ) (ended : Ended) (at : Writing) : Type 0 where
   pub tree : RowTree
-  pub search : IsSearch program (length program.root) budget tree ended
+  pub search : IsSearch program given budget tree ended
   pub named : at.name ≡ name
   pub first : Writing
-  pub header : IsWhole first (lines_text (Header 2 ∷ []))
+  pub header : IsWhole first head
   pub took : Took first at (lines_text (flat_map item_lines (tree_items tree)))
+
+-- bytes are a first part of a head and the lines of a proof that may be written, of a claim and of the end
+pub record IsBegun (program : Program) (head bytes : List ℕ) : Type 0 where
+  pub tree : RowTree
+  pub claim : Claim
+  pub writable : IsWritable program tree
+  pub rest : List ℕ
+  pub text : bytes ++ rest ≡ head ++ lines_text (flat_map item_lines (tree_items tree) ++ (claim_lines claim ++ End ∷ []))
+
+-- what an attempt leaves that did not end: the files are as they were, or the file of this name is a log with this head that was begun
+abbrev pub LeavesBegun : Program → List ℕ → List ℕ → Option FileMap → Option FileMap → Type 0
+LeavesBegun program head name old new = (new ≡ old) ⊎ IfSome (bytes_in name new) (IsBegun program head)
 
 -- a store as a writer for the file of this name finds it, of which these calls tell
 abbrev pub stored : {S : Type 0} → (S → Option FileMap) → (S → ℕ) → (S → List ℕ → Bool) → (S → List ℕ → Bool) → List ℕ → S → Writing

@@ -2,8 +2,8 @@
 use Rattle.std.proofs.Common.{None}
 use Rattle.std.proofs.lemmas.Result.{IfOk-weaker}
 use Rattle.stn_model.specs.declared.answer.Outcome.{Outcome}
-use Rattle.stn_solve.specs.Proofs.{HasProof}
-use Rattle.stn_solve.proofs.WholePlant.{whole-is_part, whole-outcome}
+use Rattle.plan_told.specs.Proofs.{HasProof}
+use Rattle.plan_told.proofs.WholePlant.{whole-is_part, whole-outcome}
 use Rattle.stn_solve.proofs.plant.plan.Goals as goal
 
 pub plan_rows-requires-clause-part : goal.plan_rows-requires-clause-part

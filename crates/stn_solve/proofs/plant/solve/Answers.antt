@@ -2,8 +2,8 @@
 use Rattle.std.proofs.lemmas.Result.{IfOk-weaker}
 use Rattle.proof_tree.specs.Tree.{tree_of}
 use Rattle.stn_solve.specs.declared.solved.Solved.{Solved}
-use Rattle.stn_solve.specs.Proofs.{IsProofOf}
-use Rattle.stn_solve.proofs.WholePlant.{whole-is_part, whole-outcome}
+use Rattle.plan_told.specs.Proofs.{IsProofOf}
+use Rattle.plan_told.proofs.WholePlant.{whole-is_part, whole-outcome}
 use Rattle.stn_solve.proofs.plant.solve.Goals as goal
 
 pub solve_rows-requires-clause-part : goal.solve_rows-requires-clause-part

@@ -2,8 +2,8 @@
 use Rattle.std.proofs.Common.{inr}
 use Rattle.std.proofs.lemmas.Result.{IfOk-weaker, on_err_weaker}
 use Rattle.stn_model.specs.declared.answer.Outcome.{Outcome}
-use Rattle.stn_solve.specs.Proofs.{HasProof, IsLeft, bytes_in}
-use Rattle.stn_solve.proofs.WholePlant.{whole-is_part, whole-outcome}
+use Rattle.plan_told.specs.Proofs.{HasProof, IsLeft, bytes_in}
+use Rattle.plan_told.proofs.WholePlant.{whole-is_part, whole-outcome}
 use Rattle.stn_solve.proofs.plant.solve_to.Goals as goal
 
 pub solve_rows_to-requires-clause-part : goal.solve_rows_to-requires-clause-part
@@ -24,5 +24,5 @@ returns-clause-proof g c =
 pub returns-clause-err : goal.returns-clause-err
 returns-clause-err g c =
     on_err_weaker c.solve_rows_to.result
-    (λ (left : IsLeft c.in_ok-program.program c.args.name.now (g.F.Shelf.files c.args.files.now) (g.F.Shelf.files c.solve_rows_to.new.files)). inr (c.in_ok-program.program, (c.in_ok-program.ensures.made, (c.in_ok-program.ensures.means, left))))
+    (λ (left : IsLeft c.args.plant.now c.in_ok-program.program c.args.name.now (g.F.Shelf.files c.args.files.now) (g.F.Shelf.files c.solve_rows_to.new.files)). inr (c.in_ok-program.program, (c.in_ok-program.ensures.made, (c.in_ok-program.ensures.means, left))))
     c.solve_rows_to.ensures.err

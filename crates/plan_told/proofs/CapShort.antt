@@ -1,0 +1,116 @@
+-- The cap of the proof of a search has at most 30 digits.
+use Rattle.std.proofs.Common.{◌≡◌, ℕ, ◌<◌, ◌^◌, leb, ltb, Bool, true, false, ◌&&◌, cond, List, [], ◌∷◌, length, Option, Some, None, option_and_then, if◌then◌else◌, refl, subst, arith, ℤ, unsigned_abs}
+use Rattle.std.specs.Int.{int_max}
+use Rattle.std.specs.List.{All, list_all, list_any}
+use Rattle.std.proofs.lemmas.Bool.{and_parts, leb-true}
+use Rattle.std.proofs.lemmas.Int.{ints, clamps}
+use Rattle.row_kit.specs.declared.domain.Domain.{Domain}
+use Rattle.row_kit.specs.declared.program.Program.{Program}
+use Rattle.row_kit.specs.Domain.{IsNormal, count_of}
+use Rattle.row_kit.specs.Point.{worth_of}
+use Rattle.range_prop.specs.declared.row_cut.RowCut.{RowCut}
+use Rattle.range_prop.specs.Cut.{is_bare}
+use Rattle.dual_bound.specs.declared.cert.Cert.{Cert}
+use Rattle.dual_bound.specs.Cap.{IsBelow, cert_cap, scaled_cap}
+use Rattle.dual_bound.specs.Total.{are_fit, is_fit, has_total, total_of, IsUsable}
+use Rattle.dual_bound.proofs.Fit.{fit_all}
+use Rattle.dual_bound.proofs.Small.{cap_small, total_small}
+use Rattle.proof_tree.specs.declared.capped.Capped.{Capped}
+use Rattle.proof_tree.specs.declared.capped.Capped.TheVariants.{AtMost, NoPoint, Bad}
+use Rattle.proof_tree.specs.Cap.{greater}
+use Rattle.proof_tree.specs.Tree.{Leaf, no_point, dual, one_point, pending, leaf, split, tree_cap, leaf_cap, after_cuts, cap_if}
+use Rattle.proof_tree.specs.Views.{View}
+use Rattle.row_relax.specs.laws.Lawful.{true_lawful}
+use Rattle.row_relax.specs.laws.Laws.{rows_sound}
+use Rattle.row_relax.specs.laws.Shown.{fits_of}
+use Rattle.row_relax.specs.RowProofs.{RowTree}
+use Rattle.row_relax.specs.Settle.{are_single, is_lawful, only_point, settled}
+use Rattle.row_relax.specs.Steps.{row_steps}
+use Rattle.row_relax.specs.View.{Fits, domains_of, view_of}
+use Rattle.plan_told.proofs.WorthShort.{worth_short}
+
+-- a fit certificate is usable
+usable_of : (rows : ℕ) (cert : Cert) → is_fit rows cert ≡ true → IsUsable rows cert
+usable_of rows cert fit =
+    let p = and_parts (leb cert.scale 1048576 && leb (length cert.mults) 50000) (are_fit rows 0 cert.mults) fit in
+    let q = and_parts (leb cert.scale 1048576) (leb (length cert.mults) 50000) p.0 in
+    record { scale = leb-true cert.scale 1048576 q.0; few = leb-true (length cert.mults) 50000 q.1; fit = fit_all rows 0 cert.mults p.1 }
+
+-- the cap of a certificate
+cert_short : (program : Program) (ds : List Domain) (cert : Cert) → All IsNormal ds → length ds ≡ length program.root → IsBelow (10 ^ 30) (cert_cap program ds cert)
+cert_short program ds cert normal same = at (has_total program ds cert) refl
+  where
+    at : (there : Bool) → has_total program ds cert ≡ there → IsBelow (10 ^ 30) (scaled_cap cert.scale (if there then Some (total_of program ds cert) else None))
+    at true is =
+        let parts = and_parts (is_fit (length program.rows) cert) (list_all (λ (d : Domain). ltb 0 (count_of d)) ds) is in
+        cap_small cert.scale (10 ^ 30) (total_of program ds cert) (total_small program ds cert (usable_of (length program.rows) cert parts.0) normal same)
+    at false is = tt
+
+-- what settling gives
+settled_short : (program : Program) (ds : List Domain) → IsBelow (10 ^ 30) (settled program ds)
+unfolding settled
+settled_short program ds = by_single (are_single ds)
+  where
+    by_lawful : (lawful : Bool) → is_lawful program (only_point ds) ≡ lawful → IsBelow (10 ^ 30) (cond lawful (AtMost (worth_of program (only_point ds))) NoPoint)
+    by_lawful true is = worth_short program (only_point ds) (true_lawful program (only_point ds) is)
+    by_lawful false is = tt
+
+    by_single : (single : Bool) → IsBelow (10 ^ 30) (cond single (cond (is_lawful program (only_point ds)) (AtMost (worth_of program (only_point ds))) NoPoint) Bad)
+    by_single true = by_lawful (is_lawful program (only_point ds)) refl
+    by_single false = tt
+
+empty_short : (empty : Bool) → IsBelow (10 ^ 30) (cond empty NoPoint Bad)
+empty_short true = tt
+empty_short false = tt
+
+-- the cap of a leaf
+leaf_short : (program : Program) (v : View) (end : Leaf Cert) → Fits program v → IsBelow (10 ^ 30) (leaf_cap (row_steps program) v end)
+unfolding row_steps
+leaf_short program v no_point fit = empty_short (list_any is_bare (domains_of v))
+leaf_short program v (dual cert) fit = cert_short program (domains_of v) cert fit.normal fit.slots
+leaf_short program v one_point fit = settled_short program (domains_of v)
+leaf_short program v (pending cert) fit = cert_short program (domains_of v) cert fit.normal fit.slots
+
+max_short : (most : ℕ) (a b : ℤ) → unsigned_abs a < most → unsigned_abs b < most → unsigned_abs (int_max a b) < most
+max_short most a b low high = omega (arith, ints, clamps)
+
+-- the greater of two caps
+greater_short : (most : ℕ) (a b : Capped) → IsBelow most a → IsBelow most b → IsBelow most (greater a b)
+greater_short most Bad b low high = tt
+greater_short most NoPoint b low high = high
+greater_short most (AtMost a) Bad low high = tt
+greater_short most (AtMost a) NoPoint low high = low
+greater_short most (AtMost a) (AtMost b) low high = max_short most a b low high
+
+if_short : (most : ℕ) (next : Option View) (cap_at : View → Capped) → ((w : View) → next ≡ Some w → IsBelow most (cap_at w)) → IsBelow most (cap_if next cap_at)
+if_short most None cap_at each = tt
+if_short most (Some w) cap_at each = each w refl
+
+some_same : (v w : View) → Some v ≡ Some w → v ≡ w
+some_same v w is = cc
+
+-- what cuts lead to fits
+cuts_fit : (program : Program) (cuts : List RowCut) (v w : View) → Fits program v → after_cuts (row_steps program) v cuts ≡ Some w → Fits program w
+cuts_fit program [] v w fit is = subst (Fits program) (some_same v w is) fit
+cuts_fit program (u ∷ us) v w fit is = first (λ x there led. cuts_fit program us x w there led) ((row_steps program).cut v u) refl is
+  where
+    first : ((x : View) → Fits program x → after_cuts (row_steps program) x us ≡ Some w → Fits program w) → (next : Option View) → (row_steps program).cut v u ≡ next → option_and_then (λ x. after_cuts (row_steps program) x us) next ≡ Some w → Fits program w
+    first rest None to led = absurd (cc)
+    first rest (Some x) to led = rest x ((rows_sound program).cut_fits v x u fit to) led
+
+-- the cap of a tree
+tree_short : (program : Program) (tree : RowTree) (v : View) → Fits program v → IsBelow (10 ^ 30) (tree_cap (row_steps program) v tree)
+tree_short program (leaf cuts found end) v fit =
+    if_short (10 ^ 30) (after_cuts (row_steps program) v cuts) (λ w. leaf_cap (row_steps program) w end) (λ w is. leaf_short program w end (cuts_fit program cuts v w fit is))
+tree_short program (split cuts found pick cert a b) v fit =
+    if_short (10 ^ 30) (after_cuts (row_steps program) v cuts)
+    (λ w. greater (cap_if ((row_steps program).left w pick) (λ x. tree_cap (row_steps program) x a)) (cap_if ((row_steps program).right w pick) (λ x. tree_cap (row_steps program) x b)))
+    (λ w is.
+    let inner = cuts_fit program cuts v w fit is in
+    greater_short (10 ^ 30) (cap_if ((row_steps program).left w pick) (λ x. tree_cap (row_steps program) x a)) (cap_if ((row_steps program).right w pick) (λ x. tree_cap (row_steps program) x b))
+    (if_short (10 ^ 30) ((row_steps program).left w pick) (λ x. tree_cap (row_steps program) x a) (λ x to. tree_short program a x ((rows_sound program).left_fits w x pick inner to)))
+    (if_short (10 ^ 30) ((row_steps program).right w pick) (λ x. tree_cap (row_steps program) x b) (λ x to. tree_short program b x ((rows_sound program).right_fits w x pick inner to))))
+
+-- the cap of a proof over the root
+pub root_short : (program : Program) (tree : RowTree) → IsBelow (10 ^ 30) (tree_cap (row_steps program) (view_of program.root) tree)
+root_short program tree = tree_short program tree (view_of program.root) (fits_of program program.root refl program.root_normal)

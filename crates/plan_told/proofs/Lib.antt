@@ -1,0 +1,15 @@
+pub mod CapShort
+pub mod CleanText
+pub mod Completing
+pub mod GivenBest
+pub mod Least
+pub mod NoDefect
+pub mod PartPlans
+pub mod SmallClaim
+pub mod Texts
+pub mod PlainTold
+pub mod ToldBySums
+pub mod ValidLog
+pub mod ValidSums
+pub mod WholePlant
+pub mod WorthShort

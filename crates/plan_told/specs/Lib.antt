@@ -1,0 +1,7 @@
+pub mod Claims
+pub mod Ended
+pub mod Given
+pub mod Law
+pub mod Outcomes
+pub mod Proofs
+pub mod Telling

@@ -1,0 +1,143 @@
+-- The proof of an outcome, and the log that holds it.
+use Rattle.std.specs.Prelude.{◌≡◌, ◌⊎◌, ℕ, ◌-◌, ⊤, List, ◌++◌, length, Option, Some, None, IfSome}
+use Rattle.std.specs.List.{sum_by}
+use Rattle.std.specs.Option.{option_map}
+use Rattle.stn_edge.specs.Files.{FileMap, file_of}
+use Rattle.stn_model.specs.declared.plant.Plant.{Plant}
+use Rattle.stn_model.specs.declared.answer.Answer.{Answer}
+use Rattle.stn_model.specs.declared.answer.Answer.TheVariants as answer
+use Rattle.stn_model.specs.declared.answer.Outcome.{Outcome}
+use Rattle.time_grid.specs.PlanPoint.{plan_point}
+use Rattle.row_kit.specs.declared.domain.Domain.{Domain}
+use Rattle.row_kit.specs.declared.program.Program.{Program}
+use Rattle.row_set.specs.PlantProgram.{IsMadeOf, IsProgramOf, plant_root}
+use Rattle.proof_tree.specs.Items.{tree_items}
+use Rattle.proof_tree.specs.Nodes.{counted}
+use Rattle.row_relax.specs.RowProofs.{RowTree}
+use Rattle.row_relax.specs.View.{view_of}
+use Rattle.branch_tree.specs.Justified.{IsJustified}
+use Rattle.branch_tree.specs.Searched.{HasOpenBox, IsWritable, spared}
+use Rattle.proof_log.specs.declared.claim.Claim.{Claim}
+use Rattle.proof_log.specs.declared.claim.Claim.TheVariants as claim
+use Rattle.proof_log.specs.Log.{log_text}
+use Rattle.log_check.specs.declared.verdict.LogVerdict.TheVariants.{Yes}
+use Rattle.log_check.specs.Verdict.{IsVerdict}
+use Rattle.sum_slots.specs.declared.sum.Sum.{Sum}
+use Rattle.sum_slots.specs.Larger.{IsWithSums}
+use Rattle.log_sums.specs.PlantLogs.{IsPlantVerdict}
+use Rattle.log_sums.specs.SumTexts.{larger_claim, sums_text}
+
+-- the claim of an answer: its profit, its cap, and the point of its plan
+abbrev pub claim_of : Plant → Answer → Claim
+claim_of plant (answer.Optimal plan earned) = claim.Optimal earned (plan_point plant plan)
+claim_of plant answer.Infeasible = claim.Infeasible
+claim_of plant (answer.BudgetSpent None earned cap) = claim.Below cap
+claim_of plant (answer.BudgetSpent (Some plan) earned cap) = claim.Between earned cap (plan_point plant plan)
+
+-- the text of the log of a proof, with the claim of an answer
+abbrev pub proof_text : Plant → Answer → RowTree → List ℕ
+proof_text plant answer tree = log_text 2 (tree_items tree) (claim_of plant answer)
+
+-- the text of the log of a proof over a program with sums, with the claim of an answer, whose point the values of the sums follow
+abbrev pub sums_proof_text : Plant → Answer → List Sum → RowTree → List ℕ
+sums_proof_text plant answer sums tree = sums_text sums tree (larger_claim sums (claim_of plant answer))
+
+-- how many splits may be open in a log over a root: 4,608, less one for each slot that lacks 0 or holds 0 alone
+abbrev pub depth_over : List Domain → ℕ
+depth_over root = 4608 - sum_by spared root
+
+-- where an answer says that the budget was spent
+abbrev pub IfSpent : Answer → Type 0 → Type 0
+IfSpent (answer.Optimal plan earned) P = ⊤
+IfSpent answer.Infeasible P = ⊤
+IfSpent (answer.BudgetSpent plan earned cap) P = P
+
+-- A proof of an outcome: no box was split without cause, as many boxes are counted as the outcome says, and
+-- its text with the claim of the answer is a valid log. Where the budget was spent, a box with a point is open.
+pub record IsProofOf (plant : Plant) (part : Program) (outcome : Outcome) (tree : RowTree) : Type 0 where
+  pub boxes : counted tree ≡ outcome.boxes
+  -- every slot is the plant's own, none a sum's
+  pub justified : IsJustified part (length part.root) tree
+  pub valid : IsVerdict part (depth_over part.root) (proof_text plant outcome.answer tree) (Yes (claim_of plant outcome.answer))
+  pub left_open : IfSpent outcome.answer (HasOpenBox part (view_of part.root) tree)
+
+-- A proof of an outcome over the part's program with sums: no box was split without cause, as many boxes are counted as the
+-- outcome says, and its text with the claim of the answer is a valid log. Where the budget was spent, a box with a point is open.
+pub record IsSumsProofOf (plant : Plant) (part : Program) (sums : List Sum) (outcome : Outcome) (tree : RowTree) : Type 0 where
+  pub larger : Program
+  pub enlarged : IsWithSums part (plant_root plant) sums larger
+  pub boxes : counted tree ≡ outcome.boxes
+  -- the slots of the part are the plant's own, all later ones a sum's
+  pub justified : IsJustified larger (length part.root) tree
+  pub valid : IsPlantVerdict plant part (depth_over part.root) (sums_proof_text plant outcome.answer sums tree) (Yes (claim_of plant outcome.answer))
+  pub left_open : IfSpent outcome.answer (HasOpenBox larger (view_of larger.root) tree)
+
+-- the text is that of the log of a proof of the outcome over the part's own program
+pub record IsPlainProofText (plant : Plant) (part : Program) (outcome : Outcome) (text : List ℕ) : Type 0 where
+  pub tree : RowTree
+  pub proof : IsProofOf plant part outcome tree
+  pub is : text ≡ proof_text plant outcome.answer tree
+
+-- the text is that of the log of a proof of the outcome over the part's program with sums
+pub record IsSumsProofText (plant : Plant) (part : Program) (outcome : Outcome) (text : List ℕ) : Type 0 where
+  pub sums : List Sum
+  pub tree : RowTree
+  pub proof : IsSumsProofOf plant part sums outcome tree
+  pub is : text ≡ sums_proof_text plant outcome.answer sums tree
+
+-- There is a proof of the outcome, over the part's own program or over that with sums, and the text of its log is valid for the claim
+-- of the answer. Where bytes are told, they are this text.
+pub record HasProof (plant : Plant) (part : Program) (log : Option (List ℕ)) (outcome : Outcome) : Type 0 where
+  pub text : List ℕ
+  pub proof : IsPlainProofText plant part outcome text ⊎ IsSumsProofText plant part outcome text
+  pub valid : IsPlantVerdict plant part (depth_over part.root) text (Yes (claim_of plant outcome.answer))
+  pub told : IfSome log (λ bytes. bytes ≡ text)
+
+-- the bytes of the file of this name, where files are told
+abbrev pub bytes_in : List ℕ → Option FileMap → Option (List ℕ)
+bytes_in name files = option_map (λ m. file_of m name) files
+
+-- bytes are a first part of the text of a log of version 2, whose found points are lawful and stand with their worth
+pub record IsLogBegun (part : Program) (bytes : List ℕ) : Type 0 where
+  pub tree : RowTree
+  pub claim : Claim
+  pub writable : IsWritable part tree
+  pub rest : List ℕ
+  pub text : bytes ++ rest ≡ log_text 2 (tree_items tree) claim
+
+-- the same of a log of version 3, over the part's program with the sums that its head declares; they may be a first part of the head
+pub record IsSumsLogBegun (plant : Plant) (part : Program) (bytes : List ℕ) : Type 0 where
+  pub sums : List Sum
+  pub larger : Program
+  pub enlarged : IsWithSums part (plant_root plant) sums larger
+  pub tree : RowTree
+  pub claim : Claim
+  pub writable : IsWritable larger tree
+  pub rest : List ℕ
+  pub text : bytes ++ rest ≡ sums_text sums tree claim
+
+-- bytes are a first part of the text of a log of either version
+abbrev pub IsSomeLogBegun : Plant → Program → List ℕ → Type 0
+IsSomeLogBegun plant part bytes = IsLogBegun part bytes ⊎ IsSumsLogBegun plant part bytes
+
+-- what an attempt leaves that did not end: the files are as they were, or the file of this name is a log that was begun
+abbrev pub IsLeft : Plant → Program → List ℕ → Option FileMap → Option FileMap → Type 0
+IsLeft plant part name old new = (new ≡ old) ⊎ IfSome (bytes_in name new) (IsSomeLogBegun plant part)
+
+-- a proof of an outcome over the whole program of a plant
+pub record IsPlantProof (plant : Plant) (outcome : Outcome) (tree : RowTree) : Type 0 where
+  pub program : Program
+  pub made : IsMadeOf plant program
+  pub means : IsProgramOf plant program
+  pub proof : IsProofOf plant program outcome tree
+
+-- there is a proof of the outcome over the whole program of a plant; where bytes are told, they are the text of its log
+pub record HasPlantProof (plant : Plant) (log : Option (List ℕ)) (outcome : Outcome) : Type 0 where
+  pub program : Program
+  pub made : IsMadeOf plant program
+  pub means : IsProgramOf plant program
+  pub has : HasProof plant program log outcome
+
+-- what an attempt leaves that did not end: the files are as they were, or the file of this name is a log over the plant's program that was begun
+abbrev pub IsLeftOf : Plant → List ℕ → Option FileMap → Option FileMap → Type 0
+IsLeftOf plant name old new = (new ≡ old) ⊎ ((program : Program) × (IsMadeOf plant program × (IsProgramOf plant program × IsLeft plant program name old new)))

@@ -1,0 +1,24 @@
+-- What is told of a search is right.
+use Rattle.proof_tree.specs.Tree.{tree_of}
+use Rattle.branch_tree.specs.Searched.{ended_of}
+use Rattle.stn_solve.proofs.SearchTold.{plain-places, plain-right}
+use Rattle.stn_solve.proofs.plain.solve_rows.Goals as goal
+
+pub told_of-requires-clause-places : goal.told_of-requires-clause-places
+told_of-requires-clause-places c =
+    plain-places c.args.plant.now c.args.rows.now.program c.slot_count.result c.args.budget (tree_of c.in_ok-tree.field-0.tree) (ended_of c.in_ok-tree.field-0) c.requires.sound c.requires.part c.slot_count.ensures c.in_ok-tree.ensures
+
+pub returns-clause-outcome : goal.returns-clause-outcome
+returns-clause-outcome c =
+    (plain-right c.args.plant.now c.args.rows.now.program c.slot_count.result c.args.budget (tree_of c.in_ok-tree.field-0.tree) (ended_of c.in_ok-tree.field-0) c.requires.sound c.requires.part c.slot_count.ensures c.in_ok-tree.ensures
+    c.in_ok-outcome.field-0 c.in_ok-outcome.ensures).outcome
+
+pub returns-clause-proof : goal.returns-clause-proof
+returns-clause-proof c =
+    (plain-right c.args.plant.now c.args.rows.now.program c.slot_count.result c.args.budget (tree_of c.in_ok-tree.field-0.tree) (ended_of c.in_ok-tree.field-0) c.requires.sound c.requires.part c.slot_count.ensures c.in_ok-tree.ensures
+    c.in_ok-outcome.field-0 c.in_ok-outcome.ensures).proof
+
+pub returns-clause-claim : goal.returns-clause-claim
+returns-clause-claim c =
+    (plain-right c.args.plant.now c.args.rows.now.program c.slot_count.result c.args.budget (tree_of c.in_ok-tree.field-0.tree) (ended_of c.in_ok-tree.field-0) c.requires.sound c.requires.part c.slot_count.ensures c.in_ok-tree.ensures
+    c.in_ok-outcome.field-0 c.in_ok-outcome.ensures).claim

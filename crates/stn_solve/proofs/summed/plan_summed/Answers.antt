@@ -1,0 +1,25 @@
+-- What is told of a search with sums is right.
+use Rattle.std.proofs.Common.{None}
+use Rattle.plan_told.proofs.Texts.{sums-has}
+use Rattle.stn_solve.proofs.SearchTold.{sums-places, sums-right}
+use Rattle.stn_solve.proofs.summed.plan_summed.Goals as goal
+
+pub told_of-requires-clause-places : goal.told_of-requires-clause-places
+told_of-requires-clause-places c =
+    let s = c.in_ok-ended.ensures in
+    sums-places c.args.plant.now c.args.part c.in_ok-rows.field-0 c.args.budget s.tree c.in_ok-ended.ended c.in_ok-own.own c.requires.sound c.requires.part c.in_ok-rows.ensures s.of c.in_ok-own.ensures
+
+pub returns-clause-outcome : goal.returns-clause-outcome
+returns-clause-outcome c =
+    let s = c.in_ok-ended.ensures in
+    (sums-right c.args.plant.now c.args.part c.in_ok-rows.field-0 c.args.budget s.tree c.in_ok-ended.ended c.in_ok-own.own c.requires.sound c.requires.part c.in_ok-rows.ensures s.of c.in_ok-own.ensures
+    c.requires.many c.requires.budget.1 c.in_ok-outcome.field-0 c.in_ok-outcome.ensures).outcome
+
+pub returns-clause-proof : goal.returns-clause-proof
+returns-clause-proof c =
+    let s = c.in_ok-ended.ensures in
+    let summed = c.in_ok-rows.field-0 in
+    let told = c.in_ok-outcome.field-0 in
+    let right = sums-right c.args.plant.now c.args.part summed c.args.budget s.tree c.in_ok-ended.ended c.in_ok-own.own c.requires.sound c.requires.part c.in_ok-rows.ensures s.of c.in_ok-own.ensures
+    c.requires.many c.requires.budget.1 told c.in_ok-outcome.ensures in
+    sums-has c.args.plant.now c.args.part summed.sums None told.outcome s.tree right.proof tt

@@ -1,0 +1,129 @@
+//! Planning over the own program of a part of a plant's choices, without sums.
+ghost use Rattle.std.specs.Prelude.{◌≡◌, ◌≤◌, ◌∷◌, [], None, Err, IsTrue, IfOk, OnErr};
+ghost use Rattle.stn_edge.specs.Count.{Rose};
+ghost use Rattle.stn_edge.specs.Files.{OthersStay};
+ghost use Rattle.stn_model.specs.Sound.{Sound};
+ghost use Rattle.proof_tree.specs.Tree.{tree_of};
+ghost use Rattle.row_set.specs.Parts.{IsPartOf};
+ghost use Rattle.log_lines.specs.declared.line.Line.{Line};
+ghost use Rattle.proof_log.specs.Log.{lines_text};
+ghost use Rattle.plan_told.specs.Outcomes.{IsPartOutcome};
+ghost use Rattle.plan_told.specs.Proofs.{HasProof, IsLeft, IsProofOf, bytes_in, claim_of};
+
+use crate::logging::{Logged, search_logged};
+use crate::searching::{search_built, search_only, slot_count};
+use crate::solved::Solved;
+use branch_tree::{Ended, Searched};
+use log_lines::{Line, put_line};
+use plan_told::{Told, told_of};
+use row_relax::Rows;
+use std::alloc::{AllocError, Global};
+use stn_edge::{Shelf, Stop};
+use stn_model::{Outcome, Plant};
+
+// Plans over the rows of a part's own program, with at most so many boxes.
+pub fn plan_plain(
+    alloc: Global,
+    plant: &Plant,
+    rows: &Rows,
+    budget: u32,
+) -> Result<Outcome, AllocError>
+    requires sound { Sound plant.now }
+    requires part { IsPartOf plant.now rows.now.program }
+    requires budget { (1 ≤ budget) × (budget ≤ 100000) }
+    ensures outcome { IfOk result (IsPartOutcome plant.now rows.now.program budget) }
+    ensures proof { IfOk result (HasProof plant.now rows.now.program None) }
+{
+    let ended = search_only(alloc, rows, slot_count(rows), budget)?;
+    let Told { outcome, .. } = told_of(alloc, plant, ended)?;
+    Ok(outcome)
+}
+
+/// Plans over a part of a plant's choices, with at most so many boxes, and keeps the proof. No sums are declared.
+pub fn solve_rows(
+    alloc: Global,
+    plant: &Plant,
+    rows: &Rows,
+    budget: u32,
+) -> Result<Solved, AllocError>
+    requires sound { Sound plant.now }
+    requires part { IsPartOf plant.now rows.now.program }
+    requires budget { (1 ≤ budget) × (budget ≤ 100000) }
+    ensures outcome { IfOk result
+        (λ solved. IsPartOutcome plant.now rows.now.program budget solved.outcome) }
+    ensures proof { IfOk result
+        (λ solved. IsProofOf plant.now rows.now.program solved.outcome (tree_of solved.tree)) }
+    ensures claim { IfOk result
+        (λ solved. solved.claim ≡ claim_of plant.now solved.outcome.answer) }
+{
+    let Searched {
+        tree,
+        best,
+        cap,
+        spent,
+        left_open,
+    } = search_built(alloc, rows, slot_count(rows), budget)?;
+    let ended = Ended {
+        best,
+        cap,
+        spent,
+        left_open,
+    };
+    let Told { outcome, claim } = told_of(alloc, plant, ended)?;
+    Ok(Solved {
+        outcome,
+        tree,
+        claim,
+    })
+}
+
+// Plans over the rows of a part's own program, and writes the log of the proof, of version 2.
+pub fn solve_plain_to<F: Shelf>(
+    alloc: Global,
+    plant: &Plant,
+    rows: &Rows,
+    budget: u32,
+    files: &mut F,
+    name: &str,
+) -> Result<Outcome, Stop>
+    requires sound { Sound plant.now }
+    requires part { IsPartOf plant.now rows.now.program }
+    requires budget { (1 ≤ budget) × (budget ≤ 100000) }
+    requires allowed { IsTrue (F.may_write files.old name.now) }
+    ensures outcome { IfOk result (IsPartOutcome plant.now rows.now.program budget) }
+    ensures proof { IfOk result
+        (HasProof plant.now rows.now.program (bytes_in name.now (F.files files.new))) }
+    ensures err { OnErr result (IsLeft plant.now rows.now.program name.now (F.files files.old)
+        (F.files files.new)) }
+    ensures others { OthersStay name.now (F.files files.old) (F.files files.new) }
+    ensures readable { F.may_read files.new ≡ F.may_read files.old }
+    ensures writable { F.may_write files.new ≡ F.may_write files.old }
+    ensures no_read { F.read_faults files.new ≡ F.read_faults files.old }
+    ensures later { F.write_faults files.old ≤ F.write_faults files.new }
+    ensures failed { result ≡ Err Stop.Failed
+        → Rose (F.write_faults files.old) (F.write_faults files.new) }
+{
+    let head = plain_head(alloc)?;
+    let given = slot_count(rows);
+    let Logged { ended, writer } = search_logged(
+        alloc,
+        rows,
+        given,
+        budget,
+        head.as_slice(),
+        files,
+        name,
+    )?;
+    let told = told_of(alloc, plant, ended)?;
+    writer.finish(files, &told.claim)?;
+    Ok(told.outcome)
+}
+
+// The first line of a log of version 2.
+fn plain_head(alloc: Global) -> Result<Vec<u8>, AllocError>
+    ensures { IfOk result (λ head. head.items ≡ lines_text (Line.Header 2 ∷ [])) }
+{
+    let mut head = Vec::new(alloc);
+    put_line(alloc, &Line::Header { version: 2 }, &mut head)?;
+    Ok(head)
+}

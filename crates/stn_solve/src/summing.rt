@@ -1,0 +1,86 @@
+//! The program of a part of a plant's choices with sums, over which a large part is searched.
+ghost use Rattle.std.specs.Prelude.{◌≡◌, ◌≤◌, ◌<◌, ◌*◌, IfOk, IsTrue};
+ghost use Rattle.stn_model.specs.Sound.{Sound};
+ghost use Rattle.row_kit.specs.Points.{points_of};
+ghost use Rattle.row_set.specs.Parts.{IsPartOf};
+ghost use Rattle.stn_solve.specs.laws.Summing.{IsSummed};
+
+use plan_told::least_found;
+use row_kit::{Domain, Found, List, Program};
+use row_relax::Rows;
+use row_set::plant_root;
+use std::alloc::{AllocError, Global};
+use stn_model::Plant;
+use sum_choice::choose_sums;
+use sum_lines::put_head;
+use sum_slots::{Sum, with_sums};
+
+// Where more points are left, sums are declared.
+const MOST_POINTS: u64 = 50_000;
+
+/// A part of a plant's choices with sums, as a search finds it.
+#[derive(Drop)]
+pub struct Summed {
+    // The rows of the program with the sums.
+    pub rows: Rows,
+    pub sums: List<Sum>,
+    // The head of a log that declares the sums.
+    pub head: Vec<u8>,
+    // The number of slots of the part.
+    pub given: u32,
+    // The least point of the part, where it is lawful.
+    pub least: Option<Found>,
+}
+
+// A part of a plant's choices with the sums that are chosen for it.
+pub fn with_chosen(alloc: Global, plant: &Plant, part: Program) -> Result<Summed, AllocError>
+    requires sound { Sound plant.now }
+    requires part { IsPartOf plant.now part }
+    ensures { IfOk result (IsSummed plant.now part) }
+{
+    let ranges = plant_root(alloc, plant)?;
+    let sums = choose_sums(alloc, &part, ranges.as_slice())?;
+    let mut head = Vec::new(alloc);
+    put_head(alloc, sums.as_slice(), &mut head)?;
+    let given = part.root.len() as u32;
+    let least = least_found(alloc, &part)?;
+    let program = with_sums(alloc, part, ranges.as_slice(), sums.as_slice())?;
+    Ok(Summed {
+        rows: Rows { program },
+        sums,
+        head,
+        given,
+        least,
+    })
+}
+
+// Whether the slots from the number `levels` on have more than 50,000 points. Parts of a plant that are told apart by as many first
+// slots all have, or none.
+pub fn has_many(part: &Program, levels: u32) -> bool
+    ensures { IsTrue result → 50000 < points_of part.now.root }
+{
+    let root = part.root.as_slice();
+    let levels = levels as usize;
+    if levels > root.len() {
+        return false;
+    }
+    count_points(&root[levels..]) > MOST_POINTS
+}
+
+// The number of points of domains, or the greatest number of 64 bits.
+fn count_points(domains: &[Domain]) -> u64
+    ensures { result ≤ points_of domains.now }
+{
+    let mut count = 1u64;
+    for domain in domains {
+        count = times(count, domain.count());
+    }
+    count
+}
+
+// The product of two numbers, or the greatest number of 64 bits.
+fn times(count: u64, more: u32) -> u64
+    ensures { result ≤ count * more }
+{
+    count.saturating_mul(u64::from(more))
+}

@@ -1,4 +1,0 @@
-pub mod GivenBest
-pub mod Least
-pub mod ToldBySums
-pub mod ValidSums
