@@ -1,1 +1,5 @@
 pub mod Excluded
+pub mod Alike
+pub mod Fronts
+pub mod AnyVersions
+pub mod Again

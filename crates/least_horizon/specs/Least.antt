@@ -10,7 +10,7 @@ use Rattle.stn_model.specs.Best.{NoPlan}
 use Rattle.stn_model.specs.Feasible.{Feasible}
 use Rattle.stn_model.specs.Profit.{profit}
 use Rattle.stn_model.specs.Sound.{Within}
-use Rattle.stn_solve.specs.Proofs.{HasPlantProof, IsLeftOf}
+use Rattle.plan_told.specs.Proofs.{HasPlantProof, IsLeftOf}
 use Rattle.least_horizon.specs.declared.answer.LeastAnswer.{LeastAnswer}
 use Rattle.least_horizon.specs.declared.answer.LeastAnswer.TheVariants.{At, Nowhere, Open}
 use Rattle.least_horizon.specs.PlantAt.{plant_at}

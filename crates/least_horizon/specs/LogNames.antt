@@ -4,7 +4,7 @@ use Rattle.std.specs.Option.{option_map}
 use Rattle.std.specs.FinMap.{get}
 use Rattle.stn_edge.specs.Files.{FileMap}
 use Rattle.proof_log.specs.LogNames.{log_name}
-use Rattle.stn_solve.specs.Proofs.{bytes_in}
+use Rattle.plan_told.specs.Proofs.{bytes_in}
 
 -- the bytes of the logs of a stem, by their horizons, where files are told
 abbrev pub logs_in : List ℕ → Option FileMap → ℕ → Option (List ℕ)

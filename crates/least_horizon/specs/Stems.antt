@@ -5,7 +5,7 @@ use Rattle.proof_log.specs.declared.claim.Claim.TheVariants.{Optimal, Infeasible
 use Rattle.proof_log.specs.declared.log.Defect.{Defect}
 use Rattle.log_check.specs.declared.verdict.LogVerdict.{LogVerdict}
 use Rattle.log_check.specs.declared.verdict.LogVerdict.TheVariants as log
-use Rattle.plant_check.specs.Claims.{IsChecked}
+use Rattle.log_sums.specs.PlantLogs.{IsAnyChecked}
 use Rattle.least_horizon.specs.declared.stem.StemVerdict.{StemVerdict}
 use Rattle.least_horizon.specs.declared.stem.StemVerdict.TheVariants.{Yes, No}
 use Rattle.least_horizon.specs.PlantAt.{plant_at}
@@ -22,10 +22,10 @@ objection (log.Yes (Between earned most point)) = Some other_claim
 objection (log.Yes (Below most)) = Some other_claim
 objection (log.No defect) = Some defect
 
--- the right verdict on a log of the plant has this objection
+-- the right verdict on a log of the plant, of any version, has this objection
 pub record IsJudged (plant : Plant) (bytes : List ℕ) (found : Option Defect) : Type 0 where
   pub verdict : LogVerdict
-  pub right : IsChecked plant bytes verdict
+  pub right : IsAnyChecked plant bytes verdict
   pub is : found ≡ objection verdict
 
 -- nothing speaks against the logs of the horizons from 1 on that are shorter than this one

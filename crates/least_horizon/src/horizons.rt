@@ -3,7 +3,7 @@ ghost use Rattle.std.specs.Prelude.{◌≡◌, ◌≤◌, ◌+◌, None, Err, Is
 ghost use Rattle.stn_edge.specs.Count.{Rose};
 ghost use Rattle.stn_edge.specs.Files.{OthersStay};
 ghost use Rattle.stn_model.specs.Sound.{Sound, Within};
-ghost use Rattle.stn_solve.specs.Proofs.{IsLeftOf};
+ghost use Rattle.plan_told.specs.Proofs.{IsLeftOf};
 ghost use Rattle.least_horizon.specs.PlantAt.{plant_at};
 ghost use Rattle.proof_log.specs.LogNames.{log_name};
 ghost use Rattle.least_horizon.specs.LogNames.{logs_in, AreAllowed, OthersStayBelow};

@@ -12,7 +12,7 @@ ghost use Rattle.least_horizon.specs.Stems.{objection, IsJudged, IsStemVerdict};
 
 use crate::shorter::plant_at;
 use log_check::{CheckStop, LogVerdict};
-use plant_check::check_stream;
+use log_sums::check_plant;
 use proof_log::{Claim, Defect, log_name};
 use std::alloc::Global;
 use stn_edge::Shelf;
@@ -91,7 +91,7 @@ fn judge<F: Shelf>(
 {
     let short = plant_at(alloc, plant, horizon)?;
     let name = log_name(alloc, stem, horizon)?;
-    let verdict = check_stream(alloc, &short, files, name.as_str())?;
+    let verdict = check_plant(alloc, &short, files, name.as_str())?;
     Ok(objection(verdict))
 }
 

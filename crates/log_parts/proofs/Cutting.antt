@@ -105,6 +105,10 @@ cut-at levels part whole k d l = get_or-map-range_with_len (λ place. cut_domain
 abbrev pub AreOfSlots : List Domain → Type 0
 AreOfSlots whole = (k : ℕ) → k < length whole → IsOfSlot (domain_at whole k)
 
+-- the domain of each of the first slots is that of one
+abbrev pub AreFirstOfSlots : ℕ → List Domain → Type 0
+AreFirstOfSlots count whole = (k : ℕ) → k < count → IsOfSlot (domain_at whole k)
+
 -- what holds of each cut domain holds of all
 all-cut : (levels part : ℕ) (whole : List Domain) (P : Domain → Type 0) → ((k : ℕ) → k < length whole → P (cut_domain levels part k (domain_at whole k))) → All P (cut_root levels part whole)
 all-cut levels part whole P each k d l =

@@ -5,7 +5,6 @@ use Rattle.row_kit.specs.declared.program.Program.{Program}
 use Rattle.row_kit.specs.Point.{IsLawful, worth_of}
 use Rattle.proof_tree.specs.declared.item.Item.TheVariants.{Node, Cut, Found as FoundItem, Empty, Dual, Point, Pending, Split}
 use Rattle.row_relax.specs.RowProofs.{RowItem}
-use Rattle.row_set.proofs.PartPoints.{worth-part}
 use Rattle.log_check.proofs.FoundSound.{IsFinePoint, IsFine}
 use Rattle.log_parts.proofs.PartCaps.{IsPart, lawful-part}
 
@@ -14,7 +13,7 @@ pub fine-whole : (whole part : Program) (value : ℤ) (point : List ℕ) → IsP
 fine-whole whole part value point is fine kind =
     ⊎_elim
     (λ other. fine 13 (inl (refl, λ (lawful : IsLawful part point). other.1 (lawful-part whole part point is lawful))))
-    (λ other. fine 13 (inl (refl, λ (lawful : IsLawful part point). fine 14 (inr (refl, lawful, λ (worth : worth_of part point ≡ value). other.2 (sym (worth-part whole part point is.but_root) ∙ worth))))))
+    (λ other. fine 13 (inl (refl, λ (lawful : IsLawful part point). fine 14 (inr (refl, lawful, λ (worth : worth_of part point ≡ value). other.2 (sym (is.worth point lawful) ∙ worth))))))
 
 -- an item without a defect in a part has none in the whole
 pub fine-item : (whole part : Program) → IsPart whole part → (item : RowItem) → IsFine part item → IsFine whole item

@@ -1,8 +1,5 @@
 -- What joining comes to, where the logs of all parts are valid.
-use Rattle.std.proofs.Common.{◌≡◌, ◌≢◌, ℕ, zero, suc, ◌+◌, ◌-◌, ◌^◌, ◌<◌, ◌≤◌, List, [], ◌∷◌, ◌++◌, length, map, get_or, Option, None, Some, IfSome, refl, sym, ap, ◌∙◌, subst, inl, inr, arith, length-append}
-use Rattle.std.specs.Prelude.{◌⊎◌, Result, Ok, Err, IfOk, OnErr}
-use Rattle.std.specs.Option.{option_map}
-use Rattle.std.specs.FinMap.{get}
+use Rattle.std.proofs.Common.{◌≡◌, ◌≢◌, ℕ, zero, suc, ◌+◌, ◌-◌, ◌*◌, ◌^◌, ◌<◌, ◌≤◌, List, [], ◌∷◌, ◌++◌, length, map, flat_map, get_or, Option, None, Some, IfSome, refl, sym, ap, ◌∙◌, subst, inl, inr, arith, length-append}
 use Rattle.std.proofs.Math.Seq.{get_or-append_seam}
 use Rattle.std.proofs.lemmas.Bool.{cases_eq}
 use Rattle.std.proofs.lemmas.List.{get_or_append_left, length-map}
@@ -11,53 +8,46 @@ use Rattle.stn_model.specs.declared.plant.Plant.{Plant}
 use Rattle.stn_model.specs.Sound.{Sound}
 use Rattle.time_grid.specs.Slots.{slots}
 use Rattle.row_kit.specs.declared.program.Program.{Program}
-use Rattle.row_set.specs.PlantProgram.{plant_rows, slot_domain}
+use Rattle.row_set.specs.PlantProgram.{plant_root, plant_rows}
 use Rattle.row_relax.specs.RowProofs.{RowTree}
+use Rattle.proof_tree.specs.Items.{tree_items}
 use Rattle.log_lines.specs.declared.grammar.Limits.{Limits}
+use Rattle.log_lines.specs.declared.line.Line.TheVariants.{Header, End}
 use Rattle.log_lines.specs.TextDefect.{log_text_defect}
 use Rattle.proof_log.specs.declared.claim.Claim.{Claim}
 use Rattle.proof_log.specs.declared.claim.Claim.TheVariants.{Infeasible}
-use Rattle.proof_log.specs.LogNames.{log_name}
+use Rattle.proof_log.specs.Behind.{behind}
+use Rattle.proof_log.specs.Log.{claim_lines, item_lines, log_lines, log_text}
 use Rattle.proof_log.specs.OneText.{IsLogOver}
-use Rattle.log_check.specs.declared.verdict.LogVerdict.TheVariants.{Yes}
-use Rattle.log_check.specs.Verdict.{IsValid, IsVerdict, IsVerdictGiven, limits_of}
+use Rattle.proof_log.proofs.Lines.{lines_text-append}
+use Rattle.sum_slots.specs.declared.sum.Sum.{Sum}
+use Rattle.sum_slots.specs.Larger.{IsWithSums, sum_domain, sum_rows}
+use Rattle.log_check.specs.Verdict.{limits_of}
+use Rattle.log_sums.specs.SumTexts.{any_text, larger_claim}
 use Rattle.plant_check.specs.Claims.{Says}
 use Rattle.log_parts.specs.declared.joins.Joined.{Joined}
 use Rattle.log_parts.specs.declared.joins.Joined.TheVariants.{Done, No}
 use Rattle.log_parts.specs.Joining.{IsJoined}
-use Rattle.log_parts.specs.PartLogs.{IsPartProgram, IsPartVerdict, IsPartLog, AreValid, IsJoinedLog, IsJoining, IsJoiningIn, IsJoinBegun, LeavesJoin, AllAreValid, JoinSays, IsNo, logs_of, no_tree}
-use Rattle.log_parts.specs.PlantParts.{part_root}
-use Rattle.log_parts.specs.laws.Checked.{HaveClaims}
-use Rattle.log_parts.specs.laws.Copying.{part_limits, joined_text, AreLogsOf, HasWritten, HasLeft, IsClaim}
-use Rattle.log_parts.proofs.Cutting.{length-cut}
-use Rattle.log_parts.proofs.JoinedValid.{joined_log}
+use Rattle.log_parts.specs.PartLogs.{IsPartProgram, IsJoinedLog, IsJoining, IsJoiningIn, IsJoinBegun, LeavesJoin, AllAreValid, JoinSays, IsNo, logs_of, no_tree, tree_over}
+use Rattle.log_parts.specs.laws.Checked.{HaveClaims, MayDeclare}
+use Rattle.log_parts.specs.laws.Copying.{part_limits, front_text, joined_text, AreLogsOf, HasWritten, HasLeft, IsClaim, IsFit}
+use Rattle.log_parts.proofs.JoinedValid.{AllTrees, joined_fit, joined_log}
+use Rattle.log_parts.proofs.PartTrees.{IsPartTree, part_tree}
+use Rattle.log_parts.proofs.PartsChecked.{are_valid, head_same}
 
 -- ---- the trees of the parts
 
--- a yes says that there is no text defect, and a log
-given : (program : Program) (bytes : List ℕ) (claim : Claim) (found : Option (ℕ × ℕ)) → IsVerdictGiven program bytes found (Yes claim) → (found ≡ None) × IsValid program bytes claim
-given program bytes claim (Some at) is = absurd is
-given program bytes claim None is = (refl, is)
-
-yes_given : (program : Program) (depth : ℕ) (bytes : List ℕ) (claim : Claim) → IsVerdict program depth bytes (Yes claim) → (log_text_defect (limits_of program depth) bytes ≡ None) × IsValid program bytes claim
-yes_given program depth bytes claim is = given program bytes claim (log_text_defect (limits_of program depth) bytes) is
-
 -- a tree for each of the first parts
-record HaveTrees (plant : Plant) (levels : ℕ) (logs : ℕ → List ℕ) (claims : List Claim) (n : ℕ) : Type 0 where
+record HaveTrees (plant : Plant) (levels : ℕ) (logs : ℕ → List ℕ) (sums : List Sum) (heads : List ℕ) (claims : List Claim) (n : ℕ) : Type 0 where
   trees : List RowTree
   counted : length trees ≡ n
-  each : (part : ℕ) → part < n → IsPartLog plant levels part (logs part) (get_or trees part no_tree) (get_or claims part Infeasible)
+  each : (part : ℕ) → part < n → IsPartTree plant levels part (logs part) sums (get_or heads part 0) (get_or trees part no_tree) (get_or claims part Infeasible)
 
-part_log : (plant : Plant) (levels part : ℕ) (bytes : List ℕ) (claim : Claim) (is : IsPartVerdict plant levels part bytes (Yes claim)) → (tree : RowTree) × IsPartLog plant levels part bytes tree claim
-part_log plant levels part bytes claim is =
-    let valid = (yes_given is.program (4608 - levels) bytes claim is.right.right).1 in
-    (valid.tree, record { program = is.program; of_part = is.of_part; right = is.right; log = valid.is_log })
-
-trees_of : (plant : Plant) (levels : ℕ) (logs : ℕ → List ℕ) (claims : List Claim) → HaveClaims plant levels logs claims → (n : ℕ) → n ≤ length claims → HaveTrees plant levels logs claims n
-trees_of plant levels logs claims have zero within = record { trees = []; counted = refl; each = λ part below. absurd (omega (arith, below)) }
-trees_of plant levels logs claims have (suc n) within =
-    let before = trees_of plant levels logs claims have n (omega (arith, within)) in
-    let next = part_log plant levels n (logs n) (get_or claims n Infeasible) (have n (omega (arith, within))) in
+trees_of : (plant : Plant) (levels : ℕ) (logs : ℕ → List ℕ) (sums : List Sum) (heads : List ℕ) (claims : List Claim) → HaveClaims plant levels logs sums heads claims → (n : ℕ) → n ≤ length claims → HaveTrees plant levels logs sums heads claims n
+trees_of plant levels logs sums heads claims have zero within = record { trees = []; counted = refl; each = λ part below. absurd (omega (arith, below)) }
+trees_of plant levels logs sums heads claims have (suc n) within =
+    let before = trees_of plant levels logs sums heads claims have n (omega (arith, within)) in
+    let next = part_tree plant levels n (logs n) sums (get_or heads n 0) (get_or claims n Infeasible) (have n (omega (arith, within))) in
     record {
       trees = before.trees ++ next.0 ∷ [];
       counted = length-append before.trees (next.0 ∷ []) ∙ (let was = before.counted in omega (arith, was));
@@ -66,12 +56,12 @@ trees_of plant levels logs claims have (suc n) within =
             | inl e ↦
                 let seam : get_or (before.trees ++ next.0 ∷ []) n no_tree ≡ next.0 =
                 ap (λ (k : ℕ). get_or (before.trees ++ next.0 ∷ []) k no_tree) (sym before.counted) ∙ get_or-append_seam before.trees next.0 [] no_tree in
-                subst (λ (k : ℕ). IsPartLog plant levels k (logs k) (get_or (before.trees ++ next.0 ∷ []) k no_tree) (get_or claims k Infeasible)) (sym e)
-                (subst (λ (tree : RowTree). IsPartLog plant levels n (logs n) tree (get_or claims n Infeasible)) (sym seam) next.1)
+                subst (λ (k : ℕ). IsPartTree plant levels k (logs k) sums (get_or heads k 0) (get_or (before.trees ++ next.0 ∷ []) k no_tree) (get_or claims k Infeasible)) (sym e)
+                (subst (λ (tree : RowTree). IsPartTree plant levels n (logs n) sums (get_or heads n 0) tree (get_or claims n Infeasible)) (sym seam) next.1)
             | inr other ↦
                 let earlier : part < n = omega (arith, below, other) in
                 let same : get_or (before.trees ++ next.0 ∷ []) part no_tree ≡ get_or before.trees part no_tree = front_at before.trees next.0 part (omega (arith, earlier, before.counted)) in
-                subst (λ (tree : RowTree). IsPartLog plant levels part (logs part) tree (get_or claims part Infeasible)) (sym same) (before.each part earlier)
+                subst (λ (tree : RowTree). IsPartTree plant levels part (logs part) sums (get_or heads part 0) tree (get_or claims part Infeasible)) (sym same) (before.each part earlier)
           ];
     }
   where
@@ -80,68 +70,93 @@ trees_of plant levels logs claims have (suc n) within =
 
 -- ---- the logs under the limits
 
-limits_same : (plant : Plant) (levels part : ℕ) (program : Program) → IsPartProgram plant levels part program → limits_of program (4608 - levels) ≡ part_limits plant levels
-limits_same plant levels part program is =
-    let made : ℕ → ℕ → Limits = λ r s. record { rows = r; slots = s; depth = 4608 - levels } in
-    let rows : length program.rows ≡ length (plant_rows plant) = ap length (is.is_part.but_root.rows ∙ is.is_part.made.rows_are) in
-    ap (λ (r : ℕ). made r (length program.root)) rows ∙ ap (made (length (plant_rows plant))) (slots_same plant levels part program is)
-  where
-    slots_same : (plant : Plant) (levels part : ℕ) (program : Program) → IsPartProgram plant levels part program → length program.root ≡ length (slots plant)
-    slots_same plant levels part program is = ap length is.root ∙ length-cut levels part (map (slot_domain plant) (slots plant)) ∙ length-map (slots plant) (slot_domain plant)
+-- two rows for each sum
+length-sum_rows : (slot : ℕ) (sums : List Sum) → length (sum_rows slot sums) ≡ 2 * length sums
+length-sum_rows slot [] = refl
+length-sum_rows slot (sum ∷ sums) = let rest = length-sum_rows (slot + 1) sums in omega (arith, rest)
 
-are_logs : (plant : Plant) (levels : ℕ) (logs : ℕ → List ℕ) (claims : List Claim) (n : ℕ) (have : HaveTrees plant levels logs claims n) → AreLogsOf (part_limits plant levels) n logs have.trees
-are_logs plant levels logs claims n have part below =
+limits_larger : (plant : Plant) (levels part : ℕ) (sums : List Sum) (program larger : Program) → IsPartProgram plant levels part program → IsWithSums program (plant_root plant) sums larger → limits_of larger (4608 - levels) ≡ part_limits plant levels (length sums)
+limits_larger plant levels part sums program larger is added =
+    let made : ℕ → ℕ → Limits = λ r s. record { rows = r; slots = s; depth = 4608 - levels } in
+    let own = head_same plant levels part program is in
+    let own_rows : length program.rows ≡ length (plant_rows plant) = ap (λ (l : Limits). l.rows) own in
+    let own_slots : length program.root ≡ length (slots plant) = ap (λ (l : Limits). l.slots) own in
+    let rows : length larger.rows ≡ length (plant_rows plant) + 2 * length sums =
+    ap length added.rows ∙ length-append program.rows (sum_rows (length program.root) sums) ∙ (let more = length-sum_rows (length program.root) sums in omega (arith, own_rows, more)) in
+    let root : length larger.root ≡ length (slots plant) + length sums =
+    ap length added.root ∙ length-append program.root (map (sum_domain program (plant_root plant)) sums) ∙ (let more = length-map sums (sum_domain program (plant_root plant)) in omega (arith, own_slots, more)) in
+    ap (λ (r : ℕ). made r (length larger.root)) rows ∙ ap (made (length (plant_rows plant) + 2 * length sums)) root
+
+are_logs : (plant : Plant) (levels : ℕ) (logs : ℕ → List ℕ) (sums : List Sum) (heads : List ℕ) (claims : List Claim) (n : ℕ) (have : HaveTrees plant levels logs sums heads claims n)
+    → AreLogsOf (part_limits plant levels (length sums)) n (λ part. behind (get_or heads part 0) (logs part)) have.trees
+are_logs plant levels logs sums heads claims n have part below =
     let is = have.each part below in
-    let same = limits_same plant levels part is.program is.of_part in
+    let same = limits_larger plant levels part sums is.program is.larger is.of_part is.enlarged in
     record {
       version = is.log.version;
-      claim = get_or claims part Infeasible;
+      claim = is.own;
       text = is.log.text;
-      over = subst (λ (l : Limits). IsLogOver l.slots is.log.version (get_or have.trees part no_tree) (get_or claims part Infeasible)) same is.log.over;
-      clean = subst (λ (l : Limits). log_text_defect l (logs part) ≡ None) same (yes_given is.program (4608 - levels) (logs part) (get_or claims part Infeasible) is.right.right).0;
+      over = subst (λ (l : Limits). IsLogOver l.slots is.log.version (get_or have.trees part no_tree) is.own) same is.log.over;
+      clean = subst (λ (l : Limits). log_text_defect l (behind (get_or heads part 0) (logs part)) ≡ None) same is.clean;
     }
 
 -- ---- the told case
 
--- the trees of the parts' logs, and that their joined text is the joined log
-pub record CanJoin (plant : Plant) (levels : ℕ) (logs : ℕ → List ℕ) (claim : Claim) : Type 0 where
-  pub trees : List RowTree
-  pub are : AreLogsOf (part_limits plant levels) (2 ^ levels) logs trees
-  pub log : (bytes : List ℕ) → bytes ≡ joined_text levels trees claim → IsJoinedLog plant levels logs claim bytes
+-- the text of a front, a tree and a claim is that of a log of either version
+text_is : (sums : List Sum) (levels : ℕ) (trees : List RowTree) (claim : Claim) → joined_text (front_text sums) levels trees claim ≡ any_text sums (tree_over 0 levels trees) claim
+unfolding log_lines log_text
+text_is [] levels trees claim = sym (lines_text-append (Header 2 ∷ []) (flat_map item_lines (tree_items (tree_over 0 levels trees)) ++ (claim_lines claim ++ End ∷ [])))
+text_is (sum ∷ sums) levels trees claim = refl
 
-can_join : (plant : Plant) (levels : ℕ) (logs : ℕ → List ℕ) (claims : List Claim) (claim : Claim) → Sound plant → 1 ≤ levels → levels ≤ 8 → levels ≤ length (slots plant) → length claims ≡ 2 ^ levels → HaveClaims plant levels logs claims → IsJoined claims claim
-    → CanJoin plant levels logs claim
-can_join plant levels logs claims claim sound some few within all have joined =
-    let trees = trees_of plant levels logs claims have (2 ^ levels) (omega (arith, all)) in
+-- the trees of the parts' logs, that the sums suit the claim, and that their joined text is the joined log
+pub record CanJoin (plant : Plant) (levels : ℕ) (logs : ℕ → List ℕ) (sums : List Sum) (heads : List ℕ) (claim : Claim) : Type 0 where
+  pub trees : List RowTree
+  pub are : AreLogsOf (part_limits plant levels (length sums)) (2 ^ levels) (λ part. behind (get_or heads part 0) (logs part)) trees
+  pub fit : IsFit plant sums claim
+  pub log : (bytes : List ℕ) → bytes ≡ joined_text (front_text sums) levels trees (larger_claim sums claim) → IsJoinedLog plant levels logs claim bytes
+
+can_join : (plant : Plant) (levels : ℕ) (logs : ℕ → List ℕ) (sums : List Sum) (heads : List ℕ) (claims : List Claim) (claim : Claim) → Sound plant → 1 ≤ levels → levels ≤ 8 → levels ≤ length (slots plant) → MayDeclare plant levels sums → length claims ≡ 2 ^ levels
+    → HaveClaims plant levels logs sums heads claims → IsJoined claims claim → CanJoin plant levels logs sums heads claim
+can_join plant levels logs sums heads claims claim sound some few within may all have joined =
+    let trees = trees_of plant levels logs sums heads claims have (2 ^ levels) (omega (arith, all)) in
+    let each : AllTrees plant levels logs sums heads trees.trees claims =
+    record { sound = sound; some = some; few = few; within = within; may = may; all_trees = trees.counted; all_claims = all; each = trees.each } in
     record {
       trees = trees.trees;
-      are = are_logs plant levels logs claims (2 ^ levels) trees;
-      log = λ bytes text. joined_log plant levels logs trees.trees claims claim bytes sound some few within trees.counted all trees.each joined text;
+      are = are_logs plant levels logs sums heads claims (2 ^ levels) trees;
+      fit = joined_fit plant levels logs sums heads trees.trees claims claim each joined;
+      log = λ bytes text. joined_log plant levels logs sums heads trees.trees claims claim bytes each joined (text ∙ text_is sums levels trees.trees (larger_claim sums claim));
     }
 
 -- what was found before the log is written
-abbrev pub Ready : Plant → ℕ → List ℕ → Claim → Option FileMap → Type 0
-Ready plant levels stem claim old = IfSome old (λ m. CanJoin plant levels (logs_of m stem) claim)
+abbrev pub Ready : Plant → ℕ → List ℕ → List Sum → List ℕ → Claim → Option FileMap → Type 0
+Ready plant levels stem sums heads claim old = IfSome old (λ m. CanJoin plant levels (logs_of m stem) sums heads claim)
 
-pub ready : (plant : Plant) (levels : ℕ) (stem : List ℕ) (claims : List Claim) (claim : Claim) (old : Option FileMap) → Sound plant → 1 ≤ levels → levels ≤ 8 → levels ≤ length (slots plant) → length claims ≡ 2 ^ levels
-    → IfSome old (λ m. HaveClaims plant levels (logs_of m stem) claims) → IsJoined claims claim → Ready plant levels stem claim old
-ready plant levels stem claims claim None sound some few within all have joined = tt
-ready plant levels stem claims claim (Some m) sound some few within all have joined = can_join plant levels (logs_of m stem) claims claim sound some few within all have joined
+pub ready : (plant : Plant) (levels : ℕ) (stem : List ℕ) (sums : List Sum) (heads : List ℕ) (claims : List Claim) (claim : Claim) (old : Option FileMap) → Sound plant → 1 ≤ levels → levels ≤ 8 → levels ≤ length (slots plant) → MayDeclare plant levels sums
+    → length claims ≡ 2 ^ levels → IfSome old (λ m. HaveClaims plant levels (logs_of m stem) sums heads claims) → IsJoined claims claim → Ready plant levels stem sums heads claim old
+ready plant levels stem sums heads claims claim None sound some few within may all have joined = tt
+ready plant levels stem sums heads claims claim (Some m) sound some few within may all have joined = can_join plant levels (logs_of m stem) sums heads claims claim sound some few within may all have joined
 
-pub all_valid : (plant : Plant) (levels : ℕ) (stem : List ℕ) (claims : List Claim) (old : Option FileMap) → length claims ≡ 2 ^ levels → IfSome old (λ m. HaveClaims plant levels (logs_of m stem) claims) → AllAreValid plant levels stem old
-all_valid plant levels stem claims None all have = tt
-all_valid plant levels stem claims (Some m) all have = λ part below. (get_or claims part Infeasible, have part (omega (arith, all, below)))
+pub all_valid : (plant : Plant) (levels : ℕ) (stem : List ℕ) (sums : List Sum) (heads : List ℕ) (claims : List Claim) (old : Option FileMap) → length claims ≡ 2 ^ levels → IfSome old (λ m. HaveClaims plant levels (logs_of m stem) sums heads claims)
+    → AllAreValid plant levels stem old
+all_valid plant levels stem sums heads claims None all have = tt
+all_valid plant levels stem sums heads claims (Some m) all have = (sums, are_valid plant levels (logs_of m stem) sums heads claims (2 ^ levels) (omega (arith, all)) have)
 
-joining_at : (plant : Plant) (levels : ℕ) (logs : ℕ → List ℕ) (name : List ℕ) (claim : Claim) (new : Option FileMap) (said : Joined) (can : CanJoin plant levels logs claim) → said ≡ Done claim → IfSome new (λ n. file_of n name ≡ joined_text levels can.trees claim)
-    → IfSome new (λ n. IsJoining plant levels logs (file_of n name) said)
-joining_at plant levels logs name claim None said can is text = tt
-joining_at plant levels logs name claim (Some n) said can is text = subst (IsJoining plant levels logs (file_of n name)) (sym is) (can.log (file_of n name) text)
+-- what was written, where the sums suit the claim
+abbrev pub WrittenIfFit : Plant → ℕ → List ℕ → List ℕ → List Sum → List ℕ → Claim → Option FileMap → Option FileMap → Joined → Type 0
+WrittenIfFit plant levels stem name sums heads claim old new said =
+    IsFit plant sums claim → HasWritten (part_limits plant levels (length sums)) levels stem heads name (front_text sums) (larger_claim sums claim) claim old new said
 
-pub joining_in : (plant : Plant) (levels : ℕ) (stem name : List ℕ) (claim : Claim) (old new : Option FileMap) (said : Joined) → Ready plant levels stem claim old → HasWritten (part_limits plant levels) levels stem name claim old new said
-    → IsJoiningIn plant levels stem name old new said
-joining_in plant levels stem name claim None new said can written = tt
-joining_in plant levels stem name claim (Some m) new said can written =
-    let is = written can.trees can.are in joining_at plant levels (logs_of m stem) name claim new said can is.0 is.1
+joining_at : (plant : Plant) (levels : ℕ) (logs : ℕ → List ℕ) (sums : List Sum) (heads name : List ℕ) (claim : Claim) (new : Option FileMap) (said : Joined) (can : CanJoin plant levels logs sums heads claim) → said ≡ Done claim
+    → IfSome new (λ n. file_of n name ≡ joined_text (front_text sums) levels can.trees (larger_claim sums claim)) → IfSome new (λ n. IsJoining plant levels logs (file_of n name) said)
+joining_at plant levels logs sums heads name claim None said can is text = tt
+joining_at plant levels logs sums heads name claim (Some n) said can is text = subst (IsJoining plant levels logs (file_of n name)) (sym is) (can.log (file_of n name) text)
+
+pub joining_in : (plant : Plant) (levels : ℕ) (stem name : List ℕ) (sums : List Sum) (heads : List ℕ) (claim : Claim) (old new : Option FileMap) (said : Joined) → Ready plant levels stem sums heads claim old
+    → WrittenIfFit plant levels stem name sums heads claim old new said → IsJoiningIn plant levels stem name old new said
+joining_in plant levels stem name sums heads claim None new said can written = tt
+joining_in plant levels stem name sums heads claim (Some m) new said can written =
+    let is = written can.fit can.trees can.are in joining_at plant levels (logs_of m stem) sums heads name claim new said can is.0 is.1
 
 -- ---- what is said, kept and left
 
@@ -157,21 +172,23 @@ not_no : (claim : Claim) (said : Joined) → said ≡ Done claim → IsNo said �
 not_no claim (Done own) is no_ = no_
 not_no claim (No part defect) is no_ = (absurd cc)
 
-pub kept_where_no : (plant : Plant) (levels : ℕ) (stem name other : List ℕ) (claim : Claim) (old new : Option FileMap) (said : Joined) → other ≢ name → OthersStay name old new → Ready plant levels stem claim old
-    → HasWritten (part_limits plant levels) levels stem name claim old new said → IsNo said → new ≡ old
-kept_where_no plant levels stem name other claim None new said apart stay can written no_ = untold_stays name other new apart stay
-kept_where_no plant levels stem name other claim (Some m) new said apart stay can written no_ = absurd (not_no claim said (written can.trees can.are).0 no_)
+pub kept_where_no : (plant : Plant) (levels : ℕ) (stem name other : List ℕ) (sums : List Sum) (heads : List ℕ) (claim : Claim) (old new : Option FileMap) (said : Joined) → other ≢ name → OthersStay name old new
+    → Ready plant levels stem sums heads claim old → WrittenIfFit plant levels stem name sums heads claim old new said → IsNo said → new ≡ old
+kept_where_no plant levels stem name other sums heads claim None new said apart stay can written no_ = untold_stays name other new apart stay
+kept_where_no plant levels stem name other sums heads claim (Some m) new said apart stay can written no_ = absurd (not_no claim said (written can.fit can.trees can.are).0 no_)
 
-begun_join : (plant : Plant) (levels : ℕ) (logs : ℕ → List ℕ) (name : List ℕ) (claim : Claim) (new : Option FileMap) (can : CanJoin plant levels logs claim) → IfSome new (λ n. (rest : List ℕ) × (file_of n name ++ rest ≡ joined_text levels can.trees claim))
+begun_join : (plant : Plant) (levels : ℕ) (logs : ℕ → List ℕ) (sums : List Sum) (heads name : List ℕ) (claim : Claim) (new : Option FileMap) (can : CanJoin plant levels logs sums heads claim)
+    → IfSome new (λ n. (rest : List ℕ) × (file_of n name ++ rest ≡ joined_text (front_text sums) levels can.trees (larger_claim sums claim)))
     → IfSome new (λ n. IsJoinBegun plant levels logs (file_of n name))
-begun_join plant levels logs name claim None can begun = tt
-begun_join plant levels logs name claim (Some n) can begun = record { claim = claim; rest = begun.0; begun = can.log (file_of n name ++ begun.0) begun.1 }
+begun_join plant levels logs sums heads name claim None can begun = tt
+begun_join plant levels logs sums heads name claim (Some n) can begun = record { claim = claim; rest = begun.0; begun = can.log (file_of n name ++ begun.0) begun.1 }
 
-pub leaves_join : (plant : Plant) (levels : ℕ) (stem name other : List ℕ) (claim : Claim) (old new : Option FileMap) → other ≢ name → OthersStay name old new → Ready plant levels stem claim old → HasLeft (part_limits plant levels) levels stem name claim old new
+pub leaves_join : (plant : Plant) (levels : ℕ) (stem name other : List ℕ) (sums : List Sum) (heads : List ℕ) (claim : Claim) (old new : Option FileMap) → other ≢ name → OthersStay name old new → Ready plant levels stem sums heads claim old
+    → HasLeft (part_limits plant levels (length sums)) levels stem heads name (front_text sums) (larger_claim sums claim) old new
     → LeavesJoin plant levels stem name old new
-leaves_join plant levels stem name other claim None new apart stay can left = inl (untold_stays name other new apart stay)
-leaves_join plant levels stem name other claim (Some m) new apart stay can left =
+leaves_join plant levels stem name other sums heads claim None new apart stay can left = inl (untold_stays name other new apart stay)
+leaves_join plant levels stem name other sums heads claim (Some m) new apart stay can left =
     elim (left can.trees can.are) [
       | inl same ↦ inl same
-      | inr begun ↦ inr (begun_join plant levels (logs_of m stem) name claim new can begun)
+      | inr begun ↦ inr (begun_join plant levels (logs_of m stem) sums heads name claim new can begun)
     ]

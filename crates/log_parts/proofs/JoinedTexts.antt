@@ -8,7 +8,6 @@ use Rattle.std.proofs.lemmas.Bool.Decides.{nat_tests}
 use Rattle.std.proofs.lemmas.Grind.{flat_map-append}
 use Rattle.std.proofs.lemmas.List.Elements.{All-nil, All-cons, All-append, All-head, All-tail}
 use Rattle.row_kit.specs.declared.program.Program.{Program}
-use Rattle.row_set.specs.Parts.{IsButRoot}
 use Rattle.proof_tree.specs.declared.item.Item.TheVariants.{Node, Split}
 use Rattle.proof_tree.specs.Items.{tree_items}
 use Rattle.row_relax.specs.RowProofs.{RowItem, RowTree}
@@ -95,22 +94,22 @@ log-leads program depth bytes tree claim is clean =
     )
 
 -- a part's limits, with a split more for each level, are the plant's
-deeper-same : (whole part : Program) (levels : ℕ) → IsButRoot whole part → length part.root ≡ length whole.root → levels ≤ 4608 → deeper (limits_of part (4608 - levels)) levels ≡ limits_of whole 4608
-deeper-same whole part levels but long few =
+deeper-same : (whole part : Program) (levels : ℕ) → part.rows ≡ whole.rows → length part.root ≡ length whole.root → levels ≤ 4608 → deeper (limits_of part (4608 - levels)) levels ≡ limits_of whole 4608
+deeper-same whole part levels rows_same long few =
     let limits : ℕ → ℕ → ℕ → Limits = λ rows slots depth. record { rows = rows; slots = slots; depth = depth } in
-    ap (λ (n : ℕ). limits n (length part.root) (4608 - levels + levels)) (ap length but.rows)
+    ap (λ (n : ℕ). limits n (length part.root) (4608 - levels + levels)) (ap length rows_same)
     ∙ ap (λ (n : ℕ). limits (length whole.rows) n (4608 - levels + levels)) long
     ∙ ap (limits (length whole.rows) (length whole.root)) (let e : 4608 - levels + levels ≡ 4608 = omega arith in e)
 
 -- the lines of a part's tree lead through it in a log of the plant in which a split is open for each level
-pub part-lead : (whole part : Program) (levels : ℕ) (bytes : List ℕ) (tree : RowTree) (claim : Claim) → IsButRoot whole part → length part.root ≡ length whole.root → levels ≤ 4608
+pub part-lead : (whole part : Program) (levels : ℕ) (bytes : List ℕ) (tree : RowTree) (claim : Claim) → part.rows ≡ whole.rows → length part.root ≡ length whole.root → levels ≤ 4608
     → IsLog part bytes tree claim → log_text_defect (limits_of part (4608 - levels)) bytes ≡ None
     → (outer : List Bool) → length outer ≡ levels → leads (limits_of whole 4608) (at 2 AtNode outer) (tree_lines tree) ≡ Some (closed 2 outer)
-part-lead whole part levels bytes tree claim but long few is clean outer same =
+part-lead whole part levels bytes tree claim rows_same long few is clean outer same =
     let limits = limits_of part (4608 - levels) in
     let found = log-leads part (4608 - levels) bytes tree claim is clean in
     let within = tree_within limits is.version tree claim found.0 outer found.1 in
-    subst (λ (l : Limits). leads l (at 2 AtNode outer) (tree_lines tree) ≡ Some (closed 2 outer)) (ap (deeper limits) same ∙ deeper-same whole part levels but long few) within
+    subst (λ (l : Limits). leads l (at 2 AtNode outer) (tree_lines tree) ≡ Some (closed 2 outer)) (ap (deeper limits) same ∙ deeper-same whole part levels rows_same long few) within
 
 -- ---- lines that may be written
 

@@ -1,8 +1,8 @@
 -- The joined log of the valid logs of all parts is a valid log of the plant.
-use Rattle.std.proofs.Common.{◌≡◌, ◌≢◌, ℕ, ◌+◌, ◌-◌, ◌*◌, ◌^◌, ◌<◌, ◌≤◌, Bool, List, [], length, get_or, Option, Some, None, Ok, refl, sym, ap, ◌∙◌, subst, arith, pow_pos}
+use Rattle.std.proofs.Common.{◌≡◌, ◌≢◌, ℕ, ◌+◌, ◌-◌, ◌*◌, ◌^◌, ◌<◌, ◌≤◌, Bool, List, [], ◌∷◌, length, length-append, map, get_or, Option, Some, None, refl, sym, ap, ◌∙◌, subst, arith, pow_pos}
 use Rattle.std.specs.Prelude.{ℤ, IfSome}
 use Rattle.std.specs.List.{All, AllZip}
-use Rattle.std.proofs.lemmas.List.{length-map}
+use Rattle.std.proofs.lemmas.List.{get_or_append_left, length-map}
 use Rattle.std.proofs.lemmas.List.Elements.{All-weaker}
 use Rattle.stn_model.specs.declared.plant.Plant.{Plant}
 use Rattle.stn_model.specs.declared.start.Start.{Start}
@@ -13,8 +13,18 @@ use Rattle.row_kit.specs.declared.area.Area.{Area}
 use Rattle.row_kit.specs.declared.domain.Domain.{Domain}
 use Rattle.row_kit.specs.declared.found.Found.{Found}
 use Rattle.row_kit.specs.declared.program.Program.{Program}
-use Rattle.row_set.specs.Parts.{IsWithin, IsPartOf, IsAdmitted, plan_of_values}
-use Rattle.row_set.specs.PlantProgram.{slot_domain, IsMadeOf}
+use Rattle.row_kit.specs.Domain.{domain_at, no_values}
+use Rattle.row_kit.specs.Point.{IsLawful}
+use Rattle.row_set.specs.Parts.{IsButRoot, IsWithin, IsPartOf, IsAdmitted, plan_of_values}
+use Rattle.row_set.specs.PlantProgram.{plant_root, plant_rows, slot_domain, IsMadeOf}
+use Rattle.row_set.proofs.PartPoints.{worth-part}
+use Rattle.sum_slots.specs.declared.sum.Sum.{Sum}
+use Rattle.sum_slots.specs.Larger.{IsWithSums, sum_domain}
+use Rattle.sum_slots.specs.Law.{IsSameWithSums}
+use Rattle.sum_slots.specs.Shown.{IsShown}
+use Rattle.sum_slots.specs.Sum.{IsDeclared}
+use Rattle.sum_slots.proofs.Sameness.{law}
+use Rattle.sum_lines.specs.Head.{AreKept}
 use Rattle.proof_tree.specs.declared.capped.Capped.{Capped}
 use Rattle.proof_tree.specs.declared.capped.Capped.TheVariants.{AtMost, NoPoint, Bad}
 use Rattle.proof_tree.specs.Cap.{greater}
@@ -33,6 +43,7 @@ use Rattle.proof_log.specs.declared.claim.Claim.{Claim}
 use Rattle.proof_log.specs.declared.claim.Claim.TheVariants.{Infeasible}
 use Rattle.proof_log.specs.Log.{log_text, tree_lines}
 use Rattle.proof_log.specs.Accepted.{leads}
+use Rattle.proof_log.specs.Behind.{behind}
 use Rattle.proof_log.specs.OneText.{IsOver}
 use Rattle.proof_log.proofs.GrammarWalk.{at, closed}
 use Rattle.log_lines.specs.declared.grammar.Place.TheVariants.{Node as AtNode}
@@ -40,20 +51,29 @@ use Rattle.proof_log.proofs.SaidOfOthers.{says_of_others}
 use Rattle.log_check.specs.declared.verdict.LogVerdict.TheVariants as verdict
 use Rattle.log_check.specs.Verdict.{IsLog, IsSoundLog, IsVerdict, IsVerdictGiven, limits_of}
 use Rattle.log_check.proofs.FoundSound.{IsFine, IsFinePoint, items-fine, items_sound, real_outcome}
-use Rattle.log_check.proofs.OwnLog.{log_meant}
-use Rattle.plant_check.specs.Claims.{IsChecked, SaysOf}
+use Rattle.plant_check.specs.Claims.{SaysOf}
+use Rattle.log_sums.specs.AnyVersion.{IsAnyVerdict, given_claim}
+use Rattle.log_sums.specs.PlantLogs.{IsAnyChecked}
+use Rattle.log_sums.specs.SumTexts.{MayHead, any_text, larger_claim}
+use Rattle.log_sums.proofs.LogFronts.{headed-verdict, plain-verdict}
+use Rattle.log_sums.proofs.PlantSaying.{part-ranges, plant-ranges}
 use Rattle.plant_check.proofs.Saying.{of_plant}
 use Rattle.log_parts.specs.declared.joining.ClaimedPlan.{ClaimedPlan}
-use Rattle.log_parts.specs.Joining.{IsBestPlan, IsBestCap, IsJoined}
+use Rattle.log_parts.specs.Joining.{plan_of, IsBestPlan, IsBestCap, IsJoined}
 use Rattle.log_parts.specs.PartLogs.{IsJoinedLog, IsPartLog, no_tree, tree_over}
 use Rattle.log_parts.specs.PlantParts.{IsOfPart, cut_root}
-use Rattle.log_parts.proofs.Cutting.{AreOfSlots, length-cut}
+use Rattle.log_parts.specs.laws.Checked.{MayDeclare}
+use Rattle.log_parts.specs.laws.Copying.{IsFit, IsPointed}
+use Rattle.log_parts.proofs.Cutting.{AreFirstOfSlots, AreOfSlots, IsOfSlot, length-cut}
 use Rattle.log_parts.proofs.FinePoints.{fine-item, fine-whole}
 use Rattle.log_parts.proofs.JoinedClaims.{joined-says}
 use Rattle.log_parts.proofs.JoinedSound.{HasNoDefect, IsNotAbove, AllowsNone, IsCappedBy, greater-real, greater-not_above, greater-allows_none, plan-fine, capped-fine, no_cap-none, best-place, with-sound}
 use Rattle.log_parts.proofs.JoinedTexts.{IsWrittenItem, IsWrittenClaim, IsWrittenLog, IsWrittenPlan, over-lead, part-lead, log-written, node-written, split-written, plan-written, cap-written, with-written, log-over, text-clean}
 use Rattle.log_parts.proofs.Meaning.{part-exact, plant-slots}
-use Rattle.log_parts.proofs.PartCaps.{IsPart, cap-same}
+use Rattle.log_parts.proofs.LargerClaims.{claim-at, fine-pointed, given-larger, joined-larger, joined-pointed, larger-none, own-larger}
+use Rattle.log_parts.proofs.PartCaps.{IsPart, cap-same, lawful-part}
+use Rattle.log_parts.proofs.PartSums.{larger-whole, none-enlarged, part-larger, root-larger, shown-same}
+use Rattle.log_parts.proofs.PartTrees.{IsPartTree}
 use Rattle.log_parts.proofs.RootSplits.{no-cut, over-cap, over-items, part_cap}
 
 -- ---- the log of a part
@@ -68,46 +88,19 @@ record IsPartProof (whole : Program) (levels number : ℕ) (tree : RowTree) (cla
   clean : log_text_defect (limits_of part (4608 - levels)) bytes ≡ None
   sound : IsSoundLog part tree claim
 
--- a part of the plant is a part of its program
-part-of : (plant : Plant) (levels number : ℕ) (whole part : Program) → Sound plant → IsMadeOf plant whole → IsPartOf plant part → part.root ≡ cut_root levels number whole.root → IsPart whole part
-part-of plant levels number whole part sound made is root = record {
-  but_root = record {
-    rows = is.but_root.rows ∙ is.made.rows_are ∙ sym made.rows_are;
-    profit = is.but_root.profit ∙ is.made.profit_is ∙ sym made.profit_is;
-    base = is.but_root.base ∙ is.made.base_is ∙ sym made.base_is;
-    tags = is.but_root.tags ∙ is.made.tags_are ∙ sym made.tags_are;
-    changes = is.but_root.changes ∙ is.made.changes_are ∙ sym made.changes_are;
-  };
-  within = subst (AllZip IsWithin part.root) (is.made.root_is ∙ sym made.root_is) is.within;
+-- a part of the plant is the plant's program but for its root
+but-root : (plant : Plant) (whole part : Program) → IsMadeOf plant whole → IsPartOf plant part → IsButRoot whole part
+but-root plant whole part made is = record {
+  rows = is.but_root.rows ∙ is.made.rows_are ∙ sym made.rows_are;
+  profit = is.but_root.profit ∙ is.made.profit_is ∙ sym made.profit_is;
+  base = is.but_root.base ∙ is.made.base_is ∙ sym made.base_is;
+  tags = is.but_root.tags ∙ is.made.tags_are ∙ sym made.tags_are;
+  changes = is.but_root.changes ∙ is.made.changes_are ∙ sym made.changes_are;
 }
 
--- a log that is valid has no text defect
-judged : (program : Program) (depth : ℕ) (bytes : List ℕ) (claim : Claim) (found : Option (ℕ × ℕ)) → log_text_defect (limits_of program depth) bytes ≡ found → IsVerdictGiven program bytes found (verdict.Yes claim) → log_text_defect (limits_of program depth) bytes ≡ None
-judged program depth bytes claim None is given = is
-judged program depth bytes claim (Some at) is given = absurd given
-
--- and its own tree and claim have no meaning defect
-own-sound : (program : Program) (depth : ℕ) (bytes : List ℕ) (tree : RowTree) (claim : Claim) (is : IsLog program bytes tree claim) → log_text_defect (limits_of program depth) bytes ≡ None → IsVerdict program depth bytes (verdict.Yes claim) → IsSoundLog program tree claim
-own-sound program depth bytes tree claim is clean right =
-    let own = log_text is.version (tree_items tree) claim in
-    (log_meant program is.version tree claim is.over {E = ℕ} depth (Ok (verdict.Yes claim))
-    (subst (λ (text : List ℕ). log_text_defect (limits_of program depth) text ≡ None) is.text clean)
-    (subst (λ (text : List ℕ). IsVerdict program depth text (verdict.Yes claim)) is.text right)).1
-
-part-proof : (plant : Plant) (levels number : ℕ) (whole : Program) (bytes : List ℕ) (tree : RowTree) (claim : Claim) → Sound plant → IsMadeOf plant whole → IsPartLog plant levels number bytes tree claim → IsPartProof whole levels number tree claim
-part-proof plant levels number whole bytes tree claim sound made log =
-    let part = log.program in
-    let root : part.root ≡ cut_root levels number whole.root = log.of_part.root ∙ ap (cut_root levels number) (sym made.root_is) in
-    let clean = judged part (4608 - levels) bytes claim (log_text_defect (limits_of part (4608 - levels)) bytes) refl log.right.right in
-    record {
-      part = part;
-      bytes = bytes;
-      is = part-of plant levels number whole part sound made log.of_part.is_part root;
-      root = root;
-      log = log.log;
-      clean = clean;
-      sound = own-sound part (4608 - levels) bytes tree claim log.log clean log.right.right;
-    }
+-- and its root lies within the plant's
+within-root : (plant : Plant) (whole part : Program) → IsMadeOf plant whole → IsPartOf plant part → AllZip IsWithin part.root whole.root
+within-root plant whole part made is = subst (AllZip IsWithin part.root) (is.made.root_is ∙ sym made.root_is) is.within
 
 -- ---- what follows of each part
 
@@ -150,7 +143,7 @@ module _ (whole : Program) (levels number : ℕ) (tree : RowTree) (claim : Claim
 
   -- its lines lead through it in a log of the plant
   own-lead : levels ≤ 4608 → (outer : List Bool) → length outer ≡ levels → leads (limits_of whole 4608) (at 2 AtNode outer) (tree_lines tree) ≡ Some (closed 2 outer)
-  own-lead few = part-lead whole proof.part levels proof.bytes tree claim proof.is.but_root same-length few proof.log proof.clean
+  own-lead few = part-lead whole proof.part levels proof.bytes tree claim proof.is.rows same-length few proof.log proof.clean
 
 -- ---- the joined log
 
@@ -158,13 +151,13 @@ module _ (whole : Program) (levels number : ℕ) (tree : RowTree) (claim : Claim
 abbrev root_cap : Program → RowTree → Capped
 root_cap program tree = tree_cap (row_steps program) (view_of program.root) tree
 
-module _ (whole : Program) (levels : ℕ) (trees : List RowTree) (claims : List Claim) (claim : Claim) (are : AreOfSlots whole.root) (few : levels ≤ 8) (within : levels ≤ length whole.root)
+module _ (whole : Program) (levels : ℕ) (trees : List RowTree) (claims : List Claim) (claim : Claim) (are : AreFirstOfSlots levels whole.root) (few : levels ≤ 8) (within : levels ≤ length whole.root)
     (each : (part : ℕ) → part < 2 ^ levels → IsPartProof whole levels part (get_or trees part no_tree) (get_or claims part Infeasible)) (all : length claims ≡ 2 ^ levels) (joined : IsJoined claims claim) where
   -- what holds of each part's cap, and of the greater of two of which it holds, holds of the joined cap
   joined-cap : (Q : Capped → Type 0) → ((a b : Capped) → Q a → Q b → Q (greater a b)) → ((part : ℕ) (l : part < 2 ^ levels) → Q (each part l).sound.proof_cap) → Q (root_cap whole (tree_over 0 levels trees))
   joined-cap Q closed holds =
       subst (λ (ds : List Domain). Q (tree_cap (row_steps whole) (view_of ds) (tree_over 0 levels trees))) (no-cut whole.root)
-      (over-cap Q closed whole are levels levels 0 0 trees (omega arith) within
+      (over-cap Q closed whole levels are levels 0 0 trees (omega arith) within
       (λ i l.
       let number : i ≡ 0 * 2 ^ levels + i = omega arith in
       subst (λ (n : ℕ). Q (part_cap whole levels n (get_or trees i no_tree))) number
@@ -259,47 +252,183 @@ module _ (whole : Program) (levels : ℕ) (trees : List RowTree) (claims : List 
       subst (λ (found : Option (ℕ × ℕ)). IsVerdictGiven whole bytes found (verdict.Yes claim)) (sym joined-clean)
       (record { tree = tree_over 0 levels trees; is_log = joined-log; sound_log = joined-sound })
 
+-- ---- with the parts' sums
+
+-- what is lawful in one program is so in another
+pointed-more : (one other : Program) (claim : Claim) → ((point : List ℕ) → IsLawful one point → IsLawful other point) → IsPointed one claim → IsPointed other claim
+pointed-more one other claim more is = by (plan_of claim) is
+  where
+    by : (plan : Option ClaimedPlan) → IfSome plan (λ own. IsLawful one own.point) → IfSome plan (λ own. IsLawful other own.point)
+    by None holds = tt
+    by (Some plan) holds = more plan.point holds
+
+-- what sums keep, under limits of the same numbers
+kept-as : (rows rows' slots slots' depth : ℕ) (sums : List Sum) → rows ≡ rows' → slots ≡ slots' → AreKept (record { rows = rows; slots = slots; depth = depth }) sums → AreKept (record { rows = rows'; slots = slots'; depth = depth }) sums
+kept-as rows rows' slots slots' depth sums same_rows same_slots kept =
+    subst (λ (n : ℕ). AreKept (record { rows = n; slots = slots'; depth = depth }) sums) same_rows (subst (λ (n : ℕ). AreKept (record { rows = rows; slots = n; depth = depth }) sums) same_slots kept)
+
+-- the text of either version is that of a valid log
+text-any : (whole : Program) (ranges : List Domain) (sums : List Sum) (tree : RowTree) (claim : Claim) → MayHead whole ranges sums
+    → ((wide : Program) → IsWithSums whole ranges sums wide → IsVerdict wide 4608 (log_text 2 (tree_items tree) (larger_claim sums claim)) (verdict.Yes (larger_claim sums claim)))
+    → (wide : Program) → IsWithSums whole ranges sums wide → claim ≡ given_claim (length whole.root) (larger_claim sums claim)
+    → IsAnyVerdict whole ranges 4608 (any_text sums tree (larger_claim sums claim)) (verdict.Yes claim)
+text-any whole ranges [] tree claim may over wide added given =
+    plain-verdict whole ranges 4608 (tree_items tree) (larger_claim [] claim) (verdict.Yes claim)
+    (subst (λ (own : Claim). IsVerdict whole 4608 (log_text 2 (tree_items tree) (larger_claim [] claim)) (verdict.Yes own)) (larger-none claim) (over whole (none-enlarged whole ranges)))
+text-any whole ranges (sum ∷ sums) tree claim may over wide added given =
+    headed-verdict whole wide ranges (sum ∷ sums) 4608 tree (larger_claim (sum ∷ sums) claim) claim may added (over wide added) given
+
 -- what the claim of a part's log says of the plans of the part
-part-says : (plant : Plant) (levels number : ℕ) (bytes : List ℕ) (tree : RowTree) (claim : Claim) → Sound plant → levels ≤ length (slots plant) → IsPartLog plant levels number bytes tree claim → SaysOf plant (IsOfPart plant levels number) claim
-part-says plant levels number bytes tree claim sound within log =
+part-says : (plant : Plant) (levels number : ℕ) (bytes : List ℕ) (sums : List Sum) (tree : RowTree) (claim : Claim) → Sound plant → levels ≤ length (slots plant) → IsPartLog plant levels number bytes sums tree claim → SaysOf plant (IsOfPart plant levels number) claim
+part-says plant levels number bytes sums tree claim sound within log =
     let exact = λ (plan : List Start). part-exact plant levels number log.program plan sound within log.of_part.root in
     says_of_others (IsAdmitted plant log.program) (profit plant) (plan_of_values plant) (IsOfPart plant levels number) (profit plant) (plan_of_values plant)
     (λ point admitted. ((exact (plan_of_values plant point)).0 admitted, refl))
     (λ plan is. (plan, ((exact plan).1 is, refl)))
     claim log.right.holds
 
--- where the logs of all parts are valid, the joined log is a valid log of the plant
-pub joined_valid : (plant : Plant) (levels : ℕ) (logs : ℕ → List ℕ) (trees : List RowTree) (claims : List Claim) (claim : Claim) → Sound plant → 1 ≤ levels → levels ≤ 8 → levels ≤ length (slots plant)
-    → length trees ≡ 2 ^ levels → length claims ≡ 2 ^ levels
-    → ((part : ℕ) → part < 2 ^ levels → IsPartLog plant levels part (logs part) (get_or trees part no_tree) (get_or claims part Infeasible))
-    → IsJoined claims claim → IsChecked plant (log_text 2 (tree_items (tree_over 0 levels trees)) claim) (verdict.Yes claim)
-joined_valid plant levels logs trees claims claim sound some few within all_trees all_claims each joined =
-    let first = each 0 (pow_pos levels) in
-    let part = first.of_part.is_part in
-    let whole = part.whole in
-    let root = part.made.root_is in
-    let there : levels ≤ length whole.root = omega (arith, within, ap length root, length-map (slots plant) (slot_domain plant)) in
-    record {
-      program = whole;
-      of_plant = of_plant plant whole sound part.made part.means;
-      right = joined-right whole levels trees claims claim (subst AreOfSlots (sym root) (plant-slots plant sound)) few there
-          (λ k l. part-proof plant levels k whole (logs k) (get_or trees k no_tree) (get_or claims k Infeasible) sound part.made (each k l)) all_claims joined;
-      holds = joined-says plant levels claims claim joined all_claims
-          (λ k l. part-says plant levels k (logs k) (get_or trees k no_tree) (get_or claims k Infeasible) sound within (each k (omega (arith, l, all_claims))));
+-- the logs of all parts, whose sums can be declared
+pub record AllTrees (plant : Plant) (levels : ℕ) (logs : ℕ → List ℕ) (sums : List Sum) (heads : List ℕ) (trees : List RowTree) (claims : List Claim) : Type 0 where
+  pub sound : Sound plant
+  pub some : 1 ≤ levels
+  pub few : levels ≤ 8
+  pub within : levels ≤ length (slots plant)
+  pub may : MayDeclare plant levels sums
+  pub all_trees : length trees ≡ 2 ^ levels
+  pub all_claims : length claims ≡ 2 ^ levels
+  pub each : (part : ℕ) → part < 2 ^ levels → IsPartTree plant levels part (logs part) sums (get_or heads part 0) (get_or trees part no_tree) (get_or claims part Infeasible)
+
+module _ (plant : Plant) (levels : ℕ) (logs : ℕ → List ℕ) (sums : List Sum) (heads : List ℕ) (trees : List RowTree) (claims : List Claim) (all : AllTrees plant levels logs sums heads trees claims) (whole : Program) (made : IsMadeOf plant whole) where
+  -- the limits of the heads are those of the plant's program
+  declared : All (IsDeclared (length whole.root)) sums
+  declared = subst (λ (n : ℕ). All (IsDeclared n) sums) (sym (ap length made.root_is ∙ length-map (slots plant) (slot_domain plant))) all.may.kept.declared
+
+  there : levels ≤ length whole.root
+  there = (let within = all.within in omega (arith, within, ap length made.root_is, length-map (slots plant) (slot_domain plant)))
+
+  rows-same : (k : ℕ) (l : k < 2 ^ levels) → (all.each k l).program.rows ≡ whole.rows
+  rows-same k l = (but-root plant whole (all.each k l).program made (all.each k l).of_part.is_part).rows
+
+  root-cut : (k : ℕ) (l : k < 2 ^ levels) → (all.each k l).program.root ≡ cut_root levels k whole.root
+  root-cut k l = (all.each k l).of_part.root ∙ ap (cut_root levels k) (sym made.root_is)
+
+  long-same : (k : ℕ) (l : k < 2 ^ levels) → length (all.each k l).program.root ≡ length whole.root
+  long-same k l = ap length (root-cut k l) ∙ length-cut levels k whole.root
+
+  -- the sums are shown
+  pub all-shown : All (IsShown whole (plant_root plant)) sums
+  all-shown =
+      let first = all.each 0 (pow_pos levels) in
+      All-weaker (IsShown first.program (plant_root plant)) (IsShown whole (plant_root plant)) (λ sum is. shown-same first.program whole (plant_root plant) sum (rows-same 0 (pow_pos levels)) is) sums first.shown
+
+  -- a program with the sums has the same points
+  same-whole : (wide : Program) → IsWithSums whole (plant_root plant) sums wide → IsSameWithSums whole sums wide
+  same-whole wide added = law whole wide (plant_root plant) sums (plant-ranges plant whole made) declared all-shown added
+
+  same-part : (k : ℕ) (l : k < 2 ^ levels) → IsSameWithSums (all.each k l).program sums (all.each k l).larger
+  same-part k l =
+      let is = all.each k l in
+      law is.program is.larger (plant_root plant) sums (part-ranges plant is.program is.of_part.is_part) (subst (λ (n : ℕ). All (IsDeclared n) sums) (sym (long-same k l)) declared) is.shown is.enlarged
+
+  -- the claim of a part over the part's program with the sums
+  own-claim : (k : ℕ) (l : k < 2 ^ levels) → ((all.each k l).own ≡ larger_claim sums (get_or claims k Infeasible)) × IsPointed (all.each k l).program (get_or claims k Infeasible)
+  own-claim k l =
+      let is = all.each k l in
+      let own = own-larger is.program is.larger sums is.own (same-part k l) (fine-pointed is.larger is.sound.proof_cap is.own is.sound.sound) in
+      subst (λ (claim : Claim). (is.own ≡ larger_claim sums claim) × IsPointed is.program claim) (sym is.claim_is) own
+
+  -- its point is lawful in the plant's program
+  pointed : (k : ℕ) (l : k < 2 ^ levels) → IsPointed whole (get_or claims k Infeasible)
+  pointed k l =
+      let is = all.each k l in
+      let but = but-root plant whole is.program made is.of_part.is_part in
+      let part : IsPart whole is.program = record { rows = but.rows; profit = but.profit; base = but.base; worth = λ point lawful. worth-part whole is.program point but; within = within-root plant whole is.program made is.of_part.is_part } in
+      pointed-more is.program whole (get_or claims k Infeasible) (λ point lawful. lawful-part whole is.program point part lawful) (own-claim k l).1
+
+  -- what each log says over the plant's program with the sums
+  each-proof : (wide : Program) → IsWithSums whole (plant_root plant) sums wide → (k : ℕ) → k < 2 ^ levels → IsPartProof wide levels k (get_or trees k no_tree) (get_or (map (larger_claim sums) claims) k Infeasible)
+  each-proof wide added k l =
+      let is = all.each k l in
+      let but = but-root plant whole is.program made is.of_part.is_part in
+      let claim : is.own ≡ get_or (map (larger_claim sums) claims) k Infeasible = (own-claim k l).0 ∙ sym (claim-at sums claims k (let long = all.all_claims in omega (arith, l, long))) in
+      record {
+        part = is.larger;
+        bytes = behind (get_or heads k 0) (logs k);
+        is = part-larger whole is.program wide is.larger (plant_root plant) sums but (within-root plant whole is.program made is.of_part.is_part) (long-same k l) added is.enlarged (same-whole wide added) (same-part k l);
+        root = root-larger whole is.program wide is.larger (plant_root plant) sums levels k there but.rows (root-cut k l) added is.enlarged;
+        log = subst (IsLog is.larger (behind (get_or heads k 0) (logs k)) (get_or trees k no_tree)) claim is.log;
+        clean = is.clean;
+        sound = subst (IsSoundLog is.larger (get_or trees k no_tree)) claim is.sound;
+      }
+
+  -- the first slots are the plant's
+  first-slots : (wide : Program) → IsWithSums whole (plant_root plant) sums wide → AreFirstOfSlots levels wide.root
+  first-slots wide added k l =
+      let low : k < length whole.root = omega (arith, l, there) in
+      let own : IsOfSlot (domain_at whole.root k) = subst AreOfSlots (sym made.root_is) (plant-slots plant all.sound) k low in
+      subst IsOfSlot (sym (ap (λ (ds : List Domain). domain_at ds k) added.root ∙ get_or_append_left whole.root (map (sum_domain whole (plant_root plant)) sums) no_values k low)) own
+
+  module _ (claim : Claim) (joined : IsJoined claims claim) where
+    -- the joined log over the plant's program with the sums
+    right-over : (wide : Program) → IsWithSums whole (plant_root plant) sums wide → IsVerdict wide 4608 (log_text 2 (tree_items (tree_over 0 levels trees)) (larger_claim sums claim)) (verdict.Yes (larger_claim sums claim))
+    right-over wide added =
+        joined-right wide levels trees (map (larger_claim sums) claims) (larger_claim sums claim) (first-slots wide added) all.few
+        (let long = length-append whole.root (map (sum_domain whole (plant_root plant)) sums) in omega (arith, there, ap length added.root, long))
+        (each-proof wide added) (length-map claims (larger_claim sums) ∙ all.all_claims) (joined-larger sums claims claim joined)
+
+    -- its point is lawful
+    pub joint-pointed : IsPointed whole claim
+    joint-pointed = joined-pointed whole claims claim joined (λ place l. pointed place (let long = all.all_claims in omega (arith, l, long)))
+
+    -- the plant's program with the sums
+    wide-some : (wide : Program) × IsWithSums whole (plant_root plant) sums wide
+    wide-some =
+        let first = all.each 0 (pow_pos levels) in
+        larger-whole whole first.program first.larger (plant_root plant) sums (but-root plant whole first.program made first.of_part.is_part) (long-same 0 (pow_pos levels)) first.enlarged
+
+    may-head : MayHead whole (plant_root plant) sums
+    may-head = record {
+      depth = 4608 - levels;
+      kept = kept-as (length (plant_rows plant)) (length whole.rows) (length (slots plant)) (length whole.root) (4608 - levels) sums (sym (ap length made.rows_are)) (sym (ap length made.root_is ∙ length-map (slots plant) (slot_domain plant))) all.may.kept;
+      few_bytes = all.may.few_bytes;
+      shown = all-shown;
     }
 
--- so the text of the tree of splits and of the joined claim is the joined log
-pub joined_log : (plant : Plant) (levels : ℕ) (logs : ℕ → List ℕ) (trees : List RowTree) (claims : List Claim) (claim : Claim) (bytes : List ℕ) → Sound plant → 1 ≤ levels → levels ≤ 8 → levels ≤ length (slots plant)
-    → length trees ≡ 2 ^ levels → length claims ≡ 2 ^ levels
-    → ((part : ℕ) → part < 2 ^ levels → IsPartLog plant levels part (logs part) (get_or trees part no_tree) (get_or claims part Infeasible))
-    → IsJoined claims claim → bytes ≡ log_text 2 (tree_items (tree_over 0 levels trees)) claim → IsJoinedLog plant levels logs claim bytes
-joined_log plant levels logs trees claims claim bytes sound some few within all_trees all_claims each joined text = record {
+    pub right-any : IsAnyVerdict whole (plant_root plant) 4608 (any_text sums (tree_over 0 levels trees) (larger_claim sums claim)) (verdict.Yes claim)
+    right-any =
+        let wide = wide-some in
+        text-any whole (plant_root plant) sums (tree_over 0 levels trees) claim may-head right-over wide.0 wide.1 (given-larger whole wide.0 sums claim (same-whole wide.0 wide.1) joint-pointed)
+
+-- where the logs of all parts are valid, the joined log is a valid log of the plant
+pub joined_valid : (plant : Plant) (levels : ℕ) (logs : ℕ → List ℕ) (sums : List Sum) (heads : List ℕ) (trees : List RowTree) (claims : List Claim) (claim : Claim) → AllTrees plant levels logs sums heads trees claims
+    → IsJoined claims claim → IsAnyChecked plant (any_text sums (tree_over 0 levels trees) (larger_claim sums claim)) (verdict.Yes claim)
+joined_valid plant levels logs sums heads trees claims claim all joined =
+    let part = (all.each 0 (pow_pos levels)).of_part.is_part in
+    record {
+      program = part.whole;
+      of_plant = of_plant plant part.whole all.sound part.made part.means;
+      right = right-any plant levels logs sums heads trees claims all part.whole part.made claim joined;
+      holds = joined-says plant levels claims claim joined all.all_claims
+          (λ k l. part-says plant levels k (logs k) sums (get_or trees k no_tree) (get_or claims k Infeasible) all.sound all.within (all.each k (let long = all.all_claims in omega (arith, l, long))).is);
+    }
+
+-- so the text of the sums, of the tree of splits and of the joined claim is the joined log
+pub joined_log : (plant : Plant) (levels : ℕ) (logs : ℕ → List ℕ) (sums : List Sum) (heads : List ℕ) (trees : List RowTree) (claims : List Claim) (claim : Claim) (bytes : List ℕ) → AllTrees plant levels logs sums heads trees claims
+    → IsJoined claims claim → bytes ≡ any_text sums (tree_over 0 levels trees) (larger_claim sums claim) → IsJoinedLog plant levels logs claim bytes
+joined_log plant levels logs sums heads trees claims claim bytes all joined text = record {
+  sums = sums;
   trees = trees;
   claims = claims;
-  all_trees = all_trees;
-  all_claims = all_claims;
-  each = each;
+  all_trees = all.all_trees;
+  all_claims = all.all_claims;
+  each = λ part l. (all.each part l).is;
   joined = joined;
   text = text;
-  valid = subst (λ (b : List ℕ). IsChecked plant b (verdict.Yes claim)) (sym text) (joined_valid plant levels logs trees claims claim sound some few within all_trees all_claims each joined);
+  valid = subst (λ (b : List ℕ). IsAnyChecked plant b (verdict.Yes claim)) (sym text) (joined_valid plant levels logs sums heads trees claims claim all joined);
 }
+
+-- the sums suit the joined claim
+pub joined_fit : (plant : Plant) (levels : ℕ) (logs : ℕ → List ℕ) (sums : List Sum) (heads : List ℕ) (trees : List RowTree) (claims : List Claim) (claim : Claim) → AllTrees plant levels logs sums heads trees claims
+    → IsJoined claims claim → IsFit plant sums claim
+joined_fit plant levels logs sums heads trees claims claim all joined program made =
+    (all-shown plant levels logs sums heads trees claims all program made, joint-pointed plant levels logs sums heads trees claims all program made claim joined)

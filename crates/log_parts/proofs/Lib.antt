@@ -8,6 +8,11 @@ pub mod RootSplits
 pub mod JoinedSound
 pub mod PartTexts
 pub mod JoinedTexts
+mod SumsDiffer
+mod OneFront
+mod PartSums
+mod PartTrees
+mod LargerClaims
 pub mod JoinedValid
 mod Writes
 mod Copies

@@ -34,8 +34,8 @@ use Rattle.row_relax.specs.laws.Laws.{rows_sound}
 use Rattle.row_relax.specs.laws.Lawful.{lawful_true, true_lawful}
 use Rattle.row_relax.specs.laws.Shown.{domains_of-view_of, domains_there, fits_of, shown_there}
 use Rattle.row_relax.specs.laws.Singles.{single_point}
-use Rattle.row_set.specs.Parts.{IsButRoot, IsWithin}
-use Rattle.row_set.proofs.PartPoints.{lies-within, worth-part}
+use Rattle.row_set.specs.Parts.{IsWithin}
+use Rattle.row_set.proofs.PartPoints.{lies-within}
 
 -- ---- steps that settle otherwise
 
@@ -141,16 +141,19 @@ right_inside program v w k is shows =
 
 -- ---- a part and the whole
 
--- a part of a whole: its rows, and a root within the whole's
+-- a part of a whole: its rows and profit, the same worth of lawful points, and a root within the whole's
 pub record IsPart (whole part : Program) : Type 0 where
-  pub but_root : IsButRoot whole part
+  pub rows : part.rows ≡ whole.rows
+  pub profit : part.profit ≡ whole.profit
+  pub base : part.base ≡ whole.base
+  pub worth : (point : List ℕ) → IsLawful part point → worth_of part point ≡ worth_of whole point
   pub within : AllZip IsWithin part.root whole.root
 
 -- what is lawful in a part is so in the whole
 pub lawful-part : (whole part : Program) (point : List ℕ) → IsPart whole part → IsLawful part point → IsLawful whole point
 lawful-part whole part point is lawful = record {
   lies = lies-within part.root whole.root point is.within lawful.lies;
-  keeps = subst (All (IsKept point)) is.but_root.rows lawful.keeps;
+  keeps = subst (All (IsKept point)) is.rows lawful.keeps;
 }
 
 -- two tests are alike where one holds exactly where the other does
@@ -165,20 +168,25 @@ lawful-same : (whole part : Program) (point : List ℕ) → IsPart whole part �
 lawful-same whole part point is lies =
     alike (is_lawful part point) (is_lawful whole point)
     (λ h. lawful_true whole point (lawful-part whole part point is (true_lawful part point h)))
-    (λ h. lawful_true part point (record { lies = lies; keeps = subst (All (IsKept point)) (sym is.but_root.rows) (true_lawful whole point h).keeps }))
+    (λ h. lawful_true part point (record { lies = lies; keeps = subst (All (IsKept point)) (sym is.rows) (true_lawful whole point h).keeps }))
 
 settle-same : (whole part : Program) → IsPart whole part → (v : View) → IsInside part v → (row_steps part).settle v ≡ settled whole (domains_of v)
 unfolding row_steps settled
 settle-same whole part is v inside = by_single (are_single (domains_of v)) refl
   where
+    by_lawful : (lawful : Bool) → is_lawful part (only_point (domains_of v)) ≡ lawful
+        → cond lawful (AtMost (worth_of part (only_point (domains_of v)))) NoPoint ≡ cond lawful (AtMost (worth_of whole (only_point (domains_of v)))) NoPoint
+    by_lawful true e = ap AtMost (is.worth (only_point (domains_of v)) (true_lawful part (only_point (domains_of v)) e))
+    by_lawful false e = refl
+
     by_single : (single : Bool) → are_single (domains_of v) ≡ single
         → cond single (cond (is_lawful part (only_point (domains_of v))) (AtMost (worth_of part (only_point (domains_of v)))) NoPoint) Bad
         ≡ cond single (cond (is_lawful whole (only_point (domains_of v))) (AtMost (worth_of whole (only_point (domains_of v)))) NoPoint) Bad
     by_single false e = refl
     by_single true e =
         let lies = inside.lies (only_point (domains_of v)) (single_point (domains_of v) inside.fits.normal e).0 in
-        ap (λ (test : Bool). cond test (AtMost (worth_of part (only_point (domains_of v)))) NoPoint) (lawful-same whole part (only_point (domains_of v)) is lies)
-        ∙ ap (λ (worth : ℤ). cond (is_lawful whole (only_point (domains_of v))) (AtMost worth) NoPoint) (worth-part whole part (only_point (domains_of v)) is.but_root)
+        by_lawful (is_lawful part (only_point (domains_of v))) refl
+        ∙ ap (λ (test : Bool). cond test (AtMost (worth_of whole (only_point (domains_of v)))) NoPoint) (lawful-same whole part (only_point (domains_of v)) is lies)
 
 -- the calls of rows, of which the settling is given
 abbrev steps_of : List Row → List Entry → ℤ → (View → Capped) → Steps RowCut Cert RowPick
@@ -197,7 +205,7 @@ steps_of rows profit base settle = record {
 }
 
 -- the part's calls are the whole's, but for settling
-steps-same : (whole part : Program) → IsButRoot whole part → resettled (row_steps part) (λ v. settled whole (domains_of v)) ≡ row_steps whole
+steps-same : (whole part : Program) → IsPart whole part → resettled (row_steps part) (λ v. settled whole (domains_of v)) ≡ row_steps whole
 unfolding row_steps
 steps-same whole part but =
     let settle : View → Capped = λ v. settled whole (domains_of v) in
@@ -215,4 +223,4 @@ cap-same whole part tree is =
       fits = fits_of part part.root refl part.root_normal;
       lies = λ p lies. subst (λ (ds : List Domain). LiesIn ds p) (domains_of-view_of part.root) lies;
     })
-    ∙ ap (λ (s : Steps RowCut Cert RowPick). tree_cap s (view_of part.root) tree) (steps-same whole part is.but_root)
+    ∙ ap (λ (s : Steps RowCut Cert RowPick). tree_cap s (view_of part.root) tree) (steps-same whole part is)

@@ -24,7 +24,7 @@ use Rattle.row_relax.specs.View.{domains_of, view_of}
 use Rattle.row_relax.specs.laws.Shown.{domains_of-view_of}
 use Rattle.log_parts.specs.PlantParts.{digit, kept_off, kept_on, cut_domain, cut_root}
 use Rattle.log_parts.specs.PartLogs.{no_mults, no_tree, tree_over}
-use Rattle.log_parts.proofs.Cutting.{IsOfSlot, AreOfSlots, cut-off, cut-on, cut-rest, length-cut, cut-at}
+use Rattle.log_parts.proofs.Cutting.{IsOfSlot, AreFirstOfSlots, cut-off, cut-on, cut-rest, length-cut, cut-at}
 use Rattle.log_parts.proofs.Digits.{digit-half, digit-last}
 
 -- ---- the two sides of a split at 0
@@ -91,17 +91,17 @@ own-there : (levels part : ℕ) (whole : List Domain) → levels < length whole 
 own-there levels part whole low = cut-at levels part whole levels no_values low ∙ cut-rest levels part levels (domain_at whole levels) (omega arith)
 
 -- left of the split is the part with a 0 more
-left-root : (levels part : ℕ) (whole : List Domain) → AreOfSlots whole → levels < length whole → kept_at (cut_root levels part whole) levels (up_to 0) ≡ cut_root (suc levels) (part * 2 + 0) whole
-left-root levels part whole are low =
+left-root : (levels part : ℕ) (whole : List Domain) → IsOfSlot (domain_at whole levels) → levels < length whole → kept_at (cut_root levels part whole) levels (up_to 0) ≡ cut_root (suc levels) (part * 2 + 0) whole
+left-root levels part whole is low =
     put-root levels part 0 whole (shared (domain_at (cut_root levels part whole) levels) (up_to 0)) (omega arith) low
-    (ap (λ (d : Domain). shared d (up_to 0)) (own-there levels part whole low) ∙ shared-off (domain_at whole levels) (are levels low)
+    (ap (λ (d : Domain). shared d (up_to 0)) (own-there levels part whole low) ∙ shared-off (domain_at whole levels) is
     ∙ sym (cut-off (suc levels) (part * 2 + 0) levels (domain_at whole levels) (omega arith) (digit-put levels part 0 (omega arith))))
 
 -- right of it is the part with a 1 more
-right-root : (levels part : ℕ) (whole : List Domain) → AreOfSlots whole → levels < length whole → kept_at (cut_root levels part whole) levels (over 0) ≡ cut_root (suc levels) (part * 2 + 1) whole
-right-root levels part whole are low =
+right-root : (levels part : ℕ) (whole : List Domain) → IsOfSlot (domain_at whole levels) → levels < length whole → kept_at (cut_root levels part whole) levels (over 0) ≡ cut_root (suc levels) (part * 2 + 1) whole
+right-root levels part whole is low =
     put-root levels part 1 whole (shared (domain_at (cut_root levels part whole) levels) (over 0)) (omega arith) low
-    (ap (λ (d : Domain). shared d (over 0)) (own-there levels part whole low) ∙ shared-on (domain_at whole levels) (are levels low)
+    (ap (λ (d : Domain). shared d (over 0)) (own-there levels part whole low) ∙ shared-on (domain_at whole levels) is
     ∙ sym (cut-on (suc levels) (part * 2 + 1) levels (domain_at whole levels) (omega arith) (λ none. let one = digit-put levels part 1 (omega arith) in omega (arith, none, one))))
 
 -- with no digit the root is the plant's
@@ -119,26 +119,26 @@ shows : (there : Bool) (shown ds : List Domain) → there ≡ true → shown ≡
 shows true shown ds is same = ap (λ (xs : List Domain). Some (view_of xs)) same
 shows false shown ds is same = absurd (cc)
 
-left-view : (program : Program) (levels part : ℕ) → AreOfSlots program.root → levels < length program.root
+left-view : (program : Program) (levels part : ℕ) → IsOfSlot (domain_at program.root levels) → levels < length program.root
     → (row_steps program).left (view_of (cut_root levels part program.root)) (record { slot = levels; max = 0 }) ≡ Some (view_of (cut_root (levels + 1) (part * 2 + 0) program.root))
 unfolding row_steps
-left-view program levels part are low =
+left-view program levels part is low =
     let ds = cut_root levels part program.root in
     let same = domains_of-view_of ds in
     let there : levels < length (domains_of (view_of ds)) = omega (arith, low, length-cut levels part program.root, ap length same) in
     shows (ltb levels (length (domains_of (view_of ds)))) (kept_at (domains_of (view_of ds)) levels (up_to 0)) (cut_root (levels + 1) (part * 2 + 0) program.root) (lt-ltb levels _ there)
-    (ap (λ (xs : List Domain). kept_at xs levels (up_to 0)) same ∙ left-root levels part program.root are low
+    (ap (λ (xs : List Domain). kept_at xs levels (up_to 0)) same ∙ left-root levels part program.root is low
     ∙ ap (λ (n : ℕ). cut_root n (part * 2 + 0) program.root) (sym (add-one levels)))
 
-right-view : (program : Program) (levels part : ℕ) → AreOfSlots program.root → levels < length program.root
+right-view : (program : Program) (levels part : ℕ) → IsOfSlot (domain_at program.root levels) → levels < length program.root
     → (row_steps program).right (view_of (cut_root levels part program.root)) (record { slot = levels; max = 0 }) ≡ Some (view_of (cut_root (levels + 1) (part * 2 + 1) program.root))
 unfolding row_steps
-right-view program levels part are low =
+right-view program levels part is low =
     let ds = cut_root levels part program.root in
     let same = domains_of-view_of ds in
     let there : levels < length (domains_of (view_of ds)) = omega (arith, low, length-cut levels part program.root, ap length same) in
     shows (ltb levels (length (domains_of (view_of ds)))) (kept_at (domains_of (view_of ds)) levels (over 0)) (cut_root (levels + 1) (part * 2 + 1) program.root) (lt-ltb levels _ there)
-    (ap (λ (xs : List Domain). kept_at xs levels (over 0)) same ∙ right-root levels part program.root are low
+    (ap (λ (xs : List Domain). kept_at xs levels (over 0)) same ∙ right-root levels part program.root is low
     ∙ ap (λ (n : ℕ). cut_root n (part * 2 + 1) program.root) (sym (add-one levels)))
 
 -- ---- what holds of the cap
@@ -181,16 +181,16 @@ split-cap Q closed first second a b f g is also one other =
     (subst (λ (next : Option View). Q (greater (f a) (cap_if next g))) (sym also) (closed (f a) (g b) one other))
 
 -- what holds of the cap of each part's tree, and of the greater of two caps of which it holds, holds of the cap of the tree of splits
-pub over-cap : (Q : Capped → Type 0) → ((a b : Capped) → Q a → Q b → Q (greater a b)) → (program : Program) → AreOfSlots program.root → (total levels slot part : ℕ) (trees : List RowTree)
+pub over-cap : (Q : Capped → Type 0) → ((a b : Capped) → Q a → Q b → Q (greater a b)) → (program : Program) (total : ℕ) → AreFirstOfSlots total program.root → (levels slot part : ℕ) (trees : List RowTree)
     → slot + levels ≡ total → total ≤ length program.root
     → ((i : ℕ) → i < 2 ^ levels → Q (part_cap program total (part * 2 ^ levels + i) (get_or trees i no_tree)))
     → Q (tree_cap (row_steps program) (view_of (cut_root slot part program.root)) (tree_over slot levels trees))
-over-cap Q closed program are total zero slot part trees sum within each =
+over-cap Q closed program total are zero slot part trees sum within each =
     let same : total ≡ slot = omega (arith, sum) in
     let number : part * 1 + 0 ≡ part = omega arith in
     subst (λ (n : ℕ). Q (part_cap program n part (get_or trees 0 no_tree))) same
     (subst (λ (n : ℕ). Q (part_cap program total n (get_or trees 0 no_tree))) number (each 0 (omega arith)))
-over-cap Q closed program are total (suc levels) slot part trees sum within each =
+over-cap Q closed program total are (suc levels) slot part trees sum within each =
     let half = 2 ^ levels in
     let low : slot < length program.root = omega (arith, sum, within) in
     let further : (slot + 1) + levels ≡ total = omega (arith, sum) in
@@ -200,9 +200,9 @@ over-cap Q closed program are total (suc levels) slot part trees sum within each
     ((row_steps program).left (view_of (cut_root slot part program.root)) (record { slot = slot; max = 0 })) ((row_steps program).right (view_of (cut_root slot part program.root)) (record { slot = slot; max = 0 }))
     (view_of (cut_root (slot + 1) (part * 2 + 0) program.root)) (view_of (cut_root (slot + 1) (part * 2 + 1) program.root))
     (λ x. tree_cap (row_steps program) x (tree_over (slot + 1) levels (take half trees))) (λ x. tree_cap (row_steps program) x (tree_over (slot + 1) levels (drop half trees)))
-    (left-view program slot part are low) (right-view program slot part are low)
-    (over-cap Q closed program are total levels (slot + 1) (part * 2 + 0) (take half trees) further within halves.0)
-    (over-cap Q closed program are total levels (slot + 1) (part * 2 + 1) (drop half trees) further within halves.1)
+    (left-view program slot part (are slot (omega (arith, sum))) low) (right-view program slot part (are slot (omega (arith, sum))) low)
+    (over-cap Q closed program total are levels (slot + 1) (part * 2 + 0) (take half trees) further within halves.0)
+    (over-cap Q closed program total are levels (slot + 1) (part * 2 + 1) (drop half trees) further within halves.1)
 
 -- ---- what holds of the items
 

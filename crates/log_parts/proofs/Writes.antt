@@ -1,30 +1,43 @@
 -- What a writer of a log has after more items.
-use Rattle.std.proofs.Common.{◌≡◌, ◌≢◌, inl, inr, refl, ℕ, List, [], ◌∷◌, ◌++◌, flat_map, Option, None, Some, IfSome, sym, ap, ◌∙◌, subst}
+use Rattle.std.proofs.Common.{◌≡◌, ◌≢◌, inl, inr, refl, ℕ, List, [], ◌∷◌, ◌++◌, flat_map, append_assoc, append-nil, length, arith, Option, None, Some, IfSome, sym, ap, ◌∙◌, subst}
 use Rattle.std.specs.Option.{option_map}
 use Rattle.std.proofs.lemmas.Grind.{flat_map-append}
 use Rattle.std.specs.FinMap.{get}
 use Rattle.stn_edge.specs.Files.{FileMap, file_of, cleared, MayClear, OthersStay}
 use Rattle.stn_edge.proofs.FileLemmas.{get-cleared_other}
 use Rattle.row_relax.specs.RowProofs.{RowItem}
-use Rattle.log_lines.specs.declared.line.Line.{Line}
 use Rattle.log_lines.specs.declared.line.Line.TheVariants.{Header, End}
+use Rattle.log_lines.specs.Line.{line_text}
+use Rattle.sum_slots.specs.declared.sum.Sum.{Sum}
 use Rattle.proof_log.specs.declared.claim.Claim.{Claim}
-use Rattle.proof_log.specs.Log.{item_lines, claim_lines, lines_text, log_text}
+use Rattle.proof_log.specs.Log.{item_lines, claim_lines, lines_text}
 use Rattle.proof_log.specs.Writer.{Writing, IsWhole, Took, Broke, whole}
-use Rattle.proof_log.proofs.Lines.{lines_text-append, log_text-parts}
+use Rattle.proof_log.proofs.Lines.{lines_text-append, lines_text-one}
 use Rattle.proof_log.proofs.Writing.{IsWhole-took}
-use Rattle.log_parts.specs.laws.Copying.{begun_text, IsBegun, IsFinishedInPart}
+use Rattle.log_parts.specs.laws.Copying.{begun_text, front_text, whole_text, IsBegun, IsFinishedInPart}
 
 -- the text of items is followed by that of more
-pub text_more : (items added : List RowItem) → begun_text items ++ lines_text (flat_map item_lines added) ≡ begun_text (items ++ added)
-text_more items added =
-    sym (lines_text-append (Header 2 ∷ flat_map item_lines items) (flat_map item_lines added))
-    ∙ ap (λ (lines : List Line). lines_text (Header 2 ∷ lines)) (sym (flat_map-append item_lines items added))
+pub text_more : (front : List ℕ) (items added : List RowItem) → begun_text front items ++ lines_text (flat_map item_lines added) ≡ begun_text front (items ++ added)
+text_more front items added =
+    append_assoc front (lines_text (flat_map item_lines items)) (lines_text (flat_map item_lines added))
+    ∙ ap (λ (text : List ℕ). front ++ text)
+    (sym (lines_text-append (flat_map item_lines items) (flat_map item_lines added)) ∙ ap lines_text (sym (flat_map-append item_lines items added)))
+
+-- the text of items is followed by that of a claim and the end
+pub text_ended : (front : List ℕ) (items : List RowItem) (claim : Claim) → begun_text front items ++ lines_text (claim_lines claim ++ End ∷ []) ≡ whole_text front items claim
+text_ended front items claim =
+    append_assoc front (lines_text (flat_map item_lines items)) (lines_text (claim_lines claim ++ End ∷ []))
+    ∙ ap (λ (text : List ℕ). front ++ text) (sym (lines_text-append (flat_map item_lines items) (claim_lines claim ++ End ∷ [])))
+
+-- a front that is held back is that of a log with no items yet
+pub has_front : (at : Writing) (front : List ℕ) → IsWhole at front → IsWhole at (begun_text front [])
+unfolding lines_text
+has_front at front is = subst (IsWhole at) (sym (append-nil front)) is
 
 -- a writer that took more items has them too
-pub has_more : (before after : Writing) (items added : List RowItem) → IsWhole before (begun_text items) → Took before after (lines_text (flat_map item_lines added)) → IsWhole after (begun_text (items ++ added))
-has_more before after items added is took =
-    subst (IsWhole after) (text_more items added) (IsWhole-took before after (begun_text items) (lines_text (flat_map item_lines added)) is took)
+pub has_more : (front : List ℕ) (before after : Writing) (items added : List RowItem) → IsWhole before (begun_text front items) → Took before after (lines_text (flat_map item_lines added)) → IsWhole after (begun_text front (items ++ added))
+has_more front before after items added is took =
+    subst (IsWhole after) (text_more front items added) (IsWhole-took before after (begun_text front items) (lines_text (flat_map item_lines added)) is took)
 
 -- a file whose text and a rest are what was there and more
 pub begun_at : (name : List ℕ) (files : Option FileMap) (rest text first all_text : List ℕ) (old : Option (List ℕ)) → option_map (λ (m : FileMap). file_of m name ++ rest) files ≡ option_map (λ (all : List ℕ). all ++ text) old
@@ -36,10 +49,10 @@ begun_at name (Some m) rest text first all_text (Some all) same is more =
     (rest, here ∙ ap (λ (a : List ℕ). a ++ text) is ∙ more)
 
 -- where more items were not taken, or in part, the file is a first part of them
-pub begun_more : (before after : Writing) (items added : List RowItem) → IsWhole before (begun_text items) → Broke before after (lines_text (flat_map item_lines added)) → IsBegun before.name after.files (items ++ added)
-begun_more before after items added is broke =
-    subst (λ (name : List ℕ). IsBegun name after.files (items ++ added)) broke.keeps.name
-    (begun_at after.name after.files broke.part.0 (lines_text (flat_map item_lines added)) (begun_text items) (begun_text (items ++ added)) (whole before) broke.part.1 is (text_more items added))
+pub begun_more : (front : List ℕ) (before after : Writing) (items added : List RowItem) → IsWhole before (begun_text front items) → Broke before after (lines_text (flat_map item_lines added)) → IsBegun front before.name after.files (items ++ added)
+begun_more front before after items added is broke =
+    subst (λ (name : List ℕ). IsBegun front name after.files (items ++ added)) broke.keeps.name
+    (begun_at after.name after.files broke.part.0 (lines_text (flat_map item_lines added)) (begun_text front items) (begun_text front (items ++ added)) (whole before) broke.part.1 is (text_more front items added))
 
 others_cleared : (name other : List ℕ) (files : Option FileMap) → other ≢ name → option_map (λ (m : FileMap). get m other) (option_map (cleared name) files) ≡ option_map (λ (m : FileMap). get m other) files
 others_cleared name other None apart = refl
@@ -55,7 +68,12 @@ pub cleared_stays : (name : List ℕ) (old new : Option FileMap) → new ≡ opt
 cleared_stays name old new is = clear_stays name old new (inr is)
 
 -- where the claim was not written, or in part, the file is a first part of the log
-pub finish_broken : (before after : Writing) (items : List RowItem) (claim : Claim) → IsWhole before (begun_text items) → Broke before after (lines_text (claim_lines claim ++ End ∷ [])) → IsFinishedInPart before.name items claim after.files
-finish_broken before after items claim is broke =
-    subst (λ (name : List ℕ). IsFinishedInPart name items claim after.files) broke.keeps.name
-    (begun_at after.name after.files broke.part.0 (lines_text (claim_lines claim ++ End ∷ [])) (begun_text items) (log_text 2 items claim) (whole before) broke.part.1 is (log_text-parts 2 items claim))
+pub finish_broken : (front : List ℕ) (before after : Writing) (items : List RowItem) (claim : Claim) → IsWhole before (begun_text front items) → Broke before after (lines_text (claim_lines claim ++ End ∷ [])) → IsFinishedInPart front before.name items claim after.files
+finish_broken front before after items claim is broke =
+    subst (λ (name : List ℕ). IsFinishedInPart front name items claim after.files) broke.keeps.name
+    (begun_at after.name after.files broke.part.0 (lines_text (claim_lines claim ++ End ∷ [])) (begun_text front items) (whole_text front items claim) (whole before) broke.part.1 is (text_ended front items claim))
+
+-- the first line of version 2 is the front where there are no sums
+pub front_none : (sums : List Sum) (old new : List ℕ) → length sums ≡ 0 → new ≡ old ++ (line_text (Header 2) ++ 10 ∷ []) → new ≡ old ++ front_text sums
+front_none [] old new none is = is ∙ ap (λ (text : List ℕ). old ++ text) (sym (lines_text-one (Header 2)))
+front_none (sum ∷ sums) old new none is = absurd (omega (arith, none))

@@ -1,4 +1,5 @@
 pub mod Joining
 pub mod PlantParts
+pub mod OtherSums
 pub mod PartLogs
 pub mod laws

@@ -1,25 +1,28 @@
 -- The logs of a plant's parts, and the log that is joined of them.
 use Rattle.std.specs.Prelude.{◌≡◌, ◌⊎◌, ℕ, ◌+◌, ◌-◌, ◌^◌, ◌<◌, zero, suc, ⊤, List, [], ◌++◌, length, take, drop, slice_index_or, Option, None, IfSome}
-use Rattle.std.specs.Option.{option_map}
 use Rattle.stn_edge.specs.Files.{FileMap, file_of}
 use Rattle.stn_model.specs.declared.plant.Plant.{Plant}
 use Rattle.row_kit.specs.declared.program.Program.{Program}
 use Rattle.dual_bound.specs.declared.cert.Cert.{Cert}
-use Rattle.proof_tree.specs.Items.{tree_items}
 use Rattle.proof_tree.specs.Tree.{leaf, split, no_point}
 use Rattle.row_relax.specs.RowProofs.{RowTree}
 use Rattle.row_set.specs.Parts.{IsPartOf}
+use Rattle.row_set.specs.PlantProgram.{plant_root}
 use Rattle.proof_log.specs.declared.claim.Claim.{Claim}
 use Rattle.proof_log.specs.declared.claim.Claim.TheVariants.{Infeasible}
-use Rattle.proof_log.specs.Log.{log_text}
+use Rattle.proof_log.specs.declared.log.Defect.{Defect}
 use Rattle.proof_log.specs.LogNames.{log_name}
 use Rattle.log_check.specs.declared.verdict.LogVerdict.{LogVerdict}
 use Rattle.log_check.specs.declared.verdict.LogVerdict.TheVariants as verdict
-use Rattle.log_check.specs.Verdict.{IsLog}
-use Rattle.plant_check.specs.Claims.{IsChecked, IsPartChecked, Says}
+use Rattle.plant_check.specs.Claims.{Says}
+use Rattle.sum_slots.specs.declared.sum.Sum.{Sum}
+use Rattle.log_sums.specs.AnyVersion.{IsAnyLog}
+use Rattle.log_sums.specs.PlantLogs.{IsAnyChecked, IsAnyPartChecked}
+use Rattle.log_sums.specs.SumTexts.{any_text, larger_claim}
 use Rattle.log_parts.specs.declared.joins.Joined.{Joined}
 use Rattle.log_parts.specs.declared.joins.Joined.TheVariants.{Done, No}
 use Rattle.log_parts.specs.Joining.{IsJoined}
+use Rattle.log_parts.specs.OtherSums.{IsOtherSums}
 use Rattle.log_parts.specs.PlantParts.{part_root}
 
 -- the program is that of a part of the plant
@@ -27,22 +30,39 @@ pub record IsPartProgram (plant : Plant) (levels part : ℕ) (program : Program)
   pub is_part : IsPartOf plant program
   pub root : program.root ≡ part_root plant levels part
 
--- the verdict is right on the log of a part, in which at most 4,608 splits less one for each level may be open
+-- the verdict is right on the log of a part, of any version, in which at most 4,608 splits less one for each level may be open
 pub record IsPartVerdict (plant : Plant) (levels part : ℕ) (bytes : List ℕ) (said : LogVerdict) : Type 0 where
   pub program : Program
   pub of_part : IsPartProgram plant levels part program
-  pub right : IsPartChecked plant program (4608 - levels) bytes said
+  pub right : IsAnyPartChecked plant program (4608 - levels) bytes said
 
--- each log of the first parts, so many, is valid
-abbrev pub AreValid : Plant → ℕ → (ℕ → List ℕ) → ℕ → Type 0
-AreValid plant levels logs count = (part : ℕ) → part < count → (claim : Claim) × IsPartVerdict plant levels part (logs part) (verdict.Yes claim)
-
--- the bytes are a valid log of a part, of this tree and this claim
-pub record IsPartLog (plant : Plant) (levels part : ℕ) (bytes : List ℕ) (tree : RowTree) (claim : Claim) : Type 0 where
+-- the bytes are a valid log of a part, which declares these sums, of this tree and this claim
+pub record IsPartLog (plant : Plant) (levels part : ℕ) (bytes : List ℕ) (sums : List Sum) (tree : RowTree) (claim : Claim) : Type 0 where
   pub program : Program
   pub of_part : IsPartProgram plant levels part program
-  pub right : IsPartChecked plant program (4608 - levels) bytes (verdict.Yes claim)
-  pub log : IsLog program bytes tree claim
+  pub right : IsAnyPartChecked plant program (4608 - levels) bytes (verdict.Yes claim)
+  pub log : IsAnyLog program (plant_root plant) bytes sums tree claim
+
+-- the bytes are a valid log of a part, which declares these sums
+abbrev pub IsValidPart : Plant → ℕ → ℕ → List ℕ → List Sum → Type 0
+IsValidPart plant levels part bytes sums = (tree : RowTree) × ((claim : Claim) × IsPartLog plant levels part bytes sums tree claim)
+
+-- each log of the first parts, so many, is valid and declares these sums
+abbrev pub AreValid : Plant → ℕ → (ℕ → List ℕ) → List Sum → ℕ → Type 0
+AreValid plant levels logs sums count = (part : ℕ) → part < count → IsValidPart plant levels part (logs part) sums
+
+-- The bytes are a valid log of a part, but declare other sums than these: the defect is of kind 22, at the line on which the first sum
+-- that differs begins, or line 1 where only the number of sums differs.
+pub record IsOtherLog (plant : Plant) (levels part : ℕ) (bytes : List ℕ) (sums : List Sum) (defect : Defect) : Type 0 where
+  pub own : List Sum
+  pub valid : IsValidPart plant levels part bytes own
+  pub kind : defect.kind ≡ 22
+  pub differ : IsOtherSums sums own defect.line
+
+-- the log of a part is refused where the earlier ones declare these sums: it is not valid and has this first defect, or it is valid, not the first, and declares other sums
+abbrev pub IsRefused : Plant → ℕ → ℕ → List ℕ → List Sum → Defect → Type 0
+IsRefused plant levels part bytes sums defect =
+    IsPartVerdict plant levels part bytes (verdict.No defect) ⊎ ((0 < part) × IsOtherLog plant levels part bytes sums defect)
 
 -- the certificate without multipliers
 abbrev pub no_mults : Cert
@@ -58,23 +78,26 @@ tree_over slot zero trees = slice_index_or trees 0 no_tree
 tree_over slot (suc levels) trees =
     split [] None (record { slot = slot; max = 0 }) no_mults (tree_over (slot + 1) levels (take (2 ^ levels) trees)) (tree_over (slot + 1) levels (drop (2 ^ levels) trees))
 
--- The bytes are the joined log of the logs of all parts: each of these is valid, and the bytes are the text of the tree of splits in
--- which the parts' trees stand, with the joined claim. They are a valid log of the plant.
+-- The bytes are the joined log of the logs of all parts: each of these is valid, all declare the same sums, and the bytes are the text
+-- of these sums and of the tree of splits in which the parts' trees stand, with the joined claim and its point completed by the values of
+-- the sums. They are a valid log of the plant.
 pub record IsJoinedLog (plant : Plant) (levels : ℕ) (logs : ℕ → List ℕ) (claim : Claim) (bytes : List ℕ) : Type 0 where
+  pub sums : List Sum
   pub trees : List RowTree
   pub claims : List Claim
   pub all_trees : length trees ≡ 2 ^ levels
   pub all_claims : length claims ≡ 2 ^ levels
-  pub each : (part : ℕ) → part < 2 ^ levels → IsPartLog plant levels part (logs part) (slice_index_or trees part no_tree) (slice_index_or claims part Infeasible)
+  pub each : (part : ℕ) → part < 2 ^ levels → IsPartLog plant levels part (logs part) sums (slice_index_or trees part no_tree) (slice_index_or claims part Infeasible)
   pub joined : IsJoined claims claim
-  pub text : bytes ≡ log_text 2 (tree_items (tree_over 0 levels trees)) claim
-  pub valid : IsChecked plant bytes (verdict.Yes claim)
+  pub text : bytes ≡ any_text sums (tree_over 0 levels trees) (larger_claim sums claim)
+  pub valid : IsAnyChecked plant bytes (verdict.Yes claim)
 
--- What joining comes to: the joined log and its claim, or the first part whose log is not valid, with its first defect.
+-- What joining comes to: the joined log and its claim, or the first part whose log is not valid or declares other sums than the first
+-- one's, with its defect.
 abbrev pub IsJoining : Plant → ℕ → (ℕ → List ℕ) → List ℕ → Joined → Type 0
 IsJoining plant levels logs bytes (Done claim) = IsJoinedLog plant levels logs claim bytes
 IsJoining plant levels logs bytes (No part defect) =
-    (part < 2 ^ levels) × (AreValid plant levels logs part × IsPartVerdict plant levels part (logs part) (verdict.No defect))
+    (part < 2 ^ levels) × ((sums : List Sum) × (AreValid plant levels logs sums part × IsRefused plant levels part (logs part) sums defect))
 
 -- the bytes of the logs of a stem, by their numbers
 abbrev pub logs_of : FileMap → List ℕ → ℕ → List ℕ
@@ -90,7 +113,7 @@ abbrev pub JoinSays : Plant → Joined → Type 0
 JoinSays plant (Done claim) = Says plant claim
 JoinSays plant (No part defect) = ⊤
 
--- a part was named whose log is not valid
+-- a part was named whose log is refused
 abbrev pub IsNo : Joined → Type 0
 IsNo (Done claim) = ⊥
 IsNo (No part defect) = ⊤
@@ -106,6 +129,6 @@ abbrev pub LeavesJoin : Plant → ℕ → List ℕ → List ℕ → Option FileM
 LeavesJoin plant levels stem name old new =
     (new ≡ old) ⊎ IfSome old (λ m. IfSome new (λ n. IsJoinBegun plant levels (logs_of m stem) (file_of n name)))
 
--- the logs of all parts are valid, where the files are told
+-- the logs of all parts are valid and declare the same sums, where the files are told
 abbrev pub AllAreValid : Plant → ℕ → List ℕ → Option FileMap → Type 0
-AllAreValid plant levels stem files = IfSome files (λ m. AreValid plant levels (logs_of m stem) (2 ^ levels))
+AllAreValid plant levels stem files = IfSome files (λ m. (sums : List Sum) × AreValid plant levels (logs_of m stem) sums (2 ^ levels))

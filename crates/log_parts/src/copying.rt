@@ -20,12 +20,12 @@ pub(crate) fn put_item<F: Shelf>(
     item: &Item<Rows>,
 ) -> Result<(), JoinStop>
     requires { IsTrue (F.may_write files.old (name_of writer.old)) }
-    ensures ok { OnOk result ((items : Items RowItem)
-        → HasItems writer.old (F.files files.old) items
-        → HasItems writer.new (F.files files.new) (items ++ item.now ∷ [])) }
-    ensures err { OnErr result ((items : Items RowItem)
-        → HasItems writer.old (F.files files.old) items
-        → IsBegun (name_of writer.old) (F.files files.new) (items ++ item.now ∷ [])) }
+    ensures ok { OnOk result ((front : Items ℕ) (items : Items RowItem)
+        → HasItems front writer.old (F.files files.old) items
+        → HasItems front writer.new (F.files files.new) (items ++ item.now ∷ [])) }
+    ensures err { OnErr result ((front : Items ℕ) (items : Items RowItem)
+        → HasItems front writer.old (F.files files.old) items
+        → IsBegun front (name_of writer.old) (F.files files.new) (items ++ item.now ∷ [])) }
     ensures named { name_of writer.new ≡ name_of writer.old }
     ensures others { OthersStay (name_of writer.old) (F.files files.old) (F.files files.new) }
     ensures readable { F.may_read files.new ≡ F.may_read files.old }
@@ -53,10 +53,12 @@ fn stop_of(stop: TakeStop) -> JoinStop
     }
 }
 
-// Puts the items of the log in a file to another log, or answers the log's first text defect, where it has one.
+// Puts the items of the log behind a head of so many bytes in a file to another log, or answers the log's first text defect,
+// where it has one.
 pub(crate) fn copy_log<F: Shelf>(
     alloc: Global,
     limits: Limits,
+    head: u64,
     writer: &mut LogWriter,
     files: &mut F,
     name: &str,
@@ -65,8 +67,9 @@ pub(crate) fn copy_log<F: Shelf>(
     requires may_write { IsTrue (F.may_write files.old (name_of writer.old)) }
     requires apart { name_of writer.old ≢ name.now }
     ensures copied { IfOk result
-        (HasCopied limits name.now (F.files files.old) writer.old (F.files files.new) writer.new) }
-    ensures err { OnErr result (HasBrokenOff limits name.now (F.files files.old) writer.old
+        (HasCopied limits head name.now (F.files files.old) writer.old (F.files files.new)
+        writer.new) }
+    ensures err { OnErr result (HasBrokenOff limits head name.now (F.files files.old) writer.old
         (F.files files.new)) }
     ensures named { name_of writer.new ≡ name_of writer.old }
     ensures others { OthersStay (name_of writer.old) (F.files files.old) (F.files files.new) }
@@ -79,7 +82,7 @@ pub(crate) fn copy_log<F: Shelf>(
     ensures write_fault { result ≡ Err JoinStop.WriteFault
         → Rose (F.write_faults files.old) (F.write_faults files.new) }
 {
-    let mut reader = LogReader::begin(alloc, limits)?;
+    let mut reader = LogReader::begin_behind(alloc, limits, head)?;
     'parts: for _ in 0..u64::MAX {
         match reader.next(files, name)? {
             LogPart::Item { line: _, item } => put_item(writer, files, &item)?,

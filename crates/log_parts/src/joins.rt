@@ -21,7 +21,9 @@ use stn_model::Plant;
 pub enum Joined {
     /// Each log is valid, and the joined log is written, with this claim.
     Done(Claim),
-    /// The first part whose log is not valid, with its first defect.
+    /// The first part whose log is refused, with its defect: the first one of a log that is not valid; else kind 22, where the
+    /// log declares other sums than that of part 0, at the line on which the first sum that differs begins, or line 1 where
+    /// only the number of sums differs.
     No { part: u32, defect: Defect },
 }
 
@@ -72,11 +74,13 @@ impl From<AllocError> for JoinStop {
     }
 }
 
-/// Checks the logs of all parts, in their order, and joins them: LOG becomes the log of the tree of splits in which the parts'
-/// trees stand, with the joined claim. Each log is read once to be checked, and a second time while LOG is written. At the first
-/// log that is not valid it stops, and no file has changed. After an error LOG is as before, or holds a first part of the joined
-/// log. Over a store that does not tell its files the second reading may differ from the first, and the first defect that it
-/// meets is then the answer.
+/// Checks the logs of all parts, of any version, in their order, and joins them: LOG becomes the log of the tree of splits in
+/// which the parts' trees stand, with the joined claim. It is of version 3 where the parts declare sums, the same ones in the
+/// same order, and else of version 2. Each log is read once to be checked, its head once before, and a second time while LOG is
+/// written. At the first log that is not valid or declares other sums than that of part 0 it stops, and no file has changed.
+/// After an error LOG is as before, or holds a first part of the joined log. Over a store that does not tell its files the second
+/// reading may differ from the first, and the first defect that it meets is then the answer: kind 20 at line 1 of part 0 where
+/// the sums do not suit the joined claim, and no file has changed.
 pub fn join<F: Shelf>(
     alloc: Global,
     plant: &Plant,
@@ -114,8 +118,14 @@ pub fn join<F: Shelf>(
     ensures writes { F.write_faults files.old ≤ F.write_faults files.new }
 {
     match check_parts(alloc, plant, levels, files, stem)? {
-        Checked::All(claims) => {
-            write_joined(alloc, plant, levels, files, stem, name, joined(claims))
+        Checked::All {
+            sums,
+            heads,
+            claims,
+        } => {
+            let claim = joined(claims);
+            let (own, counts) = (sums.as_slice(), heads.as_slice());
+            write_joined(alloc, plant, levels, own, counts, files, stem, name, claim)
         }
         Checked::Bad { part, defect } => Ok(Joined::No { part, defect }),
     }

@@ -7,7 +7,9 @@
 #![tactic(auto)]
 
 mod checking;
+mod completing;
 mod copying;
+mod fronts;
 mod joining;
 mod joins;
 mod parting;

@@ -7,7 +7,10 @@ ghost use Rattle.time_grid.specs.Slots.{slots};
 ghost use Rattle.row_relax.specs.RowProofs.{RowItem};
 ghost use Rattle.proof_log.specs.LogNames.{log_name};
 ghost use Rattle.log_parts.specs.laws.Copying.{
+  limits_over,
   part_limits,
+  front_text,
+  IsFit,
   name_of,
   opening_split,
   split_items,
@@ -22,19 +25,25 @@ ghost use Rattle.log_parts.specs.laws.Copying.{
   HasLeft,
   IsClaim,
 };
+ghost use Rattle.proof_log.specs.declared.claim.Claim.{Claim};
+ghost use Rattle.log_sums.specs.SumTexts.{larger_claim};
+ghost use Rattle.log_parts.specs.laws.Checked.{MayDeclare};
 
+use crate::completing::larger_claim;
 use crate::copying::{copy_log, put_item};
 use crate::joins::{JoinStop, Joined};
 use dual_bound::Cert;
-use log_lines::Limits;
+use log_lines::{Limits, Line, put_line};
 use proof_log::{Claim, Defect, LogWriter, log_name};
 use proof_tree::Item;
-use row_kit::List;
+use row_kit::{List, Program};
 use row_relax::{RowPick, Rows};
 use row_set::program_of;
 use std::alloc::{AllocError, Global};
 use stn_edge::{Shelf, Stop};
 use stn_model::Plant;
+use sum_lines::put_head;
+use sum_slots::Sum;
 
 // A part whose log has a text defect.
 #[derive(Drop)]
@@ -48,6 +57,9 @@ pub(crate) struct BadPart {
 pub(crate) struct PartLogs<'a> {
     pub levels: u32,
     pub limits: Limits,
+
+    // How many bytes the head of each log has; none where it has no head.
+    pub heads: &'a [u64],
     pub stem: &'a str,
 }
 
@@ -70,12 +82,12 @@ fn open_split<F: Shelf>(
     files: &mut F,
 ) -> Result<(), JoinStop>
     requires { IsTrue (F.may_write files.old (name_of writer.old)) }
-    ensures ok { OnOk result ((items : Items RowItem)
-        → HasItems writer.old (F.files files.old) items
-        → HasItems writer.new (F.files files.new) (items ++ split_items slot)) }
-    ensures err { OnErr result ((items : Items RowItem)
-        → HasItems writer.old (F.files files.old) items
-        → IsBegun (name_of writer.old) (F.files files.new) (items ++ split_items slot)) }
+    ensures ok { OnOk result ((front : Items ℕ) (items : Items RowItem)
+        → HasItems front writer.old (F.files files.old) items
+        → HasItems front writer.new (F.files files.new) (items ++ split_items slot)) }
+    ensures err { OnErr result ((front : Items ℕ) (items : Items RowItem)
+        → HasItems front writer.old (F.files files.old) items
+        → IsBegun front (name_of writer.old) (F.files files.new) (items ++ split_items slot)) }
     ensures named { name_of writer.new ≡ name_of writer.old }
     ensures others { OthersStay (name_of writer.old) (F.files files.old) (F.files files.new) }
     ensures readable { F.may_read files.new ≡ F.may_read files.old }
@@ -100,15 +112,18 @@ fn copy_part<F: Shelf>(
     files: &mut F,
 ) -> Result<Option<BadPart>, JoinStop>
     requires part { part < 2 ^ logs.levels }
+    requires heads { length logs.heads.now ≡ 2 ^ logs.levels }
     requires may_read { IsTrue (F.may_read files.old (log_name logs.stem.now part)) }
     requires may_write { IsTrue (F.may_write files.old (name_of writer.old)) }
     requires apart { name_of writer.old ≢ log_name logs.stem.now part }
     ensures joined { IfOk result
         (HasJoined logs.entry.limits (2 ^ logs.entry.levels) logs.entry.stem.now
+        logs.entry.heads.now
         (items_over logs.entry.levels 0 part) (F.files files.old) writer.old (F.files files.new)
         writer.new) }
     ensures err { OnErr result (HasJoinBroken logs.entry.limits (2 ^ logs.entry.levels)
         logs.entry.stem.now
+        logs.entry.heads.now
         (items_over logs.entry.levels 0 part) (F.files files.old) writer.old (F.files files.new)) }
     ensures named { name_of writer.new ≡ name_of writer.old }
     ensures others { OthersStay (name_of writer.old) (F.files files.old) (F.files files.new) }
@@ -122,7 +137,8 @@ fn copy_part<F: Shelf>(
         → Rose (F.write_faults files.old) (F.write_faults files.new) }
 {
     let name = log_name(alloc, logs.stem, part)?;
-    match copy_log(alloc, logs.limits, writer, files, name.as_str())? {
+    let head = logs.heads[part as usize];
+    match copy_log(alloc, logs.limits, head, writer, files, name.as_str())? {
         Some(defect) => Ok(Some(BadPart { part, defect })),
         None => Ok(None),
     }
@@ -153,6 +169,7 @@ fn write_tree<F: Shelf>(
     files: &mut F,
 ) -> Result<Option<BadPart>, JoinStop>
     requires most { logs.levels ≤ 8 }
+    requires heads { length logs.heads.now ≡ 2 ^ logs.levels }
     requires slot { slot ≤ logs.levels }
     requires part { part + 2 ^ (logs.levels - slot) ≤ 2 ^ logs.levels }
     requires may_read { (p : ℕ) → p < 2 ^ logs.levels
@@ -161,10 +178,12 @@ fn write_tree<F: Shelf>(
     requires apart { (p : ℕ) → p < 2 ^ logs.levels → name_of writer.old ≢ log_name logs.stem.now p }
     ensures joined { IfOk result
         (HasJoined logs.entry.limits (2 ^ logs.entry.levels) logs.entry.stem.now
+        logs.entry.heads.now
         (items_over slot (logs.entry.levels - slot) part) (F.files files.old) writer.old
         (F.files files.new) writer.new) }
     ensures err { OnErr result (HasJoinBroken logs.entry.limits (2 ^ logs.entry.levels)
         logs.entry.stem.now
+        logs.entry.heads.now
         (items_over slot (logs.entry.levels - slot) part) (F.files files.old) writer.old
         (F.files files.new)) }
     ensures named { name_of writer.new ≡ name_of writer.old }
@@ -189,18 +208,17 @@ fn write_tree<F: Shelf>(
     write_tree(alloc, logs, slot + 1, right, writer, files)
 }
 
-// The limits of the logs of the plant's parts.
-fn limits_of(alloc: Global, plant: &Plant, levels: u32) -> Result<Limits, AllocError>
-    requires sound { Sound plant.now }
+// The limits of the logs of a plant's parts over their programs with so many sums, from the plant's program.
+fn limits_of(program: &Program, levels: u32, sums: usize) -> Limits
     requires most { levels ≤ 8 }
-    ensures { IfOk result (λ limits. limits ≡ part_limits plant.now levels) }
+    requires few { sums ≤ 512 }
+    ensures { result ≡ limits_over program.now levels sums }
 {
-    let program = program_of(alloc, plant)?;
-    Ok(Limits {
-        rows: program.rows.len() as u32,
-        slots: program.root.len() as u32,
+    Limits {
+        rows: program.rows.len() as u32 + 2 * sums as u32,
+        slots: program.root.len() as u32 + sums as u32,
         depth: 4608 - levels,
-    })
+    }
 }
 
 // Why the log was not written.
@@ -214,10 +232,28 @@ fn write_stop(stop: Stop) -> JoinStop
     }
 }
 
-// Begins the log.
-fn begin_log<F: Shelf>(alloc: Global, files: &mut F, name: &str) -> Result<LogWriter, JoinStop>
+// Appends the text in the place of the first line of a log with these sums.
+fn put_front(alloc: Global, sums: &[Sum], into: &mut Vec<u8>) -> Result<(), AllocError>
+    ensures { OnOk result (into.new.items ≡ into.old.items ++ front_text sums.now) }
+{
+    if sums.is_empty() {
+        put_line(alloc, &Line::Header { version: 2 }, into)?;
+    } else {
+        put_head(alloc, sums, into)?;
+    }
+    Ok(())
+}
+
+// Begins the log, which declares these sums.
+fn begin_log<F: Shelf>(
+    alloc: Global,
+    sums: &[Sum],
+    files: &mut F,
+    name: &str,
+) -> Result<LogWriter, JoinStop>
     requires { IsTrue (F.may_write files.old name.now) }
-    ensures begun { IfOk result (λ writer. HasItems writer (F.files files.new) []) }
+    ensures begun { IfOk result
+        (λ writer. HasItems (front_text sums.now) writer (F.files files.new) []) }
     ensures named { IfOk result (λ writer. name_of writer ≡ name.now) }
     ensures err { OnErr result (MayClear name.now (F.files files.old) (F.files files.new)) }
     ensures others { OthersStay name.now (F.files files.old) (F.files files.new) }
@@ -229,7 +265,9 @@ fn begin_log<F: Shelf>(alloc: Global, files: &mut F, name: &str) -> Result<LogWr
         → Rose (F.write_faults files.old) (F.write_faults files.new) }
     ensures no_fault { result ≢ Err JoinStop.ReadFault }
 {
-    match LogWriter::begin(alloc, files, name) {
+    let mut front = Vec::new(alloc);
+    put_front(alloc, sums, &mut front)?;
+    match LogWriter::begin_with(alloc, files, name, front.as_slice()) {
         Ok(writer) => Ok(writer),
         Err(stop) => Err(write_stop(stop)),
     }
@@ -238,10 +276,12 @@ fn begin_log<F: Shelf>(alloc: Global, files: &mut F, name: &str) -> Result<LogWr
 // Writes the claim behind the items, and the end.
 fn finish_log<F: Shelf>(writer: LogWriter, files: &mut F, claim: &Claim) -> Result<(), JoinStop>
     requires { IsTrue (F.may_write files.old (name_of writer)) }
-    ensures ok { OnOk result ((items : Items RowItem) → HasItems writer (F.files files.old) items
-        → IsFinished (name_of writer) items claim.now (F.files files.new)) }
-    ensures err { OnErr result ((items : Items RowItem) → HasItems writer (F.files files.old) items
-        → IsFinishedInPart (name_of writer) items claim.now (F.files files.new)) }
+    ensures ok { OnOk result ((front : Items ℕ) (items : Items RowItem)
+        → HasItems front writer (F.files files.old) items
+        → IsFinished front (name_of writer) items claim.now (F.files files.new)) }
+    ensures err { OnErr result ((front : Items ℕ) (items : Items RowItem)
+        → HasItems front writer (F.files files.old) items
+        → IsFinishedInPart front (name_of writer) items claim.now (F.files files.new)) }
     ensures others { OthersStay (name_of writer) (F.files files.old) (F.files files.new) }
     ensures readable { F.may_read files.new ≡ F.may_read files.old }
     ensures writable { F.may_write files.new ≡ F.may_write files.old }
@@ -257,28 +297,29 @@ fn finish_log<F: Shelf>(writer: LogWriter, files: &mut F, claim: &Claim) -> Resu
     }
 }
 
-// Writes the joined log with this claim, where no log of a part shows a defect now.
-pub(crate) fn write_joined<F: Shelf>(
+// Writes the joined log with these sums and the larger claim, where no log of a part shows a defect now, and answers the claim.
+fn write_log<F: Shelf>(
     alloc: Global,
-    plant: &Plant,
-    levels: u32,
+    logs: PartLogs,
+    sums: &[Sum],
+    larger: &Claim,
     files: &mut F,
-    stem: &str,
     name: &str,
     claim: Claim,
 ) -> Result<Joined, JoinStop>
-    requires sound { Sound plant.now }
-    requires most { levels ≤ 8 }
-    requires may_read { (part : ℕ) → part < 2 ^ levels
-        → IsTrue (F.may_read files.old (log_name stem.now part)) }
+    requires most { logs.levels ≤ 8 }
+    requires heads { length logs.heads.now ≡ 2 ^ logs.levels }
+    requires may_read { (part : ℕ) → part < 2 ^ logs.levels
+        → IsTrue (F.may_read files.old (log_name logs.stem.now part)) }
     requires may_write { IsTrue (F.may_write files.old name.now) }
-    requires apart { (part : ℕ) → part < 2 ^ levels → name.now ≢ log_name stem.now part }
-    ensures written { IfOk result
-        (HasWritten (part_limits plant.now levels) levels stem.now name.now claim
+    requires apart { (part : ℕ) → part < 2 ^ logs.levels
+        → name.now ≢ log_name logs.stem.now part }
+    ensures written { IfOk result (HasWritten logs.entry.limits logs.entry.levels
+        logs.entry.stem.now logs.entry.heads.now name.now (front_text sums.now) larger.now claim
         (F.files files.old) (F.files files.new)) }
     ensures claim { IfOk result (IsClaim claim) }
-    ensures err { OnErr result (HasLeft (part_limits plant.now levels) levels stem.now name.now
-        claim
+    ensures err { OnErr result (HasLeft logs.entry.limits logs.entry.levels
+        logs.entry.stem.now logs.entry.heads.now name.now (front_text sums.now) larger.now
         (F.files files.old) (F.files files.new)) }
     ensures others { OthersStay name.now (F.files files.old) (F.files files.new) }
     ensures readable { F.may_read files.new ≡ F.may_read files.old }
@@ -290,18 +331,74 @@ pub(crate) fn write_joined<F: Shelf>(
     ensures write_fault { result ≡ Err JoinStop.WriteFault
         → Rose (F.write_faults files.old) (F.write_faults files.new) }
 {
-    let limits = limits_of(alloc, plant, levels)?;
-    let mut writer = begin_log(alloc, files, name)?;
-    let logs = PartLogs {
-        levels,
-        limits,
-        stem,
-    };
+    let mut writer = begin_log(alloc, sums, files, name)?;
     match write_tree(alloc, logs, 0, 0, &mut writer, files)? {
         Some(BadPart { part, defect }) => Ok(Joined::No { part, defect }),
         None => {
-            finish_log(writer, files, &claim)?;
+            finish_log(writer, files, larger)?;
             Ok(Joined::Done(claim))
         }
     }
+}
+
+// Writes the joined log with these sums and this claim, where no log of a part shows a defect now.
+pub(crate) fn write_joined<F: Shelf>(
+    alloc: Global,
+    plant: &Plant,
+    levels: u32,
+    sums: &[Sum],
+    heads: &[u64],
+    files: &mut F,
+    stem: &str,
+    name: &str,
+    claim: Claim,
+) -> Result<Joined, JoinStop>
+    requires sound { Sound plant.now }
+    requires most { levels ≤ 8 }
+    requires declared { MayDeclare plant.now levels sums.now }
+    requires heads { length heads.now ≡ 2 ^ levels }
+    requires may_read { (part : ℕ) → part < 2 ^ levels
+        → IsTrue (F.may_read files.old (log_name stem.now part)) }
+    requires may_write { IsTrue (F.may_write files.old name.now) }
+    requires apart { (part : ℕ) → part < 2 ^ levels → name.now ≢ log_name stem.now part }
+    ensures written { IfOk result (λ said. IsFit plant.now sums.now claim
+        → HasWritten (part_limits plant.now levels (length sums.now)) levels stem.now heads.now
+        name.now (front_text sums.now) (larger_claim sums.now claim) claim
+        (F.files files.old) (F.files files.new) said) }
+    ensures claim { IfOk result (IsClaim claim) }
+    ensures err { OnErr result (HasLeft (part_limits plant.now levels (length sums.now)) levels
+        stem.now heads.now name.now (front_text sums.now) (larger_claim sums.now claim)
+        (F.files files.old) (F.files files.new)) }
+    ensures others { OthersStay name.now (F.files files.old) (F.files files.new) }
+    ensures readable { F.may_read files.new ≡ F.may_read files.old }
+    ensures writable { F.may_write files.new ≡ F.may_write files.old }
+    ensures reads { F.read_faults files.old ≤ F.read_faults files.new }
+    ensures writes { F.write_faults files.old ≤ F.write_faults files.new }
+    ensures read_fault { result ≡ Err JoinStop.ReadFault
+        → Rose (F.read_faults files.old) (F.read_faults files.new) }
+    ensures write_fault { result ≡ Err JoinStop.WriteFault
+        → Rose (F.write_faults files.old) (F.write_faults files.new) }
+{
+    let program = program_of(alloc, plant)?;
+    match larger_claim(alloc, &program, sums, &claim)? {
+        Some(larger) => {
+            let limits = limits_of(&program, levels, sums.len());
+            let logs = PartLogs {
+                levels,
+                limits,
+                heads,
+                stem,
+            };
+            write_log(alloc, logs, sums, &larger, files, name, claim)
+        }
+        None => Ok(no_sums()),
+    }
+}
+
+// The answer where a log that was read again declares sums that do not suit the claims: kind 20 at line 1 of the first part.
+fn no_sums() -> Joined
+    ensures { (claim : Claim) → IsClaim claim result }
+{
+    let defect = Defect { line: 1, kind: 20 };
+    Joined::No { part: 0, defect }
 }

@@ -6,27 +6,31 @@ use Rattle.time_grid.specs.PlanPoint.{IsPlanOf}
 use Rattle.row_kit.specs.declared.program.Program.{Program}
 use Rattle.proof_tree.specs.Tree.{tree_of}
 use Rattle.row_relax.specs.RowProofs.{RowTree}
+use Rattle.row_set.specs.PlantProgram.{plant_root}
+use Rattle.sum_slots.specs.declared.sum.Sum.{Sum}
 use Rattle.proof_log.specs.declared.claim.Claim.{Claim}
 use Rattle.proof_log.specs.declared.claim.Claim.TheVariants.{Optimal, Infeasible, Between, Below}
 use Rattle.log_check.specs.declared.verdict.LogVerdict.TheVariants.{No}
-use Rattle.log_check.specs.Verdict.{IsLog, IsSoundLog}
-use Rattle.plant_check.specs.Claims.{IsChecked, IsOfPlant, Says}
-use Rattle.what_if.specs.declared.reading.OldLog.{OldLog}
-use Rattle.what_if.specs.declared.reading.OldLog.TheVariants.{Valid, Defective}
+use Rattle.log_check.specs.Verdict.{IsSoundLog}
+use Rattle.plant_check.specs.Claims.{IsOfPlant, Says}
+use Rattle.log_sums.specs.AnyVersion.{IsAnyLog}
+use Rattle.log_sums.specs.PlantLogs.{IsAnyChecked}
+use Rattle.what_if.specs.declared.old.OldLog.{OldLog}
+use Rattle.what_if.specs.declared.old.OldLog.TheVariants.{Valid, Defective}
 
--- The bytes are the text of the log of this proof and this claim, without a defect over the plant's program; what the claim
--- says holds of all plans.
-pub record IsValidFor (plant : Plant) (bytes : List ℕ) (proof : RowTree) (claim : Claim) : Type 0 where
+-- The bytes are the text of a log of any version over the plant's program, with these sums, this proof and this claim. Over the
+-- program with the sums neither has a defect; what the claim says holds of all plans.
+pub record IsValidFor (plant : Plant) (bytes : List ℕ) (sums : List Sum) (proof : RowTree) (claim : Claim) : Type 0 where
   pub program : Program
   pub of_plant : IsOfPlant plant program
-  pub is_log : IsLog program bytes proof claim
-  pub sound_log : IsSoundLog program proof claim
+  pub is_log : IsAnyLog program (plant_root plant) bytes sums proof claim
+  pub sound_log : IsSoundLog is_log.larger proof is_log.own
   pub says : Says plant claim
 
 -- the bytes are the text of this valid log, or have this first defect
 abbrev pub IsOldLog : Plant → List ℕ → OldLog → Type 0
-IsOldLog plant bytes (Valid log) = IsValidFor plant bytes (tree_of log.tree) log.claim
-IsOldLog plant bytes (Defective defect) = IsChecked plant bytes (No defect)
+IsOldLog plant bytes (Valid log) = IsValidFor plant bytes log.sums (tree_of log.tree) log.claim
+IsOldLog plant bytes (Defective defect) = IsAnyChecked plant bytes (No defect)
 
 -- the plan of a claim: that of its point, where it has one
 abbrev pub HasPlan : Plant → Claim → Option (List Start) → Type 0

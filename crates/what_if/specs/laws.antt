@@ -1,3 +1,4 @@
 -- What the language wants in specs/, and no public clause cites.
 pub mod Judged
 pub mod Own
+pub mod Rooted

@@ -53,7 +53,7 @@ fn number_of(cap: Capped) -> Option<i128>
 }
 
 // The certificate of scale 1 without multipliers.
-fn no_mults(alloc: Global) -> Cert
+pub(crate) fn no_mults(alloc: Global) -> Cert
     ensures { result ≡ no_mults }
 {
     Cert {

@@ -1,19 +1,30 @@
 -- Stands in specs/ since clauses of private functions cite it; no public clause does.
-use Rattle.std.specs.Prelude.{◌≡◌}
+use Rattle.std.specs.Prelude.{◌≡◌, ℕ, List}
+use Rattle.row_kit.specs.declared.domain.Domain.{Domain}
+use Rattle.row_kit.specs.declared.program.Program.{Program}
+use Rattle.proof_tree.specs.Tree.{tree_of}
+use Rattle.row_relax.specs.RowProofs.{RowTree}
+use Rattle.proof_log.specs.declared.claim.Claim.{Claim}
 use Rattle.proof_log.specs.declared.log.Defect.{Defect}
-use Rattle.proof_log.specs.declared.log.Log.{Log}
 use Rattle.proof_log.specs.declared.read.LogStop.{LogStop}
 use Rattle.proof_log.specs.declared.read.LogStop.TheVariants.{Defect as StopDefect}
-use Rattle.log_check.specs.declared.verdict.LogVerdict.{LogVerdict}
-use Rattle.log_check.specs.declared.verdict.LogVerdict.TheVariants.{Yes, No}
-use Rattle.what_if.specs.declared.reading.OldLog.{OldLog}
-use Rattle.what_if.specs.declared.reading.OldLog.TheVariants.{Valid, Defective}
+use Rattle.log_check.specs.Meaning.{Holds}
+use Rattle.log_check.specs.Verdict.{IsLog, IsSoundLog}
+use Rattle.log_sums.specs.AnyVersion.{IsAnyLog, in_file}
+use Rattle.what_if.specs.declared.old.ValidLog.{ValidLog}
 
--- what a log is by the verdict on it
-abbrev pub by_verdict : LogVerdict → Log → OldLog
-by_verdict (Yes claim) log = Valid log
-by_verdict (No defect) log = Defective defect
+-- the bytes are the text of a log over a program, of this proof and this claim, without a defect; the claim holds of all points
+pub record IsOwnLog (program : Program) (bytes : List ℕ) (tree : RowTree) (claim : Claim) : Type 0 where
+  pub is_log : IsLog program bytes tree claim
+  pub sound_log : IsSoundLog program tree claim
+  pub holds : Holds program claim
 
--- a log that was not read, by its first text defect
-abbrev pub IsStoppedBy : LogStop → OldLog → Type 0
-IsStoppedBy stop old = (defect : Defect) × ((stop ≡ StopDefect defect) × (old ≡ Defective defect))
+-- the same of a log of any version, over the program with the sums that it declares
+pub record IsAnyOwnLog (program : Program) (ranges : List Domain) (bytes : List ℕ) (log : ValidLog) : Type 0 where
+  pub is_log : IsAnyLog program ranges bytes log.sums (tree_of log.tree) log.claim
+  pub sound_log : IsSoundLog is_log.larger (tree_of log.tree) is_log.own
+  pub holds : Holds program log.claim
+
+-- a stop behind a head of so many lines, by the lines of the file
+abbrev pub IsStopInFile : ℕ → LogStop → LogStop → Type 0
+IsStopInFile count own stop = (defect : Defect) → stop ≡ StopDefect defect → (before : Defect) × ((own ≡ StopDefect before) × (defect ≡ in_file count before))

@@ -1,6 +1,6 @@
 -- What solving leaves of the plant that was made is what it leaves of the plant within the horizon.
 use Rattle.std.proofs.Common.{◌∙◌}
-use Rattle.stn_solve.specs.Proofs.{IsLeftOf}
+use Rattle.plan_told.specs.Proofs.{IsLeftOf}
 use Rattle.least_horizon.specs.PlantAt.{plant_at}
 use Rattle.proof_log.specs.LogNames.{log_name}
 use Rattle.least_horizon.proofs.LogFiles.{after_err, left_moved}

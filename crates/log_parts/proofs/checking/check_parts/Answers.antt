@@ -1,27 +1,18 @@
--- One more valid log, or the first that is not.
-use Rattle.std.proofs.Common.{◌∙◌, ℕ, ◌+◌, length, ap, arith}
-use Rattle.std.proofs.lemmas.List.{length_push}
-use Rattle.log_parts.proofs.PartsChecked.{one_more, one_more_said, first_bad}
+-- The sums of the first log, or the defect of its head.
+use Rattle.std.proofs.Common.{Option, IfSome, sym, subst}
+use Rattle.stn_edge.specs.Files.{FileMap}
+use Rattle.log_parts.specs.declared.fronts.Declared.{Declared}
+use Rattle.log_parts.specs.declared.fronts.Declared.TheVariants as declared
+use Rattle.log_parts.specs.PartLogs.{logs_of}
+use Rattle.log_parts.specs.laws.Checked.{AreSumsOf}
+use Rattle.log_parts.proofs.PartsChecked.{first_refused}
 use Rattle.log_parts.proofs.checking.check_parts.Goals as goal
 
-pub returns-in-No-clause-checked : goal.returns-in-No-clause-checked
-returns-in-No-clause-checked g c =
-    let inv = c.loop-part.invariant in
-    first_bad c.args.plant.now c.args.levels c.loop-part.part c.args.stem.now (g.F.Shelf.files c.args.files.now) (g.F.Shelf.files c.loop-part.files) c.loop-part.claims.items c.in_ok-claim.field-0 c.in-No.defect inv.same inv.counted
-    (omega arith) c.in-No.is inv.checked c.in_ok-claim.ensures.checked
+pub check_logs-requires-clause-first : goal.check_logs-requires-clause-first
+check_logs-requires-clause-first g c =
+    let at = λ (said : Declared) (told : Option FileMap). IfSome told (λ m. AreSumsOf c.args.plant.now c.args.levels 0 (logs_of m c.args.stem.now 0) said) in
+    subst (at (declared.Sums c.in-Sums.sums)) (sym c.in_ok-sums.ensures.same) (subst (λ (said : Declared). at said (g.F.Shelf.files c.args.files.now)) c.in-Sums.is c.in_ok-sums.ensures.sums)
 
-pub loop-part-preserved : goal.loop-part-preserved
-loop-part-preserved g c =
-    let inv = c.loop-part.invariant in
-    let pushed = c.in_ok-push_claim-in-Yes.ensures in
-    record {
-      counted = ap length pushed ∙ length_push c.loop-part.claims.items c.in-Yes.claim ∙ ap (λ (n : ℕ). n + 1) inv.counted;
-      checked = one_more c.args.plant.now c.args.levels c.loop-part.part c.args.stem.now (g.F.Shelf.files c.args.files.now) (g.F.Shelf.files c.loop-part.files) c.loop-part.claims.items c.push_claim.new.claims.items c.in_ok-claim.field-0 c.in-Yes.claim inv.same inv.counted
-          pushed c.in-Yes.is inv.checked c.in_ok-claim.ensures.checked;
-      said = one_more_said c.args.plant.now c.args.levels c.loop-part.part c.loop-part.claims.items c.push_claim.new.claims.items c.in_ok-claim.field-0 c.in-Yes.claim inv.counted pushed c.in-Yes.is inv.said c.in_ok-claim.ensures.says;
-      same = c.in_ok-claim.ensures.same ∙ inv.same;
-      readable = c.in_ok-claim.ensures.readable ∙ inv.readable;
-      writable = c.in_ok-claim.ensures.writable ∙ inv.writable;
-      no_write = c.in_ok-claim.ensures.no_write ∙ inv.no_write;
-      later = omega (arith, c.in_ok-claim.ensures.later, inv.later);
-    }
+pub returns-in-Bad-clause-checked : goal.returns-in-Bad-clause-checked
+returns-in-Bad-clause-checked g c =
+    first_refused c.args.plant.now c.args.levels c.args.stem.now (g.F.Shelf.files c.args.files.now) c.in_ok-sums.field-0 c.in-Bad.defect c.in-Bad.is c.in_ok-sums.ensures.sums

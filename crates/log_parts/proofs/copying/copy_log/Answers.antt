@@ -1,5 +1,5 @@
 -- The items that are read are put, one after another.
-use Rattle.std.proofs.Common.{◌∙◌, [], Option, None, Some, refl, sym, ap, subst, arith}
+use Rattle.std.proofs.Common.{◌∙◌, Option, None, Some, refl, sym, ap, subst, arith}
 use Rattle.std.specs.FinMap.{get}
 use Rattle.std.specs.Option.{option_map}
 use Rattle.stn_edge.specs.Files.{FileMap, OthersStay}
@@ -12,7 +12,7 @@ use Rattle.log_parts.proofs.copying.copy_log.Goals.{in-Item+in_ok-put_item-in-It
 
 pub parts-init : goal.parts-init
 parts-init g c = record {
-  on = read_on c.args.limits c.args.name.now (g.F.Shelf.files c.args.files.now) c.args.writer.now c.in_ok-reader.reader (c.in_ok-reader.ensures (g.F.Shelf.files c.args.files.now) c.args.name.now);
+  on = read_on c.args.limits c.args.head c.args.name.now (g.F.Shelf.files c.args.files.now) c.args.writer.now c.in_ok-reader.reader (c.in_ok-reader.ensures (g.F.Shelf.files c.args.files.now) c.args.name.now);
   named = refl;
   others = λ other apart. refl;
   readable = refl;
@@ -23,13 +23,13 @@ parts-init g c = record {
 
 pub returns-in_err-reader-clause-err : goal.returns-in_err-reader-clause-err
 returns-in_err-reader-clause-err g c =
-    err_of c.from_residual.result (none_broken c.args.limits c.args.name.now (g.F.Shelf.files c.args.files.now) c.args.writer.now)
+    err_of c.from_residual.result (none_broken c.args.limits c.args.head c.args.name.now (g.F.Shelf.files c.args.files.now) c.args.writer.now)
 
 pub returns-in_err-item-clause-err : goal.returns-in_err-item-clause-err
 returns-in_err-item-clause-err g c =
     let inv = c.parts.invariant in
     err_of c.from_residual-in_err-item.result
-    (on_broken c.args.limits c.args.name.now (g.F.Shelf.files c.args.files.now) (g.F.Shelf.files c.parts.files) (g.F.Shelf.files c.next.new.files) c.args.writer.now c.parts.writer c.parts.reader inv.named c.in_err-item.ensures.same inv.on)
+    (on_broken c.args.limits c.args.head c.args.name.now (g.F.Shelf.files c.args.files.now) (g.F.Shelf.files c.parts.files) (g.F.Shelf.files c.next.new.files) c.args.writer.now c.parts.writer c.parts.reader inv.named c.in_err-item.ensures.same inv.on)
 
 pub returns-in_err-put_item-in-Item-clause-err : goal.returns-in_err-put_item-in-Item-clause-err
 returns-in_err-put_item-in-Item-clause-err g c =
@@ -37,23 +37,23 @@ returns-in_err-put_item-in-Item-clause-err g c =
     let on = inv.on in
     let still = c.in_ok-item.ensures.same in
     err_of c.from_residual-in_err-put_item-in-Item.result
-    (item_broken c.args.limits c.args.name.now (g.F.Shelf.files c.args.files.now) (g.F.Shelf.files c.parts.files) (g.F.Shelf.files c.next.new.files) (g.F.Shelf.files c.put_item.new.files) c.args.writer.now c.parts.writer c.parts.reader c.next.new.self c.in-Item.line c.in-Item.item on inv.named still
-    (subst (IsPartAfter (g.F.Shelf.files c.parts.files) c.args.name.now 0 c.args.limits on.items on.claim c.next.new.self) c.in-Item.is (c.in_ok-item.ensures.part 0 c.args.limits on.items on.claim on.read))
+    (item_broken c.args.limits c.args.head c.args.name.now (g.F.Shelf.files c.args.files.now) (g.F.Shelf.files c.parts.files) (g.F.Shelf.files c.next.new.files) (g.F.Shelf.files c.put_item.new.files) c.args.writer.now c.parts.writer c.parts.reader c.next.new.self c.in-Item.line c.in-Item.item on inv.named still
+    (subst (IsPartAfter (g.F.Shelf.files c.parts.files) c.args.name.now c.args.head c.args.limits on.items on.claim c.next.new.self) c.in-Item.is (c.in_ok-item.ensures.part c.args.head c.args.limits on.items on.claim on.read))
     c.in_err-put_item-in-Item.ensures.err)
 
 pub returns-in-End-clause-copied : goal.returns-in-End-clause-copied
 returns-in-End-clause-copied g c =
     let on = c.parts.invariant.on in
-    subst (λ (told : Option FileMap). HasCopied c.args.limits c.args.name.now (g.F.Shelf.files c.args.files.now) c.args.writer.now told c.parts.writer {D = Defect} None) (sym c.in_ok-item.ensures.same)
-    (copied_end c.args.limits c.args.name.now (g.F.Shelf.files c.args.files.now) (g.F.Shelf.files c.parts.files) c.args.writer.now c.parts.writer c.parts.reader c.next.new.self c.in-End.version on
-    (subst (IsPartAfter (g.F.Shelf.files c.parts.files) c.args.name.now 0 c.args.limits on.items on.claim c.next.new.self) c.in-End.is (c.in_ok-item.ensures.part 0 c.args.limits on.items on.claim on.read)))
+    subst (λ (told : Option FileMap). HasCopied c.args.limits c.args.head c.args.name.now (g.F.Shelf.files c.args.files.now) c.args.writer.now told c.parts.writer {D = Defect} None) (sym c.in_ok-item.ensures.same)
+    (copied_end c.args.limits c.args.head c.args.name.now (g.F.Shelf.files c.args.files.now) (g.F.Shelf.files c.parts.files) c.args.writer.now c.parts.writer c.parts.reader c.next.new.self c.in-End.version on
+    (subst (IsPartAfter (g.F.Shelf.files c.parts.files) c.args.name.now c.args.head c.args.limits on.items on.claim c.next.new.self) c.in-End.is (c.in_ok-item.ensures.part c.args.head c.args.limits on.items on.claim on.read)))
 
 pub returns-in-Bad-clause-copied : goal.returns-in-Bad-clause-copied
 returns-in-Bad-clause-copied g c =
     let on = c.parts.invariant.on in
-    subst (λ (told : Option FileMap). HasCopied c.args.limits c.args.name.now (g.F.Shelf.files c.args.files.now) c.args.writer.now told c.parts.writer (Some c.in-Bad.defect)) (sym c.in_ok-item.ensures.same)
-    (copied_bad c.args.limits c.args.name.now (g.F.Shelf.files c.args.files.now) (g.F.Shelf.files c.parts.files) c.args.writer.now c.parts.writer c.parts.reader c.next.new.self c.in-Bad.defect on
-    (subst (IsPartAfter (g.F.Shelf.files c.parts.files) c.args.name.now 0 c.args.limits on.items on.claim c.next.new.self) c.in-Bad.is (c.in_ok-item.ensures.part 0 c.args.limits on.items on.claim on.read)))
+    subst (λ (told : Option FileMap). HasCopied c.args.limits c.args.head c.args.name.now (g.F.Shelf.files c.args.files.now) c.args.writer.now told c.parts.writer (Some c.in-Bad.defect)) (sym c.in_ok-item.ensures.same)
+    (copied_bad c.args.limits c.args.head c.args.name.now (g.F.Shelf.files c.args.files.now) (g.F.Shelf.files c.parts.files) c.args.writer.now c.parts.writer c.parts.reader c.next.new.self c.in-Bad.defect on
+    (subst (IsPartAfter (g.F.Shelf.files c.parts.files) c.args.name.now c.args.head c.args.limits on.items on.claim c.next.new.self) c.in-Bad.is (c.in_ok-item.ensures.part c.args.head c.args.limits on.items on.claim on.read)))
 
 pub parts-preserved : goal.parts-preserved
 parts-preserved g c =
@@ -62,17 +62,17 @@ parts-preserved g c =
     let still = c.in_ok-item.ensures.same in
     let old = g.F.Shelf.files c.args.files.now in
     let now = g.F.Shelf.files c.parts.files in
-    let part = c.in_ok-item.ensures.part 0 c.args.limits on.items on.claim on.read in
+    let part = c.in_ok-item.ensures.part c.args.head c.args.limits on.items on.claim on.read in
     elim c.match-branch-3.branch [
       | in-Item+in_ok-put_item-in-Item w ↦
           let took = w.in_ok-put_item-in-Item.ensures in
           let next = g.F.Shelf.files w.put_item.new.files in
           let stays : OthersStay (name_of c.args.writer.now) now next = λ other apart. took.others other (λ is. apart (is ∙ inv.named)) ∙ ap (option_map (λ (m : FileMap). get m other)) still in
           rw (w.writer-is, w.files-is) (record {
-            on = item_copied c.args.limits c.args.name.now old now next c.args.writer.now c.parts.writer w.put_item.new.writer c.parts.reader c.next.new.self w.in-Item.line w.in-Item.item on
-                (subst (IsPartAfter now c.args.name.now 0 c.args.limits on.items on.claim c.next.new.self) w.in-Item.is part)
+            on = item_copied c.args.limits c.args.head c.args.name.now old now next c.args.writer.now c.parts.writer w.put_item.new.writer c.parts.reader c.next.new.self w.in-Item.line w.in-Item.item on
+                (subst (IsPartAfter now c.args.name.now c.args.head c.args.limits on.items on.claim c.next.new.self) w.in-Item.is part)
                 (same_file c.args.name.now now next (stays c.args.name.now (λ is. c.requires.apart (sym is))))
-                (λ items has. took.ok items (subst (λ (told : Option FileMap). HasItems c.parts.writer told items) (sym still) has));
+                (λ front items has. took.ok front items (subst (λ (told : Option FileMap). HasItems front c.parts.writer told items) (sym still) has));
             named = took.named ∙ inv.named;
             others = λ other apart. stays other apart ∙ inv.others other apart;
             readable = took.readable ∙ c.in_ok-item.ensures.readable ∙ inv.readable;
@@ -82,9 +82,9 @@ parts-preserved g c =
           })
       | in-Claim w ↦
           rw (w.writer-is, w.files-is) (record {
-            on = subst (λ (told : Option FileMap). HasReadOn c.args.limits c.args.name.now old c.args.writer.now told c.parts.writer c.next.new.self) (sym still)
-                (claim_read c.args.limits c.args.name.now old now c.args.writer.now c.parts.writer c.parts.reader c.next.new.self w.in-Claim.line w.in-Claim.claim on
-                (subst (IsPartAfter now c.args.name.now 0 c.args.limits on.items on.claim c.next.new.self) w.in-Claim.is part));
+            on = subst (λ (told : Option FileMap). HasReadOn c.args.limits c.args.head c.args.name.now old c.args.writer.now told c.parts.writer c.next.new.self) (sym still)
+                (claim_read c.args.limits c.args.head c.args.name.now old now c.args.writer.now c.parts.writer c.parts.reader c.next.new.self w.in-Claim.line w.in-Claim.claim on
+                (subst (IsPartAfter now c.args.name.now c.args.head c.args.limits on.items on.claim c.next.new.self) w.in-Claim.is part));
             named = inv.named;
             others = λ other apart. ap (option_map (λ (m : FileMap). get m other)) still ∙ inv.others other apart;
             readable = c.in_ok-item.ensures.readable ∙ inv.readable;
@@ -97,4 +97,4 @@ parts-preserved g c =
 pub returns-clause-err : goal.returns-clause-err
 returns-clause-err g c =
     let inv = c.parts.invariant in
-    on_broken c.args.limits c.args.name.now (g.F.Shelf.files c.args.files.now) (g.F.Shelf.files c.parts.files) (g.F.Shelf.files c.parts.files) c.args.writer.now c.parts.writer c.parts.reader inv.named refl inv.on
+    on_broken c.args.limits c.args.head c.args.name.now (g.F.Shelf.files c.args.files.now) (g.F.Shelf.files c.parts.files) (g.F.Shelf.files c.parts.files) c.args.writer.now c.parts.writer c.parts.reader inv.named refl inv.on

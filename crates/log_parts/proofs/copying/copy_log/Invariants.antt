@@ -7,7 +7,7 @@ use Rattle.log_parts.proofs.copying.copy_log.Given as goal
 
 abbrev pub invariant-parts : goal.invariant-parts
 invariant-parts g l = record {
-  on : HasReadOn l.fn.limits l.name (g.F.Shelf.files l.fn.files) l.fn.writer (g.F.Shelf.files l.files) l.writer l.reader;
+  on : HasReadOn l.fn.limits l.fn.head l.name (g.F.Shelf.files l.fn.files) l.fn.writer (g.F.Shelf.files l.files) l.writer l.reader;
   named : name_of l.writer ≡ name_of l.fn.writer;
   others : OthersStay (name_of l.fn.writer) (g.F.Shelf.files l.fn.files) (g.F.Shelf.files l.files);
   readable : g.F.Shelf.may_read l.files ≡ g.F.Shelf.may_read l.fn.files;

@@ -5,10 +5,10 @@ use Rattle.log_parts.proofs.Writes.{has_more, begun_more}
 use Rattle.log_parts.proofs.copying.put_item.Goals as goal
 
 pub returns-in-Ok-clause-ok : goal.returns-in-Ok-clause-ok
-returns-in-Ok-clause-ok g c items has =
+returns-in-Ok-clause-ok g c front items has =
     let at = writing g.F.Shelf.files g.F.Shelf.read_faults g.F.Shelf.may_read g.F.Shelf.may_write in
     let old = at c.args.writer.now c.args.files.now in
-    has_more old (at c.put.new.self c.put.new.files) items (c.args.item.now ∷ []) has (c.in-Ok.ensures.took c.args.writer.now c.args.files.now [] (took-none old))
+    has_more front old (at c.put.new.self c.put.new.files) items (c.args.item.now ∷ []) has (c.in-Ok.ensures.took c.args.writer.now c.args.files.now [] (took-none old))
 
 pub returns-in-Ok-clause-named : goal.returns-in-Ok-clause-named
 returns-in-Ok-clause-named g c =
@@ -36,10 +36,10 @@ returns-in-Ok-clause-reads g c =
     (c.in-Ok.ensures.took c.args.writer.now c.args.files.now [] (took-none (at c.args.writer.now c.args.files.now))).keeps.reads
 
 pub returns-in-Err-clause-err : goal.returns-in-Err-clause-err
-returns-in-Err-clause-err g c items has =
+returns-in-Err-clause-err g c front items has =
     let at = writing g.F.Shelf.files g.F.Shelf.read_faults g.F.Shelf.may_read g.F.Shelf.may_write in
     let old = at c.args.writer.now c.args.files.now in
-    begun_more old (at c.put.new.self c.put.new.files) items (c.args.item.now ∷ []) has (c.in-Err.ensures.broke c.args.writer.now c.args.files.now [] (took-none old))
+    begun_more front old (at c.put.new.self c.put.new.files) items (c.args.item.now ∷ []) has (c.in-Err.ensures.broke c.args.writer.now c.args.files.now [] (took-none old))
 
 pub returns-in-Err-clause-named : goal.returns-in-Err-clause-named
 returns-in-Err-clause-named g c =

@@ -1,5 +1,5 @@
 -- A node and its split, put one after the other.
-use Rattle.std.proofs.Common.{List, [], ◌∷◌, ◌++◌, subst, append_assoc}
+use Rattle.std.proofs.Common.{ℕ, List, [], ◌∷◌, ◌++◌, subst, append_assoc}
 use Rattle.proof_tree.specs.declared.item.Item.TheVariants.{Node}
 use Rattle.row_relax.specs.RowProofs.{RowItem}
 use Rattle.log_parts.specs.laws.Copying.{name_of, opening_split, HasItems, IsBegun}
@@ -10,21 +10,21 @@ use Rattle.log_parts.proofs.writing.open_split.Goals as goal
 pub returns-in_err-put_item-clause-err : goal.returns-in_err-put_item-clause-err
 returns-in_err-put_item-clause-err g c =
     err_of c.from_residual.result
-    (λ (items : List RowItem) has. begun_front (name_of c.args.writer.now) (g.F.Shelf.files c.put_item.new.files) items (Node ∷ []) (opening_split c.args.slot ∷ []) (Node ∷ opening_split c.args.slot ∷ []) refl (c.in_err-put_item.ensures.err items has))
+    (λ (front : List ℕ) (items : List RowItem) has. begun_front front (name_of c.args.writer.now) (g.F.Shelf.files c.put_item.new.files) items (Node ∷ []) (opening_split c.args.slot ∷ []) (Node ∷ opening_split c.args.slot ∷ []) refl (c.in_err-put_item.ensures.err front items has))
 
 pub returns-clause-ok : goal.returns-clause-ok
 returns-clause-ok g c =
     let split = c.split_at-split.ensures in
     ok_then c.put_item-2.result c.put_item-2.ensures.ok
-    (λ took. λ (items : List RowItem) has.
-    subst (HasItems c.put_item-2.new.writer (g.F.Shelf.files c.put_item-2.new.files)) (append_assoc items (Node ∷ []) (opening_split c.args.slot ∷ []))
-    (subst (λ (item : RowItem). HasItems c.put_item-2.new.writer (g.F.Shelf.files c.put_item-2.new.files) ((items ++ Node ∷ []) ++ item ∷ [])) split (took (items ++ Node ∷ []) (c.in_ok-put_item.ensures.ok items has))))
+    (λ took. λ (front : List ℕ) (items : List RowItem) has.
+    subst (HasItems front c.put_item-2.new.writer (g.F.Shelf.files c.put_item-2.new.files)) (append_assoc items (Node ∷ []) (opening_split c.args.slot ∷ []))
+    (subst (λ (item : RowItem). HasItems front c.put_item-2.new.writer (g.F.Shelf.files c.put_item-2.new.files) ((items ++ Node ∷ []) ++ item ∷ [])) split (took front (items ++ Node ∷ []) (c.in_ok-put_item.ensures.ok front items has))))
 
 pub returns-clause-err : goal.returns-clause-err
 returns-clause-err g c =
     let split = c.split_at-split.ensures in
     let named = c.in_ok-put_item.ensures.named in
     err_then c.put_item-2.result c.put_item-2.ensures.err
-    (λ broke. λ (items : List RowItem) has.
-    subst (IsBegun (name_of c.args.writer.now) (g.F.Shelf.files c.put_item-2.new.files)) (append_assoc items (Node ∷ []) (opening_split c.args.slot ∷ []))
-    (rw (← named) (subst (λ (item : RowItem). IsBegun (name_of c.put_item.new.writer) (g.F.Shelf.files c.put_item-2.new.files) ((items ++ Node ∷ []) ++ item ∷ [])) split (broke (items ++ Node ∷ []) (c.in_ok-put_item.ensures.ok items has)))))
+    (λ broke. λ (front : List ℕ) (items : List RowItem) has.
+    subst (IsBegun front (name_of c.args.writer.now) (g.F.Shelf.files c.put_item-2.new.files)) (append_assoc items (Node ∷ []) (opening_split c.args.slot ∷ []))
+    (rw (← named) (subst (λ (item : RowItem). IsBegun front (name_of c.put_item.new.writer) (g.F.Shelf.files c.put_item-2.new.files) ((items ++ Node ∷ []) ++ item ∷ [])) split (broke front (items ++ Node ∷ []) (c.in_ok-put_item.ensures.ok front items has)))))

@@ -1,5 +1,5 @@
 -- One level less is half of the parts.
-use Rattle.std.proofs.Common.{◌≡◌, suc, ◌+◌, ◌-◌, ◌^◌, ap, arith}
+use Rattle.std.proofs.Common.{arith}
 use Rattle.log_parts.proofs.PartsCopied.{halves}
 use Rattle.log_parts.proofs.writing.right_part.Goals as goal
 

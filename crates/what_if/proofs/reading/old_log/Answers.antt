@@ -1,12 +1,25 @@
--- A log that is not read has its first text defect.
-use Rattle.std.proofs.Common.{◌≡◌, Some, Err, ap, subst}
-use Rattle.log_lines.specs.declared.grammar.Limits.{Limits}
-use Rattle.log_lines.specs.TextDefect.{log_text_defect}
-use Rattle.what_if.proofs.OldLogs.{not_read}
+-- What is found over the plant's program is so of the plant.
+use Rattle.std.proofs.Common.{List, Err, sym, ap, ◌∙◌, subst}
+use Rattle.row_kit.specs.declared.domain.Domain.{Domain}
+use Rattle.sum_slots.specs.Shown.{AreRanges}
+use Rattle.sum_slots.proofs.Ranges.{own-ranges}
+use Rattle.log_check.specs.declared.verdict.LogVerdict.TheVariants.{No}
+use Rattle.log_sums.specs.AnyVersion.{IsAnyVerdict}
+use Rattle.what_if.specs.laws.Judged.{IsAnyOwnLog}
+use Rattle.what_if.proofs.OldLogs.{defective_for, valid_for}
 use Rattle.what_if.proofs.reading.old_log.Goals as goal
 
-pub returns : goal.returns
-returns c =
-    not_read c.args.plant.now c.in_ok-program.program c.args.bytes.now c.in-Err.stop c.defective.result
-    c.requires c.in_ok-program.ensures.made c.in_ok-program.ensures.means
-    (λ defect is. subst (λ (limits : Limits). log_text_defect limits c.args.bytes.now ≡ Some (defect.line, defect.kind)) c.limits_of.ensures (c.in-Err.ensures.defect defect (ap Err is))) c.defective.ensures
+pub any_log-requires : goal.any_log-requires
+any_log-requires c =
+    subst (AreRanges c.in_ok-program.program) (c.in_ok-program.ensures.made.root_is ∙ sym (c.as_slice.ensures ∙ c.in_ok-ranges.ensures)) (own-ranges c.in_ok-program.program)
+
+pub returns-in-Ok : goal.returns-in-Ok
+returns-in-Ok c =
+    valid_for c.args.plant.now c.in_ok-program.program c.args.bytes.now c.in-Ok.log c.requires c.in_ok-program.ensures.made c.in_ok-program.ensures.means
+    (subst (λ (ranges : List Domain). IsAnyOwnLog c.in_ok-program.program ranges c.args.bytes.now c.in-Ok.log) (c.as_slice.ensures ∙ c.in_ok-ranges.ensures) c.in-Ok.ensures.log)
+
+pub returns-in-Err-Defect : goal.returns-in-Err-Defect
+returns-in-Err-Defect c =
+    defective_for c.args.plant.now c.in_ok-program.program c.args.bytes.now c.in-Err-Defect.defect c.requires c.in_ok-program.ensures.made c.in_ok-program.ensures.means
+    (subst (λ (ranges : List Domain). IsAnyVerdict c.in_ok-program.program ranges 4608 c.args.bytes.now (No c.in-Err-Defect.defect)) (c.as_slice.ensures ∙ c.in_ok-ranges.ensures)
+    (c.in-Err-Defect.ensures.defect c.in-Err-Defect.defect (ap Err c.in-Err-Defect.field-0-is)))

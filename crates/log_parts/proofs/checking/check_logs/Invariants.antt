@@ -1,14 +1,15 @@
--- The logs of the parts so far are valid, with these claims.
+-- The logs of the parts so far are valid and declare the sums, with these claims.
 use Rattle.std.proofs.Common.{◌≡◌, ◌≤◌, length, IfSome}
 use Rattle.log_parts.specs.Joining.{EachSays}
 use Rattle.log_parts.specs.PartLogs.{logs_of}
 use Rattle.log_parts.specs.laws.Checked.{HaveClaims}
-use Rattle.log_parts.proofs.checking.check_parts.Given as goal
+use Rattle.log_parts.proofs.checking.check_logs.Given as goal
 
 abbrev pub invariant-loop-part : goal.invariant-loop-part
 invariant-loop-part g l = record {
   counted : length l.claims.items ≡ l.part;
-  checked : IfSome (g.F.Shelf.files l.fn.files) (λ m. HaveClaims l.plant l.levels (logs_of m l.stem) l.claims.items);
+  heads_counted : length l.heads.items ≡ l.part;
+  checked : IfSome (g.F.Shelf.files l.fn.files) (λ m. HaveClaims l.plant l.levels (logs_of m l.stem) l.fn.sums l.heads.items l.claims.items);
   said : EachSays l.plant l.levels l.claims.items;
   same : g.F.Shelf.files l.files ≡ g.F.Shelf.files l.fn.files;
   readable : g.F.Shelf.may_read l.files ≡ g.F.Shelf.may_read l.fn.files;
