@@ -7,15 +7,46 @@ use std::test::Fail;
 use stn_edge::{Failed, FixedShelf, FixedSink, Shelf, Stop};
 use stn_top::run;
 
+// Logs of the parts of Odd: one that is not valid, and some that declare how many batches there are, or how many in the second slot.
+const LOGS: [(&str, &str); 7] = [
+    (
+        "none.0",
+        "stn-log 2\nnode\ndual 1 0\nclaim optimal 34 0\nend\n",
+    ),
+    (
+        "summed.0",
+        "stn-log 3\nsum 1 0 - - 2\nterm 0 1 0\nterm 1 1 0\nnode\ndual 1 0\nclaim optimal 34 2\nvalue 1 3\nvalue 2 1\nend\n",
+    ),
+    (
+        "summed.1",
+        "stn-log 3\nsum 1 0 - - 2\nterm 0 1 0\nterm 1 1 0\nnode\ncut 3 1\ndual 1 0\nclaim optimal 34 2\nvalue 0 3\nvalue 2 1\nend\n",
+    ),
+    (
+        "mixed.0",
+        "stn-log 2\nnode\ndual 1 0\nclaim optimal 34 1\nvalue 1 3\nend\n",
+    ),
+    (
+        "mixed.1",
+        "stn-log 3\nsum 1 0 - - 2\nterm 0 1 0\nterm 1 1 0\nnode\ncut 3 1\ndual 1 0\nclaim optimal 34 2\nvalue 0 3\nvalue 2 1\nend\n",
+    ),
+    (
+        "apart.0",
+        "stn-log 3\nsum 1 0 - - 1\nterm 1 1 0\nnode\ndual 1 0\nclaim optimal 34 2\nvalue 1 3\nvalue 2 1\nend\n",
+    ),
+    (
+        "apart.1",
+        "stn-log 3\nsum 1 0 - - 2\nterm 0 1 0\nterm 1 1 0\nnode\ncut 3 1\ndual 1 0\nclaim optimal 34 2\nvalue 0 3\nvalue 2 1\nend\n",
+    ),
+];
+
 // Odd in its two parts, whose plans are written to the logs of a stem.
 fn halves(alloc: Global) -> Result<FixedShelf, Fail> {
     let plant = edited(alloc, TINY, ODD)?;
     let mut files = FixedShelf::new(alloc);
     files.put_file("plant", plant.as_bytes())?;
-    files.put_file(
-        "none.0",
-        b"stn-log 2\nnode\ndual 1 0\nclaim optimal 34 0\nend\n",
-    )?;
+    for (name, log) in LOGS {
+        files.put_file(name, log.as_bytes())?;
+    }
     for part in ["0", "1"] {
         let log = if part == "0" { "half.0" } else { "half.1" };
         let words = ["solve-part", "plant", "1", part, "3", log];
@@ -28,7 +59,7 @@ fn halves(alloc: Global) -> Result<FixedShelf, Fail> {
 }
 
 // Words over Odd and the logs of its two parts, in turn, with the status, the beginning and the end of each answer.
-const SAID: [(&[&str], u8, &str, &str); 13] = [
+const SAID: [(&[&str], u8, &str, &str); 17] = [
     (
         &["parts", "plant", "1"],
         0,
@@ -92,6 +123,25 @@ const SAID: [(&[&str], u8, &str, &str); 13] = [
         "\n",
     ),
     (&["check", "plant", "log"], 0, "yes optimal 34\n", "\n"),
+    (
+        &["join", "plant", "1", "summed", "log"],
+        0,
+        "joined optimal 34\n",
+        "\n",
+    ),
+    (&["check", "plant", "log"], 0, "yes optimal 34\n", "\n"),
+    (
+        &["join", "plant", "1", "mixed", "log"],
+        1,
+        "no 1 1 22\n",
+        "\n",
+    ),
+    (
+        &["join", "plant", "1", "apart", "log"],
+        1,
+        "no 1 2 22\n",
+        "\n",
+    ),
 ];
 
 #[test]

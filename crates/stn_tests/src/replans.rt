@@ -74,12 +74,17 @@ fn plans_go_on(rt: HostRuntime) -> Result<(), Fail> {
     Ok(())
 }
 
+// A log of going on from one small batch, which declares how many batches there are.
+const SUMMED: &str =
+    "stn-log 3\nsum 1 0 - - 2\nterm 0 1 0\nterm 1 1 0\nnode\ndual 1 0\nclaim optimal 44 3\nvalue 0 1\nvalue 1 3\nvalue 2 2\nend\n";
+
 // Tiny, a plan of one small batch, and the log of going on from it, which is written where the batch is kept.
 fn replanned(alloc: Global) -> Result<FixedShelf, Fail> {
     let mut files = FixedShelf::new(alloc);
     files.put_file("plant", TINY.as_bytes())?;
     files.put_file("plan", "0 U make 1\n".as_bytes())?;
     files.put_file("twice", "0 U make 1\n0 U make 1\n".as_bytes())?;
+    files.put_file("summed", SUMMED.as_bytes())?;
     let mut out = FixedSink::new(alloc);
     let words = ["replan", "plant", "plan", "1", "7", "log"];
     if run(alloc, &words, &mut files, &mut out) == 0 {
@@ -89,20 +94,21 @@ fn replanned(alloc: Global) -> Result<FixedShelf, Fail> {
     }
 }
 
-// A plan, a period, and the status and the beginning of the answer of `check-replan` on that log.
-const CHECKED: [(&str, &str, u8, &str); 4] = [
-    ("plan", "1", 0, "yes optimal 44\n"),
-    ("plan", "0", 1, "no "),
-    ("twice", "1", 1, "broken busy 1 2\n"),
-    ("plan", "337", 2, "refused words\n"),
+// A plan, a period, a log, and the status and the beginning of the answer of `check-replan` on it.
+const CHECKED: [(&str, &str, &str, u8, &str); 5] = [
+    ("plan", "1", "log", 0, "yes optimal 44\n"),
+    ("plan", "1", "summed", 0, "yes optimal 44\n"),
+    ("plan", "0", "log", 1, "no "),
+    ("twice", "1", "log", 1, "broken busy 1 2\n"),
+    ("plan", "337", "log", 2, "refused words\n"),
 ];
 
 #[test]
 fn logs_of_going_on_are_checked(rt: HostRuntime) -> Result<(), Fail> {
     let mut files = replanned(rt.alloc())?;
-    for (plan, period, wanted, first) in CHECKED {
+    for (plan, period, log, wanted, first) in CHECKED {
         let mut out = FixedSink::new(rt.alloc());
-        let words = ["check-replan", "plant", plan, period, "log"];
+        let words = ["check-replan", "plant", plan, period, log];
         let status = run(rt.alloc(), &words, &mut files, &mut out);
         assert_eq!(rt; status, wanted);
         assert!(rt; out.written().starts_with(first.as_bytes()));

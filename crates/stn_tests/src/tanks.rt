@@ -51,6 +51,37 @@ const ASKED: [Asked; 12] = [
     (BEST, ["prod", "2", "0"], 2, "refused words\n"),
 ];
 
+// Tiny, whose product has a tank of 10, and a log that declares what is in it at the end and 245 more: a byte up to that limit.
+const FULL: &[(&str, &str)] = &[("price = 5", "price = 5\nlimit = 10")];
+
+const BY_STOCK: &str =
+    "stn-log 3\nsum 1 245 - 10 2\nterm 0 0 2\nterm 1 0 2\nnode\ndual 1 1\nmult 11 4\nclaim optimal 52 3\nvalue 0 3\nvalue 1 2\nvalue 2 255\nend\n";
+
+// With a limit of 12 the sum would be 257, so there no more is said than without the log.
+const SUMMED: [Asked; 2] = [
+    (
+        BY_STOCK,
+        ["prod", "2", "1"],
+        0,
+        "whatif prod\n0 cap 52 feasible 52\n1 cap 60 feasible 52\n",
+    ),
+    (
+        BY_STOCK,
+        ["prod", "-2", "1"],
+        0,
+        "whatif prod\n0 cap 52 feasible 52\n1 cap 44 broken stock-high prod 2\n",
+    ),
+];
+
+#[test]
+fn tanks_are_estimated_by_sums(rt: HostRuntime) -> Result<(), Fail> {
+    let plant = edited(rt.alloc(), TINY, FULL)?;
+    for asked in SUMMED {
+        assert!(rt; is_answered(rt.alloc(), plant.as_str(), asked)?);
+    }
+    Ok(())
+}
+
 #[test]
 fn tanks_are_estimated(rt: HostRuntime) -> Result<(), Fail> {
     let plant = edited(rt.alloc(), TINY, TANK)?;

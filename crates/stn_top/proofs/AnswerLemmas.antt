@@ -20,7 +20,7 @@ use Rattle.stn_top.specs.Words.{Request, Solving, Logging, Simulating, Checking,
 use Rattle.plant_text.specs.declared.fault.PlantFault.{PlantFault}
 use Rattle.stn_model.specs.declared.answer.Answer.{Answer}
 use Rattle.stn_model.specs.declared.answer.Answer.TheVariants.{Optimal, Infeasible, BudgetSpent}
-use Rattle.stn_solve.specs.Proofs.{bytes_in}
+use Rattle.plan_told.specs.Proofs.{bytes_in}
 use Rattle.stn_top.specs.Sources.{OnPlant, IsReadOf, IsPlantRefusal, IsPlanRefusal, Refuses, IfRefusal, IfRefused, IfReplied}
 use Rattle.stn_top.specs.Solving.{Solved, status_of}
 use Rattle.stn_top.specs.Simulation.{Simulated}

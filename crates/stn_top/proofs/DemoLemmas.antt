@@ -1,8 +1,7 @@
 -- A demonstration: doing nothing is feasible, and a check says yes to the log of an outcome.
-use Rattle.std.proofs.Common.{◌≡◌, ◌≢◌, ℕ, pos, zero, suc, ◌-◌, nat_le, ◌<◌, ◌≤◌, true, List, [], ◌∷◌, ◌++◌, map, length, get_or, Option, Some, None, inl, inr, refl, sym, ap, ◌∙◌, subst, arith}
-use Rattle.std.specs.Prelude.{◌⊎◌, All, IfSome, slice_get, sum_by, ◌≤ℤ◌}
-use Rattle.std.proofs.lemmas.List.Elements.{All-append, All-cons, All-head, All-tail}
-use Rattle.std.proofs.lemmas.Bool.{le-leb}
+use Rattle.std.proofs.Common.{◌≡◌, ◌≢◌, ℕ, pos, zero, suc, ◌<◌, List, [], ◌∷◌, ◌++◌, length, get_or, Option, Some, None, inl, inr, refl, sym, ap, ◌∙◌, subst, arith}
+use Rattle.std.specs.Prelude.{◌⊎◌, All, IfSome, slice_get, ◌≤ℤ◌}
+use Rattle.std.proofs.lemmas.List.Elements.{All-append, All-cons}
 use Rattle.std.proofs.lemmas.Int.{ints}
 use Rattle.stn_model.specs.declared.plant.Plant.{Plant}
 use Rattle.stn_model.specs.declared.plant.State.{State}
@@ -11,33 +10,21 @@ use Rattle.stn_model.specs.declared.answer.Answer.{Answer}
 use Rattle.stn_model.specs.declared.answer.Answer.TheVariants.{Optimal, Infeasible, BudgetSpent}
 use Rattle.stn_model.specs.Answers.{IsOutcome, IsAnswerOf}
 use Rattle.stn_model.specs.Points.{boxes}
-use Rattle.stn_model.specs.Sound.{Sound, SoundRun}
-use Rattle.stn_model.specs.Plant.{state_at, run_at, no_state, no_run}
+use Rattle.stn_model.specs.Plant.{state_at, no_state}
 use Rattle.stn_model.specs.Stock.{stock, inflow, outflow, received, delivered}
 use Rattle.stn_model.specs.Load.{load}
 use Rattle.stn_model.specs.Feasible.{Feasible, StockKept}
-use Rattle.time_grid.specs.Slots.{IsSlotOf, slots}
-use Rattle.time_grid.proofs.SlotList.{slots-are}
 use Rattle.plant_make.specs.Made.{chained, states_of, plant_made}
 use Rattle.stn_top.specs.Solving.{status_of}
 use Rattle.stn_top.specs.Checking.{checked_text, claim_text}
 use Rattle.stn_top.specs.Demo.{shown_plant, demo_head, demo_text, answer_line, Shown}
 use Rattle.row_kit.specs.declared.program.Program.{Program}
-use Rattle.std.proofs.lemmas.List.Sums.{sum_by-cons}
-use Rattle.row_kit.specs.Domain.{IsNormal, IsOpen}
-use Rattle.row_kit.specs.Bounds.{AreBounded, IsBoundedRow, IsBoundedChange}
-use mathlib.Core.HLevel.{is_prop→PathP}
-use Rattle.std.proofs.Props.{props}
-use Rattle.std.specs.Prelude.{unsigned_abs}
-use Rattle.row_set.specs.PlantProgram.{IsMadeOf, slot_domain}
-use Rattle.branch_tree.specs.Searched.{spared}
+use Rattle.row_set.specs.PlantProgram.{IsMadeOf, plant_root}
 use Rattle.log_check.specs.declared.verdict.LogVerdict.{LogVerdict}
 use Rattle.log_check.specs.declared.verdict.LogVerdict.TheVariants.{Yes}
-use Rattle.log_check.specs.Verdict.{IsVerdict}
-use Rattle.check_law.specs.Exact.{IsValidLog}
-use Rattle.check_law.proofs.Excluded.{exact}
-use Rattle.plant_check.specs.Claims.{IsChecked}
-use Rattle.stn_solve.specs.Proofs.{HasProof, HasPlantProof, claim_of, depth_over}
+use Rattle.check_law.proofs.Again.{same-program, yes-again}
+use Rattle.log_sums.specs.PlantLogs.{IsAnyChecked, IsPlantVerdict}
+use Rattle.plan_told.specs.Proofs.{HasPlantProof, claim_of, depth_over}
 
 -- ---- doing nothing
 
@@ -107,71 +94,25 @@ found-status seed budget outcome right = found_answer seed (boxes (shown_plant s
 -- the program of a plant is one
 same_program : (plant : Plant) (a b : Program) → IsMadeOf plant a → IsMadeOf plant b → a ≡ b
 same_program plant a b made made2 =
-    let rows : a.rows ≡ b.rows = made.rows_are ∙ sym made2.rows_are in
-    let profit : a.profit ≡ b.profit = made.profit_is ∙ sym made2.profit_is in
-    let base : a.base ≡ b.base = made.base_is ∙ sym made2.base_is in
-    let root : a.root ≡ b.root = made.root_is ∙ sym made2.root_is in
-    let tags : a.tags ≡ b.tags = made.tags_are ∙ sym made2.tags_are in
-    let changes : a.changes ≡ b.changes = made.changes_are ∙ sym made2.changes_are in
-    λ i. record {
-      rows = rows i;
-      profit = profit i;
-      base = base i;
-      root = root i;
-      tags = tags i;
-      changes = changes i;
-      few_slots = is_prop→PathP (λ j. length (root j) ≤ 512) (λ j. hlevel props) a.few_slots b.few_slots i;
-      root_normal = is_prop→PathP (λ j. All IsNormal (root j)) (λ j. hlevel props) a.root_normal b.root_normal i;
-      root_open = is_prop→PathP (λ j. All IsOpen (root j)) (λ j. hlevel props) a.root_open b.root_open i;
-      few_rows = is_prop→PathP (λ j. length (rows j) ≤ 45904) (λ j. hlevel props) a.few_rows b.few_rows i;
-      rows_bounded = is_prop→PathP (λ j. All (IsBoundedRow (length (root j))) (rows j)) (λ j. hlevel props) a.rows_bounded b.rows_bounded i;
-      profit_bounded = is_prop→PathP (λ j. AreBounded (length (root j)) 2000000000000000 (profit j)) (λ j. hlevel props) a.profit_bounded b.profit_bounded i;
-      base_bounded = is_prop→PathP (λ j. unsigned_abs (base j) ≤ 10000000000000000000000) (λ j. hlevel props) a.base_bounded b.base_bounded i;
-      one_tag = is_prop→PathP (λ j. length (tags j) ≡ length (root j)) (λ j. hlevel props) a.one_tag b.one_tag i;
-      costs_bounded = is_prop→PathP (λ j. All IsBoundedChange (changes j)) (λ j. hlevel props) a.costs_bounded b.costs_bounded i;
-    }
+    same-program a b (made.rows_are ∙ sym made2.rows_are) (made.profit_is ∙ sym made2.profit_is) (made.base_is ∙ sym made2.base_is) (made.root_is ∙ sym made2.root_is)
+    (made.tags_are ∙ sym made2.tags_are) (made.changes_are ∙ sym made2.changes_are)
 
--- each slot may be without a start
-spared-slot : (plant : Plant) (slot : ℕ × ℕ) → Sound plant → IsSlotOf plant slot → spared (slot_domain plant slot) ≡ 0
-spared-slot plant slot sound is =
-    let run : SoundRun plant (run_at plant slot.0) = sound.runs slot.0 no_run is.run in
-    let test : nat_le (run_at plant slot.0).min (run_at plant slot.0).max ≡ true = le-leb _ _ run.range in
-    rw test refl
-
-spared-slots : (plant : Plant) (grid : List (ℕ × ℕ)) → Sound plant → All (IsSlotOf plant) grid → sum_by spared (map (slot_domain plant) grid) ≡ 0
-spared-slots plant [] sound are = refl
-spared-slots plant (slot ∷ grid) sound are =
-    let first = spared-slot plant slot sound (All-head (IsSlotOf plant) slot grid are) in
-    let rest = spared-slots plant grid sound (All-tail (IsSlotOf plant) slot grid are) in
-    let both = sum_by-cons spared (slot_domain plant slot) (map (slot_domain plant) grid) in
-    omega (arith, both, first, rest)
-
--- as many splits may be open over a plant as over any program
-depth-plant : (plant : Plant) (program : Program) → Sound plant → IsMadeOf plant program → depth_over program.root ≡ 4608
-depth-plant plant program sound made =
-    ap (λ (n : ℕ). 4608 - n) (ap (sum_by spared) made.root_is ∙ spared-slots plant (slots plant) sound (slots-are plant))
-
--- the log of an outcome is a valid log of its answer's claim
-own-valid : (plant : Plant) (program : Program) (outcome : Outcome) (bytes : List ℕ) → Sound plant → IsMadeOf plant program → HasProof plant program (Some bytes) outcome
-    → IsValidLog program 4608 bytes (claim_of plant outcome.answer)
-own-valid plant program outcome bytes sound made has =
-    let right = subst (λ (b : List ℕ). IsVerdict program (depth_over program.root) b (Yes (claim_of plant outcome.answer))) (sym has.text) has.proof.valid in
-    subst (λ (d : ℕ). IsValidLog program d bytes (claim_of plant outcome.answer)) (depth-plant plant program sound made)
-    ((exact program (depth_over program.root) bytes (Yes (claim_of plant outcome.answer)) (claim_of plant outcome.answer) right).0 refl)
-
--- so the answer of a check is yes to the claim
-own-log : (plant : Plant) (bytes : List ℕ) (verdict : LogVerdict) (outcome : Outcome) → Sound plant → IsChecked plant bytes verdict → HasPlantProof plant (Some bytes) outcome
+-- the answer of a check of the log of an outcome is yes to the claim of its answer
+own-log : (plant : Plant) (bytes : List ℕ) (verdict : LogVerdict) (outcome : Outcome) → IsAnyChecked plant bytes verdict → HasPlantProof plant (Some bytes) outcome
     → verdict ≡ Yes (claim_of plant outcome.answer)
-own-log plant bytes verdict outcome sound checked has =
-    let same = same_program plant has.program checked.program has.made checked.of_plant.made in
-    (exact checked.program 4608 bytes verdict (claim_of plant outcome.answer) checked.right).1
-    (subst (λ (p : Program). IsValidLog p 4608 bytes (claim_of plant outcome.answer)) same (own-valid plant has.program outcome bytes sound has.made has.has))
+own-log plant bytes verdict outcome checked proved =
+    let program = proved.program in
+    let has = proved.has in
+    let claim = claim_of plant outcome.answer in
+    let depth = depth_over program.root in
+    yes-again program checked.program (plant_root plant) depth 4608 bytes claim verdict (same_program plant program checked.program proved.made checked.of_plant.made) (omega arith)
+    (subst (λ (b : List ℕ). IsPlantVerdict plant program depth b (Yes claim)) (sym has.told) has.valid) checked.right
 
 -- and its line is that of the claim
-pub checked_line : (plant : Plant) (bytes : List ℕ) (verdict : LogVerdict) (line : List ℕ) → Sound plant → IsChecked plant bytes verdict → line ≡ checked_text verdict
+pub checked_line : (plant : Plant) (bytes : List ℕ) (verdict : LogVerdict) (line : List ℕ) → IsAnyChecked plant bytes verdict → line ≡ checked_text verdict
     → (outcome : Outcome) → HasPlantProof plant (Some bytes) outcome → line ≡ claim_text (claim_of plant outcome.answer)
 unfolding checked_text
-checked_line plant bytes verdict line sound checked is outcome has = is ∙ ap checked_text (own-log plant bytes verdict outcome sound checked has)
+checked_line plant bytes verdict line checked is outcome has = is ∙ ap checked_text (own-log plant bytes verdict outcome checked has)
 
 -- ---- the answer
 

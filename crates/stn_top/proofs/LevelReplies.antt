@@ -15,7 +15,7 @@ use Rattle.stn_top.specs.PartSolving.{PartSolved}
 use Rattle.stn_top.specs.JoiningParts.{JoinAnswered}
 use Rattle.stn_top.specs.Requests.{IsAnswer, part_names}
 use Rattle.stn_top.specs.Replies.{IsUnwritten}
-use Rattle.stn_solve.specs.Proofs.{bytes_in}
+use Rattle.plan_told.specs.Proofs.{bytes_in}
 use Rattle.stn_top.proofs.AnswerLemmas.{told_or_empty, told_first, of_refusal}
 
 -- ---- levels

@@ -14,7 +14,6 @@ pub mod Horizons
 pub mod LogWords
 pub mod Ranges
 pub mod PartWords
-pub mod Deeper
 pub mod PartLemmas
 pub mod LevelReplies
 pub mod JoinLemmas

@@ -15,8 +15,8 @@ use Rattle.row_kit.specs.declared.program.Program.{Program}
 use Rattle.row_set.specs.Parts.{IsPartOf, IsAdmitted}
 use Rattle.row_set.specs.PlantProgram.{slot_domain}
 use Rattle.branch_tree.specs.Searched.{spared}
-use Rattle.stn_solve.specs.Outcomes.{IsPartOutcome, least_plan, whole_count}
-use Rattle.stn_solve.specs.Proofs.{HasProof, depth_over, proof_text, claim_of, bytes_in}
+use Rattle.plan_told.specs.Outcomes.{IsPartOutcome, least_plan, whole_count}
+use Rattle.plan_told.specs.Proofs.{HasProof, depth_over, claim_of, bytes_in}
 use Rattle.log_parts.specs.PlantParts.{digit, cut_domain, cut_root, part_root, IsOfPart}
 use Rattle.log_parts.specs.PartLogs.{IsPartProgram}
 use Rattle.stn_top.specs.declared.reply.Reply.{Reply}
@@ -24,7 +24,7 @@ use Rattle.stn_top.specs.Solving.{Planned}
 use Rattle.stn_top.specs.PartSolving.{HasPartProof, PartSolvedOver, PartSolved}
 use Rattle.stn_top.specs.Replies.{IsUnwritten}
 use Rattle.stn_top.proofs.AnswerLemmas.{solved-status}
-use Rattle.stn_top.proofs.Deeper.{yes-deeper}
+use Rattle.log_sums.proofs.Deeper.{plant-deeper}
 use Rattle.stn_top.proofs.ReplanLemmas.{outcome-among}
 
 -- ---- the depth of a part's logs
@@ -57,8 +57,8 @@ has-part-proof : (plant : Plant) (levels part : ℕ) (program : Program) (log : 
     → HasProof plant program log outcome → HasPartProof plant levels program log outcome
 has-part-proof plant levels part program log outcome enough root has = record {
   has = has;
-  shallow = yes-deeper program (depth_over program.root) (4608 - levels) (proof_text plant outcome.answer has.tree) (claim_of plant outcome.answer)
-      (rw root (shallow-part plant levels part enough)) has.proof.valid;
+  shallow = plant-deeper plant program (depth_over program.root) (4608 - levels) has.text (claim_of plant outcome.answer)
+      (rw root (shallow-part plant levels part enough)) has.valid;
 }
 
 -- ---- the answer

@@ -20,7 +20,7 @@ use Rattle.stn_model.specs.declared.answer.Outcome.{Outcome}
 use Rattle.stn_model.specs.Answers.{IsAnswerOf, IsOutcome, IsOutcomeOf}
 use Rattle.stn_model.specs.Points.{boxes}
 use Rattle.stn_top.specs.declared.reply.Reply.{Reply}
-use Rattle.stn_solve.specs.Proofs.{HasPlantProof}
+use Rattle.plan_told.specs.Proofs.{HasPlantProof}
 use Rattle.stn_top.specs.Solving.{Planned, Solved}
 use Rattle.std.specs.Prelude.{Result, Err, IfOk}
 use Rattle.time_grid.specs.Slots.{slots}

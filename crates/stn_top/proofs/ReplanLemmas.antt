@@ -20,12 +20,13 @@ use Rattle.proof_log.specs.declared.claim.Claim.{Claim}
 use Rattle.proof_log.proofs.SaidOfOthers.{says_of_others}
 use Rattle.log_check.specs.declared.verdict.LogVerdict.{LogVerdict}
 use Rattle.log_check.specs.declared.verdict.LogVerdict.TheVariants.{Yes, No}
-use Rattle.log_check.specs.Verdict.{IfYes, IsVerdict}
-use Rattle.plant_check.specs.Claims.{SaysOf, YesSaysOf, IsPartChecked}
+use Rattle.log_check.specs.Verdict.{IfYes}
+use Rattle.plant_check.specs.Claims.{SaysOf, YesSaysOf}
+use Rattle.log_sums.specs.PlantLogs.{IsAnyPartChecked, IsPlantVerdict}
 use Rattle.frozen_plan.specs.Frozen.{kept_starts}
 use Rattle.frozen_plan.specs.Keeping.{Keeps, CannotStand, IsKeptPart}
-use Rattle.stn_solve.specs.Outcomes.{IsPartOutcome, least_plan, whole_count}
-use Rattle.stn_solve.specs.Proofs.{HasProof, bytes_in}
+use Rattle.plan_told.specs.Outcomes.{IsPartOutcome, least_plan, whole_count}
+use Rattle.plan_told.specs.Proofs.{HasProof, bytes_in}
 use Rattle.stn_top.specs.declared.reply.Reply.{Reply}
 use Rattle.stn_top.specs.declared.stopped.Stopped.{Stopped}
 use Rattle.stn_top.specs.declared.stopped.Stopped.TheVariants.{Refused, ReadFault, WriteFault, Memory}
@@ -94,13 +95,13 @@ solved-over plant period kept part budget log status text is planned = record {
 }
 
 -- the verdict on a log that may be told
-told-verdict : (plant : Plant) (part : Program) (log : Option (List ℕ)) (verdict : LogVerdict) → IfSome log (λ bytes. IsPartChecked plant part 4608 bytes verdict) → IfSome log (λ bytes. IsVerdict part 4608 bytes verdict)
+told-verdict : (plant : Plant) (part : Program) (log : Option (List ℕ)) (verdict : LogVerdict) → IfSome log (λ bytes. IsAnyPartChecked plant part 4608 bytes verdict) → IfSome log (λ bytes. IsPlantVerdict plant part 4608 bytes verdict)
 told-verdict plant part None verdict right = tt
 told-verdict plant part (Some bytes) verdict right = right.right
 
 -- an answer of checking
 checked-over : (plant : Plant) (period : ℕ) (kept : List Start) (part : Program) (log : Option (List ℕ)) (status : ℕ) (text : List ℕ) → IsKeptPart plant period kept part
-    → Judged (IsPartChecked plant part 4608) (YesSaysOf plant part) log status text → CheckedOver log plant period kept part status text
+    → Judged (IsAnyPartChecked plant part 4608) (YesSaysOf plant part) log status text → CheckedOver log plant period kept part status text
 checked-over plant period kept part log status text is judged = record {
   verdict = judged.verdict;
   right = told-verdict plant part log judged.verdict judged.right;
@@ -121,7 +122,7 @@ module _ {E : Type 0} (plant : Plant) (period : ℕ) (kept : List Start) where
 
   -- of checking
   pub checked_open : (log : Option (List ℕ)) (Unchanged : Type 0) (part : Program) (r : Result Reply E) → IsKeptPart plant period kept part
-      → IfOk r (λ reply. Judged (IsPartChecked plant part 4608) (YesSaysOf plant part) log reply.status reply.text.items)
+      → IfOk r (λ reply. Judged (IsAnyPartChecked plant part 4608) (YesSaysOf plant part) log reply.status reply.text.items)
       → IfOk r (λ reply. ReplanChecked log plant period kept Unchanged reply.status reply.text.items)
   checked_open log Unchanged part (Ok reply) is judged = inr (part, (is, checked-over plant period kept part log reply.status reply.text.items is judged))
   checked_open log Unchanged part (Err e) is judged = tt

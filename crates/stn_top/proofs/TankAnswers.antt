@@ -1,5 +1,5 @@
 -- The answers of `whatif` over the bytes of a log.
-use Rattle.std.proofs.Common.{◌≡◌, ℕ, ◌+◌, ◌<◌, ◌≤◌, ◌^◌, true, false, List, [], length, Option, Some, None, Ok, Err, nat_lt, refl, inr, arith, ℤ}
+use Rattle.std.proofs.Common.{◌≡◌, ℕ, ◌+◌, ◌<◌, ◌≤◌, ◌^◌, true, false, List, [], length, Option, Some, None, Ok, Err, nat_lt, refl, inl, inr, arith, ℤ}
 use Rattle.std.specs.Prelude.{IfOk, IfSome, Result, codes}
 use Rattle.std.specs.Option.{option_map}
 use Rattle.std.proofs.lemmas.Bool.{lt-ltb, le-ltb}
@@ -12,10 +12,15 @@ use Rattle.time_grid.specs.PlanPoint.{IsPlanOf, point_starts}
 use Rattle.time_grid.specs.Slots.{slots}
 use Rattle.time_grid.proofs.SlotList.{length-slots}
 use Rattle.row_relax.specs.RowProofs.{RowTree}
+use Rattle.sum_slots.specs.declared.sum.Sum.{Sum}
 use Rattle.proof_log.specs.declared.claim.Claim.{Claim}
 use Rattle.proof_log.specs.declared.claim.Claim.TheVariants.{Optimal, Infeasible, Between, Below}
+use Rattle.proof_log.specs.declared.log.Defect.{Defect}
+use Rattle.log_check.specs.declared.verdict.LogVerdict.TheVariants.{No}
+use Rattle.log_sums.specs.PlantLogs.{IsAnyChecked}
 use Rattle.what_if.specs.OldLogs.{HasPlan, IsValidFor}
 use Rattle.stn_top.specs.declared.reply.Reply.{Reply}
+use Rattle.stn_top.specs.Checking.{checked_text}
 use Rattle.stn_top.specs.Estimating.{Estimated, IsTankText, OnBytes, OnTank, tank_number}
 use Rattle.stn_top.proofs.ReadBack.{length-point_starts}
 use Rattle.stn_top.proofs.ReadFiles.{some_bytes}
@@ -41,12 +46,20 @@ few_claimed plant (Below most) (Some plan) sound has = absurd (cc)
 -- ---- a log
 
 -- a log that is not too long and is valid
-pub valid_answer : {E : Type 0} (plant : Plant) (number : ℕ) (step : ℤ) (count : ℕ) (log : List ℕ) (proof : RowTree) (claim : Claim) (r : Result Reply E) → length log ≤ 67108864 → IsValidFor plant log proof claim
-    → IfOk r (λ reply. reply.status ≡ 0) → IfOk r (λ reply. IsTankText plant number step count proof claim reply.text.items) → IfOk r (λ reply. OnTank plant number step count log reply.status reply.text.items)
-valid_answer plant number step count log proof claim (Ok reply) short valid status says =
+pub valid_answer : {E : Type 0} (plant : Plant) (number : ℕ) (step : ℤ) (count : ℕ) (log : List ℕ) (sums : List Sum) (proof : RowTree) (claim : Claim) (r : Result Reply E) → length log ≤ 67108864 → IsValidFor plant log sums proof claim
+    → IfOk r (λ reply. reply.status ≡ 0) → IfOk r (λ reply. IsTankText plant number step count sums proof claim reply.text.items) → IfOk r (λ reply. OnTank plant number step count log reply.status reply.text.items)
+valid_answer plant number step count log sums proof claim (Ok reply) short valid status says =
     let test : nat_lt 67108864 (length log) ≡ false = le-ltb 67108864 (length log) short in
-    rw test (inr (record { proof = proof; claim = claim; valid = valid; status_is = status; says = says }))
-valid_answer plant number step count log proof claim (Err e) short valid status says = tt
+    rw test (inr (record { sums = sums; proof = proof; claim = claim; valid = valid; status_is = status; says = says }))
+valid_answer plant number step count log sums proof claim (Err e) short valid status says = tt
+
+-- a log that is not too long and has a defect
+pub defect_answer : {E : Type 0} (plant : Plant) (number : ℕ) (step : ℤ) (count : ℕ) (log : List ℕ) (defect : Defect) (r : Result Reply E) → length log ≤ 67108864 → IsAnyChecked plant log (No defect)
+    → IfOk r (λ reply. (reply.status ≡ 1) × (reply.text.items ≡ checked_text (No defect))) → IfOk r (λ reply. OnTank plant number step count log reply.status reply.text.items)
+defect_answer plant number step count log defect (Ok reply) short right says =
+    let test : nat_lt 67108864 (length log) ≡ false = le-ltb 67108864 (length log) short in
+    rw test (inl (record { defect = defect; right = right; status_is = says.0; text_is = says.1 }))
+defect_answer plant number step count log defect (Err e) short right says = tt
 
 long_answer : (plant : Plant) (number : ℕ) (step : ℤ) (count : ℕ) (log : List ℕ) (status : ℕ) (text : List ℕ) → 67108864 < length log → (status ≡ 1) × (text ≡ codes "no 0 17\n") → OnTank plant number step count log status text
 long_answer plant number step count log status text long is =
@@ -65,6 +78,11 @@ pub too_long_answer : (files : Option FileMap) (name : List ℕ) (plant : Plant)
     → OnBytes (option_map (λ m. file_of m name) files) (λ bytes. OnTank plant number step count bytes status text)
 too_long_answer files name plant number step count status text long is =
     on_long 67108864 files name (λ bytes. OnTank plant number step count bytes status text) (λ bytes more. long_answer plant number step count bytes status text more is) long
+
+-- the answer on the bytes that were read of a file
+pub read_answer : (files : Option FileMap) (name bytes : List ℕ) (Answers : List ℕ → Type 0) → IfSome files (λ m. bytes ≡ file_of m name) → Answers bytes → OnBytes (option_map (λ m. file_of m name) files) Answers
+read_answer None name bytes Answers told is = record { bytes = bytes; are = tt; answers = is }
+read_answer (Some m) name bytes Answers told is = record { bytes = bytes; are = told; answers = is }
 
 -- an answer that does not rest on the bytes
 any_bytes : (told : Option (List ℕ)) (Answers : List ℕ → Type 0) → ((bytes : List ℕ) → Answers bytes) → OnBytes told Answers

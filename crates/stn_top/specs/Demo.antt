@@ -8,7 +8,7 @@ use Rattle.stn_model.specs.declared.answer.Outcome.{Outcome}
 use Rattle.stn_model.specs.Answers.{IsOutcome}
 use Rattle.time_grid.specs.Slots.{slots}
 use Rattle.plant_make.specs.Made.{plant_made}
-use Rattle.stn_solve.specs.Proofs.{claim_of}
+use Rattle.plan_told.specs.Proofs.{claim_of}
 use Rattle.stn_top.specs.Solving.{profit_word, status_of}
 use Rattle.stn_top.specs.Checking.{claim_text}
 

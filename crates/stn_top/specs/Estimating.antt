@@ -9,7 +9,8 @@ use Rattle.row_relax.specs.RowProofs.{RowTree}
 use Rattle.proof_log.specs.declared.claim.Claim.{Claim}
 use Rattle.proof_log.specs.declared.log.Defect.{Defect}
 use Rattle.log_check.specs.declared.verdict.LogVerdict.TheVariants.{No}
-use Rattle.plant_check.specs.Claims.{IsChecked}
+use Rattle.sum_slots.specs.declared.sum.Sum.{Sum}
+use Rattle.log_sums.specs.PlantLogs.{IsAnyChecked}
 use Rattle.what_if.specs.Estimate.{IsEstimate}
 use Rattle.what_if.specs.OldLogs.{HasPlan, IsValidFor}
 use Rattle.what_if.specs.Raised.{raised}
@@ -43,10 +44,10 @@ abbrev pub IsStanding : Plant → Option (List Start) → List ℕ → Type 0
 IsStanding plant None text = text ≡ codes "-\n"
 IsStanding plant (Some plan) text = (status : ℕ) × Simulated Simulate plant plan status text
 
--- The line of a plant: a number, what no plan of it earns more than by an old proof, and what is printed of an old plan.
-pub record IsTankLine (plant : Plant) (proof : RowTree) (plan : Option (List Start)) (number : ℕ) (line : List ℕ) : Type 0 where
+-- The line of a plant: a number, what no plan of it earns more than by an old proof over declared sums, and what is printed of an old plan.
+pub record IsTankLine (plant : Plant) (sums : List Sum) (proof : RowTree) (plan : Option (List Start)) (number : ℕ) (line : List ℕ) : Type 0 where
   pub cap : Option ℤ
-  pub estimate : IsEstimate plant proof cap
+  pub estimate : IsEstimate plant sums proof cap
   pub standing : List ℕ
   pub stands : IsStanding plant plan standing
   pub text_is : line ≡ line_head number cap ++ standing
@@ -58,27 +59,28 @@ AreLines IsLine (suc n) text = (before : List ℕ) × ((line : List ℕ) × (Are
 
 -- The text on a valid log: the state's name, and a line for each plant whose limits of the state are raised by no step, by
 -- one, and so on.
-pub record IsTankText (plant : Plant) (number : ℕ) (step : ℤ) (count : ℕ) (proof : RowTree) (claim : Claim) (text : List ℕ) : Type 0 where
+pub record IsTankText (plant : Plant) (number : ℕ) (step : ℤ) (count : ℕ) (sums : List Sum) (proof : RowTree) (claim : Claim) (text : List ℕ) : Type 0 where
   pub plan : Option (List Start)
   pub has : HasPlan plant claim plan
   pub lines : List ℕ
-  pub are : AreLines (λ times. IsTankLine (raised plant number step times) proof plan times) (count + 1) lines
+  pub are : AreLines (λ times. IsTankLine (raised plant number step times) sums proof plan times) (count + 1) lines
   pub text_is : text ≡ text_head plant number ++ lines
 
--- the bytes are a log with this first defect, which the text says
+-- the bytes are a log of any version with this first defect, which the text says
 pub record IsRefusedLog (plant : Plant) (log : List ℕ) (status : ℕ) (text : List ℕ) : Type 0 where
   pub defect : Defect
-  pub right : IsChecked plant log (No defect)
+  pub right : IsAnyChecked plant log (No defect)
   pub status_is : status ≡ 1
   pub text_is : text ≡ checked_text (No defect)
 
--- the bytes are a valid log, and the text is that of the raised plants
+-- the bytes are a valid log of any version, and the text is that of the raised plants
 pub record IsEstimated (plant : Plant) (number : ℕ) (step : ℤ) (count : ℕ) (log : List ℕ) (status : ℕ) (text : List ℕ) : Type 0 where
+  pub sums : List Sum
   pub proof : RowTree
   pub claim : Claim
-  pub valid : IsValidFor plant log proof claim
+  pub valid : IsValidFor plant log sums proof claim
   pub status_is : status ≡ 0
-  pub says : IsTankText plant number step count proof claim text
+  pub says : IsTankText plant number step count sums proof claim text
 
 -- the answer for a state with limits: a log that is too long, or has a defect, or the text of the raised plants
 abbrev pub OnTank : Plant → ℕ → ℤ → ℕ → List ℕ → ℕ → List ℕ → Type 0

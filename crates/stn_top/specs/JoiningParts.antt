@@ -9,7 +9,7 @@ use Rattle.log_parts.specs.PartLogs.{IsJoiningIn, JoinSays, IsNo, LeavesJoin}
 use Rattle.stn_top.specs.Lines.{numbered_defect}
 use Rattle.stn_top.specs.Checking.{claim_words}
 
--- the line on a joining: the joined claim, or what speaks against the first log that is not valid
+-- the line on a joining: the joined claim, or what speaks against the first log that is refused
 unfoldable pub join_text : Joined → List ℕ
 join_text (Done claim) = codes "joined " ++ claim_words claim
 join_text (No part defect) = numbered_defect part defect
@@ -20,7 +20,7 @@ join_status (Done claim) = 0
 join_status (No part defect) = 1
 
 -- The answer of `join`, where the plant has a slot for each level: what joining comes to, with its status and its text. Where the
--- files are told, it is right of them; what the joined claim says holds of all plans, and where a log is not valid no file has
+-- files are told, it is right of them; what the joined claim says holds of all plans, and where a log is refused no file has
 -- changed.
 pub record JoinAnswered (old new : Option FileMap) (levels : ℕ) (stem log : List ℕ) (plant : Plant) (status : ℕ) (text : List ℕ) : Type 0 where
   pub said : Joined

@@ -7,9 +7,9 @@ use Rattle.stn_model.specs.Answers.{IsOutcomeOf}
 use Rattle.time_grid.specs.Slots.{slots}
 use Rattle.row_kit.specs.declared.program.Program.{Program}
 use Rattle.log_check.specs.declared.verdict.LogVerdict.TheVariants.{Yes}
-use Rattle.log_check.specs.Verdict.{IsVerdict}
-use Rattle.stn_solve.specs.Outcomes.{least_plan, whole_count}
-use Rattle.stn_solve.specs.Proofs.{HasProof, claim_of, proof_text}
+use Rattle.log_sums.specs.PlantLogs.{IsPlantVerdict}
+use Rattle.plan_told.specs.Outcomes.{least_plan, whole_count}
+use Rattle.plan_told.specs.Proofs.{HasProof, claim_of}
 use Rattle.log_parts.specs.PartLogs.{IsPartProgram}
 use Rattle.log_parts.specs.PlantParts.{IsOfPart}
 use Rattle.stn_top.specs.Solving.{Planned}
@@ -19,7 +19,7 @@ use Rattle.stn_top.specs.Replanning.{LeavesLog}
 -- bytes are told, they are the text of its log
 pub record HasPartProof (plant : Plant) (levels : ℕ) (program : Program) (log : Option (List ℕ)) (outcome : Outcome) : Type 0 where
   pub has : HasProof plant program log outcome
-  pub shallow : IsVerdict program (4608 - levels) (proof_text plant outcome.answer has.tree) (Yes (claim_of plant outcome.answer))
+  pub shallow : IsPlantVerdict plant program (4608 - levels) has.text (Yes (claim_of plant outcome.answer))
 
 -- The answer over a program of a part of the plant: a right outcome of planning among the feasible plans of the part within the
 -- budget. There is a proof of it, and where the bytes of a log are told, they are the text of its log.

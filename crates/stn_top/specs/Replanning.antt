@@ -7,11 +7,12 @@ use Rattle.stn_model.specs.declared.violation.Violation.{Violation}
 use Rattle.stn_model.specs.declared.answer.Outcome.{Outcome}
 use Rattle.stn_model.specs.Answers.{IsOutcomeOf}
 use Rattle.row_kit.specs.declared.program.Program.{Program}
-use Rattle.log_check.specs.Verdict.{IfYes, IsVerdict}
+use Rattle.log_check.specs.Verdict.{IfYes}
+use Rattle.log_sums.specs.PlantLogs.{IsPlantVerdict}
 use Rattle.plant_check.specs.Claims.{SaysOf}
 use Rattle.frozen_plan.specs.Keeping.{Keeps, CannotStand, IsKeptPart}
-use Rattle.stn_solve.specs.Outcomes.{least_plan, whole_count}
-use Rattle.stn_solve.specs.Proofs.{HasProof, IsLeft, bytes_in}
+use Rattle.plan_told.specs.Outcomes.{least_plan, whole_count}
+use Rattle.plan_told.specs.Proofs.{HasProof, IsLeft, bytes_in}
 use Rattle.stn_top.specs.Simulation.{violation_text}
 use Rattle.stn_top.specs.Solving.{Planned}
 use Rattle.stn_top.specs.Checking.{Judged}
@@ -42,7 +43,7 @@ Replanned budget plant period kept log Unchanged status text = OnKept plant peri
 -- The answer of `check-replan` over such a program, where at most 4,608 splits may be open: after a yes what the claim says
 -- holds of all feasible plans that keep the starts.
 abbrev pub CheckedOver : Option (List ℕ) → Plant → ℕ → List Start → Program → ℕ → List ℕ → Type 0
-CheckedOver log plant period kept part status text = Judged (IsVerdict part 4608) (IfYes (SaysOf plant (Keeps plant period kept))) log status text
+CheckedOver log plant period kept part status text = Judged (IsPlantVerdict plant part 4608) (IfYes (SaysOf plant (Keeps plant period kept))) log status text
 
 -- the answer of `check-replan`
 abbrev pub ReplanChecked : Option (List ℕ) → Plant → ℕ → List Start → Type 0 → ℕ → List ℕ → Type 0
@@ -50,7 +51,7 @@ ReplanChecked log plant period kept Unchanged status text = OnKept plant period 
 
 -- what an attempt over a part leaves in the file of a log: a log that was begun, if anything, or a whole one, of an outcome
 abbrev pub LeavesLog : Plant → Program → List ℕ → Option FileMap → Option FileMap → Type 0
-LeavesLog plant part log old new = IsLeft part log old new ⊎ ((outcome : Outcome) × HasProof plant part (bytes_in log new) outcome)
+LeavesLog plant part log old new = IsLeft plant part log old new ⊎ ((outcome : Outcome) × HasProof plant part (bytes_in log new) outcome)
 
 -- what replanning leaves in the file of its log: it is as it was, or the kept starts stand together and it holds a log over the
 -- program of the plans that keep them

@@ -11,7 +11,7 @@ use Rattle.plant_text.specs.Reading.{reading}
 use Rattle.plan_text.specs.PlanText.{plan_of_text}
 use Rattle.frozen_plan.specs.Frozen.{kept_starts}
 use Rattle.frozen_plan.specs.Keeping.{StandTogether}
-use Rattle.stn_solve.specs.Proofs.{HasPlantProof, IsLeftOf, bytes_in}
+use Rattle.plan_told.specs.Proofs.{HasPlantProof, IsLeftOf, bytes_in}
 use Rattle.least_horizon.specs.declared.answer.LeastAnswer.{LeastAnswer}
 use Rattle.least_horizon.specs.LogNames.{logs_in, OthersStayBelow}
 use Rattle.least_horizon.specs.Least.{IsLeast, IsStopped}

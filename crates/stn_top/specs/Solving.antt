@@ -9,7 +9,7 @@ use Rattle.stn_model.specs.declared.answer.Outcome.{Outcome}
 use Rattle.stn_model.specs.Answers.{IsOutcome}
 use Rattle.plan_text.specs.PlanLines.{plan_lines, IsNamed}
 use Rattle.plan_text.specs.PlanText.{plan_of_text}
-use Rattle.stn_solve.specs.Proofs.{HasPlantProof}
+use Rattle.plan_told.specs.Proofs.{HasPlantProof}
 
 -- the line that says how many boxes it took
 abbrev pub boxes_line : ℕ → List ℕ

@@ -36,13 +36,11 @@ use crate::sources::plant_in;
 use crate::steps::Steps;
 use crate::stopped::Stopped;
 use log_check::LogVerdict;
-use proof_log::Log;
-use row_relax::RowProof;
 use std::alloc::{AllocError, Global};
 use std::mem;
 use stn_edge::{ReadStop, Shelf, read_all};
 use stn_model::{List, Plant, Start, State};
-use what_if::{OldLog, claimed_plan, estimate, old_log, raise};
+use what_if::{OldLog, ValidLog, claimed_plan, estimate, old_log, raise};
 
 /// The longest log that is read, in bytes.
 const MOST_BYTES: u64 = 67_108_864;
@@ -209,7 +207,7 @@ fn estimate_plants(
     alloc: Global,
     plant: Plant,
     number: u32,
-    log: &Log,
+    log: &ValidLog,
     steps: Steps,
 ) -> Result<Reply, AllocError>
     requires sound { Sound plant }
@@ -217,11 +215,11 @@ fn estimate_plants(
     requires over { IsClaimOver (length (slots plant)) log.now.claim }
     ensures status { IfOk result (λ reply. reply.status ≡ 0) }
     ensures says { IfOk result (λ reply. IsTankText plant number steps.step steps.count
-        (tree_of log.now.tree) log.now.claim reply.text.items) }
+        log.now.sums (tree_of log.now.tree) log.now.claim reply.text.items) }
 {
     let plan = claimed_plan(alloc, &plant, &log.claim)?;
     let mut text = text_head(alloc, &plant, number)?;
-    put_lines(alloc, plant, number, &log.tree, &plan, steps, &mut text)?;
+    put_lines(alloc, plant, number, log, &plan, steps, &mut text)?;
     Ok(Reply { status: 0, text })
 }
 
@@ -242,7 +240,7 @@ fn put_lines(
     alloc: Global,
     plant: Plant,
     number: u32,
-    proof: &RowProof,
+    log: &ValidLog,
     plan: &Option<List<Start>>,
     steps: Steps,
     text: &mut Vec<u8>,
@@ -251,8 +249,8 @@ fn put_lines(
     requires there { number < length plant.states }
     requires short { IfSome plan.now (λ starts. length starts < 2 ^ 32) }
     ensures { OnOk result ((lines : Items ℕ) × ((text.new.items ≡ text.old.items ++ lines)
-        × AreLines (λ times. IsTankLine (raised plant number steps.step times) (tree_of proof.now)
-        plan.now times)
+        × AreLines (λ times. IsTankLine (raised plant number steps.step times) log.now.sums
+        (tree_of log.now.tree) plan.now times)
         (steps.count + 1) lines)) }
 {
     let mut raised = plant;
@@ -260,7 +258,7 @@ fn put_lines(
     for times in 0..steps.count + 1 {
         let amount = multiple(times, steps.step);
         raise(alloc, &mut raised, states.as_slice(), number, amount)?;
-        put_line(alloc, &raised, times, proof, plan, text)?;
+        put_line(alloc, &raised, times, log, plan, text)?;
     }
     Ok(())
 }
@@ -278,16 +276,16 @@ fn put_line(
     alloc: Global,
     plant: &Plant,
     number: u32,
-    proof: &RowProof,
+    log: &ValidLog,
     plan: &Option<List<Start>>,
     text: &mut Vec<u8>,
 ) -> Result<(), AllocError>
     requires sound { Sound plant.now }
     requires short { IfSome plan.now (λ starts. length starts < 2 ^ 32) }
     ensures { OnOk result ((line : Items ℕ) × ((text.new.items ≡ text.old.items ++ line)
-        × IsTankLine plant.now (tree_of proof.now) plan.now number line)) }
+        × IsTankLine plant.now log.now.sums (tree_of log.now.tree) plan.now number line)) }
 {
-    let cap = estimate(alloc, plant, proof)?;
+    let cap = estimate(alloc, plant, log.sums.as_slice(), &log.tree)?;
     let line = line_head(alloc, number, cap)?;
     let standing = standing(alloc, plant, plan)?;
     text.extend_from_slice(line.as_slice())?;

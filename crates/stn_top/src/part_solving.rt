@@ -4,7 +4,7 @@ ghost use Rattle.stn_edge.specs.Count.{Rose};
 ghost use Rattle.stn_edge.specs.Files.{OthersStay};
 ghost use Rattle.stn_model.specs.Sound.{Sound};
 ghost use Rattle.time_grid.specs.Slots.{slots};
-ghost use Rattle.stn_solve.specs.Proofs.{bytes_in};
+ghost use Rattle.plan_told.specs.Proofs.{bytes_in};
 ghost use Rattle.stn_top.specs.Words.{PartSolving};
 ghost use Rattle.stn_top.specs.Requests.{IsAnswer, IsLeft, GetsToWriting};
 ghost use Rattle.stn_top.specs.Replies.{IsUnwritten};
@@ -123,6 +123,7 @@ fn log_rows_of_part<F: Shelf>(
     ensures no_read { F.read_faults files.new ≡ F.read_faults files.old }
     ensures writes { F.write_faults files.old ≤ F.write_faults files.new }
 {
-    let rows = part_rows(alloc, plant, part.levels.number, part.number)?;
-    log_part(alloc, files, plant, &rows, budget, log)
+    let levels = part.levels.number;
+    let rows = part_rows(alloc, plant, levels, part.number)?;
+    log_part(alloc, files, plant, rows.program, levels, budget, log)
 }

@@ -8,9 +8,10 @@ ghost use Rattle.stn_model.specs.Sound.{Sound};
 ghost use Rattle.row_set.specs.Parts.{IsPartOf};
 ghost use Rattle.frozen_plan.specs.Frozen.{kept_starts};
 ghost use Rattle.frozen_plan.specs.Keeping.{StandTogether};
-ghost use Rattle.plant_check.specs.Claims.{IsPartChecked, YesSaysOf};
-ghost use Rattle.stn_solve.specs.Outcomes.{IsPartOutcome};
-ghost use Rattle.stn_solve.specs.Proofs.{HasProof, bytes_in};
+ghost use Rattle.log_sums.specs.PlantLogs.{IsAnyPartChecked};
+ghost use Rattle.plant_check.specs.Claims.{YesSaysOf};
+ghost use Rattle.plan_told.specs.Outcomes.{IsPartOutcome};
+ghost use Rattle.plan_told.specs.Proofs.{HasProof, bytes_in};
 ghost use Rattle.stn_top.specs.Words.{Replanning, ReplanLogging, CheckingReplan};
 ghost use Rattle.stn_top.specs.Requests.{IsAnswer, IsLeft, GetsToWriting};
 ghost use Rattle.stn_top.specs.Sources.{IfReplied, IfRefused};
@@ -29,8 +30,9 @@ use crate::sources::{plan_in, plant_in};
 use crate::stopped::Stopped;
 use frozen_plan::{Keeping, keep};
 use log_check::CheckStop;
-use plant_check::{MOST_DEPTH, check_part};
-use row_relax::Rows;
+use log_sums::check_part;
+use plant_check::MOST_DEPTH;
+use row_kit::Program;
 use std::alloc::{AllocError, Global};
 use stn_edge::{Shelf, Stop};
 use stn_model::{Plant, Start, Violation};
@@ -145,7 +147,7 @@ fn replan(
         (kept_starts period.number plan.now) None ⊤ reply.status reply.text.items) }
 {
     match keep(alloc, plant, plan, period.number)? {
-        Keeping::Open(rows) => plan_part(alloc, plant, &rows, budget),
+        Keeping::Open(rows) => plan_part(alloc, plant, rows.program, budget),
         Keeping::Broken(violation) => broken(alloc, plant, &violation),
     }
 }
@@ -181,7 +183,7 @@ fn log_replan<F: Shelf>(
     ensures writes { F.write_faults files.old ≤ F.write_faults files.new }
 {
     match keep(alloc, plant, plan, period.number)? {
-        Keeping::Open(rows) => log_part(alloc, files, plant, &rows, budget, log),
+        Keeping::Open(rows) => log_part(alloc, files, plant, rows.program, 0, budget, log),
         Keeping::Broken(violation) => Ok(broken(alloc, plant, &violation)?),
     }
 }
@@ -212,7 +214,7 @@ fn check_replan<F: Shelf>(
     ensures no_write { F.write_faults files.new ≡ F.write_faults files.old }
 {
     match keep(alloc, plant, plan, period.number)? {
-        Keeping::Open(rows) => check_rows_of(alloc, files, plant, &rows, log),
+        Keeping::Open(rows) => check_log_of(alloc, files, plant, rows.program, log),
         Keeping::Broken(violation) => Ok(broken(alloc, plant, &violation)?),
     }
 }
@@ -227,48 +229,53 @@ fn broken(alloc: Global, plant: &Plant, violation: &Violation) -> Result<Reply, 
     Ok(Reply { status: 1, text })
 }
 
-// The answer of planning over the rows of a part of a plant's choices.
-fn plan_part(alloc: Global, plant: &Plant, rows: &Rows, budget: Budget) -> Result<Reply, AllocError>
+// The answer of planning over the program of a part of a plant's choices.
+fn plan_part(
+    alloc: Global,
+    plant: &Plant,
+    part: Program,
+    budget: Budget,
+) -> Result<Reply, AllocError>
     requires sound { Sound plant.now }
-    requires part { IsPartOf plant.now rows.now.program }
-    ensures { IfOk result (λ reply. Planned plant.now
-        (IsPartOutcome plant.now rows.now.program budget.boxes)
-        (HasProof plant.now rows.now.program None) reply.status reply.text.items) }
+    requires part { IsPartOf plant.now part }
+    ensures { IfOk result (λ reply. Planned plant.now (IsPartOutcome plant.now part budget.boxes)
+        (HasProof plant.now part None) reply.status reply.text.items) }
 {
-    let outcome = plan_rows(alloc, plant, rows, budget.boxes)?;
+    let outcome = plan_rows(alloc, plant, part, 0, budget.boxes)?;
     in_money(&outcome.answer);
     planned(alloc, plant, &outcome)
 }
 
-/// The answer of planning over the rows of a part of a plant's choices, whose log is written.
+/// The answer of planning over the program of a part of a plant's choices, whose log is written. The part is one of those that are
+/// told apart by so many first slots, 0 where there is none beside it.
 pub fn log_part<F: Shelf>(
     alloc: Global,
     files: &mut F,
     plant: &Plant,
-    rows: &Rows,
+    part: Program,
+    levels: u32,
     budget: Budget,
     log: &str,
 ) -> Result<Reply, Stopped>
     requires sound { Sound plant.now }
-    requires part { IsPartOf plant.now rows.now.program }
+    requires part { IsPartOf plant.now part }
     requires allowed { IsTrue (F.may_write files.old log.now) }
     ensures answer { IfOk result (λ reply. Planned plant.now
-        (IsPartOutcome plant.now rows.now.program budget.boxes)
-        (HasProof plant.now rows.now.program (bytes_in log.now (F.files files.new)))
+        (IsPartOutcome plant.now part budget.boxes)
+        (HasProof plant.now part (bytes_in log.now (F.files files.new)))
         reply.status reply.text.items) }
     ensures none { IfRefused result (λ _. ⊥) }
     ensures no_fault { result ≢ Err Stopped.ReadFault }
     ensures write_fault { result ≡ Err Stopped.WriteFault
         → Rose (F.write_faults files.old) (F.write_faults files.new) }
-    ensures left { LeavesLog plant.now rows.now.program log.now (F.files files.old)
-        (F.files files.new) }
+    ensures left { LeavesLog plant.now part log.now (F.files files.old) (F.files files.new) }
     ensures others { OthersStay log.now (F.files files.old) (F.files files.new) }
     ensures readable { F.may_read files.new ≡ F.may_read files.old }
     ensures writable { F.may_write files.new ≡ F.may_write files.old }
     ensures no_read { F.read_faults files.new ≡ F.read_faults files.old }
     ensures writes { F.write_faults files.old ≤ F.write_faults files.new }
 {
-    match solve_rows_to(alloc, plant, rows, budget.boxes, files, log) {
+    match solve_rows_to(alloc, plant, part, levels, budget.boxes, files, log) {
         Ok(outcome) => {
             in_money(&outcome.answer);
             Ok(planned(alloc, plant, &outcome)?)
@@ -278,19 +285,19 @@ pub fn log_part<F: Shelf>(
     }
 }
 
-// The answer of checking the log in a file against the rows of a part of a plant's choices.
-fn check_rows_of<F: Shelf>(
+// The answer of checking the log in a file against the program of a part of a plant's choices.
+fn check_log_of<F: Shelf>(
     alloc: Global,
     files: &mut F,
     plant: &Plant,
-    rows: &Rows,
+    part: Program,
     name: &str,
 ) -> Result<Reply, Stopped>
     requires sound { Sound plant.now }
-    requires part { IsPartOf plant.now rows.now.program }
+    requires part { IsPartOf plant.now part }
     requires allowed { IsTrue (F.may_read files.old name.now) }
-    ensures answer { IfOk result (λ reply. Judged (IsPartChecked plant.now rows.now.program 4608)
-        (YesSaysOf plant.now rows.now.program)
+    ensures answer { IfOk result (λ reply. Judged (IsAnyPartChecked plant.now part 4608)
+        (YesSaysOf plant.now part)
         (option_map (λ m. file_of m name.now) (F.files files.old)) reply.status reply.text.items) }
     ensures none { IfRefused result (λ _. ⊥) }
     ensures fault { result ≡ Err Stopped.ReadFault
@@ -302,7 +309,7 @@ fn check_rows_of<F: Shelf>(
     ensures later { F.read_faults files.old ≤ F.read_faults files.new }
     ensures no_write { F.write_faults files.new ≡ F.write_faults files.old }
 {
-    match check_part(alloc, plant, rows, MOST_DEPTH, files, name) {
+    match check_part(alloc, plant, part, MOST_DEPTH, files, name) {
         Ok(verdict) => Ok(checked(alloc, &verdict)?),
         Err(CheckStop::Fault) => Err(Stopped::ReadFault),
         Err(CheckStop::Memory) => Err(Stopped::Memory),

@@ -6,7 +6,7 @@ ghost use Rattle.stn_edge.specs.Files.{OthersStay};
 ghost use Rattle.stn_model.specs.Sound.{Sound};
 ghost use Rattle.stn_model.specs.declared.answer.Outcome.{Outcome};
 ghost use Rattle.plan_text.specs.PlanLines.{plan_lines, IsNamed};
-ghost use Rattle.stn_solve.specs.Proofs.{HasPlantProof, IsLeftOf, bytes_in};
+ghost use Rattle.plan_told.specs.Proofs.{HasPlantProof, IsLeftOf, bytes_in};
 ghost use Rattle.stn_top.specs.Words.{Solving, Logging};
 ghost use Rattle.stn_top.specs.Requests.{IsAnswer, IsLeft, GetsToWriting};
 ghost use Rattle.stn_top.specs.Sources.{IfReplied, IfRefused};

@@ -1,5 +1,5 @@
 use Rattle.std.proofs.Common.{inr}
-use Rattle.stn_solve.specs.Proofs.{bytes_in}
+use Rattle.plan_told.specs.Proofs.{bytes_in}
 use Rattle.stn_top.proofs.PartLemmas.{part_solved}
 use Rattle.stn_top.proofs.part_solving.log_rows_of_part.Goals as goal
 

@@ -6,7 +6,7 @@ use Rattle.stn_top.specs.Parting.{OnLevels}
 use Rattle.stn_top.specs.PartSolving.{PartSolved}
 use Rattle.stn_top.specs.Requests.{IsAnswer}
 use Rattle.stn_top.specs.Replies.{IsUnwritten}
-use Rattle.stn_solve.specs.Proofs.{bytes_in}
+use Rattle.plan_told.specs.Proofs.{bytes_in}
 use Rattle.stn_top.proofs.AnswerLemmas.{plant_refused}
 use Rattle.stn_top.proofs.FileLemmas.{stay_same, replied}
 use Rattle.stn_top.proofs.LevelReplies.{replied_by, part_solving_answer}

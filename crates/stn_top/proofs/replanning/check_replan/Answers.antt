@@ -1,11 +1,11 @@
 use Rattle.std.specs.Prelude.{⊤}
 use Rattle.frozen_plan.specs.Frozen.{kept_starts}
-use Rattle.stn_solve.specs.Proofs.{bytes_in}
+use Rattle.plan_told.specs.Proofs.{bytes_in}
 use Rattle.stn_top.proofs.ReplanLemmas.{checked_open}
 use Rattle.stn_top.proofs.replanning.check_replan.Goals as goal
 
 pub returns-in-Open-clause-answer : goal.returns-in-Open-clause-answer
 returns-in-Open-clause-answer g c =
     let found = c.in-Open.is in
-    checked_open c.args.plant.now c.args.period.number (kept_starts c.args.period.number c.args.plan.now) (bytes_in c.args.log.now (g.F.Shelf.files c.args.files.now)) ⊤ c.in-Open.rows.program c.check_rows_of.result
-    (rw found at c.in_ok-rows.ensures) c.check_rows_of.ensures.answer
+    checked_open c.args.plant.now c.args.period.number (kept_starts c.args.period.number c.args.plan.now) (bytes_in c.args.log.now (g.F.Shelf.files c.args.files.now)) ⊤ c.in-Open.rows.program c.check_log_of.result
+    (rw found at c.in_ok-rows.ensures) c.check_log_of.ensures.answer

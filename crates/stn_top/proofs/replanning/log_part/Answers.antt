@@ -1,14 +1,14 @@
 use Rattle.std.proofs.Common.{ℕ, inr, Ok}
 use Rattle.row_set.specs.Parts.{IsAdmitted}
-use Rattle.stn_solve.specs.Outcomes.{least_plan, whole_count}
-use Rattle.stn_solve.specs.Proofs.{HasProof, bytes_in}
+use Rattle.plan_told.specs.Outcomes.{least_plan, whole_count}
+use Rattle.plan_told.specs.Proofs.{HasProof, bytes_in}
 use Rattle.stn_top.proofs.Named.{named-IsAnswer}
 use Rattle.stn_top.proofs.ReadBack.{planned_if}
 use Rattle.stn_top.proofs.replanning.log_part.Goals as goal
 
 pub planned-requires : goal.planned-requires
 planned-requires g c =
-    let part = c.args.rows.now.program in
+    let part = c.args.part in
     named-IsAnswer c.args.plant.now (IsAdmitted c.args.plant.now part) (least_plan c.args.plant.now part) (whole_count part) c.args.budget.boxes c.in-Ok.outcome.boxes c.in-Ok.outcome.answer
     c.requires.sound (λ plan is. is.feasible) c.in-Ok.ensures.outcome.answer
 
@@ -20,7 +20,7 @@ returns-in_err-planned-in-Ok-clause-left g c = inr (c.in-Ok.outcome, c.in-Ok.ens
 
 pub returns-in_ok-planned-in-Ok-clause-answer : goal.returns-in_ok-planned-in-Ok-clause-answer
 returns-in_ok-planned-in-Ok-clause-answer g c =
-    let part = c.args.rows.now.program in
+    let part = c.args.part in
     planned_if {E = ℕ} c.args.plant.now (IsAdmitted c.args.plant.now part) (least_plan c.args.plant.now part) (whole_count part) c.args.budget.boxes
     (HasProof c.args.plant.now part (bytes_in c.args.log.now (g.F.Shelf.files c.solve_rows_to.new.files))) c.in-Ok.outcome (Ok c.in_ok-planned-in-Ok.field-0)
     c.requires.sound (λ plan is. is.feasible) c.args.budget.most c.in-Ok.ensures.outcome c.in-Ok.ensures.proof c.in_ok-planned-in-Ok.ensures c.in_money.ensures

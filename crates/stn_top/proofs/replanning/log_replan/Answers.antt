@@ -1,7 +1,7 @@
 use Rattle.std.proofs.Common.{◌≡◌, Option, inr}
 use Rattle.stn_edge.specs.Files.{FileMap}
 use Rattle.frozen_plan.specs.Frozen.{kept_starts}
-use Rattle.stn_solve.specs.Proofs.{bytes_in}
+use Rattle.plan_told.specs.Proofs.{bytes_in}
 use Rattle.stn_top.proofs.ReplanLemmas.{replanned_open}
 use Rattle.stn_top.proofs.replanning.log_replan.Goals as goal
 

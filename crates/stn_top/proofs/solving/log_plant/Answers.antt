@@ -2,7 +2,7 @@ use Rattle.std.proofs.Common.{inr}
 use Rattle.std.specs.Prelude.{[]}
 use Rattle.stn_model.specs.Feasible.{Feasible}
 use Rattle.stn_model.specs.Points.{boxes}
-use Rattle.stn_solve.specs.Proofs.{bytes_in}
+use Rattle.plan_told.specs.Proofs.{bytes_in}
 use Rattle.stn_top.proofs.Named.{named-IsAnswer}
 use Rattle.stn_top.proofs.ReadBack.{solved_is}
 use Rattle.stn_top.proofs.solving.log_plant.Goals as goal
