@@ -5,16 +5,18 @@
     python3 bench/race.py ../shared/plants ../shared/search   # and the trial in plain Rust, which is built first
     python3 bench/race.py examples                            # the examples of the repository
 
-Run `./stn` once before, so that the program is built. The budget is 100,000 boxes, and a run of the program ends after ten
-minutes, one of another solver after two. `glpsol` and `cbc` run on the LP files of the folder's lp/ where they are installed.
+Run `./stn` once before, so that the program is built. The budget is 100,000 boxes, and that of BUDGETS where a plant stands there; a run of
+the program ends after ten minutes, one of another solver after two. `glpsol` and `cbc` run on the LP files of the folder's lp/ where they are installed.
 Seconds are on the clock, in one run after another.
 """
 import datetime, gzip, os, platform, re, resource, shutil, subprocess, sys, tempfile, time
 
 top = os.path.dirname(os.path.dirname(os.path.abspath(__file__)))
 program = os.path.join(top, "crates", "stn", "out", "stn")
-BUDGET = "100000"
-RULE = ["--rule", "sb", "--sbp", "1", "--plat", "0.001", "--secs", "120"]
+BUDGETS = {"large-48": ["60"], "make-01": ["2000", "100000"]}
+# The trial with sums, best first, with the means of past trials in its ranking.
+RULE = ("--rule pen --plat 0.001 --rplat 0 --rclo 1 --srule three --zs RS --zsel 7 --pre 100 --shares 8 "
+        "--pcr 8 --pcm 3 --pccand 8 --secs 120").split()
 
 
 def timed(words, most, folder=None):
@@ -38,10 +40,10 @@ def timed(words, most, folder=None):
     return text, float(seconds), float(peak)
 
 
-def ours(plant, room):
+def ours(plant, budget, room):
     """The answer, boxes, seconds, peak memory, bytes of the log, and the seconds and answer of its check."""
     log = os.path.join(room, "log")
-    text, seconds, peak = timed([program, "solve", plant, BUDGET, log], 600)
+    text, seconds, peak = timed([program, "solve", plant, budget, log], 600)
     lines = text.split("\n")
     answer = lines[0].lstrip("# ") if text else "no answer in 600 s"
     boxes = lines[1].split()[-1] if len(lines) > 1 else "-"
@@ -49,11 +51,11 @@ def ours(plant, room):
     return answer, boxes, seconds, peak, os.path.getsize(log) if os.path.exists(log) else 0, checking, said.strip()
 
 
-def trial(room, name):
-    """The trial's boxes and seconds, and its best plan."""
-    text, seconds, _ = timed(["./trial", name, *RULE], 200, room)
-    boxes = re.search(r"boxes (\d+)", text)
-    return (boxes[1] if boxes else "-"), seconds, text.strip().split("\n")[-1][:60]
+def trial(room, name, budget):
+    """The trial's boxes, seconds, best plan and cap."""
+    text, seconds, _ = timed(["./trial", name, *RULE, "--boxes", budget], 200, room)
+    found = re.search(r"best (?:Some\((-?\d+)\)|None) cap (?:Some\((-?\d+)\)|None) .*? boxes (\d+)", text)
+    return (found[3], seconds, f"{found[1] or '-'}..{found[2] or '-'}") if found else ("-", seconds, "-")
 
 
 def others(folder, name, room):
@@ -76,6 +78,17 @@ def others(folder, name, room):
     return tuple(found)
 
 
+def row(folder, name, budget, room, search):
+    """The line of the table on a plant."""
+    answer, boxes, seconds, peak, size, checking, said = ours(os.path.join(folder, name + ".toml"), budget, room)
+    if not said.startswith("yes"):
+        answer += f" (check: {said or 'no answer'})"
+    boxes2, seconds2, found = trial(room, name, budget) if search else ("-", 0.0, "-")
+    beside = f"{found} | {boxes2} | {seconds2:.2f}" if search else "- | - | -"
+    glpsol, cbc = others(folder, name, room) if budget == "100000" else ("-", "-")
+    return f"| {name}, {budget} | {answer} | {boxes} | {seconds:.2f} | {peak:.0f} | {size} | {checking:.2f} | {beside} | {glpsol} | {cbc} |"
+
+
 def main():
     folder = os.path.abspath(sys.argv[1])
     room = tempfile.mkdtemp(prefix="race-")
@@ -83,19 +96,12 @@ def main():
     if search:
         subprocess.run([os.path.join(search, "build.sh"), room], check=True, capture_output=True)
     print(f"{datetime.date.today()}, {platform.machine()}, {os.cpu_count()} processors, load {os.getloadavg()[0]:.1f}\n")
-    print("| plant | answer | boxes | s | MiB | log bytes | check s | trial boxes | trial s | glpsol s | cbc s |")
-    print("|---|---|---|---|---|---|---|---|---|---|---|")
+    print("| plant, budget | answer | boxes | s | MiB | log bytes | check s | trial | trial boxes | trial s | glpsol s | cbc s |")
+    print("|---|---|---|---|---|---|---|---|---|---|---|---|")
     for file in sorted(os.listdir(folder)):
-        if not file.endswith(".toml"):
-            continue
-        name = file[:-5]
-        answer, boxes, seconds, peak, size, checking, said = ours(os.path.join(folder, file), room)
-        boxes2, seconds2, _ = trial(room, name) if search else ("-", 0.0, "")
-        glpsol, cbc = others(folder, name, room)
-        if not said.startswith("yes"):
-            answer += f" (check: {said or 'no answer'})"
-        beside = f"{boxes2} | {seconds2:.2f}" if search else "- | -"
-        print(f"| {name} | {answer} | {boxes} | {seconds:.2f} | {peak:.0f} | {size} | {checking:.2f} | {beside} | {glpsol} | {cbc} |", flush=True)
+        if file.endswith(".toml"):
+            for budget in BUDGETS.get(file[:-5], ["100000"]):
+                print(row(folder, file[:-5], budget, room, search), flush=True)
     shutil.rmtree(room)
 
 
