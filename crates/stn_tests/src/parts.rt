@@ -156,8 +156,8 @@ fn parts_are_planned_and_joined(rt: HostRuntime) -> Result<(), Fail> {
     Ok(())
 }
 
-// A store that shows the plant in the place of the second part's log from the second time on that it is read. It does not tell
-// its files.
+// A store that shows the plant in the place of the second part's log once that has been read three times from its beginning, which is
+// to be checked: the next time it is joined. It does not tell its files.
 #[derive(Drop)]
 struct ShiftingShelf {
     files: FixedShelf,
@@ -179,7 +179,7 @@ impl Shelf for ShiftingShelf {
         if name == "half.1" && place == 0 {
             self.readings = self.readings.saturating_add(1);
         }
-        if name == "half.1" && self.readings > 1 {
+        if name == "half.1" && self.readings > 3 {
             self.files.read_at("plant", place, into)
         } else {
             self.files.read_at(name, place, into)
