@@ -6,7 +6,7 @@ ghost use Rattle.row_kit.specs.Domain.{IsOpen};
 use crate::explorer::{Explored, explore};
 use crate::kept_guide::KeptGuide;
 use crate::kept_hinter::KeptHinter;
-use branch_tree::{Advice, Guide, Hinter};
+use box_advice::{Advice, Guide, Hinter};
 use plan_hints::{PlanGuide, PlanHinter};
 use row_kit::{Area, Program};
 use std::alloc::{AllocError, Global};

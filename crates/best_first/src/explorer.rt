@@ -6,7 +6,7 @@ ghost use Rattle.range_prop.specs.Index.{IsIndex};
 
 use crate::caps::exceeds;
 use crate::tree::{Tree, cap_of};
-use branch_tree::{Advice, Hinter};
+use box_advice::{Advice, Hinter};
 use dual_simplex::Basis;
 use plan_hints::{Kept, PlanGuide, PlanHinter, may_split, split_value};
 use range_prop::{RowIndex, cut_by_index};

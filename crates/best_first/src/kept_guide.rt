@@ -6,7 +6,7 @@ ghost use Rattle.row_kit.specs.Domain.{IsOpen};
 
 use crate::caps::exceeds;
 use crate::node::{NONE, Node};
-use branch_tree::{Advice, Guide};
+use box_advice::{Advice, Guide};
 use plan_hints::PlanGuide;
 use row_kit::{Area, Program};
 use std::alloc::{AllocError, Global};

@@ -4,7 +4,7 @@ ghost use Rattle.std.specs.List.{All};
 ghost use Rattle.row_kit.specs.Area.{present};
 ghost use Rattle.row_kit.specs.Domain.{IsOpen};
 
-use branch_tree::Hinter;
+use box_advice::Hinter;
 use plan_hints::{Kept, copy};
 use row_kit::{Area, Program};
 

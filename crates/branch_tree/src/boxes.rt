@@ -17,11 +17,10 @@ ghost use Rattle.branch_tree.specs.laws.Stops.{LookStopped, TailStopped, PartsSt
 
 use crate::copies::copied_cert;
 use crate::found::found_at;
-use crate::guide::{Advice, Guide};
-use crate::hinter::Hinter;
 use crate::judging::judge;
 use crate::putting::{leave_open, open_box, put_found};
 use crate::reached::{Ground, Reached};
+use box_advice::{Advice, Guide, Hinter};
 use dual_bound::Cert;
 use proof_tree::{Capped, Item, NodeTaker, Relaxation, TakeStop, greater_cap};
 use row_kit::{Area, Found};

@@ -9,8 +9,8 @@ ghost use Rattle.branch_tree.specs.Justified.{IsGroup};
 ghost use Rattle.branch_tree.specs.laws.Ends.{better_of, Reaches};
 ghost use Rattle.branch_tree.specs.laws.Grounds.{program_of};
 
-use crate::hinter::Hinter;
 use crate::reached::Ground;
+use box_advice::Hinter;
 use row_kit::{Area, Domain, Found, List, Program, is_lawful, worth};
 use std::alloc::{AllocError, Global};
 

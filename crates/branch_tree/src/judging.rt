@@ -7,9 +7,9 @@ ghost use Rattle.dual_simplex.specs.Solved.{plain_cert, IsNoWorseThanPlain};
 ghost use Rattle.branch_tree.specs.laws.Ends.{is_over, says_more, IsVerdict};
 ghost use Rattle.branch_tree.specs.laws.Grounds.{program_of};
 
-use crate::guide::Advice;
 use crate::picking::pick_of;
 use crate::reached::Ground;
+use box_advice::Advice;
 use dual_bound::{Cert, cap};
 use dual_climb::{climb, polish};
 use proof_tree::{Capped, Item};

@@ -10,14 +10,13 @@ mod cutting;
 mod ended;
 mod found;
 mod guide;
-mod hinter;
 mod judging;
 mod picking;
 mod putting;
 mod reached;
 mod searching;
 
+pub use box_advice::{Advice, Guide, Hinter};
 pub use ended::{Ended, Guided, Searched};
-pub use guide::{Advice, Guide, PlainGuide};
-pub use hinter::Hinter;
+pub use guide::PlainGuide;
 pub use searching::{search, search_guided, search_guided_to, search_to};

@@ -8,7 +8,7 @@ use crate::bounding::bound_box;
 use crate::candidates::Candidate;
 use crate::path::Path;
 use crate::picking::Picker;
-use branch_tree::{Advice, Guide};
+use box_advice::{Advice, Guide};
 use dual_bound::Cert;
 use dual_simplex::{Basis, Workspace};
 use row_kit::{Area, Program};

@@ -6,7 +6,7 @@ use crate::kept::Kept;
 use crate::reserved::{copy, numbered};
 use crate::small_search::Picking;
 use crate::sums::{put_sums, without_sums};
-use branch_tree::Hinter;
+use box_advice::Hinter;
 use dual_simplex::Amount;
 use row_kit::{Area, Program};
 use std::alloc::{AllocError, Global};
