@@ -6,9 +6,9 @@ use Rattle.stn_edge.specs.Files.{FileMap, file_of}
 use Rattle.stn_model.specs.declared.plant.Plant.{Plant}
 use Rattle.stn_model.specs.Best.{NoPlan}
 use Rattle.proof_log.specs.declared.claim.Claim.TheVariants.{Optimal, Infeasible, Between, Below}
-use Rattle.log_check.specs.declared.verdict.LogVerdict.{LogVerdict}
-use Rattle.log_check.specs.declared.verdict.LogVerdict.TheVariants as log
-use Rattle.plant_check.specs.Claims.{YesSays}
+use Rattle.valid_log.specs.declared.verdict.LogVerdict.{LogVerdict}
+use Rattle.valid_log.specs.declared.verdict.LogVerdict.TheVariants as log
+use Rattle.valid_log.specs.Claims.{YesSays}
 use Rattle.proof_log.specs.declared.log.Defect.{Defect}
 use Rattle.least_horizon.specs.PlantAt.{plant_at}
 use Rattle.proof_log.specs.LogNames.{log_name}

@@ -3,9 +3,9 @@ use Rattle.std.specs.Prelude.{◌≡◌, ◌<◌, ◌≤◌, ℕ, List, Option, 
 use Rattle.stn_model.specs.declared.plant.Plant.{Plant}
 use Rattle.proof_log.specs.declared.claim.Claim.TheVariants.{Optimal, Infeasible, Between, Below}
 use Rattle.proof_log.specs.declared.log.Defect.{Defect}
-use Rattle.log_check.specs.declared.verdict.LogVerdict.{LogVerdict}
-use Rattle.log_check.specs.declared.verdict.LogVerdict.TheVariants as log
-use Rattle.log_sums.specs.PlantLogs.{IsAnyChecked}
+use Rattle.valid_log.specs.declared.verdict.LogVerdict.{LogVerdict}
+use Rattle.valid_log.specs.declared.verdict.LogVerdict.TheVariants as log
+use Rattle.valid_log.specs.PlantLogs.{IsAnyChecked}
 use Rattle.least_horizon.specs.declared.stem.StemVerdict.{StemVerdict}
 use Rattle.least_horizon.specs.declared.stem.StemVerdict.TheVariants.{Yes, No}
 use Rattle.least_horizon.specs.PlantAt.{plant_at}

@@ -11,12 +11,13 @@ ghost use Rattle.least_horizon.specs.Least.{NoneBelow};
 ghost use Rattle.least_horizon.specs.Stems.{objection, IsJudged, IsStemVerdict};
 
 use crate::shorter::plant_at;
-use log_check::{CheckStop, LogVerdict};
-use log_sums::check_plant;
+use log_check::CheckStop;
+use plant_check::check_stream;
 use proof_log::{Claim, Defect, log_name};
 use std::alloc::Global;
 use stn_edge::Shelf;
 use stn_model::Plant;
+use valid_log::LogVerdict;
 
 /// Whether the logs of a stem show that no plan is feasible within a shorter horizon.
 #[derive(Clone, Copy, PartialEq, Eq, Debug)]
@@ -91,7 +92,7 @@ fn judge<F: Shelf>(
 {
     let short = plant_at(alloc, plant, horizon)?;
     let name = log_name(alloc, stem, horizon)?;
-    let verdict = check_plant(alloc, &short, files, name.as_str())?;
+    let verdict = check_stream(alloc, &short, files, name.as_str())?;
     Ok(objection(verdict))
 }
 

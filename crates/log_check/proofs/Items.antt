@@ -25,8 +25,8 @@ use Rattle.proof_log.specs.Log.{line_after}
 use Rattle.proof_log.specs.declared.log.Defect.{Defect}
 use Rattle.log_check.specs.declared.course.Course.{Course}
 use Rattle.log_check.specs.declared.course.Course.TheVariants.{Going, Faulty}
-use Rattle.log_check.specs.Meaning.{RowSteps, IsWorth, PointDefect, CapDefect, ItemDefect, HasDefect, HaveNone, IsItemDefect}
-use Rattle.log_check.specs.Course.{RowWalk, StandsAt, IsReady, IsNamed, MayTake, IsTested, end_kind, course_of}
+use Rattle.valid_log.specs.Meaning.{RowSteps, IsWorth, PointDefect, CapDefect, ItemDefect, HasDefect, HaveNone, IsItemDefect, IsTested}
+use Rattle.log_check.specs.Course.{RowWalk, StandsAt, IsReady, IsNamed, MayTake, end_kind, course_of}
 
 -- the right part of each open split is there
 abbrev RightsNamed : RowSteps → List (Opened RowPick) → Type 0
@@ -67,9 +67,6 @@ part-leads s splits Bad named e = refl
 part-leads s splits NoPoint named e = absurd (close-leads s splits NoPoint named e)
 part-leads s splits (AtMost n) named e = absurd (close-leads s splits (AtMost n) named e)
 
-part-Bad : (s : RowSteps) (splits : List (Opened RowPick)) (proof_cap : Capped) → part_ended s splits proof_cap ≢ undefined → proof_cap ≢ Bad
-part-Bad s splits proof_cap leads is = leads (rw is refl)
-
 empty_cap-Bad : (answer : Bool) → cond answer NoPoint Bad ≡ Bad → answer ≡ false
 empty_cap-Bad true e = cc
 empty_cap-Bad false e = refl
@@ -92,24 +89,6 @@ leads_nowhere s program splits v (Split pick cert) rights named tested nowhere =
     at : (next : Option View) → next ≢ None → going_to ExpectNode (record { view = v; pick = pick; left = None } ∷ splits) next ≡ undefined → ⊥
     at None some e = some refl
     at (Some w) some e = cc
-
--- a point that has its worth has no defect
-pub worth-sound : (program : Program) (value : ℤ) (point : List ℕ) → IsWorth program value point → (kind : ℕ) → ¬ PointDefect program value point kind
-worth-sound program value point is kind = ⊎_elim (λ x. x.1 is.0) (λ x. x.2 is.1)
-
-cap-sound : (s : RowSteps) (v : View) (cert : Cert) → s.empty v ≡ false → s.cap v cert ≢ Bad → (kind : ℕ) → ¬ CapDefect s v cert kind
-cap-sound s v cert filled caps kind = ⊎_elim (λ x. let e = x.1 in cc) (λ x. caps x.2)
-
--- a tested item that leads somewhere has no defect
-pub leads_on : (s : RowSteps) (program : Program) (splits : List (Opened RowPick)) (v : View) (item : RowItem) → IsTested s program v item → taken s splits v item ≢ undefined → (kind : ℕ) → ¬ ItemDefect s program v item kind
-leads_on s program splits v Node tested leads kind = λ x. x
-leads_on s program splits v (Cut cut) tested leads kind = λ x. x
-leads_on s program splits v (FoundItem found) tested leads kind = worth-sound program found.value found.point tested kind
-leads_on s program splits v Empty tested leads kind = λ x. part-Bad s splits (leaf_cap s v no_point) leads (rw x.1 refl)
-leads_on s program splits v (Dual cert) tested leads kind = cap-sound s v cert tested (part-Bad s splits (s.cap v cert) leads) kind
-leads_on s program splits v Point tested leads kind = λ x. part-Bad s splits (s.settle v) leads x.1
-leads_on s program splits v (Pending cert) tested leads kind = cap-sound s v cert tested (part-Bad s splits (s.cap v cert) leads) kind
-leads_on s program splits v (Split pick cert) tested leads kind = λ x. x
 
 -- no item has a defect where one more has none
 HaveNone-next : (s : RowSteps) (program : Program) (outcome : Outcome RowPick) (items : List RowItem) (item : RowItem) → HaveNone s program outcome items → ((kind : ℕ) → ¬ HasDefect s program (walked s outcome items) item kind) → HaveNone s program outcome (items ++ item ∷ [])

@@ -38,12 +38,12 @@ use Rattle.proof_log.specs.Log.{line_after}
 use Rattle.proof_log.specs.LogReading.{IsClean}
 use Rattle.log_check.specs.declared.course.Course.{Course}
 use Rattle.log_check.specs.declared.course.Course.TheVariants.{Going, Ended, Faulty}
-use Rattle.log_check.specs.declared.verdict.LogVerdict.{LogVerdict}
-use Rattle.log_check.specs.declared.verdict.LogVerdict.TheVariants.{Yes, No}
-use Rattle.log_check.proofs.FoundSound.{claim_sound}
-use Rattle.log_check.specs.Course.{RowWalk, StandsAt}
-use Rattle.log_check.specs.Meaning.{RowSteps, Holds, ClaimDefect, IsSoundClaim, IsAbove, AllowsPoint, IsProved}
-use Rattle.log_check.specs.Verdict.{IsLog, IsMeaningVerdict, IsVerdictGiven, IsVerdict, YesHolds, IsEndVerdict, limits_of}
+use Rattle.valid_log.specs.declared.verdict.LogVerdict.{LogVerdict}
+use Rattle.valid_log.specs.declared.verdict.LogVerdict.TheVariants.{Yes, No}
+use Rattle.valid_log.proofs.FoundSound.{claim_sound}
+use Rattle.log_check.specs.Course.{RowWalk, StandsAt, IsEndVerdict}
+use Rattle.valid_log.specs.Meaning.{RowSteps, Holds, ClaimDefect, IsSoundClaim, IsAbove, AllowsPoint, IsProved}
+use Rattle.valid_log.specs.Verdict.{IsLog, IsMeaningVerdict, IsVerdictGiven, IsVerdict, YesHolds, limits_of}
 
 root_point : (program : Program) (p : List ℕ) → IsLawful program p → IsIn (view_of program.root) p
 root_point program p lawful = subst (λ (ds : List Domain). LiesIn ds p) (sym (domains_of-view_of program.root)) lawful.lies

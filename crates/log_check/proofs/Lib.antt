@@ -1,5 +1,4 @@
 pub mod Columns
-pub mod FoundSound
 pub mod Items
 pub mod Judging
 pub mod Left

@@ -10,10 +10,10 @@ use Rattle.proof_log.specs.Log.{log_text}
 use Rattle.proof_log.specs.OneText.{IsLogOver, SameLog}
 use Rattle.proof_log.proofs.OneText.{logs_same}
 use Rattle.log_lines.specs.TextDefect.{log_text_defect}
-use Rattle.log_check.specs.declared.verdict.LogVerdict.{LogVerdict}
-use Rattle.log_check.specs.declared.verdict.LogVerdict.TheVariants.{Yes, No}
-use Rattle.log_check.specs.Meaning.{IsMeaningDefect}
-use Rattle.log_check.specs.Verdict.{IsLog, IsMeaningVerdict, IsVerdictOn, IsSoundLog, IsVerdictGiven, IsVerdict, limits_of}
+use Rattle.valid_log.specs.declared.verdict.LogVerdict.{LogVerdict}
+use Rattle.valid_log.specs.declared.verdict.LogVerdict.TheVariants.{Yes, No}
+use Rattle.valid_log.specs.Meaning.{IsMeaningDefect}
+use Rattle.valid_log.specs.Verdict.{IsLog, IsMeaningVerdict, IsVerdictOn, IsSoundLog, IsVerdictGiven, IsVerdict, limits_of}
 
 module _ (program : Program) (version : ℕ) (tree : RowTree) (claim : Claim) (over : IsLogOver (length program.root) version tree claim) where
   -- a log with the text of this one is this one

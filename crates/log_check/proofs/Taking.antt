@@ -16,9 +16,9 @@ use Rattle.proof_log.specs.Log.{line_after}
 use Rattle.proof_log.specs.LogReading.{HasRead, IsPartAfter}
 use Rattle.log_check.specs.declared.checker.Checker.{Checker}
 use Rattle.log_check.specs.declared.course.Course.TheVariants.{Going}
-use Rattle.log_check.specs.declared.verdict.LogVerdict.{LogVerdict}
-use Rattle.log_check.specs.Course.{StandsAt, IsReady, MayTake}
-use Rattle.log_check.specs.Verdict.{IsVerdict, YesHolds, IsEndVerdict, limits_of}
+use Rattle.valid_log.specs.declared.verdict.LogVerdict.{LogVerdict}
+use Rattle.log_check.specs.Course.{StandsAt, IsReady, MayTake, IsEndVerdict}
+use Rattle.valid_log.specs.Verdict.{IsVerdict, YesHolds, limits_of}
 use Rattle.log_check.specs.laws.Rooms.{IsRoomsOf}
 use Rattle.log_check.proofs.Judging.{end_verdict, end_holds, not_going}
 use Rattle.log_check.proofs.There.{may_take}

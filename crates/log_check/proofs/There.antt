@@ -18,7 +18,7 @@ use Rattle.row_relax.specs.RowProofs.{RowItem}
 use Rattle.log_check.specs.declared.course.Course.{Course}
 use Rattle.log_check.specs.declared.course.Course.TheVariants.{Going, Ended, Faulty}
 use Rattle.log_check.specs.Course.{RowWalk, StandsAt, IsNamed, MayTake}
-use Rattle.log_check.specs.Verdict.{limits_of}
+use Rattle.valid_log.specs.Verdict.{limits_of}
 
 test_true : (a b : ℕ) → a < b → nat_lt a b ≡ true
 test_true a b below = grind (arith, nat_tests)

@@ -1,10 +1,11 @@
--- Where a check stands after some items.
-use Rattle.std.specs.Prelude.{◌≡◌, ◌≢◌, ⊤, IsTrue, ℕ, false, List, None}
+-- Where a check stands after some items, and what it answers at the end.
+use Rattle.std.specs.Prelude.{◌≡◌, ◌≢◌, ⊤, IsTrue, ℕ, List, None}
 use Rattle.row_kit.specs.declared.area.Area.{Area}
 use Rattle.row_kit.specs.declared.found.Found.{Found}
 use Rattle.row_kit.specs.declared.program.Program.{Program}
 use Rattle.range_prop.specs.declared.row_cut.RowCut.{RowCut}
 use Rattle.dual_bound.specs.declared.cert.Cert.{Cert}
+use Rattle.proof_tree.specs.declared.capped.Capped.{Capped}
 use Rattle.proof_tree.specs.declared.item.Item.TheVariants.{Node, Cut, Found as FoundItem, Empty, Dual, Point, Pending, Split}
 use Rattle.proof_tree.specs.declared.walk.Walk.{Walk}
 use Rattle.proof_tree.specs.declared.walk.Took.{Took}
@@ -14,9 +15,12 @@ use Rattle.proof_tree.specs.Walk.{going, walked, start, may_come, stage_of, Stan
 use Rattle.row_relax.specs.declared.pick.RowPick.{RowPick}
 use Rattle.row_relax.specs.declared.rows.Rows.{Rows}
 use Rattle.row_relax.specs.RowProofs.{RowItem}
+use Rattle.proof_log.specs.declared.claim.Claim.{Claim}
 use Rattle.log_check.specs.declared.course.Course.{Course}
 use Rattle.log_check.specs.declared.course.Course.TheVariants.{Going, Ended, Faulty}
-use Rattle.log_check.specs.Meaning.{RowSteps, IsWorth, HaveNone, IsProved, IsItemDefect}
+use Rattle.valid_log.specs.declared.verdict.LogVerdict.{LogVerdict}
+use Rattle.valid_log.specs.declared.verdict.LogVerdict.TheVariants.{Yes, No}
+use Rattle.valid_log.specs.Meaning.{RowSteps, ClaimDefect, HaveNone, IsProved, IsItemDefect, IsSoundClaim}
 
 -- a walk over a proof of rows
 abbrev pub RowWalk : Type 0
@@ -52,17 +56,6 @@ MayTake s Going walk v item = IsTrue (may_come walk.expected item) × IsNamed s 
 MayTake s (Ended proof_cap) walk v item = ⊥
 MayTake s (Faulty defect) walk v item = ⊤
 
--- what was tested before a walk takes an item: a found point is lawful and has its worth, and under a certificate no domain is empty
-abbrev pub IsTested : RowSteps → Program → View → RowItem → Type 0
-IsTested s program v Node = ⊤
-IsTested s program v (Cut cut) = ⊤
-IsTested s program v (FoundItem found) = IsWorth program found.value found.point
-IsTested s program v Empty = ⊤
-IsTested s program v (Dual cert) = s.empty v ≡ false
-IsTested s program v Point = ⊤
-IsTested s program v (Pending cert) = s.empty v ≡ false
-IsTested s program v (Split pick cert) = ⊤
-
 -- the kind of the defect of an end that gives no cap
 abbrev pub end_kind : RowItem → ℕ
 end_kind Node = 0
@@ -79,3 +72,14 @@ abbrev pub course_of : Took → ℕ → ℕ → Course
 course_of More line kind = Going
 course_of (Done proof_cap) line kind = Ended proof_cap
 course_of TookBad line kind = Faulty (record { line = line; kind = kind })
+
+-- the answer on a claim that begins at a line, where the proof has a cap
+abbrev pub IsClaimVerdict : Program → Capped → ℕ → Claim → LogVerdict → Type 0
+IsClaimVerdict program proof_cap began claim (Yes own) = (own ≡ claim) × IsSoundClaim program proof_cap claim
+IsClaimVerdict program proof_cap began claim (No defect) = (defect.line ≡ began) × ClaimDefect program proof_cap claim defect.kind
+
+-- the answer on a log that has come to its end: the first defect of an item, or the answer on its claim, which begins at a line
+abbrev pub IsEndVerdict : Program → Course → ℕ → Claim → LogVerdict → Type 0
+IsEndVerdict program Going began claim verdict = ⊥
+IsEndVerdict program (Ended proof_cap) began claim verdict = IsClaimVerdict program proof_cap began claim verdict
+IsEndVerdict program (Faulty defect) began claim verdict = verdict ≡ No defect

@@ -1,4 +1,3 @@
 pub mod Course
-pub mod Meaning
-pub mod Verdict
+pub mod Stops
 pub mod laws

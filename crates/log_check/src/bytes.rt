@@ -1,12 +1,12 @@
 //! The check of a log that is given as its bytes.
 ghost use Rattle.std.specs.Prelude.{◌≡◌, IfOk};
-ghost use Rattle.log_check.specs.Verdict.{IsVerdict, YesHolds};
+ghost use Rattle.valid_log.specs.Verdict.{IsVerdict, YesHolds};
 
 use crate::checking::check_rows;
-use crate::verdict::LogVerdict;
 use row_relax::Rows;
 use std::alloc::{AllocError, Global};
 use stn_edge::FixedShelf;
+use valid_log::LogVerdict;
 
 /// Checks the log of these bytes, as `check_rows` checks one in a file. It takes memory by the bytes, too.
 pub fn check_bytes(

@@ -6,8 +6,8 @@ ghost use Rattle.row_relax.specs.View.{Fits, view_of};
 ghost use Rattle.proof_tree.specs.Walk.{Stands};
 ghost use Rattle.row_relax.specs.RowProofs.{RowItem};
 ghost use Rattle.proof_log.specs.Log.{line_after};
-ghost use Rattle.log_check.specs.Meaning.{ItemDefect};
-ghost use Rattle.log_check.specs.Course.{StandsAt, IsReady, MayTake, IsTested, end_kind, course_of};
+ghost use Rattle.valid_log.specs.Meaning.{ItemDefect, IsTested};
+ghost use Rattle.log_check.specs.Course.{StandsAt, IsReady, MayTake, end_kind, course_of};
 ghost use Rattle.log_check.specs.laws.Rooms.{IsRoomsOf};
 
 use crate::course::Course;

@@ -3,12 +3,13 @@ ghost use Rattle.std.specs.Prelude.{◌≡◌, ◌≢◌, ◌≤◌, Err, IfOk, 
 ghost use Rattle.stn_edge.specs.Count.{Rose};
 ghost use Rattle.stn_edge.specs.Files.{file_of};
 ghost use Rattle.proof_log.specs.Behind.{behind};
-ghost use Rattle.log_check.specs.Verdict.{IsVerdict, YesHolds, IsClaimVerdict, IsEndVerdict, limits_of};
+ghost use Rattle.valid_log.specs.Verdict.{IsVerdict, YesHolds, limits_of};
+ghost use Rattle.log_check.specs.Course.{IsClaimVerdict, IsEndVerdict};
 
 use crate::checker::Checker;
 use crate::claims::claim_defect;
 use crate::course::Course;
-use crate::verdict::{CheckStop, LogVerdict};
+use crate::stop::CheckStop;
 use log_lines::Limits;
 use proof_log::{Claim, Defect, LogPart, LogReader};
 use proof_tree::Capped;
@@ -16,6 +17,7 @@ use row_kit::Program;
 use row_relax::Rows;
 use std::alloc::Global;
 use stn_edge::Shelf;
+use valid_log::LogVerdict;
 
 /// The limits of a program's logs.
 fn limits_of(program: &Program, depth: u32) -> Limits

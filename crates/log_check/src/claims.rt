@@ -1,7 +1,7 @@
 //! What is wrong with a claim.
 ghost use Rattle.std.specs.Prelude.{◌≡◌, ℕ, MatchOption, IsTrue, ◌↔◌};
 ghost use Rattle.proof_tree.specs.declared.capped.Capped.{Capped};
-ghost use Rattle.log_check.specs.Meaning.{CappedDefect, ClaimDefect, IsWorth, IsSoundClaim, IsAbove, AllowsPoint};
+ghost use Rattle.valid_log.specs.Meaning.{CappedDefect, ClaimDefect, IsWorth, IsSoundClaim, IsAbove, AllowsPoint};
 
 use crate::points::point_defect;
 use proof_log::Claim;

@@ -2,7 +2,8 @@
 //!
 //! `check_rows` reads a log in a file once, part by part, and `check_behind` one that stands behind a head of its file;
 //! `check_bytes` takes one as bytes, and `check_log` as a proof and a claim.
-//! Where they say yes, what the claim says holds of all points. Where they say no, they name the first defect.
+//! They answer as `valid_log` says is right: where it is yes, what the claim says holds of all points, and where it is no, it
+//! names the first defect.
 #![tactic(auto)]
 
 mod bytes;
@@ -13,9 +14,9 @@ mod course;
 mod log;
 mod points;
 mod rooms;
-mod verdict;
+mod stop;
 
 pub use bytes::check_bytes;
 pub use checking::{check_behind, check_rows};
 pub use log::check_log;
-pub use verdict::{CheckStop, LogVerdict};
+pub use stop::CheckStop;

@@ -5,13 +5,13 @@ ghost use Rattle.proof_tree.specs.Tree.{tree_of};
 ghost use Rattle.log_lines.specs.TextDefect.{log_text_defect};
 ghost use Rattle.proof_log.specs.Log.{log_text};
 ghost use Rattle.proof_log.specs.OneText.{IsLogOver};
-ghost use Rattle.log_check.specs.Verdict.{IsVerdict, IsVerdictOn, YesHolds, limits_of};
+ghost use Rattle.valid_log.specs.Verdict.{IsVerdict, IsVerdictOn, YesHolds, limits_of};
 
 use crate::bytes::check_bytes;
-use crate::verdict::LogVerdict;
 use proof_log::{Log, put_log};
 use row_relax::Rows;
 use std::alloc::{AllocError, Global};
+use valid_log::LogVerdict;
 
 /// Checks this log by its text, as `check_bytes` checks bytes: it writes the whole text, and takes memory by it.
 pub fn check_log(

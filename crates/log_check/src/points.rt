@@ -1,7 +1,7 @@
 //! What is wrong with a found point.
 ghost use Rattle.std.specs.Prelude.{◌≡◌, ◌↔◌, ℕ, MatchOption, IsTrue};
 ghost use Rattle.row_kit.specs.Point.{IsLawful};
-ghost use Rattle.log_check.specs.Meaning.{PointDefect, IsWorth};
+ghost use Rattle.valid_log.specs.Meaning.{PointDefect, IsWorth};
 ghost use Rattle.log_check.specs.laws.Rooms.{IsRoomsOf};
 
 use crate::rooms::RowRooms;

@@ -5,7 +5,7 @@ use Rattle.row_kit.specs.declared.program.Program.{Program}
 use Rattle.row_kit.specs.Point.{IsLawful, worth_of}
 use Rattle.proof_tree.specs.declared.item.Item.TheVariants.{Node, Cut, Found as FoundItem, Empty, Dual, Point, Pending, Split}
 use Rattle.row_relax.specs.RowProofs.{RowItem}
-use Rattle.log_check.proofs.FoundSound.{IsFinePoint, IsFine}
+use Rattle.valid_log.proofs.FoundSound.{IsFinePoint, IsFine}
 use Rattle.log_parts.proofs.PartCaps.{IsPart, lawful-part}
 
 -- a point without a defect in a part has none in the whole

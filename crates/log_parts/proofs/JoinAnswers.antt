@@ -22,9 +22,9 @@ use Rattle.proof_log.specs.OneText.{IsLogOver}
 use Rattle.proof_log.proofs.Lines.{lines_text-append}
 use Rattle.sum_slots.specs.declared.sum.Sum.{Sum}
 use Rattle.sum_slots.specs.Larger.{IsWithSums, sum_domain, sum_rows}
-use Rattle.log_check.specs.Verdict.{limits_of}
-use Rattle.log_sums.specs.SumTexts.{any_text, larger_claim}
-use Rattle.plant_check.specs.Claims.{Says}
+use Rattle.valid_log.specs.Verdict.{limits_of}
+use Rattle.valid_log.specs.SumTexts.{any_text, larger_claim}
+use Rattle.valid_log.specs.Claims.{Says}
 use Rattle.log_parts.specs.declared.joins.Joined.{Joined}
 use Rattle.log_parts.specs.declared.joins.Joined.TheVariants.{Done, No}
 use Rattle.log_parts.specs.Joining.{IsJoined}

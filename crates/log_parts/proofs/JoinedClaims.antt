@@ -16,7 +16,7 @@ use Rattle.row_set.specs.Parts.{plan_of_values}
 use Rattle.proof_log.specs.declared.claim.Claim.{Claim}
 use Rattle.proof_log.specs.declared.claim.Claim.TheVariants.{Optimal, Infeasible, Between, Below}
 use Rattle.proof_log.specs.ClaimSays.{HasWorth, NoneAbove}
-use Rattle.plant_check.specs.Claims.{SaysOf, Says}
+use Rattle.valid_log.specs.Claims.{SaysOf, Says}
 use Rattle.log_parts.specs.declared.joining.ClaimedPlan.{ClaimedPlan}
 use Rattle.log_parts.specs.PlantParts.{IsOfPart}
 use Rattle.log_parts.specs.Joining.{plan_of, cap_of, EarnsAtMost, EarnsBelow, IsCapped, IsBestOf, IsGreatestCap, IsBestPlan, IsBestCap, claim_with, IsJoined, EachSays, better, greater}

@@ -11,8 +11,8 @@ use Rattle.proof_tree.specs.declared.capped.Capped.TheVariants.{AtMost, NoPoint,
 use Rattle.proof_tree.specs.Cap.{greater}
 use Rattle.proof_log.specs.declared.claim.Claim.{Claim}
 use Rattle.proof_log.specs.declared.claim.Claim.TheVariants.{Optimal, Infeasible, Between, Below}
-use Rattle.log_check.specs.Meaning.{IsAbove, AllowsPoint, CappedDefect, ClaimDefect}
-use Rattle.log_check.proofs.FoundSound.{IsFinePoint, no_capped}
+use Rattle.valid_log.specs.Meaning.{IsAbove, AllowsPoint, CappedDefect, ClaimDefect}
+use Rattle.valid_log.proofs.FoundSound.{IsFinePoint, no_capped}
 use Rattle.log_parts.specs.declared.joining.ClaimedPlan.{ClaimedPlan}
 use Rattle.log_parts.specs.Joining.{plan_of, cap_of, IsBestOf, claim_with}
 use Rattle.log_parts.proofs.JoinedClaims.{by-less, seam}

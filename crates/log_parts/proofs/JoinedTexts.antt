@@ -29,7 +29,7 @@ use Rattle.proof_log.proofs.GrammarWalk.{front, back, at, closed, on, on-step, l
 use Rattle.proof_log.proofs.NoDefect.{no_defect}
 use Rattle.proof_log.proofs.OneText.{logs_same}
 use Rattle.proof_log.proofs.WrittenLines.{none, more, natural, one_line_of, claim_fits}
-use Rattle.log_check.specs.Verdict.{IsLog, limits_of}
+use Rattle.valid_log.specs.Verdict.{IsLog, limits_of}
 use Rattle.log_parts.specs.declared.joining.ClaimedPlan.{ClaimedPlan}
 use Rattle.log_parts.specs.Joining.{plan_of, cap_of, claim_with}
 use Rattle.log_parts.specs.PartLogs.{no_mults, no_tree, tree_over}

@@ -48,16 +48,16 @@ use Rattle.proof_log.specs.OneText.{IsOver}
 use Rattle.proof_log.proofs.GrammarWalk.{at, closed}
 use Rattle.log_lines.specs.declared.grammar.Place.TheVariants.{Node as AtNode}
 use Rattle.proof_log.proofs.SaidOfOthers.{says_of_others}
-use Rattle.log_check.specs.declared.verdict.LogVerdict.TheVariants as verdict
-use Rattle.log_check.specs.Verdict.{IsLog, IsSoundLog, IsVerdict, IsVerdictGiven, limits_of}
-use Rattle.log_check.proofs.FoundSound.{IsFine, IsFinePoint, items-fine, items_sound, real_outcome}
-use Rattle.plant_check.specs.Claims.{SaysOf}
-use Rattle.log_sums.specs.AnyVersion.{IsAnyVerdict, given_claim}
-use Rattle.log_sums.specs.PlantLogs.{IsAnyChecked}
-use Rattle.log_sums.specs.SumTexts.{MayHead, any_text, larger_claim}
-use Rattle.log_sums.proofs.LogFronts.{headed-verdict, plain-verdict}
-use Rattle.log_sums.proofs.PlantSaying.{part-ranges, plant-ranges}
-use Rattle.plant_check.proofs.Saying.{of_plant}
+use Rattle.valid_log.specs.declared.verdict.LogVerdict.TheVariants as verdict
+use Rattle.valid_log.specs.Verdict.{IsLog, IsSoundLog, IsVerdict, IsVerdictGiven, limits_of}
+use Rattle.valid_log.proofs.FoundSound.{IsFine, IsFinePoint, items-fine, items_sound, real_outcome}
+use Rattle.valid_log.specs.Claims.{SaysOf}
+use Rattle.valid_log.specs.AnyVersion.{IsAnyVerdict, given_claim}
+use Rattle.valid_log.specs.PlantLogs.{IsAnyChecked}
+use Rattle.valid_log.specs.SumTexts.{MayHead, any_text, larger_claim}
+use Rattle.valid_log.proofs.LogFronts.{headed-verdict, plain-verdict}
+use Rattle.valid_log.proofs.PlantRanges.{part-ranges, plant-ranges}
+use Rattle.valid_log.proofs.Saying.{of_plant}
 use Rattle.log_parts.specs.declared.joining.ClaimedPlan.{ClaimedPlan}
 use Rattle.log_parts.specs.Joining.{plan_of, IsBestPlan, IsBestCap, IsJoined}
 use Rattle.log_parts.specs.PartLogs.{IsJoinedLog, IsPartLog, no_tree, tree_over}

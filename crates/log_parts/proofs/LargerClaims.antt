@@ -11,12 +11,12 @@ use Rattle.row_relax.specs.laws.Lawful.{lawful_true, true_lawful}
 use Rattle.proof_tree.specs.declared.capped.Capped.{Capped}
 use Rattle.proof_log.specs.declared.claim.Claim.{Claim}
 use Rattle.proof_log.specs.declared.claim.Claim.TheVariants.{Optimal, Infeasible, Between, Below}
-use Rattle.log_check.proofs.FoundSound.{IsFinePoint}
+use Rattle.valid_log.proofs.FoundSound.{IsFinePoint}
 use Rattle.sum_slots.specs.declared.sum.Sum.{Sum}
 use Rattle.sum_slots.specs.Larger.{completed}
 use Rattle.sum_slots.specs.Law.{IsSameWithSums}
-use Rattle.log_sums.specs.AnyVersion.{given_claim}
-use Rattle.log_sums.specs.SumTexts.{larger_claim}
+use Rattle.valid_log.specs.AnyVersion.{given_claim}
+use Rattle.valid_log.specs.SumTexts.{larger_claim}
 use Rattle.log_parts.specs.declared.joining.ClaimedPlan.{ClaimedPlan}
 use Rattle.log_parts.specs.Joining.{plan_of, cap_of, EarnsAtMost, EarnsBelow, IsCapped, IsBestPlan, IsBestCap, claim_with, IsJoined}
 use Rattle.log_parts.specs.laws.Copying.{IsPointed}

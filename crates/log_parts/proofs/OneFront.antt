@@ -17,7 +17,7 @@ use Rattle.sum_lines.specs.Head.{AreKept, HasRows, IsThere, first_line, head_tex
 use Rattle.sum_lines.specs.Line.{IsHeadLine, IsShortRow, head_line_text}
 use Rattle.sum_lines.proofs.Feeds.{feed_unique, text_fits, text_unique}
 use Rattle.sum_lines.proofs.LineTexts.{lines_text-append, lines_text-nil}
-use Rattle.log_sums.specs.AnyVersion.{front_bytes, front_sums}
+use Rattle.valid_log.specs.AnyVersion.{front_bytes, front_sums}
 use Rattle.log_parts.specs.laws.Checked.{IsClear}
 
 -- ---- sums that may be written

@@ -20,11 +20,11 @@ use Rattle.sum_slots.specs.Shown.{IsShown}
 use Rattle.sum_lines.specs.declared.head.Front.{Front}
 use Rattle.sum_lines.specs.declared.head.Front.TheVariants as front
 use Rattle.sum_lines.specs.Front.{IsFront}
-use Rattle.log_check.specs.declared.verdict.LogVerdict.{LogVerdict}
-use Rattle.log_check.specs.declared.verdict.LogVerdict.TheVariants.{Yes, No}
-use Rattle.log_check.specs.Verdict.{IsLog, IsSoundLog, IsValid, IsVerdict, IsVerdictGiven, limits_of}
-use Rattle.log_sums.specs.AnyVersion.{IsFrontVerdict, front_bytes, front_sums, given_claim, given_verdict, limits_with}
-use Rattle.log_sums.proofs.LogFronts.{limits_same}
+use Rattle.valid_log.specs.declared.verdict.LogVerdict.{LogVerdict}
+use Rattle.valid_log.specs.declared.verdict.LogVerdict.TheVariants.{Yes, No}
+use Rattle.valid_log.specs.Verdict.{IsLog, IsSoundLog, IsValid, IsVerdict, IsVerdictGiven, limits_of}
+use Rattle.valid_log.specs.AnyVersion.{IsFrontVerdict, front_bytes, front_sums, given_claim, given_verdict, limits_with}
+use Rattle.valid_log.proofs.LogFronts.{limits_same}
 use Rattle.log_parts.specs.PartLogs.{IsPartLog, IsPartProgram}
 use Rattle.log_parts.specs.laws.Checked.{IsClear, IsFoundLog}
 use Rattle.log_parts.proofs.OneFront.{front_at, fronts_same}

@@ -25,12 +25,12 @@ use Rattle.sum_lines.specs.declared.head.Head.{Head}
 use Rattle.sum_lines.specs.Front.{IsFront, KeepsLimits}
 use Rattle.sum_lines.specs.Head.{AreKept, head_text, lines_text}
 use Rattle.sum_lines.proofs.SumLines.{none_kept}
-use Rattle.log_check.specs.declared.verdict.LogVerdict.TheVariants.{Yes, No}
-use Rattle.log_check.specs.Verdict.{limits_of}
-use Rattle.log_sums.specs.AnyVersion.{front_bytes, front_sums}
-use Rattle.log_sums.specs.PlantLogs.{IsAnyPartChecked}
-use Rattle.log_sums.proofs.LogFronts.{limits_same}
-use Rattle.plant_check.specs.Claims.{SaysOf}
+use Rattle.valid_log.specs.declared.verdict.LogVerdict.TheVariants.{Yes, No}
+use Rattle.valid_log.specs.Verdict.{limits_of}
+use Rattle.valid_log.specs.AnyVersion.{front_bytes, front_sums}
+use Rattle.valid_log.specs.PlantLogs.{IsAnyPartChecked}
+use Rattle.valid_log.proofs.LogFronts.{limits_same}
+use Rattle.valid_log.specs.Claims.{SaysOf}
 use Rattle.log_parts.specs.declared.checking.Checked.TheVariants.{Bad}
 use Rattle.log_parts.specs.declared.fronts.Declared.{Declared}
 use Rattle.log_parts.specs.declared.fronts.Declared.TheVariants as declared

@@ -4,7 +4,7 @@ use Rattle.std.specs.List.{All}
 use Rattle.stn_model.specs.declared.plant.Plant.{Plant}
 use Rattle.proof_log.specs.declared.claim.Claim.{Claim}
 use Rattle.proof_log.specs.declared.claim.Claim.TheVariants.{Optimal, Infeasible, Between, Below}
-use Rattle.plant_check.specs.Claims.{SaysOf}
+use Rattle.valid_log.specs.Claims.{SaysOf}
 use Rattle.log_parts.specs.declared.joining.ClaimedPlan.{ClaimedPlan}
 use Rattle.log_parts.specs.PlantParts.{IsOfPart}
 

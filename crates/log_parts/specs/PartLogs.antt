@@ -12,13 +12,13 @@ use Rattle.proof_log.specs.declared.claim.Claim.{Claim}
 use Rattle.proof_log.specs.declared.claim.Claim.TheVariants.{Infeasible}
 use Rattle.proof_log.specs.declared.log.Defect.{Defect}
 use Rattle.proof_log.specs.LogNames.{log_name}
-use Rattle.log_check.specs.declared.verdict.LogVerdict.{LogVerdict}
-use Rattle.log_check.specs.declared.verdict.LogVerdict.TheVariants as verdict
-use Rattle.plant_check.specs.Claims.{Says}
+use Rattle.valid_log.specs.declared.verdict.LogVerdict.{LogVerdict}
+use Rattle.valid_log.specs.declared.verdict.LogVerdict.TheVariants as verdict
+use Rattle.valid_log.specs.Claims.{Says}
 use Rattle.sum_slots.specs.declared.sum.Sum.{Sum}
-use Rattle.log_sums.specs.AnyVersion.{IsAnyLog}
-use Rattle.log_sums.specs.PlantLogs.{IsAnyChecked, IsAnyPartChecked}
-use Rattle.log_sums.specs.SumTexts.{any_text, larger_claim}
+use Rattle.valid_log.specs.AnyVersion.{IsAnyLog}
+use Rattle.valid_log.specs.PlantLogs.{IsAnyChecked, IsAnyPartChecked}
+use Rattle.valid_log.specs.SumTexts.{any_text, larger_claim}
 use Rattle.log_parts.specs.declared.joins.Joined.{Joined}
 use Rattle.log_parts.specs.declared.joins.Joined.TheVariants.{Done, No}
 use Rattle.log_parts.specs.Joining.{IsJoined}

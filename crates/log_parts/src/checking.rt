@@ -5,17 +5,16 @@ ghost use Rattle.stn_edge.specs.Files.{file_of};
 ghost use Rattle.stn_model.specs.Sound.{Sound};
 ghost use Rattle.time_grid.specs.Slots.{slots};
 ghost use Rattle.sum_lines.specs.Front.{IsFront, KeepsLimits};
-ghost use Rattle.log_check.specs.Verdict.{limits_of};
+ghost use Rattle.valid_log.specs.Verdict.{limits_of};
 ghost use Rattle.proof_log.specs.LogNames.{log_name};
 ghost use Rattle.log_parts.specs.PartLogs.{logs_of};
 ghost use Rattle.log_parts.specs.laws.Checked.{AreChecked, AllSay, AreSumsOf, IsPartCheck, MayBeDeclared, MayDeclare, PartSays};
 
 use crate::fronts::{Declared, PartCheck, compared, sums_of};
 use crate::parting::part_rows;
-use log_check::{CheckStop, LogVerdict};
+use log_check::CheckStop;
 use log_lines::Limits;
-use log_sums::check_part;
-use plant_check::MOST_DEPTH;
+use plant_check::{MOST_DEPTH, check_part};
 use proof_log::{Claim, Defect, log_name};
 use row_kit::{List, Program};
 use std::alloc::{AllocError, Global};
@@ -23,6 +22,7 @@ use stn_edge::{Shelf, Stop};
 use stn_model::Plant;
 use sum_lines::{Front, read_head};
 use sum_slots::Sum;
+use valid_log::LogVerdict;
 
 // What the check of the logs of all parts comes to.
 #[derive(Drop)]

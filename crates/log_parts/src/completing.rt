@@ -5,7 +5,7 @@ ghost use Rattle.row_kit.specs.Point.{IsLawful};
 ghost use Rattle.sum_slots.specs.Larger.{completed};
 ghost use Rattle.sum_slots.specs.Shown.{IsShown};
 ghost use Rattle.sum_slots.specs.Sum.{IsDeclared};
-ghost use Rattle.log_sums.specs.SumTexts.{larger_claim};
+ghost use Rattle.valid_log.specs.SumTexts.{larger_claim};
 ghost use Rattle.log_parts.specs.laws.Copying.{IsPointed};
 
 use proof_log::Claim;

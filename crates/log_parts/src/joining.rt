@@ -1,7 +1,7 @@
 //! The claim of all parts.
 ghost use Rattle.std.specs.Prelude.{◌≡◌, ℕ, ◌^◌, length};
 ghost use Rattle.stn_model.specs.declared.plant.Plant.{Plant};
-ghost use Rattle.plant_check.specs.Claims.{Says};
+ghost use Rattle.valid_log.specs.Claims.{Says};
 ghost use Rattle.log_parts.specs.Joining.{plan_of, cap_of, better, greater, claim_with, IsJoined, EachSays};
 
 use proof_log::Claim;

@@ -26,7 +26,7 @@ ghost use Rattle.log_parts.specs.laws.Copying.{
   IsClaim,
 };
 ghost use Rattle.proof_log.specs.declared.claim.Claim.{Claim};
-ghost use Rattle.log_sums.specs.SumTexts.{larger_claim};
+ghost use Rattle.valid_log.specs.SumTexts.{larger_claim};
 ghost use Rattle.log_parts.specs.laws.Checked.{MayDeclare};
 
 use crate::completing::larger_claim;

@@ -17,8 +17,8 @@ use Rattle.proof_log.specs.Log.{log_lines, log_text}
 use Rattle.proof_log.specs.OneText.{IsOver, IsClaimOver, IsLogOver}
 use Rattle.proof_log.proofs.NoDefect.{logs_clean}
 use Rattle.proof_log.proofs.WrittenLines.{claim_fits, logs_written}
-use Rattle.log_check.specs.Meaning.{IsSoundClaim}
-use Rattle.log_check.specs.Verdict.{limits_of}
+use Rattle.valid_log.specs.Meaning.{IsSoundClaim}
+use Rattle.valid_log.specs.Verdict.{limits_of}
 use Rattle.plan_told.specs.Proofs.{depth_over}
 use Rattle.plan_told.proofs.SmallClaim.{IsSmallClaim}
 use Rattle.plan_told.proofs.WorthShort.{lawful_bytes, worth_short}

@@ -11,7 +11,7 @@ use Rattle.proof_log.specs.declared.claim.Claim.TheVariants.{Optimal, Infeasible
 use Rattle.sum_slots.specs.declared.sum.Sum.{Sum}
 use Rattle.sum_slots.specs.Larger.{IsWithSums}
 use Rattle.sum_slots.specs.Sum.{IsDeclared}
-use Rattle.log_sums.specs.SumTexts.{MayHead}
+use Rattle.valid_log.specs.SumTexts.{MayHead}
 use Rattle.plan_told.specs.Claims.{HaveBytes, IfPoint}
 use Rattle.plan_told.proofs.ValidSums.{same-given}
 

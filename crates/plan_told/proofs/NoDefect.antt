@@ -14,9 +14,9 @@ use Rattle.row_relax.specs.Steps.{row_steps}
 use Rattle.row_relax.specs.View.{view_of}
 use Rattle.branch_tree.specs.declared.ended.Ended.{Ended}
 use Rattle.branch_tree.specs.Searched.{IsFitItem, IsSearch}
-use Rattle.log_check.specs.Meaning.{IsProved}
-use Rattle.log_check.proofs.FoundSound.{IsFine, items_sound, real_outcome}
-use Rattle.log_check.proofs.Items.{worth-sound}
+use Rattle.valid_log.specs.Meaning.{IsProved}
+use Rattle.valid_log.proofs.FoundSound.{IsFine, items_sound, real_outcome}
+use Rattle.valid_log.proofs.Items.{worth-sound}
 
 -- an item that may be written is no found point with a defect
 item_fine : (program : Program) (item : RowItem) → IsFitItem program item → IsFine program item

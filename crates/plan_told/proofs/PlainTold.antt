@@ -38,7 +38,7 @@ use Rattle.branch_tree.specs.Searched.{HasOpenBox, IsBest, IsSearch}
 use Rattle.branch_tree.proofs.Trees.{fact_of}
 use Rattle.branch_tree.proofs.Whole.{fit-groups}
 use Rattle.proof_log.specs.declared.claim.Claim.TheVariants as claim
-use Rattle.log_check.specs.Meaning.{IsSoundClaim}
+use Rattle.valid_log.specs.Meaning.{IsSoundClaim}
 use Rattle.plan_told.specs.Outcomes.{IsPartOutcome, least_plan, whole_count}
 use Rattle.plan_told.specs.Proofs.{IfSpent, IsProofOf, claim_of}
 use Rattle.plan_told.specs.Ended.{IsSearchOf}

@@ -6,9 +6,9 @@ use Rattle.row_kit.specs.declared.program.Program.{Program}
 use Rattle.row_set.specs.PlantProgram.{plant_root}
 use Rattle.proof_tree.specs.Items.{tree_items}
 use Rattle.row_relax.specs.RowProofs.{RowTree}
-use Rattle.log_check.specs.declared.verdict.LogVerdict.TheVariants.{Yes}
+use Rattle.valid_log.specs.declared.verdict.LogVerdict.TheVariants.{Yes}
 use Rattle.sum_slots.specs.declared.sum.Sum.{Sum}
-use Rattle.log_sums.proofs.LogFronts.{plain-verdict}
+use Rattle.valid_log.proofs.LogFronts.{plain-verdict}
 use Rattle.plan_told.specs.Proofs.{HasProof, IsProofOf, IsSumsProofOf, claim_of, depth_over, proof_text, sums_proof_text}
 
 -- a proof over the part's own program, whose text is told

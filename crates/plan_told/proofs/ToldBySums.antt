@@ -32,10 +32,10 @@ use Rattle.branch_tree.specs.Justified.{IsGroup}
 use Rattle.branch_tree.specs.Searched.{HasOpenBox, IsExact, IsSearch}
 use Rattle.branch_tree.specs.laws.Ends.{is_over}
 use Rattle.proof_log.specs.declared.claim.Claim.TheVariants as claim
-use Rattle.log_check.specs.Meaning.{IsSoundClaim}
+use Rattle.valid_log.specs.Meaning.{IsSoundClaim}
 use Rattle.sum_slots.specs.declared.sum.Sum.{Sum}
 use Rattle.sum_slots.specs.Larger.{IsWithSums}
-use Rattle.log_sums.specs.SumTexts.{MayHead}
+use Rattle.valid_log.specs.SumTexts.{MayHead}
 use Rattle.plan_told.specs.Outcomes.{IsPartOutcome, least_plan, whole_count}
 use Rattle.plan_told.specs.Proofs.{IfSpent, IsSumsProofOf, claim_of}
 use Rattle.plan_told.specs.Telling.{IsTold, told_bare, told_plan}

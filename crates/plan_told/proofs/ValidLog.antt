@@ -8,10 +8,10 @@ use Rattle.branch_tree.specs.declared.ended.Ended.{Ended}
 use Rattle.branch_tree.specs.Searched.{IsSearch}
 use Rattle.proof_log.specs.declared.claim.Claim.{Claim}
 use Rattle.proof_log.specs.Log.{log_text}
-use Rattle.log_check.specs.declared.verdict.LogVerdict.TheVariants.{Yes}
-use Rattle.log_check.specs.Meaning.{IsSoundClaim}
-use Rattle.log_check.specs.Verdict.{IsVerdict, IsVerdictGiven}
-use Rattle.log_check.proofs.FoundSound.{claim_sound}
+use Rattle.valid_log.specs.declared.verdict.LogVerdict.TheVariants.{Yes}
+use Rattle.valid_log.specs.Meaning.{IsSoundClaim}
+use Rattle.valid_log.specs.Verdict.{IsVerdict, IsVerdictGiven}
+use Rattle.valid_log.proofs.FoundSound.{claim_sound}
 use Rattle.plan_told.specs.Proofs.{depth_over}
 use Rattle.plan_told.proofs.CapShort.{root_short}
 use Rattle.plan_told.proofs.CleanText.{log_over, text_clean}

@@ -15,19 +15,19 @@ use Rattle.branch_tree.specs.Searched.{IsSearch, spared}
 use Rattle.proof_log.specs.declared.claim.Claim.{Claim}
 use Rattle.proof_log.specs.declared.claim.Claim.TheVariants.{Optimal, Infeasible, Between, Below}
 use Rattle.proof_log.specs.Log.{log_text}
-use Rattle.log_check.specs.declared.verdict.LogVerdict.TheVariants.{Yes}
-use Rattle.log_check.specs.Meaning.{IsSoundClaim}
+use Rattle.valid_log.specs.declared.verdict.LogVerdict.TheVariants.{Yes}
+use Rattle.valid_log.specs.Meaning.{IsSoundClaim}
 use Rattle.sum_slots.specs.declared.sum.Sum.{Sum}
 use Rattle.sum_slots.specs.Larger.{IsWithSums, sum_domain}
 use Rattle.sum_slots.specs.Law.{IsSameWithSums}
 use Rattle.sum_slots.proofs.Sameness.{law}
-use Rattle.log_sums.specs.AnyVersion.{given_claim}
-use Rattle.log_sums.specs.PlantLogs.{IsPlantVerdict}
-use Rattle.log_sums.specs.SumTexts.{MayHead, larger_claim, sums_text}
-use Rattle.log_sums.proofs.LogFronts.{headed-verdict}
-use Rattle.log_sums.proofs.PlantSaying.{part-ranges}
+use Rattle.valid_log.specs.AnyVersion.{given_claim}
+use Rattle.valid_log.specs.PlantLogs.{IsPlantVerdict}
+use Rattle.valid_log.specs.SumTexts.{MayHead, larger_claim, sums_text}
+use Rattle.valid_log.proofs.LogFronts.{headed-verdict}
+use Rattle.valid_log.proofs.PlantRanges.{part-ranges}
 use Rattle.plan_told.specs.Proofs.{depth_over}
-use Rattle.log_sums.proofs.Deeper.{yes-deeper}
+use Rattle.valid_log.proofs.Deeper.{yes-deeper}
 use Rattle.plan_told.proofs.GivenBest.{completed-lawful}
 use Rattle.plan_told.proofs.SmallClaim.{IsSmallClaim}
 use Rattle.plan_told.proofs.ValidLog.{valid-search}

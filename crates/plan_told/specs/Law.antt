@@ -12,7 +12,7 @@ use Rattle.branch_tree.specs.declared.ended.Ended.{Ended}
 use Rattle.branch_tree.specs.Searched.{IsExact, IsSearch}
 use Rattle.sum_slots.specs.declared.sum.Sum.{Sum}
 use Rattle.sum_slots.specs.Larger.{IsWithSums}
-use Rattle.log_sums.specs.SumTexts.{MayHead}
+use Rattle.valid_log.specs.SumTexts.{MayHead}
 use Rattle.plan_told.specs.Claims.{IfPoint}
 use Rattle.plan_told.specs.Given.{IsGivenEnded}
 use Rattle.plan_told.specs.Outcomes.{IsPartOutcome}

@@ -20,12 +20,12 @@ use Rattle.branch_tree.specs.Searched.{HasOpenBox, IsWritable, spared}
 use Rattle.proof_log.specs.declared.claim.Claim.{Claim}
 use Rattle.proof_log.specs.declared.claim.Claim.TheVariants as claim
 use Rattle.proof_log.specs.Log.{log_text}
-use Rattle.log_check.specs.declared.verdict.LogVerdict.TheVariants.{Yes}
-use Rattle.log_check.specs.Verdict.{IsVerdict}
+use Rattle.valid_log.specs.declared.verdict.LogVerdict.TheVariants.{Yes}
+use Rattle.valid_log.specs.Verdict.{IsVerdict}
 use Rattle.sum_slots.specs.declared.sum.Sum.{Sum}
 use Rattle.sum_slots.specs.Larger.{IsWithSums}
-use Rattle.log_sums.specs.PlantLogs.{IsPlantVerdict}
-use Rattle.log_sums.specs.SumTexts.{larger_claim, sums_text}
+use Rattle.valid_log.specs.PlantLogs.{IsPlantVerdict}
+use Rattle.valid_log.specs.SumTexts.{larger_claim, sums_text}
 
 -- the claim of an answer: its profit, its cap, and the point of its plan
 abbrev pub claim_of : Plant → Answer → Claim

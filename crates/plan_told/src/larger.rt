@@ -1,6 +1,6 @@
 //! Claims over a program with sums.
 ghost use Rattle.std.specs.Prelude.{◌≡◌, IfOk};
-ghost use Rattle.log_sums.specs.SumTexts.{larger_claim};
+ghost use Rattle.valid_log.specs.SumTexts.{larger_claim};
 ghost use Rattle.plan_told.specs.Claims.{HaveBytes, IfPoint};
 
 use proof_log::Claim;

@@ -1,3 +1,4 @@
-pub mod Points
-pub mod Saying
-pub mod PartSaying
+pub mod FirstBad
+pub mod OwnSaying
+pub mod PlantSaying
+pub mod ShownVerdicts

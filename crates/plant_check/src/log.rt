@@ -7,15 +7,15 @@ ghost use Rattle.row_set.specs.PlantProgram.{IsMadeOf, IsProgramOf};
 ghost use Rattle.log_lines.specs.TextDefect.{log_text_defect};
 ghost use Rattle.proof_log.specs.Log.{log_text};
 ghost use Rattle.proof_log.specs.OneText.{IsLogOver};
-ghost use Rattle.log_check.specs.Verdict.{IsVerdictOn, limits_of};
-ghost use Rattle.plant_check.specs.Claims.{IsChecked};
+ghost use Rattle.valid_log.specs.Verdict.{IsVerdictOn, limits_of};
+ghost use Rattle.plant_check.specs.OwnLogs.{IsChecked};
 
-use crate::check::MOST_DEPTH;
-use log_check::LogVerdict;
+use crate::plant::MOST_DEPTH;
 use proof_log::Log;
 use row_relax::Rows;
 use std::alloc::{AllocError, Global};
 use stn_model::Plant;
+use valid_log::LogVerdict;
 
 /// Checks this log against a plant whose rows these are, so that they need not be made again. It writes the log's text and
 /// checks it as `check_bytes` checks bytes, and takes memory by the text.

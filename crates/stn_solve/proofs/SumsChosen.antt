@@ -18,7 +18,7 @@ use Rattle.sum_slots.specs.declared.sum.Sum.{Sum}
 use Rattle.sum_slots.specs.Shown.{IsShown, most_by_row, most_count, opposites}
 use Rattle.sum_slots.specs.Sum.{IsDeclared}
 use Rattle.sum_lines.specs.Head.{HasRows, IsThere, head_text}
-use Rattle.log_sums.specs.SumTexts.{MayHead}
+use Rattle.valid_log.specs.SumTexts.{MayHead}
 
 -- a row that is not there shows nothing
 shows_nothing : (terms : List Entry) (P : ℤ → Type 0) → MatchOption (most_by_row terms no_row) ⊥ P → ⊥

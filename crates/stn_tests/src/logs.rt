@@ -3,7 +3,6 @@ ghost use Rattle.stn_model.specs.Sound.{Sound};
 
 use crate::answers::answer;
 use crate::plants::{DUE, GOLD, ODD, TINT, TINY, edited, repeated};
-use log_check::LogVerdict;
 use log_lines::Limits;
 use plant_check::{MOST_DEPTH, check_bytes, check_log, check_stream};
 use plant_text::read_plant;
@@ -15,6 +14,7 @@ use std::test::Fail;
 use stn_edge::{FixedShelf, FixedSink, MemShelf};
 use stn_model::Plant;
 use stn_top::{checked, run};
+use valid_log::LogVerdict;
 
 // A plant, edits of it, a log, the status, and the text.
 type Logged = (

@@ -20,10 +20,10 @@ use Rattle.stn_top.specs.Checking.{checked_text, claim_text}
 use Rattle.stn_top.specs.Demo.{shown_plant, demo_head, demo_text, answer_line, Shown}
 use Rattle.row_kit.specs.declared.program.Program.{Program}
 use Rattle.row_set.specs.PlantProgram.{IsMadeOf, plant_root}
-use Rattle.log_check.specs.declared.verdict.LogVerdict.{LogVerdict}
-use Rattle.log_check.specs.declared.verdict.LogVerdict.TheVariants.{Yes}
-use Rattle.check_law.proofs.Again.{same-program, yes-again}
-use Rattle.log_sums.specs.PlantLogs.{IsAnyChecked, IsPlantVerdict}
+use Rattle.valid_log.specs.declared.verdict.LogVerdict.{LogVerdict}
+use Rattle.valid_log.specs.declared.verdict.LogVerdict.TheVariants.{Yes}
+use Rattle.valid_log.proofs.Again.{same-program, yes-again}
+use Rattle.valid_log.specs.PlantLogs.{IsAnyChecked, IsPlantVerdict}
 use Rattle.plan_told.specs.Proofs.{HasPlantProof, claim_of, depth_over}
 
 -- ---- doing nothing

@@ -24,7 +24,7 @@ use Rattle.stn_top.specs.Solving.{Planned}
 use Rattle.stn_top.specs.PartSolving.{HasPartProof, PartSolvedOver, PartSolved}
 use Rattle.stn_top.specs.Replies.{IsUnwritten}
 use Rattle.stn_top.proofs.AnswerLemmas.{solved-status}
-use Rattle.log_sums.proofs.Deeper.{plant-deeper}
+use Rattle.valid_log.proofs.Deeper.{plant-deeper}
 use Rattle.stn_top.proofs.ReplanLemmas.{outcome-among}
 
 -- ---- the depth of a part's logs

@@ -18,11 +18,11 @@ use Rattle.row_kit.specs.declared.program.Program.{Program}
 use Rattle.row_set.specs.Parts.{IsAdmitted, plan_of_values}
 use Rattle.proof_log.specs.declared.claim.Claim.{Claim}
 use Rattle.proof_log.proofs.SaidOfOthers.{says_of_others}
-use Rattle.log_check.specs.declared.verdict.LogVerdict.{LogVerdict}
-use Rattle.log_check.specs.declared.verdict.LogVerdict.TheVariants.{Yes, No}
-use Rattle.log_check.specs.Verdict.{IfYes}
-use Rattle.plant_check.specs.Claims.{SaysOf, YesSaysOf}
-use Rattle.log_sums.specs.PlantLogs.{IsAnyPartChecked, IsPlantVerdict}
+use Rattle.valid_log.specs.declared.verdict.LogVerdict.{LogVerdict}
+use Rattle.valid_log.specs.declared.verdict.LogVerdict.TheVariants.{Yes, No}
+use Rattle.valid_log.specs.Verdict.{IfYes}
+use Rattle.valid_log.specs.Claims.{SaysOf, YesSaysOf}
+use Rattle.valid_log.specs.PlantLogs.{IsAnyPartChecked, IsPlantVerdict}
 use Rattle.frozen_plan.specs.Frozen.{kept_starts}
 use Rattle.frozen_plan.specs.Keeping.{Keeps, CannotStand, IsKeptPart}
 use Rattle.plan_told.specs.Outcomes.{IsPartOutcome, least_plan, whole_count}

@@ -16,8 +16,8 @@ use Rattle.sum_slots.specs.declared.sum.Sum.{Sum}
 use Rattle.proof_log.specs.declared.claim.Claim.{Claim}
 use Rattle.proof_log.specs.declared.claim.Claim.TheVariants.{Optimal, Infeasible, Between, Below}
 use Rattle.proof_log.specs.declared.log.Defect.{Defect}
-use Rattle.log_check.specs.declared.verdict.LogVerdict.TheVariants.{No}
-use Rattle.log_sums.specs.PlantLogs.{IsAnyChecked}
+use Rattle.valid_log.specs.declared.verdict.LogVerdict.TheVariants.{No}
+use Rattle.valid_log.specs.PlantLogs.{IsAnyChecked}
 use Rattle.what_if.specs.OldLogs.{HasPlan, IsValidFor}
 use Rattle.stn_top.specs.declared.reply.Reply.{Reply}
 use Rattle.stn_top.specs.Checking.{checked_text}

@@ -8,9 +8,9 @@ use Rattle.stn_model.specs.Plant.{state_at}
 use Rattle.row_relax.specs.RowProofs.{RowTree}
 use Rattle.proof_log.specs.declared.claim.Claim.{Claim}
 use Rattle.proof_log.specs.declared.log.Defect.{Defect}
-use Rattle.log_check.specs.declared.verdict.LogVerdict.TheVariants.{No}
+use Rattle.valid_log.specs.declared.verdict.LogVerdict.TheVariants.{No}
 use Rattle.sum_slots.specs.declared.sum.Sum.{Sum}
-use Rattle.log_sums.specs.PlantLogs.{IsAnyChecked}
+use Rattle.valid_log.specs.PlantLogs.{IsAnyChecked}
 use Rattle.what_if.specs.Estimate.{IsEstimate}
 use Rattle.what_if.specs.OldLogs.{HasPlan, IsValidFor}
 use Rattle.what_if.specs.Raised.{raised}

@@ -7,9 +7,9 @@ use Rattle.stn_model.specs.declared.violation.Violation.{Violation}
 use Rattle.stn_model.specs.declared.answer.Outcome.{Outcome}
 use Rattle.stn_model.specs.Answers.{IsOutcomeOf}
 use Rattle.row_kit.specs.declared.program.Program.{Program}
-use Rattle.log_check.specs.Verdict.{IfYes}
-use Rattle.log_sums.specs.PlantLogs.{IsPlantVerdict}
-use Rattle.plant_check.specs.Claims.{SaysOf}
+use Rattle.valid_log.specs.Verdict.{IfYes}
+use Rattle.valid_log.specs.PlantLogs.{IsPlantVerdict}
+use Rattle.valid_log.specs.Claims.{SaysOf}
 use Rattle.frozen_plan.specs.Keeping.{Keeps, CannotStand, IsKeptPart}
 use Rattle.plan_told.specs.Outcomes.{least_plan, whole_count}
 use Rattle.plan_told.specs.Proofs.{HasProof, IsLeft, bytes_in}

@@ -14,12 +14,13 @@ use crate::lines::amount_line;
 use crate::reply::Reply;
 use crate::sources::plant_in;
 use crate::stopped::Stopped;
-use log_check::{CheckStop, LogVerdict};
-use log_sums::check_plant;
+use log_check::CheckStop;
+use plant_check::check_stream;
 use proof_log::{Claim, Defect};
 use std::alloc::{AllocError, Global};
 use stn_edge::Shelf;
 use stn_model::Plant;
+use valid_log::LogVerdict;
 
 /// Checks the log in a file against the plant in another. The files are as before.
 pub fn check_file<F: Shelf>(
@@ -67,7 +68,7 @@ fn check_log<F: Shelf>(
     ensures later { F.read_faults files.old ≤ F.read_faults files.new }
     ensures no_write { F.write_faults files.new ≡ F.write_faults files.old }
 {
-    match check_plant(alloc, plant, files, name) {
+    match check_stream(alloc, plant, files, name) {
         Ok(verdict) => Ok(checked(alloc, &verdict)?),
         Err(CheckStop::Fault) => Err(Stopped::ReadFault),
         Err(CheckStop::Memory) => Err(Stopped::Memory),

@@ -11,7 +11,7 @@ ghost use Rattle.stn_top.specs.Demo.{shown_plant, answer_line, demo_head, Shown}
 use crate::checking::checked;
 use crate::lines::amount_line;
 use crate::reply::Reply;
-use log_sums::check_plant;
+use plant_check::check_stream;
 use plant_make::{make, put_plant};
 use plant_text::{MAX_BYTES, PlantStop, read_plant};
 use std::alloc::{AllocError, Global};
@@ -75,7 +75,7 @@ fn check_line(
         → HasPlantProof plant.now (bytes_in name.now (Some files.old.files)) outcome
         → line.items ≡ claim_text (claim_of plant.now outcome.answer)) }
 {
-    match check_plant(alloc, plant, files, name) {
+    match check_stream(alloc, plant, files, name) {
         Ok(verdict) => {
             let reply = checked(alloc, &verdict)?;
             Ok(reply.text)

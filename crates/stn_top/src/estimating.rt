@@ -35,11 +35,11 @@ use crate::simulation::simulate_plan;
 use crate::sources::plant_in;
 use crate::steps::Steps;
 use crate::stopped::Stopped;
-use log_check::LogVerdict;
 use std::alloc::{AllocError, Global};
 use std::mem;
 use stn_edge::{ReadStop, Shelf, read_all};
 use stn_model::{List, Plant, Start, State};
+use valid_log::LogVerdict;
 use what_if::{OldLog, ValidLog, claimed_plan, estimate, old_log, raise};
 
 /// The longest log that is read, in bytes.

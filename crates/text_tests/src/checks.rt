@@ -1,5 +1,5 @@
 //! Logs over a program without slots.
-use log_check::{LogVerdict, check_behind, check_bytes, check_log};
+use log_check::{check_behind, check_bytes, check_log};
 use log_lines::Limits;
 use proof_log::{Defect, LogStop, read_log};
 use row_kit::{List, Program};
@@ -7,6 +7,7 @@ use row_relax::Rows;
 use std::alloc::{AllocError, Global};
 use std::test::Fail;
 use stn_edge::FixedShelf;
+use valid_log::LogVerdict;
 
 // A program without slots and rows: its only point is worth 5.
 fn bare(alloc: Global) -> Option<Program> {

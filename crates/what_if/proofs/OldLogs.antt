@@ -35,13 +35,13 @@ use Rattle.sum_lines.specs.declared.head.Front.TheVariants.{Plain, Headed}
 use Rattle.sum_lines.specs.declared.head.Head.{Head}
 use Rattle.sum_lines.specs.Front.{IsFront, IsHeaded}
 use Rattle.sum_lines.specs.Head.{head_text}
-use Rattle.log_check.specs.declared.verdict.LogVerdict.TheVariants.{Yes, No}
-use Rattle.log_check.specs.Meaning.{Holds}
-use Rattle.log_check.specs.Verdict.{IsLog, IsSoundLog, IsVerdict, IsVerdictGiven, IsVerdictOn, limits_of}
-use Rattle.plant_check.proofs.Saying.{of_plant, says}
-use Rattle.log_sums.specs.AnyVersion.{IsAnyVerdict, IsHeadVerdict, IsShownVerdict, IsUnshown, given_claim, limits_with, unshown_defect}
-use Rattle.log_sums.specs.PlantLogs.{IsAnyChecked}
-use Rattle.log_sums.proofs.Holding.{holds_given}
+use Rattle.valid_log.specs.declared.verdict.LogVerdict.TheVariants.{Yes, No}
+use Rattle.valid_log.specs.Meaning.{Holds}
+use Rattle.valid_log.specs.Verdict.{IsLog, IsSoundLog, IsVerdict, IsVerdictGiven, IsVerdictOn, limits_of}
+use Rattle.valid_log.proofs.Saying.{of_plant, says}
+use Rattle.valid_log.specs.AnyVersion.{IsAnyVerdict, IsHeadVerdict, IsShownVerdict, IsUnshown, given_claim, limits_with, unshown_defect}
+use Rattle.valid_log.specs.PlantLogs.{IsAnyChecked}
+use Rattle.valid_log.proofs.Holding.{holds_given}
 use Rattle.what_if.specs.declared.old.ValidLog.{ValidLog}
 use Rattle.what_if.specs.OldLogs.{IsValidFor}
 use Rattle.what_if.specs.laws.Judged.{IsAnyOwnLog, IsOwnLog, IsStopInFile}

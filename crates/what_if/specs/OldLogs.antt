@@ -10,11 +10,11 @@ use Rattle.row_set.specs.PlantProgram.{plant_root}
 use Rattle.sum_slots.specs.declared.sum.Sum.{Sum}
 use Rattle.proof_log.specs.declared.claim.Claim.{Claim}
 use Rattle.proof_log.specs.declared.claim.Claim.TheVariants.{Optimal, Infeasible, Between, Below}
-use Rattle.log_check.specs.declared.verdict.LogVerdict.TheVariants.{No}
-use Rattle.log_check.specs.Verdict.{IsSoundLog}
-use Rattle.plant_check.specs.Claims.{IsOfPlant, Says}
-use Rattle.log_sums.specs.AnyVersion.{IsAnyLog}
-use Rattle.log_sums.specs.PlantLogs.{IsAnyChecked}
+use Rattle.valid_log.specs.declared.verdict.LogVerdict.TheVariants.{No}
+use Rattle.valid_log.specs.Verdict.{IsSoundLog}
+use Rattle.valid_log.specs.Claims.{IsOfPlant, Says}
+use Rattle.valid_log.specs.AnyVersion.{IsAnyLog}
+use Rattle.valid_log.specs.PlantLogs.{IsAnyChecked}
 use Rattle.what_if.specs.declared.old.OldLog.{OldLog}
 use Rattle.what_if.specs.declared.old.OldLog.TheVariants.{Valid, Defective}
 

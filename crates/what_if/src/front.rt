@@ -1,8 +1,8 @@
 //! What stands at the front of the bytes of a log.
 ghost use Rattle.std.specs.Prelude.{◌≡◌, ◌≤◌, IfOk};
 ghost use Rattle.sum_lines.specs.Front.{IsFront, KeepsLimits};
-ghost use Rattle.log_check.specs.Verdict.{limits_of};
-ghost use Rattle.log_sums.specs.AnyVersion.{limits_with};
+ghost use Rattle.valid_log.specs.Verdict.{limits_of};
+ghost use Rattle.valid_log.specs.AnyVersion.{limits_with};
 
 use log_lines::Limits;
 use plant_check::MOST_DEPTH;

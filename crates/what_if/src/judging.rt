@@ -3,17 +3,18 @@ ghost use Rattle.std.specs.Prelude.{◌≡◌, Err, IfOk};
 ghost use Rattle.proof_tree.specs.Tree.{tree_of};
 ghost use Rattle.proof_log.specs.declared.log.Defect.{Defect};
 ghost use Rattle.proof_log.specs.LogReading.{IsRead};
-ghost use Rattle.log_check.specs.declared.verdict.LogVerdict.TheVariants.{No};
-ghost use Rattle.log_check.specs.Verdict.{IsVerdict, limits_of};
+ghost use Rattle.valid_log.specs.declared.verdict.LogVerdict.TheVariants.{No};
+ghost use Rattle.valid_log.specs.Verdict.{IsVerdict, limits_of};
 ghost use Rattle.what_if.specs.laws.Judged.{IsOwnLog};
 
-use log_check::{LogVerdict, check_log};
+use log_check::check_log;
 use log_lines::Limits;
 use plant_check::MOST_DEPTH;
 use proof_log::{Log, LogStop, read_log};
 use row_kit::Program;
 use row_relax::Rows;
 use std::alloc::Global;
+use valid_log::LogVerdict;
 
 // The log of version 1 or 2 of the bytes, where it is valid over the rows, or its first defect.
 pub(crate) fn own_log(alloc: Global, rows: &Rows, bytes: &[u8]) -> Result<Log, LogStop>

@@ -4,9 +4,9 @@ ghost use Rattle.stn_model.specs.Sound.{Sound};
 ghost use Rattle.proof_tree.specs.Tree.{tree_of};
 ghost use Rattle.sum_slots.specs.Shown.{AreRanges};
 ghost use Rattle.proof_log.specs.declared.log.Defect.{Defect};
-ghost use Rattle.log_check.specs.declared.verdict.LogVerdict.TheVariants.{No};
-ghost use Rattle.log_check.specs.Verdict.{IsVerdict};
-ghost use Rattle.log_sums.specs.AnyVersion.{IsAnyVerdict};
+ghost use Rattle.valid_log.specs.declared.verdict.LogVerdict.TheVariants.{No};
+ghost use Rattle.valid_log.specs.Verdict.{IsVerdict};
+ghost use Rattle.valid_log.specs.AnyVersion.{IsAnyVerdict};
 ghost use Rattle.what_if.specs.OldLogs.{IsOldLog};
 ghost use Rattle.what_if.specs.laws.Judged.{IsAnyOwnLog, IsOwnLog};
 

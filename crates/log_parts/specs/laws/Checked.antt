@@ -13,17 +13,17 @@ use Rattle.sum_lines.specs.declared.head.Front.{Front}
 use Rattle.sum_lines.specs.declared.head.Front.TheVariants as front
 use Rattle.sum_lines.specs.Front.{IsFront}
 use Rattle.sum_lines.specs.Head.{AreKept, head_text}
-use Rattle.log_check.specs.declared.verdict.LogVerdict.TheVariants as verdict
-use Rattle.log_check.specs.Verdict.{limits_of}
-use Rattle.log_sums.specs.AnyVersion.{front_bytes, front_sums}
-use Rattle.log_sums.specs.PlantLogs.{IsAnyPartChecked}
+use Rattle.valid_log.specs.declared.verdict.LogVerdict.TheVariants as verdict
+use Rattle.valid_log.specs.Verdict.{limits_of}
+use Rattle.valid_log.specs.AnyVersion.{front_bytes, front_sums}
+use Rattle.valid_log.specs.PlantLogs.{IsAnyPartChecked}
 use Rattle.log_parts.specs.declared.checking.Checked.{Checked}
 use Rattle.log_parts.specs.declared.checking.Checked.TheVariants.{All, Bad}
 use Rattle.log_parts.specs.declared.fronts.Declared.{Declared}
 use Rattle.log_parts.specs.declared.fronts.Declared.TheVariants as declared
 use Rattle.log_parts.specs.declared.fronts.PartCheck.{PartCheck}
 use Rattle.log_parts.specs.declared.fronts.PartCheck.TheVariants as check
-use Rattle.plant_check.specs.Claims.{SaysOf}
+use Rattle.valid_log.specs.Claims.{SaysOf}
 use Rattle.log_parts.specs.Joining.{EachSays}
 use Rattle.log_parts.specs.OtherSums.{IsOtherSums}
 use Rattle.log_parts.specs.PartLogs.{AreValid, IsPartProgram, IsPartVerdict, IsRefused}

@@ -1,8 +1,8 @@
 -- Why logs were not joined.
 use Rattle.stn_edge.specs.declared.stop.Stop.{Stop}
 use Rattle.stn_edge.specs.declared.stop.Stop.TheVariants as stop
-use Rattle.log_check.specs.declared.verdict.CheckStop.{CheckStop}
-use Rattle.log_check.specs.declared.verdict.CheckStop.TheVariants as check
+use Rattle.log_check.specs.declared.stop.CheckStop.{CheckStop}
+use Rattle.log_check.specs.declared.stop.CheckStop.TheVariants as check
 use Rattle.log_parts.specs.declared.joins.JoinStop.{JoinStop}
 use Rattle.log_parts.specs.declared.joins.JoinStop.TheVariants.{ReadFault, Memory}
 

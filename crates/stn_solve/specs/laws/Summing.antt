@@ -5,7 +5,7 @@ use Rattle.row_kit.specs.declared.program.Program.{Program}
 use Rattle.row_set.specs.PlantProgram.{plant_root}
 use Rattle.sum_slots.specs.Larger.{IsWithSums}
 use Rattle.sum_lines.specs.Head.{head_text}
-use Rattle.log_sums.specs.SumTexts.{MayHead}
+use Rattle.valid_log.specs.SumTexts.{MayHead}
 use Rattle.plan_told.specs.Given.{least_found}
 use Rattle.stn_solve.specs.declared.summing.Summed.{Summed}
 

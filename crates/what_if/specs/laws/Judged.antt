@@ -8,9 +8,9 @@ use Rattle.proof_log.specs.declared.claim.Claim.{Claim}
 use Rattle.proof_log.specs.declared.log.Defect.{Defect}
 use Rattle.proof_log.specs.declared.read.LogStop.{LogStop}
 use Rattle.proof_log.specs.declared.read.LogStop.TheVariants.{Defect as StopDefect}
-use Rattle.log_check.specs.Meaning.{Holds}
-use Rattle.log_check.specs.Verdict.{IsLog, IsSoundLog}
-use Rattle.log_sums.specs.AnyVersion.{IsAnyLog, in_file}
+use Rattle.valid_log.specs.Meaning.{Holds}
+use Rattle.valid_log.specs.Verdict.{IsLog, IsSoundLog}
+use Rattle.valid_log.specs.AnyVersion.{IsAnyLog, in_file}
 use Rattle.what_if.specs.declared.old.ValidLog.{ValidLog}
 
 -- the bytes are the text of a log over a program, of this proof and this claim, without a defect; the claim holds of all points

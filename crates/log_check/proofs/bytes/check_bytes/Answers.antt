@@ -3,7 +3,7 @@ use Rattle.std.proofs.Common.{◌≡◌, List, ℕ, ap, ◌∙◌, subst, codes}
 use Rattle.stn_edge.specs.FixedFiles.{FixedFiles}
 use Rattle.stn_edge.specs.Files.{file_of}
 use Rattle.stn_edge.proofs.FileLemmas.{file_of-insert}
-use Rattle.log_check.specs.Verdict.{IsVerdict}
+use Rattle.valid_log.specs.Verdict.{IsVerdict}
 use Rattle.log_check.proofs.bytes.check_bytes.Goals as goal
 
 pub returns-in-Ok-clause-verdict : goal.returns-in-Ok-clause-verdict

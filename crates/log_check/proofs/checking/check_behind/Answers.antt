@@ -4,8 +4,9 @@ use Rattle.stn_edge.specs.Files.{file_of}
 use Rattle.proof_log.specs.Behind.{behind}
 use Rattle.row_relax.specs.View.{view_of}
 use Rattle.proof_log.specs.LogReading.{HasRead, IsPartAfter}
-use Rattle.log_check.specs.declared.verdict.LogVerdict.TheVariants.{No}
-use Rattle.log_check.specs.Verdict.{IsVerdict, IsEndVerdict, limits_of}
+use Rattle.valid_log.specs.declared.verdict.LogVerdict.TheVariants.{No}
+use Rattle.valid_log.specs.Verdict.{IsVerdict, limits_of}
+use Rattle.log_check.specs.Course.{IsEndVerdict}
 use Rattle.log_check.proofs.Judging.{bad_verdict}
 use Rattle.log_check.proofs.Taking.{begun, item_may, item_taken, claim_taken, end_over, end_claimed, taken_verdict, taken_holds}
 use Rattle.log_check.proofs.checking.check_behind.Goals as goal

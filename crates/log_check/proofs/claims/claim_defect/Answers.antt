@@ -1,6 +1,6 @@
 -- The point of the claim is the one that was tested.
 use Rattle.std.proofs.Common.{MatchOption, subst}
-use Rattle.log_check.specs.Meaning.{CappedDefect, IsWorth, IsAbove}
+use Rattle.valid_log.specs.Meaning.{CappedDefect, IsWorth, IsAbove}
 use Rattle.log_check.proofs.claims.claim_defect.Goals as goal
 
 pub returns-in-Optimal : goal.returns-in-Optimal

@@ -3,7 +3,7 @@ use Rattle.std.proofs.Common.{◌≡◌, List, ℕ, ◌++◌, ap, ◌∙◌, sub
 use Rattle.proof_tree.specs.Items.{tree_items}
 use Rattle.proof_tree.specs.Tree.{tree_of}
 use Rattle.proof_log.specs.Log.{log_text}
-use Rattle.log_check.specs.Verdict.{IsVerdict}
+use Rattle.valid_log.specs.Verdict.{IsVerdict}
 use Rattle.log_check.proofs.OwnLog.{log_meant}
 use Rattle.log_check.proofs.log.check_log.Goals as goal
 

@@ -1,9 +1,9 @@
 -- A right verdict over the rows of a part, and the sums at the front of its log.
 use Rattle.std.proofs.Common.{◌∙◌, ◌-◌, subst, IfSome}
 use Rattle.stn_edge.specs.Files.{file_of}
-use Rattle.log_check.specs.declared.verdict.LogVerdict.{LogVerdict}
-use Rattle.plant_check.specs.Claims.{YesSaysOf}
-use Rattle.log_sums.specs.PlantLogs.{IsAnyPartChecked}
+use Rattle.valid_log.specs.declared.verdict.LogVerdict.{LogVerdict}
+use Rattle.valid_log.specs.Claims.{YesSaysOf}
+use Rattle.valid_log.specs.PlantLogs.{IsAnyPartChecked}
 use Rattle.log_parts.proofs.PartsChecked.{no_checked, part_said, yes_checked}
 use Rattle.log_parts.proofs.checking.check_log.Goals as goal
 

@@ -6,7 +6,7 @@ use Rattle.log_parts.specs.declared.checking.Checked.{Checked}
 use Rattle.log_parts.specs.PartLogs.{logs_of}
 use Rattle.sum_slots.specs.declared.sum.Sum.{Sum}
 use Rattle.log_parts.specs.laws.Checked.{AllSay, AreChecked, HaveClaims, MayDeclare}
-use Rattle.log_sums.specs.SumTexts.{larger_claim}
+use Rattle.valid_log.specs.SumTexts.{larger_claim}
 use Rattle.log_parts.specs.laws.Copying.{front_text, part_limits, HasLeft}
 use Rattle.log_parts.proofs.Copies.{err_then, ok_if}
 use Rattle.log_parts.proofs.PartsCopied.{powered}

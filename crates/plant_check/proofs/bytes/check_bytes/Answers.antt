@@ -1,9 +1,14 @@
--- A right verdict over the plant's rows is right of the plant.
-use Rattle.plant_check.proofs.Saying.{checked_if}
+-- The file that was put is the bytes.
+use Rattle.std.proofs.Common.{◌≡◌, List, ℕ, ap, ◌∙◌, subst, codes}
+use Rattle.stn_edge.specs.FixedFiles.{FixedFiles}
+use Rattle.stn_edge.specs.Files.{file_of}
+use Rattle.stn_edge.proofs.FileLemmas.{file_of-insert}
+use Rattle.valid_log.specs.PlantLogs.{IsAnyChecked}
 use Rattle.plant_check.proofs.bytes.check_bytes.Goals as goal
 
-pub returns : goal.returns
-returns c = record {
-  checked = checked_if c.args.plant.now c.in_ok-program.program c.args.bytes.now c.check_bytes.result
-      c.requires.sound c.in_ok-program.ensures.made c.in_ok-program.ensures.means c.check_bytes.ensures.verdict c.check_bytes.ensures.holds;
-}
+pub returns-in-Ok : goal.returns-in-Ok
+returns-in-Ok c =
+    let name : List ℕ = codes "log" in
+    let put = ap (λ (s : FixedFiles). file_of s.files name) c.in_ok-put_file.ensures.ok in
+    let is : file_of c.put_file.new.self.files name ≡ c.args.bytes.now = put ∙ file_of-insert c.new-shelf.result.files name c.args.bytes.now in
+    subst (λ bytes. IsAnyChecked c.args.plant.now bytes c.in-Ok.verdict) is c.in-Ok.ensures.checked

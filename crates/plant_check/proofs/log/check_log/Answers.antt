@@ -2,7 +2,7 @@
 use Rattle.proof_tree.specs.Items.{tree_items}
 use Rattle.proof_tree.specs.Tree.{tree_of}
 use Rattle.proof_log.specs.Log.{log_text}
-use Rattle.plant_check.proofs.Saying.{checked_if}
+use Rattle.plant_check.proofs.OwnSaying.{checked_if}
 use Rattle.plant_check.proofs.log.check_log.Goals as goal
 
 pub returns-clause-checked : goal.returns-clause-checked

@@ -7,7 +7,7 @@ use Rattle.proof_log.specs.declared.claim.Claim.{Claim}
 use Rattle.proof_log.specs.Log.{claim_lines, item_lines, lines_text}
 use Rattle.proof_log.specs.Writer.{writing}
 use Rattle.sum_slots.specs.declared.sum.Sum.{Sum}
-use Rattle.log_sums.specs.SumTexts.{larger_claim}
+use Rattle.valid_log.specs.SumTexts.{larger_claim}
 use Rattle.plan_told.specs.Claims.{HaveBytes, IfPoint}
 use Rattle.plan_told.proofs.Completing.{claim-bytes}
 use Rattle.plan_told.proofs.Texts.{sums-has}

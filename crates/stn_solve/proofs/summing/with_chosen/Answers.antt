@@ -7,7 +7,7 @@ use Rattle.sum_slots.specs.declared.sum.Sum.{Sum}
 use Rattle.sum_slots.specs.Larger.{IsWithSums}
 use Rattle.sum_slots.specs.Shown.{AreRanges, IsShown}
 use Rattle.sum_lines.specs.Head.{head_text}
-use Rattle.log_sums.proofs.PlantSaying.{part-ranges}
+use Rattle.valid_log.proofs.PlantRanges.{part-ranges}
 use Rattle.stn_solve.proofs.SumsChosen.{may-head}
 use Rattle.stn_solve.proofs.summing.with_chosen.Goals as goal
 

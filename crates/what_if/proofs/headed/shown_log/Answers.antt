@@ -5,7 +5,7 @@ use Rattle.proof_log.specs.declared.read.LogStop.TheVariants.{Defect as StopDefe
 use Rattle.sum_slots.specs.declared.sum.Sum.{Sum}
 use Rattle.sum_slots.specs.Larger.{IsWithSums}
 use Rattle.sum_slots.specs.Law.{IsSameWithSums}
-use Rattle.log_sums.specs.AnyVersion.{given_claim}
+use Rattle.valid_log.specs.AnyVersion.{given_claim}
 use Rattle.what_if.specs.laws.Judged.{IsOwnLog}
 use Rattle.what_if.proofs.OldLogs.{headed_valid, shown_defect}
 use Rattle.what_if.proofs.headed.shown_log.Goals as goal

@@ -2,7 +2,7 @@
 use Rattle.std.proofs.Common.{◌≡◌, ℕ, List, None, subst}
 use Rattle.proof_tree.specs.Tree.{tree_of}
 use Rattle.log_lines.specs.TextDefect.{log_text_defect}
-use Rattle.log_check.specs.Verdict.{IsVerdictOn, YesHolds, limits_of}
+use Rattle.valid_log.specs.Verdict.{IsVerdictOn, YesHolds, limits_of}
 use Rattle.what_if.proofs.OldLogs.{yes_log}
 use Rattle.what_if.proofs.judging.judged.Goals as goal
 

@@ -1,7 +1,7 @@
 -- A log without a head is one without sums.
 use Rattle.std.proofs.Common.{subst}
 use Rattle.sum_lines.specs.Front.{IsFront}
-use Rattle.log_sums.specs.AnyVersion.{limits_with}
+use Rattle.valid_log.specs.AnyVersion.{limits_with}
 use Rattle.what_if.proofs.OldLogs.{plain_valid_if}
 use Rattle.what_if.proofs.reading.any_log.Goals as goal
 

@@ -3,8 +3,8 @@ use Rattle.std.proofs.Common.{List, Err, sym, ap, ◌∙◌, subst}
 use Rattle.row_kit.specs.declared.domain.Domain.{Domain}
 use Rattle.sum_slots.specs.Shown.{AreRanges}
 use Rattle.sum_slots.proofs.Ranges.{own-ranges}
-use Rattle.log_check.specs.declared.verdict.LogVerdict.TheVariants.{No}
-use Rattle.log_sums.specs.AnyVersion.{IsAnyVerdict}
+use Rattle.valid_log.specs.declared.verdict.LogVerdict.TheVariants.{No}
+use Rattle.valid_log.specs.AnyVersion.{IsAnyVerdict}
 use Rattle.what_if.specs.laws.Judged.{IsAnyOwnLog}
 use Rattle.what_if.proofs.OldLogs.{defective_for, valid_for}
 use Rattle.what_if.proofs.reading.old_log.Goals as goal

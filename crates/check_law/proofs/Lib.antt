@@ -1,5 +1,0 @@
-pub mod Excluded
-pub mod Alike
-pub mod Fronts
-pub mod AnyVersions
-pub mod Again

@@ -1,3 +1,0 @@
-pub mod AnyVersion
-pub mod PlantLogs
-pub mod SumTexts

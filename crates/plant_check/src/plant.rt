@@ -1,0 +1,90 @@
+//! The check of a log of any version against a plant.
+ghost use Rattle.std.specs.Prelude.{◌≡◌, ◌≢◌, ◌≤◌, Err, IsTrue, IfOk, IfSome};
+ghost use Rattle.stn_edge.specs.Count.{Rose};
+ghost use Rattle.stn_edge.specs.Files.{file_of};
+ghost use Rattle.stn_model.specs.Sound.{Sound};
+ghost use Rattle.row_set.specs.Parts.{IsPartOf};
+ghost use Rattle.row_set.specs.PlantProgram.{IsMadeOf, IsProgramOf};
+ghost use Rattle.valid_log.specs.Claims.{YesSays, YesSaysOf};
+ghost use Rattle.valid_log.specs.PlantLogs.{IsAnyChecked, IsAnyPartChecked};
+
+use crate::check::check_any;
+use log_check::CheckStop;
+use row_kit::Program;
+use row_set::{plant_root, program_of};
+use std::alloc::Global;
+use stn_edge::Shelf;
+use stn_model::Plant;
+use valid_log::LogVerdict;
+
+/// The greatest number of splits that may be open where a node of a log begins: as many as a plant can need, whose 512 slots
+/// have at most nine splits each.
+pub const MOST_DEPTH: u32 = 4608;
+
+/// Checks the log of any version in a file against a plant. A log of version 3 is read in two passes, its head and what follows,
+/// others once; what is held of it is its sums, and grows with the depth of its tree. The files are as before. `Fault` comes
+/// only where a read failed.
+pub fn check_stream<F: Shelf>(
+    alloc: Global,
+    plant: &Plant,
+    files: &mut F,
+    name: &str,
+) -> Result<LogVerdict, CheckStop>
+    requires sound { Sound plant.now }
+    requires allowed { IsTrue (F.may_read files.old name.now) }
+    ensures checked { IfOk result (λ verdict. IfSome (F.files files.old)
+        (λ m. IsAnyChecked plant.now (file_of m name.now) verdict)) }
+
+    // What the claim of a yes says holds of all plans, whether the files are told or not.
+    ensures says { IfOk result (YesSays plant.now) }
+    ensures fault { result ≡ Err CheckStop.Fault → Rose (F.read_faults files.old) (F.read_faults files.new) }
+    ensures same { F.files files.new ≡ F.files files.old }
+    ensures readable { F.may_read files.new ≡ F.may_read files.old }
+    ensures writable { F.may_write files.new ≡ F.may_write files.old }
+    ensures later { F.read_faults files.old ≤ F.read_faults files.new }
+    ensures no_write { F.write_faults files.new ≡ F.write_faults files.old }
+{
+    let program = whole_program(alloc, plant)?;
+    let ranges = plant_root(alloc, plant)?;
+    check_any(alloc, program, ranges.as_slice(), MOST_DEPTH, files, name)
+}
+
+// The program of a plant.
+fn whole_program(alloc: Global, plant: &Plant) -> Result<Program, CheckStop>
+    requires { Sound plant.now }
+    ensures made { IfOk result (IsMadeOf plant.now) }
+    ensures means { IfOk result (IsProgramOf plant.now) }
+    ensures no_fault { result ≢ Err CheckStop.Fault }
+{
+    Ok(program_of(alloc, plant)?)
+}
+
+/// Checks the log of any version in a file against a part of a plant's choices, of which this is the program, as `check_stream`
+/// checks one against all of them, where at most so many splits may be open. Its sums are to be shown by what slots of the plant
+/// may have, whatever they may have in the part. The files are as before. `Fault` comes only where a read failed.
+pub fn check_part<F: Shelf>(
+    alloc: Global,
+    plant: &Plant,
+    part: Program,
+    depth: u32,
+    files: &mut F,
+    name: &str,
+) -> Result<LogVerdict, CheckStop>
+    requires sound { Sound plant.now }
+    requires part { IsPartOf plant.now part }
+    requires allowed { IsTrue (F.may_read files.old name.now) }
+    ensures checked { IfOk result (λ verdict. IfSome (F.files files.old)
+        (λ m. IsAnyPartChecked plant.now part depth (file_of m name.now) verdict)) }
+
+    // What the claim of a yes says holds of all admitted plans, whether the files are told or not.
+    ensures says { IfOk result (YesSaysOf plant.now part) }
+    ensures fault { result ≡ Err CheckStop.Fault → Rose (F.read_faults files.old) (F.read_faults files.new) }
+    ensures same { F.files files.new ≡ F.files files.old }
+    ensures readable { F.may_read files.new ≡ F.may_read files.old }
+    ensures writable { F.may_write files.new ≡ F.may_write files.old }
+    ensures later { F.read_faults files.old ≤ F.read_faults files.new }
+    ensures no_write { F.write_faults files.new ≡ F.write_faults files.old }
+{
+    let ranges = plant_root(alloc, plant)?;
+    check_any(alloc, part, ranges.as_slice(), depth, files, name)
+}

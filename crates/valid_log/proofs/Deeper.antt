@@ -1,0 +1,144 @@
+-- A log of any version that is valid where so many splits may be open is valid where more may be.
+use Rattle.std.proofs.Common.{◌≡◌, ℕ, ◌+◌, ◌<◌, ◌≤◌, Bool, true, false, nat_lt, if◌then◌else◌, List, [], ◌∷◌, length, refl, arith, inl, inr, ap, sym, ◌∙◌}
+use Rattle.std.specs.Prelude.{Option, Some, None, ◌==◌, ◌&&◌}
+use Rattle.std.specs.List.{slice_split}
+use Rattle.std.specs.Option.{option_map_or}
+use Rattle.std.proofs.lemmas.Bool.{cases_Bool, lt-ltb}
+use Rattle.std.proofs.lemmas.Bool.Decides.{nat_tests}
+use Rattle.row_kit.specs.declared.program.Program.{Program}
+use Rattle.log_lines.specs.declared.grammar.Limits.{Limits}
+use Rattle.log_lines.specs.declared.line.Line.{Line}
+use Rattle.log_lines.specs.declared.line.Line.TheVariants.{Header, Node, Cut, Found, Value, Empty, Point, Dual, Pending, Split, Mult, ClaimOptimal, ClaimInfeasible, ClaimBetween, ClaimBelow, End}
+use Rattle.log_lines.specs.Grammar.{Standing, new_standing, next, over_at, over, line_defect}
+use Rattle.log_lines.specs.Said.{line_said}
+use Rattle.log_lines.specs.TextDefect.{text_defect, part_defect, after_bytes, is_done, log_text_defect}
+use Rattle.proof_log.specs.declared.claim.Claim.{Claim}
+use Rattle.valid_log.specs.declared.verdict.LogVerdict.{LogVerdict}
+use Rattle.valid_log.specs.declared.verdict.LogVerdict.TheVariants.{Yes, No}
+use Rattle.valid_log.specs.Verdict.{IsVerdict, IsVerdictGiven, IsMeaningVerdict, limits_of}
+use Rattle.stn_model.specs.declared.plant.Plant.{Plant}
+use Rattle.row_kit.specs.declared.domain.Domain.{Domain}
+use Rattle.row_set.specs.PlantProgram.{plant_root}
+use Rattle.sum_lines.specs.declared.head.Front.{Front}
+use Rattle.sum_lines.specs.declared.head.Front.TheVariants.{Plain, Headed, Bad}
+use Rattle.sum_lines.specs.declared.head.Head.{Head}
+use Rattle.sum_lines.specs.Front.{IsFront}
+use Rattle.sum_lines.specs.Head.{AreKept}
+use Rattle.proof_log.specs.Behind.{behind}
+use Rattle.valid_log.specs.AnyVersion.{IsAnyVerdict, IsFrontVerdict, IsHeadVerdict, IsShownVerdict, given_verdict, limits_with}
+use Rattle.valid_log.specs.PlantLogs.{IsPlantVerdict}
+
+-- a choice among options that is none, where only the last differs
+last_choice : {X : Type 0} (a b c : Bool) (x y z old new : Option X) → (old ≡ None → new ≡ None) → (if a then x else (if b then y else (if c then z else old))) ≡ None
+    → (if a then x else (if b then y else (if c then z else new))) ≡ None
+last_choice true b c x y z old new step none = none
+last_choice false true c x y z old new step none = none
+last_choice false false true x y z old new step none = none
+last_choice false false false x y z old new step none = step none
+
+-- none of a first option and of a second
+both_none : {X : Type 0} (f : ℕ → X) (first first2 : Option ℕ) (rest rest2 : Option X) → (first ≡ None → first2 ≡ None) → (rest ≡ None → rest2 ≡ None) → option_map_or (λ k. Some (f k)) first rest ≡ None
+    → option_map_or (λ k. Some (f k)) first2 rest2 ≡ None
+both_none f None first2 rest rest2 step later none = rw (step refl) (later none)
+both_none f (Some k) first2 rest rest2 step later none = cc
+
+-- none of what an option is mapped to
+mapped_none : {X Y : Type 0} (f g : X → Option Y) (last : Option Y) (o : Option X) → ((x : X) → f x ≡ None → g x ≡ None) → option_map_or f o last ≡ None → option_map_or g o last ≡ None
+mapped_none f g last None step none = none
+mapped_none f g last (Some x) step none = step x none
+
+module _ (limits : Limits) (depth : ℕ) (more : limits.depth ≤ depth) where
+  -- the limits of logs in which more splits may be open
+  abbrev deep : Limits
+  deep = record limits { depth = depth }
+
+  over-deeper : (opened : ℕ) (line : Line) → over_at limits opened line ≡ None → over_at deep opened line ≡ None
+  over-deeper opened Node none = elim (cases_Bool (nat_lt depth opened)) [
+    | inl t ↦ (let u : nat_lt limits.depth opened ≡ true = grind (arith, nat_tests) in let some = rw u at none in cc)
+    | inr f ↦ rw f refl
+  ]
+  over-deeper opened (Header version) none = none
+  over-deeper opened (Cut row slot) none = none
+  over-deeper opened (Found worth count) none = none
+  over-deeper opened (Value slot value) none = none
+  over-deeper opened Empty none = none
+  over-deeper opened Point none = none
+  over-deeper opened (Dual scale count) none = none
+  over-deeper opened (Pending scale count) none = none
+  over-deeper opened (Split slot most scale count) none = none
+  over-deeper opened (Mult row factor) none = none
+  over-deeper opened (ClaimOptimal earned count) none = none
+  over-deeper opened ClaimInfeasible none = none
+  over-deeper opened (ClaimBetween earned most count) none = none
+  over-deeper opened (ClaimBelow most) none = none
+  over-deeper opened End none = none
+
+  line-deeper : (standing : Standing) (line : Line) → line_defect limits standing line ≡ None → line_defect deep standing line ≡ None
+  line-deeper standing line none =
+      mapped_none (λ _. over limits standing line) (λ _. over deep standing line) (Some 1) (next standing line) (λ _. over-deeper (length standing.sides) line) none
+
+  text-deeper : (standing : Standing) (number : ℕ) (parts : List (List ℕ)) → text_defect limits standing number parts ≡ None → text_defect deep standing number parts ≡ None
+  unfolding text_defect
+  text-deeper standing number [] none = refl
+  text-deeper standing number (part ∷ parts) none =
+      last_choice (is_done standing.place) (nat_lt 200 (length part)) (length parts == 0) (if (length part == 0) && (length parts == 0) then None else Some (number, 3)) (Some (number, 1)) (Some (number, 2)) _ _
+      (both_none (λ kind. (number, kind)) (part_defect limits standing part) (part_defect deep standing part) _ _
+      (mapped_none (line_defect limits standing) (line_defect deep standing) (Some 1) (line_said part) (line-deeper standing))
+      (mapped_none (λ after. text_defect limits after (number + 1) parts) (λ after. text_defect deep after (number + 1) parts) None (after_bytes standing part) (λ after. text-deeper after (number + 1) parts)))
+      none
+
+-- a text without a defect where so many splits may be open has none where more may be
+pub clean-deeper : (program : Program) (depth more : ℕ) (bytes : List ℕ) → depth ≤ more → log_text_defect (limits_of program depth) bytes ≡ None → log_text_defect (limits_of program more) bytes ≡ None
+clean-deeper program depth more bytes less none = text-deeper (limits_of program depth) more less new_standing 1 (slice_split (λ byte. byte == 10) bytes) none
+
+-- a yes is given where there is no text defect
+yes-given : (program : Program) (bytes : List ℕ) (at : Option (ℕ × ℕ)) (claim : Claim) → IsVerdictGiven program bytes at (Yes claim) → (at ≡ None) × IsMeaningVerdict program bytes (Yes claim)
+yes-given program bytes None claim is = (refl, is)
+yes-given program bytes (Some at) claim is = absurd is
+
+-- a log that is valid at one depth is so at a greater one
+pub yes-deeper : (program : Program) (depth more : ℕ) (bytes : List ℕ) (claim : Claim) → depth ≤ more → IsVerdict program depth bytes (Yes claim) → IsVerdict program more bytes (Yes claim)
+yes-deeper program depth more bytes claim less is =
+    let given = yes-given program bytes (log_text_defect (limits_of program depth) bytes) claim is in
+    let none = clean-deeper program depth more bytes less given.0 in
+    rw none given.1
+
+-- what a head keeps does not depend on how many splits may be open
+front-deeper : (program : Program) (depth more : ℕ) (bytes : List ℕ) (head : Head) → IsFront (limits_with program depth 0) bytes (Headed head) → IsFront (limits_with program more 0) bytes (Headed head)
+front-deeper program depth more bytes head is =
+    let kept = is.kept in
+    let own : AreKept (limits_with program more 0) head.sums = record { declared = kept.sums.declared; rows_there = kept.sums.rows_there; slots = kept.sums.slots; rows = kept.sums.rows } in
+    record {
+      kept = record { is = kept.is; sums = own; lines = kept.lines; count = kept.count; bytes_least = kept.bytes_least; bytes_most = kept.bytes_most };
+      is = is.is;
+      ends = is.ends;
+    }
+
+-- the same of the answer over a program whose sums are shown
+shown-deeper : (program : Program) (ranges : List Domain) (depth more : ℕ) (bytes : List ℕ) (head : Head) (claim : Claim) (own : LogVerdict) → depth ≤ more → (is : IsShownVerdict program ranges depth bytes head (Yes claim)) → is.own ≡ own
+    → IsShownVerdict program ranges more bytes head (Yes claim)
+shown-deeper program ranges depth more bytes head claim (Yes said) less is same = record {
+  shown = is.shown;
+  larger = is.larger;
+  enlarged = is.enlarged;
+  own = Yes said;
+  right = yes-deeper is.larger depth more (behind head.bytes bytes) said less (rw same at is.right);
+  is = rw same at is.is;
+}
+shown-deeper program ranges depth more bytes head claim (No defect) less is same = let e = is.is in cc
+
+-- a log of any version that is valid at one depth is so at a greater one
+any-front-deeper : (program : Program) (ranges : List Domain) (depth more : ℕ) (bytes : List ℕ) (claim : Claim) (front : Front) → depth ≤ more → IsFront (limits_with program depth 0) bytes front
+    → IsFrontVerdict program ranges depth bytes front (Yes claim) → IsAnyVerdict program ranges more bytes (Yes claim)
+any-front-deeper program ranges depth more bytes claim Plain less stands right = record { front = Plain; stands = stands; right = yes-deeper program depth more bytes claim less right }
+any-front-deeper program ranges depth more bytes claim (Headed head) less stands (inl unshown) = let e = unshown.2 in cc
+any-front-deeper program ranges depth more bytes claim (Headed head) less stands (inr shown) =
+    record { front = Headed head; stands = front-deeper program depth more bytes head stands; right = inr (shown-deeper program ranges depth more bytes head claim shown.own less shown refl) }
+any-front-deeper program ranges depth more bytes claim (Bad defect) less stands right = cc
+
+pub any-deeper : (program : Program) (ranges : List Domain) (depth more : ℕ) (bytes : List ℕ) (claim : Claim) → depth ≤ more → IsAnyVerdict program ranges depth bytes (Yes claim) → IsAnyVerdict program ranges more bytes (Yes claim)
+any-deeper program ranges depth more bytes claim less is = any-front-deeper program ranges depth more bytes claim is.front less is.stands is.right
+
+-- the same of a log over a part of a plant's choices
+pub plant-deeper : (plant : Plant) (part : Program) (depth more : ℕ) (bytes : List ℕ) (claim : Claim) → depth ≤ more → IsPlantVerdict plant part depth bytes (Yes claim) → IsPlantVerdict plant part more bytes (Yes claim)
+plant-deeper plant part depth more bytes claim less is = any-deeper part (plant_root plant) depth more bytes claim less is

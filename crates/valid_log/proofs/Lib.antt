@@ -1,0 +1,14 @@
+pub mod Items
+pub mod FoundSound
+pub mod Points
+pub mod Saying
+pub mod PartSaying
+pub mod PlantRanges
+pub mod Holding
+pub mod LogFronts
+pub mod Deeper
+pub mod Excluded
+pub mod Alike
+pub mod Fronts
+pub mod AnyVersions
+pub mod Again

@@ -1,0 +1,16 @@
+use Rattle.valid_log.proofs.Excluded.{exact}
+use Rattle.valid_log.proofs.Alike.{alike, valid_alike}
+use Rattle.valid_log.proofs.AnyVersions.{any_exact, yes-stays}
+use Rattle.valid_log.proofs.law.verdicts_are_exact.Goals as goal
+
+pub returns-clause-exact : goal.returns-clause-exact
+returns-clause-exact c = exact
+
+pub returns-clause-any_exact : goal.returns-clause-any_exact
+returns-clause-any_exact c = any_exact
+
+pub returns-clause-alike : goal.returns-clause-alike
+returns-clause-alike c = λ program larger other ranges sums depth bytes claim enlarged enlarged2 valid. valid_alike larger other depth bytes claim (alike program larger other ranges sums enlarged enlarged2) valid
+
+pub returns-clause-stays : goal.returns-clause-stays
+returns-clause-stays c = yes-stays

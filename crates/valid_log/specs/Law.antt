@@ -1,0 +1,34 @@
+-- That the right answer on a log is yes exactly where the log is valid.
+use Rattle.std.specs.Prelude.{◌≡◌, ◌≤◌, ◌↔◌, ℕ, List}
+use Rattle.row_kit.specs.declared.domain.Domain.{Domain}
+use Rattle.row_kit.specs.declared.program.Program.{Program}
+use Rattle.sum_slots.specs.declared.sum.Sum.{Sum}
+use Rattle.sum_slots.specs.Larger.{IsWithSums}
+use Rattle.proof_log.specs.declared.claim.Claim.{Claim}
+use Rattle.valid_log.specs.declared.verdict.LogVerdict.{LogVerdict}
+use Rattle.valid_log.specs.declared.verdict.LogVerdict.TheVariants.{Yes}
+use Rattle.valid_log.specs.Verdict.{IsValidLog, IsVerdict}
+use Rattle.valid_log.specs.AnyVersion.{IsAnyVerdict, IsValidAnyLog}
+
+-- a right answer is yes with a claim exactly where the bytes are a valid log of it
+abbrev pub VerdictsAreExact : Type 0
+VerdictsAreExact =
+    (program : Program) (depth : ℕ) (bytes : List ℕ) (verdict : LogVerdict) (claim : Claim) → IsVerdict program depth bytes verdict → (verdict ≡ Yes claim) ↔ IsValidLog program depth bytes claim
+
+-- a right answer is yes with a claim exactly where the bytes are a valid log of it, of any version
+abbrev pub AnyVerdictsAreExact : Type 0
+AnyVerdictsAreExact =
+    (program : Program) (ranges : List Domain) (depth : ℕ) (bytes : List ℕ) (verdict : LogVerdict) (claim : Claim) → IsAnyVerdict program ranges depth bytes verdict
+    → (verdict ≡ Yes claim) ↔ IsValidAnyLog program ranges depth bytes claim
+
+-- what is a valid log over one program with sums is one over each other with them, whichever lanes they have
+abbrev pub LanesAreAlike : Type 0
+LanesAreAlike =
+    (program larger other : Program) (ranges : List Domain) (sums : List Sum) (depth : ℕ) (bytes : List ℕ) (claim : Claim) → IsWithSums program ranges sums larger → IsWithSums program ranges sums other
+    → IsValidLog larger depth bytes claim → IsValidLog other depth bytes claim
+
+-- where a right answer is yes, each right answer on the same bytes is this yes, also where more splits may be open
+abbrev pub YesStays : Type 0
+YesStays =
+    (program : Program) (ranges : List Domain) (depth more : ℕ) (bytes : List ℕ) (claim : Claim) (verdict : LogVerdict) → depth ≤ more → IsAnyVerdict program ranges depth bytes (Yes claim)
+    → IsAnyVerdict program ranges more bytes verdict → verdict ≡ Yes claim

@@ -1,0 +1,7 @@
+pub mod Meaning
+pub mod Verdict
+pub mod AnyVersion
+pub mod SumTexts
+pub mod Claims
+pub mod PlantLogs
+pub mod Law

@@ -1,0 +1,16 @@
+//! The law of verdicts.
+ghost use Rattle.valid_log.specs.Law.{AnyVerdictsAreExact, LanesAreAlike, VerdictsAreExact, YesStays};
+
+/// A right answer on bytes is yes with a claim exactly where the bytes are a valid log of this claim: they have no text defect,
+/// and are the text of a log whose proof and claim have no meaning defect. So is a right answer on a log of any version, where
+/// what follows a head of shown sums is such a log over the program with the sums.
+pub fn verdicts_are_exact()
+    ensures exact { VerdictsAreExact }
+    ensures any_exact { AnyVerdictsAreExact }
+
+    // Programs with the same sums may differ in the sums' lane, on which no answer depends.
+    ensures alike { LanesAreAlike }
+
+    // A yes stays the same where more splits may be open.
+    ensures stays { YesStays }
+{}
