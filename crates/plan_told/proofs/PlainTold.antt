@@ -40,7 +40,7 @@ use Rattle.branch_tree.proofs.Whole.{fit-groups}
 use Rattle.proof_log.specs.declared.claim.Claim.TheVariants as claim
 use Rattle.valid_log.specs.Meaning.{IsSoundClaim}
 use Rattle.plan_told.specs.Outcomes.{IsPartOutcome, least_plan, whole_count}
-use Rattle.plan_told.specs.Proofs.{IfSpent, IsProofOf, claim_of}
+use Rattle.plan_told.specs.Proofs.{IfSpent, IsCapOf, IsProofOf, claim_of}
 use Rattle.plan_told.specs.Ended.{IsSearchOf}
 use Rattle.plan_told.specs.Telling.{IsTold, told_bare, told_plan}
 use Rattle.plan_told.specs.declared.telling.Told.{Told}
@@ -106,9 +106,9 @@ module _ (plant : Plant) (part : Program) (sound : Sound plant) (is : IsPartOf p
   with_answer : (ended : Ended) (said : Answer) → IsSearch part (length part.root) budget tree ended
       → IsAnswerOf plant (IsAdmitted plant part) (least_plan plant part) (whole_count part) budget ended.spent said
       → IsSoundClaim part ended.cap (claim_of plant said) → IsSmallClaim (claim_of plant said)
-      → IfSpent said (HasOpenBox part (view_of part.root) tree)
+      → IsCapOf said ended.cap → IfSpent said (HasOpenBox part (view_of part.root) tree)
       → IsPartOutcome plant part budget (record { answer = said; boxes = ended.spent }) × IsProofOf plant part (record { answer = said; boxes = ended.spent }) tree
-  with_answer ended said search right borne small open_box =
+  with_answer ended said search right borne small most open_box =
       let some : 0 < counted tree = counted-some part (length part.root) tree search.justified in
       let spent : ended.spent ≡ counted tree = search.spent in
       let few : ended.spent + 1 ≤ 2 * points_of part.root = search.few in (
@@ -117,6 +117,7 @@ module _ (plant : Plant) (part : Program) (sound : Sound plant) (is : IsPartOf p
           boxes = sym search.spent;
           justified = search.justified;
           valid = valid-search part budget tree ended (claim_of plant said) search borne small;
+          cap = subst (IsCapOf said) search.cap most;
           left_open = open_box;
         },
       )
@@ -138,13 +139,13 @@ module _ (plant : Plant) (part : Program) (sound : Sound plant) (is : IsPartOf p
       } in
       let none_above : n <ℤ found.value → ⊥ = λ h. omega (arith, ints, settled, h) in
       let above_none : found.value <ℤ n → ⊥ = λ h. omega (arith, ints, settled, h) in
-      let both = with_answer ended (answer.Optimal plan found.value) of.search (best, earned) ((lawful, worth), above_none) tt tt in
+      let both = with_answer ended (answer.Optimal plan found.value) of.search (best, earned) ((lawful, worth), above_none) tt tt tt in
       record { outcome = both.0; proof = both.1; claim = ap (λ point. claim.Optimal found.value point) (sym own.has) }
 
   -- nothing is left open, and no point was found
   told_none : (spent : ℕ) → IsSearchOf part (length part.root) budget (ended_at None NoPoint spent false) tree → IsToldRight plant part budget tree (told_bare None spent)
   told_none spent of =
-      let both = with_answer (ended_at None NoPoint spent false) answer.Infeasible of.search (none_admitted plant part sound is of.search.bounds) (λ h. h) tt tt in
+      let both = with_answer (ended_at None NoPoint spent false) answer.Infeasible of.search (none_admitted plant part sound is of.search.bounds) (λ h. h) tt tt tt in
       record { outcome = both.0; proof = both.1; claim = refl }
 
   -- a box is left open, and a point was found
@@ -168,7 +169,7 @@ module _ (plant : Plant) (part : Program) (sound : Sound plant) (is : IsPartOf p
         capped = capped plant part sound is n of.search.bounds;
       } in
       let not_above : n <ℤ n → ⊥ = λ h. omega (arith, ints, h) in
-      let both = with_answer ended (answer.BudgetSpent (Some plan) found.value n) of.search spent_right ((lawful, worth), not_above) (search-cap_short part budget tree ended of.search) left.0 in
+      let both = with_answer ended (answer.BudgetSpent (Some plan) found.value n) of.search spent_right ((lawful, worth), not_above) (search-cap_short part budget tree ended of.search) refl left.0 in
       record { outcome = both.0; proof = both.1; claim = ap (λ point. claim.Between found.value n point) (sym own.has) }
 
   -- a box is left open, and no point was found
@@ -186,7 +187,7 @@ module _ (plant : Plant) (part : Program) (sound : Sound plant) (is : IsPartOf p
         capped = capped plant part sound is n of.search.bounds;
       } in
       let not_above : n <ℤ n → ⊥ = λ h. omega (arith, ints, h) in
-      let both = with_answer ended (answer.BudgetSpent None (pos 0) n) of.search spent_right not_above (search-cap_short part budget tree ended of.search) left.0 in
+      let both = with_answer ended (answer.BudgetSpent None (pos 0) n) of.search spent_right not_above (search-cap_short part budget tree ended of.search) refl left.0 in
       record { outcome = both.0; proof = both.1; claim = refl }
 
   told_at : (best : Option Found) (cap : Capped) (spent : ℕ) (left_open : Bool) → IsSearchOf part (length part.root) budget (ended_at best cap spent left_open) tree

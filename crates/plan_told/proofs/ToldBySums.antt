@@ -37,7 +37,7 @@ use Rattle.sum_slots.specs.declared.sum.Sum.{Sum}
 use Rattle.sum_slots.specs.Larger.{IsWithSums}
 use Rattle.valid_log.specs.SumTexts.{MayHead}
 use Rattle.plan_told.specs.Outcomes.{IsPartOutcome, least_plan, whole_count}
-use Rattle.plan_told.specs.Proofs.{IfSpent, IsSumsProofOf, claim_of}
+use Rattle.plan_told.specs.Proofs.{IfSpent, IsCapOf, IsSumsProofOf, claim_of}
 use Rattle.plan_told.specs.Telling.{IsTold, told_bare, told_plan}
 use Rattle.plan_told.specs.declared.telling.Told.{Told}
 use Rattle.plan_told.proofs.PartPlans.{lawful-places, lawful-plan}
@@ -73,9 +73,9 @@ module _ (plant : Plant) (part larger : Program) (sums : List Sum) (sound : Soun
   with_answer : (cap : Capped) → ended.cap ≡ cap → (said : Answer)
       → IsAnswerOf plant (IsAdmitted plant part) (least_plan plant part) (whole_count part) budget ended.spent said
       → IsSoundClaim part cap (claim_of plant said) → IsSmallClaim (claim_of plant said)
-      → IfSpent said (HasOpenBox larger (view_of larger.root) tree)
+      → IsCapOf said cap → IfSpent said (HasOpenBox larger (view_of larger.root) tree)
       → IsPartOutcome plant part budget (record { answer = said; boxes = ended.spent }) × IsSumsProofOf plant part sums (record { answer = said; boxes = ended.spent }) tree
-  with_answer cap at said right borne small open_box =
+  with_answer cap at said right borne small most open_box =
       let some : 0 < counted tree = counted-some larger (length part.root) tree search.justified in
       let spent : ended.spent ≡ counted tree = search.spent in
       let count : budget < whole_count part = below_count budget (points_of part.root) many few in (
@@ -86,6 +86,7 @@ module _ (plant : Plant) (part larger : Program) (sums : List Sum) (sound : Soun
           boxes = sym search.spent;
           justified = search.justified;
           valid = valid-sums plant part larger sums budget tree ended (claim_of plant said) is may enlarged search (subst (λ c. IsSoundClaim part c (claim_of plant said)) (sym at) borne) small;
+          cap = subst (IsCapOf said) (sym at ∙ search.cap) most;
           left_open = open_box;
         },
       )
@@ -111,13 +112,13 @@ module _ (plant : Plant) (part larger : Program) (sums : List Sum) (sound : Soun
         admitted = own.admitted;
         best = λ other admitted. let most = capped plant part sound is n (bounds_at (AtMost n) at) other admitted in omega (arith, ints, most, low, earned);
       } in
-      let both = with_answer (AtMost n) at (answer.Optimal plan found.value) (best, earned) ((lawful, worth), closed) tt tt in
+      let both = with_answer (AtMost n) at (answer.Optimal plan found.value) (best, earned) ((lawful, worth), closed) tt tt tt in
       record { outcome = both.0; proof = both.1; claim = ap (λ point. claim.Optimal found.value point) (sym own.has); point = group.lawful }
 
   -- nothing is left open, and no point was found
   told_none : ended.cap ≡ NoPoint → IsToldBySums plant part sums budget tree (told_bare None ended.spent)
   told_none at =
-      let both = with_answer NoPoint at answer.Infeasible (none_admitted plant part sound is (bounds_at NoPoint at)) (λ h. h) tt tt in
+      let both = with_answer NoPoint at answer.Infeasible (none_admitted plant part sound is (bounds_at NoPoint at)) (λ h. h) tt tt tt in
       record { outcome = both.0; proof = both.1; claim = refl; point = tt }
 
   -- a box is left open, and a point was found
@@ -137,7 +138,7 @@ module _ (plant : Plant) (part larger : Program) (sums : List Sum) (sound : Soun
         capped = capped plant part sound is n (bounds_at (AtMost n) at);
       } in
       let not_above : n <ℤ n → ⊥ = λ h. omega (arith, ints, h) in
-      let both = with_answer (AtMost n) at (answer.BudgetSpent (Some plan) found.value n) spent_right ((lawful, worth), not_above) (short_at n at) left.0 in
+      let both = with_answer (AtMost n) at (answer.BudgetSpent (Some plan) found.value n) spent_right ((lawful, worth), not_above) (short_at n at) refl left.0 in
       record { outcome = both.0; proof = both.1; claim = ap (λ point. claim.Between found.value n point) (sym own.has); point = group.lawful }
 
   -- a box is left open, and no point was found
@@ -153,7 +154,7 @@ module _ (plant : Plant) (part larger : Program) (sums : List Sum) (sound : Soun
         capped = capped plant part sound is n (bounds_at (AtMost n) at);
       } in
       let not_above : n <ℤ n → ⊥ = λ h. omega (arith, ints, h) in
-      let both = with_answer (AtMost n) at (answer.BudgetSpent None (pos 0) n) spent_right not_above (short_at n at) left.0 in
+      let both = with_answer (AtMost n) at (answer.BudgetSpent None (pos 0) n) spent_right not_above (short_at n at) refl left.0 in
       record { outcome = both.0; proof = both.1; claim = refl; point = tt }
 
   -- what is told of an end is right, case by case

@@ -13,7 +13,11 @@ use Rattle.row_kit.specs.declared.program.Program.{Program}
 use Rattle.row_set.specs.PlantProgram.{IsMadeOf, IsProgramOf, plant_root}
 use Rattle.proof_tree.specs.Items.{tree_items}
 use Rattle.proof_tree.specs.Nodes.{counted}
+use Rattle.proof_tree.specs.declared.capped.Capped.{Capped}
+use Rattle.proof_tree.specs.declared.capped.Capped.TheVariants.{AtMost}
+use Rattle.proof_tree.specs.Tree.{tree_cap}
 use Rattle.row_relax.specs.RowProofs.{RowTree}
+use Rattle.row_relax.specs.Steps.{row_steps}
 use Rattle.row_relax.specs.View.{view_of}
 use Rattle.branch_tree.specs.Justified.{IsJustified}
 use Rattle.branch_tree.specs.Searched.{HasOpenBox, IsWritable, spared}
@@ -52,17 +56,26 @@ IfSpent (answer.Optimal plan earned) P = ⊤
 IfSpent answer.Infeasible P = ⊤
 IfSpent (answer.BudgetSpent plan earned cap) P = P
 
+-- where an answer says that the budget was spent, its CAP is exactly this cap
+abbrev pub IsCapOf : Answer → Capped → Type 0
+IsCapOf (answer.Optimal plan earned) capped = ⊤
+IsCapOf answer.Infeasible capped = ⊤
+IsCapOf (answer.BudgetSpent plan earned cap) capped = capped ≡ AtMost cap
+
 -- A proof of an outcome: no box was split without cause, as many boxes are counted as the outcome says, and
--- its text with the claim of the answer is a valid log. Where the budget was spent, a box with a point is open.
+-- its text with the claim of the answer is a valid log. Where the budget was spent, CAP is the proof's cap,
+-- and a box with a point is open.
 pub record IsProofOf (plant : Plant) (part : Program) (outcome : Outcome) (tree : RowTree) : Type 0 where
   pub boxes : counted tree ≡ outcome.boxes
   -- every slot is the plant's own, none a sum's
   pub justified : IsJustified part (length part.root) tree
   pub valid : IsVerdict part (depth_over part.root) (proof_text plant outcome.answer tree) (Yes (claim_of plant outcome.answer))
+  pub cap : IsCapOf outcome.answer (tree_cap (row_steps part) (view_of part.root) tree)
   pub left_open : IfSpent outcome.answer (HasOpenBox part (view_of part.root) tree)
 
 -- A proof of an outcome over the part's program with sums: no box was split without cause, as many boxes are counted as the
--- outcome says, and its text with the claim of the answer is a valid log. Where the budget was spent, a box with a point is open.
+-- outcome says, and its text with the claim of the answer is a valid log. Where the budget was spent, CAP is the proof's cap, and
+-- a box with a point is open.
 pub record IsSumsProofOf (plant : Plant) (part : Program) (sums : List Sum) (outcome : Outcome) (tree : RowTree) : Type 0 where
   pub larger : Program
   pub enlarged : IsWithSums part (plant_root plant) sums larger
@@ -70,6 +83,7 @@ pub record IsSumsProofOf (plant : Plant) (part : Program) (sums : List Sum) (out
   -- the slots of the part are the plant's own, all later ones a sum's
   pub justified : IsJustified larger (length part.root) tree
   pub valid : IsPlantVerdict plant part (depth_over part.root) (sums_proof_text plant outcome.answer sums tree) (Yes (claim_of plant outcome.answer))
+  pub cap : IsCapOf outcome.answer (tree_cap (row_steps larger) (view_of larger.root) tree)
   pub left_open : IfSpent outcome.answer (HasOpenBox larger (view_of larger.root) tree)
 
 -- the text is that of the log of a proof of the outcome over the part's own program
