@@ -26,6 +26,7 @@ use Rattle.proof_log.specs.declared.log.Defect.{Defect}
 use Rattle.log_check.specs.declared.course.Course.{Course}
 use Rattle.log_check.specs.declared.course.Course.TheVariants.{Going, Faulty}
 use Rattle.valid_log.specs.Meaning.{RowSteps, IsWorth, PointDefect, CapDefect, ItemDefect, HasDefect, HaveNone, IsItemDefect, IsTested}
+use Rattle.valid_log.proofs.Items.{leads_on}
 use Rattle.log_check.specs.Course.{RowWalk, StandsAt, IsReady, IsNamed, MayTake, end_kind, course_of}
 
 -- the right part of each open split is there

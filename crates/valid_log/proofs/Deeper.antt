@@ -1,9 +1,9 @@
 -- A log of any version that is valid where so many splits may be open is valid where more may be.
-use Rattle.std.proofs.Common.{◌≡◌, ℕ, ◌+◌, ◌<◌, ◌≤◌, Bool, true, false, nat_lt, if◌then◌else◌, List, [], ◌∷◌, length, refl, arith, inl, inr, ap, sym, ◌∙◌}
+use Rattle.std.proofs.Common.{◌≡◌, ℕ, ◌+◌, ◌≤◌, Bool, true, false, nat_lt, if◌then◌else◌, List, [], ◌∷◌, length, refl, arith, inl, inr}
 use Rattle.std.specs.Prelude.{Option, Some, None, ◌==◌, ◌&&◌}
 use Rattle.std.specs.List.{slice_split}
 use Rattle.std.specs.Option.{option_map_or}
-use Rattle.std.proofs.lemmas.Bool.{cases_Bool, lt-ltb}
+use Rattle.std.proofs.lemmas.Bool.{cases_Bool}
 use Rattle.std.proofs.lemmas.Bool.Decides.{nat_tests}
 use Rattle.row_kit.specs.declared.program.Program.{Program}
 use Rattle.log_lines.specs.declared.grammar.Limits.{Limits}
@@ -25,7 +25,7 @@ use Rattle.sum_lines.specs.declared.head.Head.{Head}
 use Rattle.sum_lines.specs.Front.{IsFront}
 use Rattle.sum_lines.specs.Head.{AreKept}
 use Rattle.proof_log.specs.Behind.{behind}
-use Rattle.valid_log.specs.AnyVersion.{IsAnyVerdict, IsFrontVerdict, IsHeadVerdict, IsShownVerdict, given_verdict, limits_with}
+use Rattle.valid_log.specs.AnyVersion.{IsAnyVerdict, IsFrontVerdict, IsShownVerdict, limits_with}
 use Rattle.valid_log.specs.PlantLogs.{IsPlantVerdict}
 
 -- a choice among options that is none, where only the last differs

@@ -14,7 +14,7 @@ use Rattle.log_lines.specs.declared.grammar.Limits.{Limits}
 use Rattle.log_lines.specs.TextDefect.{log_text_defect}
 use Rattle.valid_log.specs.declared.verdict.LogVerdict.{LogVerdict}
 use Rattle.valid_log.specs.declared.verdict.LogVerdict.TheVariants.{Yes, No}
-use Rattle.valid_log.specs.Meaning.{ClaimDefect, IsSoundClaim, IsMeaningDefect, IsProved, Holds}
+use Rattle.valid_log.specs.Meaning.{ClaimDefect, IsMeaningDefect, IsProved, Holds}
 
 -- the bytes are the text of the log of a proof and a claim over the program's slots
 pub record IsLog (program : Program) (bytes : List ℕ) (tree : RowTree) (claim : Claim) : Type 0 where
