@@ -1,0 +1,39 @@
+//! `simulate`, `report` and `picture PLANT PLAN`: what a plan earns or breaks first, its report, and its picture.
+ghost use Rattle.std.specs.Prelude.{◌≡◌, ◌≢◌, ◌≤◌, [], Err, IsTrue};
+ghost use Rattle.stn_edge.specs.Count.{Rose};
+ghost use Rattle.command_replies.specs.Answers.{IsPlanAnswer};
+ghost use Rattle.command_replies.specs.Sources.{IfReplied};
+ghost use Rattle.answer_texts.specs.Simulation.{Simulated};
+
+use answer_texts::simulate_plan;
+use command_replies::{Reply, Stopped, plan_in, plant_in};
+use command_words::PlanUse;
+use std::alloc::Global;
+use stn_edge::Shelf;
+
+/// Simulates the plan in a file on the plant in another, and says what it earns, shows or draws it, or
+/// says what it breaks first. The files are as before.
+pub fn simulate_file<F: Shelf>(
+    alloc: Global,
+    files: &mut F,
+    usage: PlanUse,
+    plant: &str,
+    plan: &str,
+) -> Result<Reply, Stopped>
+    requires plant_readable { IsTrue (F.may_read files.old plant.now) }
+    requires plan_readable { IsTrue (F.may_read files.old plan.now) }
+    ensures answer { IfReplied result (λ reply. IsPlanAnswer (F.files files.old) (F.files files.new)
+        plant.now plan.now [] (Simulated usage) reply.status reply.text.items) }
+    ensures fault { result ≡ Err Stopped.ReadFault
+        → Rose (F.read_faults files.old) (F.read_faults files.new) }
+    ensures unwritten { result ≢ Err Stopped.WriteFault }
+    ensures same { F.files files.new ≡ F.files files.old }
+    ensures readable { F.may_read files.new ≡ F.may_read files.old }
+    ensures writable { F.may_write files.new ≡ F.may_write files.old }
+    ensures later { F.read_faults files.old ≤ F.read_faults files.new }
+    ensures no_write { F.write_faults files.new ≡ F.write_faults files.old }
+{
+    let plant = plant_in(alloc, files, plant)?;
+    let plan = plan_in(alloc, files, &plant, plan)?;
+    Ok(simulate_plan(alloc, usage, &plant, plan.as_slice())?)
+}
