@@ -7,8 +7,9 @@ use crate::explorer::{Explored, explore};
 use crate::kept_guide::KeptGuide;
 use crate::kept_hinter::KeptHinter;
 use box_advice::{Advice, Guide, Hinter};
-use plan_hints::{PlanGuide, PlanHinter};
+use plan_hints::PlanHinter;
 use row_kit::{Area, Program};
+use split_advice::PlanGuide;
 use std::alloc::{AllocError, Global};
 
 /// A guide of a search: one that is asked as the search goes on, or one that leads it through boxes explored before.

@@ -8,9 +8,10 @@ use crate::caps::exceeds;
 use crate::tree::{Tree, cap_of};
 use box_advice::{Advice, Hinter};
 use dual_simplex::Basis;
-use plan_hints::{Kept, PlanGuide, PlanHinter, may_split, split_value};
+use plan_hints::{Kept, PlanHinter};
 use range_prop::{RowIndex, cut_by_index};
 use row_kit::{Area, Domain, Program};
+use split_advice::{PlanGuide, may_split, split_value};
 use std::alloc::{AllocError, Global};
 
 /// What a search in memory has come to: the boxes, and the best plan.

@@ -7,8 +7,8 @@ ghost use Rattle.row_kit.specs.Domain.{IsOpen};
 use crate::caps::exceeds;
 use crate::node::{NONE, Node};
 use box_advice::{Advice, Guide};
-use plan_hints::PlanGuide;
 use row_kit::{Area, Program};
+use split_advice::PlanGuide;
 use std::alloc::{AllocError, Global};
 
 /// Leads the loop through explored boxes, and leaves open what was not explored. Where the loop closes a box that was split, as
