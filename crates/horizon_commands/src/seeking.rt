@@ -3,7 +3,7 @@ ghost use Rattle.std.specs.Prelude.{◌≡◌, ◌≢◌, ◌≤◌, ◌⊎◌, 
 ghost use Rattle.std.specs.Fmt.{signed_decimal};
 ghost use Rattle.stn_edge.specs.Count.{Rose};
 ghost use Rattle.stn_model.specs.Sound.{Sound};
-ghost use Rattle.stn_model.specs.declared.plant.Plant.{Plant as PlantValue};
+ghost use Rattle.stn_model.specs.declared.plant.Plant.{Plant};
 ghost use Rattle.plant_text.specs.Reading.{reading};
 ghost use Rattle.plan_text.specs.PlanLines.{IsNamed};
 ghost use Rattle.least_horizon.specs.declared.answer.LeastAnswer.{LeastAnswer};
@@ -76,7 +76,7 @@ pub fn trace_file<F: Shelf>(
     ensures write_fault { result ≡ Err Stopped.WriteFault
         → Rose (F.write_faults files.old) (F.write_faults files.new) }
     ensures begun { result ≡ Err Stopped.WriteFault
-        → (plant : PlantValue) × IsReadOf reading (F.files files.old) name.now (Ok plant) }
+        → (plant : Plant) × IsReadOf reading (F.files files.old) name.now (Ok plant) }
     ensures left { (F.files files.new ≡ F.files files.old) ⊎ HoldsLogs budget.boxes
         (F.files files.old) (F.files files.new) name.now stem.now }
     ensures others { OthersStayBelow stem.now 337 (F.files files.old) (F.files files.new) }

@@ -3,7 +3,7 @@ ghost use Rattle.std.specs.Prelude.{◌≡◌, ◌≢◌, ◌≤◌, ◌<◌, �
 ghost use Rattle.stn_edge.specs.Count.{Rose};
 ghost use Rattle.stn_edge.specs.Files.{OthersStay};
 ghost use Rattle.stn_model.specs.Sound.{Sound};
-ghost use Rattle.stn_model.specs.declared.plant.Plant.{Plant as PlantValue};
+ghost use Rattle.stn_model.specs.declared.plant.Plant.{Plant};
 ghost use Rattle.plant_text.specs.Reading.{reading};
 ghost use Rattle.time_grid.specs.Slots.{slots};
 ghost use Rattle.proof_log.specs.LogNames.{log_name};
@@ -55,7 +55,7 @@ pub fn join_file<F: Shelf>(
     ensures write_fault { result ≡ Err Stopped.WriteFault
         → Rose (F.write_faults files.old) (F.write_faults files.new) }
     ensures begun { result ≡ Err Stopped.WriteFault
-        → (plant : PlantValue) × (IsReadOf reading (F.files files.old) name.now (Ok plant)
+        → (plant : Plant) × (IsReadOf reading (F.files files.old) name.now (Ok plant)
         × (levels.number ≤ length (slots plant))
         × AllAreValid plant levels.number stem.now (F.files files.old)) }
     ensures left { (F.files files.new ≡ F.files files.old) ⊎ HoldsJoined (F.files files.old)

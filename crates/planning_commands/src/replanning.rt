@@ -1,15 +1,18 @@
 //! `replan PLANT PLAN PERIOD BUDGET` and the same with LOG: planning on from the starts of a plan before a period.
-ghost use Rattle.std.specs.Prelude.{◌≡◌, ◌≢◌, ◌≤◌, ◌<◌, ◌^◌, ◌⊎◌, ⊤, [], length, None, Err, IsTrue, IfOk};
+ghost use Rattle.std.specs.Prelude.{◌≡◌, ◌≢◌, ◌≤◌, ◌<◌, ◌^◌, ◌⊎◌, ⊤, [], ℕ, List, length, None, Ok, Err, IsTrue, IfOk};
 ghost use Rattle.stn_edge.specs.Count.{Rose};
 ghost use Rattle.stn_edge.specs.Files.{OthersStay};
 ghost use Rattle.stn_model.specs.Sound.{Sound};
+ghost use Rattle.stn_model.specs.declared.start.Start.{Start};
+ghost use Rattle.plan_text.specs.PlanText.{plan_of_text};
+ghost use Rattle.plant_text.specs.Reading.{reading};
 ghost use Rattle.row_set.specs.Parts.{IsPartOf};
 ghost use Rattle.frozen_plan.specs.Frozen.{kept_starts};
 ghost use Rattle.frozen_plan.specs.Keeping.{StandTogether};
 ghost use Rattle.plan_told.specs.Outcomes.{IsPartOutcome};
 ghost use Rattle.plan_told.specs.Proofs.{HasProof, bytes_in};
 ghost use Rattle.command_replies.specs.Answers.{IsPlanAnswer, IsUnwritten};
-ghost use Rattle.command_replies.specs.Sources.{IfReplied, IfRefused};
+ghost use Rattle.command_replies.specs.Sources.{IfReplied, IfRefused, IsReadOf};
 ghost use Rattle.answer_texts.specs.Planning.{Planned};
 ghost use Rattle.planning_commands.specs.Replanning.{
   CanReplan,
@@ -55,8 +58,36 @@ pub fn replan_file<F: Shelf>(
     ensures no_write { F.write_faults files.new ≡ F.write_faults files.old }
 {
     let plant = plant_in(alloc, files, plant)?;
-    let plan = plan_in(alloc, files, &plant, plan)?;
-    Ok(replan(alloc, &plant, plan.as_slice(), period, budget)?)
+    replan_on(alloc, files, &plant, plan, period, budget)
+}
+
+// The answer on a plant that was read of a file, whatever its name is.
+fn replan_on<F: Shelf>(
+    alloc: Global,
+    files: &mut F,
+    plant: &Plant,
+    plan: &str,
+    period: Period,
+    budget: Budget,
+) -> Result<Reply, Stopped>
+    requires allowed { IsTrue (F.may_read files.old plan.now) }
+    requires sound { Sound plant.now }
+    ensures answer { (name : List ℕ) → IsReadOf reading (F.files files.old) name (Ok plant.now)
+        → IfReplied result (λ reply. IsPlanAnswer (F.files files.old) (F.files files.new)
+        name plan.now [] (λ plant starts. Replanned budget.boxes plant period.number
+        (kept_starts period.number starts) None (F.files files.new ≡ F.files files.old))
+        reply.status reply.text.items) }
+    ensures fault { result ≡ Err Stopped.ReadFault
+        → Rose (F.read_faults files.old) (F.read_faults files.new) }
+    ensures unwritten { result ≢ Err Stopped.WriteFault }
+    ensures same { F.files files.new ≡ F.files files.old }
+    ensures readable { F.may_read files.new ≡ F.may_read files.old }
+    ensures writable { F.may_write files.new ≡ F.may_write files.old }
+    ensures later { F.read_faults files.old ≤ F.read_faults files.new }
+    ensures no_write { F.write_faults files.new ≡ F.write_faults files.old }
+{
+    let plan = plan_in(alloc, files, plant, plan)?;
+    Ok(replan(alloc, plant, plan.as_slice(), period, budget)?)
 }
 
 /// Plans on from the starts of the plan in a file before a period, on the plant in another, with at most so many boxes, and writes
@@ -96,8 +127,49 @@ pub fn log_replan_file<F: Shelf>(
     ensures writes { F.write_faults files.old ≤ F.write_faults files.new }
 {
     let plant = plant_in(alloc, files, plant)?;
-    let plan = plan_in(alloc, files, &plant, plan)?;
-    log_replan(alloc, files, &plant, plan.as_slice(), period, budget, log)
+    log_replan_on(alloc, files, &plant, plan, period, budget, log)
+}
+
+// The answer on a plant that was read of a file, whatever its name is, and what is left.
+fn log_replan_on<F: Shelf>(
+    alloc: Global,
+    files: &mut F,
+    plant: &Plant,
+    plan: &str,
+    period: Period,
+    budget: Budget,
+    log: &str,
+) -> Result<Reply, Stopped>
+    requires plan_readable { IsTrue (F.may_read files.old plan.now) }
+    requires log_writable { IsTrue (F.may_write files.old log.now) }
+    requires sound { Sound plant.now }
+    ensures answer { (name : List ℕ) → IsReadOf reading (F.files files.old) name (Ok plant.now)
+        → IfReplied result (λ reply. IsPlanAnswer (F.files files.old) (F.files files.new)
+        name plan.now [] (λ plant starts. Replanned budget.boxes plant period.number
+        (kept_starts period.number starts) (bytes_in log.now (F.files files.new))
+        (F.files files.new ≡ F.files files.old)) reply.status reply.text.items) }
+    ensures refused { IfReplied result (λ reply. IsUnwritten reply.status
+        → F.files files.new ≡ F.files files.old) }
+    ensures fault { result ≡ Err Stopped.ReadFault
+        → Rose (F.read_faults files.old) (F.read_faults files.new) }
+    ensures unread { result ≡ Err Stopped.ReadFault → F.files files.new ≡ F.files files.old }
+    ensures write_fault { result ≡ Err Stopped.WriteFault
+        → Rose (F.write_faults files.old) (F.write_faults files.new) }
+    ensures begun { result ≡ Err Stopped.WriteFault → (starts : List Start)
+        × (IsReadOf (plan_of_text plant.now) (F.files files.old) plan.now (Ok starts)
+        × StandTogether plant.now (kept_starts period.number starts)) }
+    ensures left { (F.files files.new ≡ F.files files.old) ⊎ ((starts : List Start)
+        × (IsReadOf (plan_of_text plant.now) (F.files files.old) plan.now (Ok starts)
+        × LeavesReplan plant.now period.number (kept_starts period.number starts) log.now
+        (F.files files.old) (F.files files.new))) }
+    ensures others { OthersStay log.now (F.files files.old) (F.files files.new) }
+    ensures readable { F.may_read files.new ≡ F.may_read files.old }
+    ensures writable { F.may_write files.new ≡ F.may_write files.old }
+    ensures later { F.read_faults files.old ≤ F.read_faults files.new }
+    ensures writes { F.write_faults files.old ≤ F.write_faults files.new }
+{
+    let plan = plan_in(alloc, files, plant, plan)?;
+    log_replan(alloc, files, plant, plan.as_slice(), period, budget, log)
 }
 
 // The answer of planning on from the starts of a plan before a period.

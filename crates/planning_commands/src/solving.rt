@@ -3,7 +3,7 @@ ghost use Rattle.std.specs.Prelude.{◌≡◌, ◌≢◌, ◌≤◌, ◌⊎◌, 
 ghost use Rattle.stn_edge.specs.Count.{Rose};
 ghost use Rattle.stn_edge.specs.Files.{OthersStay};
 ghost use Rattle.stn_model.specs.Sound.{Sound};
-ghost use Rattle.stn_model.specs.declared.plant.Plant.{Plant as PlantValue};
+ghost use Rattle.stn_model.specs.declared.plant.Plant.{Plant};
 ghost use Rattle.stn_model.specs.declared.answer.Outcome.{Outcome};
 ghost use Rattle.plant_text.specs.Reading.{reading};
 ghost use Rattle.plan_told.specs.Proofs.{HasPlantProof, IsLeftOf, bytes_in};
@@ -64,7 +64,7 @@ pub fn log_file<F: Shelf>(
     ensures write_fault { result ≡ Err Stopped.WriteFault
         → Rose (F.write_faults files.old) (F.write_faults files.new) }
     ensures begun { result ≡ Err Stopped.WriteFault
-        → (plant : PlantValue) × IsReadOf reading (F.files files.old) name.now (Ok plant) }
+        → (plant : Plant) × IsReadOf reading (F.files files.old) name.now (Ok plant) }
     ensures left { (F.files files.new ≡ F.files files.old)
         ⊎ HoldsLog (F.files files.old) (F.files files.new) name.now log.now }
     ensures others { OthersStay log.now (F.files files.old) (F.files files.new) }

@@ -1,5 +1,4 @@
-use Rattle.std.proofs.Common.{◌≡◌, ℕ, List, [], ◌∷◌, ◌∙◌}
-use Rattle.std.specs.Prelude.{⊤}
+use Rattle.std.proofs.Common.{◌≡◌, ℕ, List, [], ◌∷◌}
 use Rattle.std.specs.Option.{option_map}
 use Rattle.std.proofs.lemmas.Result.{err_from_is_err_and}
 use Rattle.stn_edge.specs.Files.{file_of}
@@ -7,11 +6,10 @@ use Rattle.stn_model.specs.declared.plant.Plant.{Plant}
 use Rattle.stn_model.specs.declared.start.Start.{Start}
 use Rattle.plan_text.specs.PlanText.{plan_of_text}
 use Rattle.frozen_plan.specs.Frozen.{kept_starts}
-use Rattle.command_replies.specs.Answers.{IsPlanAnswer, content}
+use Rattle.command_replies.specs.Answers.{content}
 use Rattle.command_replies.specs.Sources.{OnPlan}
-use Rattle.command_replies.proofs.AnswerLemmas.{plant_refused, plan_refused, plan_answer, replied_if}
-use Rattle.answer_texts.proofs.KeptLemmas.{unchanged}
-use Rattle.log_commands.specs.CheckingReplan.{CheckedOver, ReplanChecked}
+use Rattle.command_replies.proofs.AnswerLemmas.{plant_refused}
+use Rattle.log_commands.specs.CheckingReplan.{ReplanChecked}
 use Rattle.log_commands.proofs.checking_replan.check_replan_file.Goals as goal
 
 pub returns-in_err-plant-clause-answer : goal.returns-in_err-plant-clause-answer
@@ -24,31 +22,5 @@ returns-in_err-plant-clause-answer g c =
     rw (p.1, p.2) (plant_refused old new c.args.plant.now (c.args.plan.now ∷ c.args.log.now ∷ []) (λ contents plant. OnPlan (plan_of_text plant (content contents 1)) (answers plant)) c.in_err-plant.field-0.0
     c.in_err-plant.ensures.same c.in_err-plant.ensures.refused)
 
-pub returns-in_err-plan-clause-answer : goal.returns-in_err-plan-clause-answer
-returns-in_err-plan-clause-answer g c =
-    let old = g.F.Shelf.files c.args.files.now in
-    let new = g.F.Shelf.files c.plan_in.new.files in
-    let period = c.args.period.number in
-    let answers : Plant → List Start → ℕ → List ℕ → Type 0 = λ plant starts. ReplanChecked (option_map (λ m. file_of m c.args.log.now) old) plant period (kept_starts period starts) (new ≡ old) in
-    let p = err_from_is_err_and c.from_residual-in_err-plan.result c.from_residual-in_err-plan.ensures.1 in
-    rw (p.1, p.2) (plan_refused old new c.args.plant.now c.args.plan.now (c.args.log.now ∷ []) answers c.in_ok-plant.plant c.in_ok-plant.ensures.read
-    c.in_err-plan.field-0.0 (cc) (let e = c.in_ok-plant.ensures.same in rw e at c.in_err-plan.ensures.refused))
-
 pub returns-clause-answer : goal.returns-clause-answer
-returns-clause-answer g c =
-    let old = g.F.Shelf.files c.args.files.now in
-    let new = g.F.Shelf.files c.check_replan.new.files in
-    let period = c.args.period.number in
-    let told = option_map (λ m. file_of m c.args.log.now) old in
-    let plant = c.in_ok-plant.plant in
-    let kept = kept_starts period c.in_ok-plan.plan in
-    let slice = c.as_slice.ensures in
-    let before = c.in_ok-plan.ensures.same ∙ c.in_ok-plant.ensures.same in
-    let same : new ≡ old = c.check_replan.ensures.same ∙ before in
-    let answers : Plant → List Start → ℕ → List ℕ → Type 0 = λ p starts. ReplanChecked told p period (kept_starts period starts) (new ≡ old) in
-    replied_if c.check_replan.result (λ reply. ReplanChecked told plant period kept ⊤ reply.status reply.text.items)
-    (λ reply. IsPlanAnswer old new c.args.plant.now c.args.plan.now (c.args.log.now ∷ []) answers reply.status reply.text.items)
-    (λ reply is. plan_answer old new c.args.plant.now c.args.plan.now (c.args.log.now ∷ []) answers plant c.in_ok-plant.ensures.read c.in_ok-plan.plan
-    (let e = c.in_ok-plant.ensures.same in rw e at c.in_ok-plan.ensures.read) reply.status reply.text.items
-    (unchanged plant period kept (new ≡ old) (CheckedOver told plant period kept) reply.status reply.text.items same is) (λ _. same))
-    (rw (slice, before) at c.check_replan.ensures.answer) c.check_replan.ensures.none
+returns-clause-answer g c = (let same = c.in_ok-plant.ensures.same in rw same at c.check_replan_on.ensures.answer c.args.plant.now) c.in_ok-plant.ensures.read

@@ -3,23 +3,15 @@ use Rattle.std.proofs.lemmas.Result.{err_from_is_err_and}
 use Rattle.plan_text.specs.PlanText.{plan_of_text}
 use Rattle.command_replies.specs.Answers.{content}
 use Rattle.command_replies.specs.Sources.{OnPlan}
-use Rattle.command_replies.proofs.AnswerLemmas.{plant_refused, plan_refused, plan_answer}
+use Rattle.command_replies.proofs.AnswerLemmas.{plant_refused}
 use Rattle.answer_texts.specs.Simulation.{Simulated}
 use Rattle.plan_commands.proofs.simulation.simulate_file.Goals as goal
 
 pub returns-in_err-plant-clause-answer : goal.returns-in_err-plant-clause-answer
 returns-in_err-plant-clause-answer g c =
     let p = err_from_is_err_and c.from_residual.result c.from_residual.ensures.1 in
-    rw (p.1, p.2) (plant_refused (g.F.Shelf.files c.args.files.now) (g.F.Shelf.files c.plant_in.new.files) c.args.plant.now (c.args.plan.now ∷ []) (λ contents p. OnPlan (plan_of_text p (content contents 1)) (Simulated c.args.usage p)) c.in_err-plant.field-0.0 c.in_err-plant.ensures.same c.in_err-plant.ensures.refused)
-
-pub returns-in_err-plan-clause-answer : goal.returns-in_err-plan-clause-answer
-returns-in_err-plan-clause-answer g c =
-    let p = err_from_is_err_and c.from_residual-in_err-plan.result c.from_residual-in_err-plan.ensures.1 in
-    rw (p.1, p.2) (plan_refused (g.F.Shelf.files c.args.files.now) (g.F.Shelf.files c.plan_in.new.files) c.args.plant.now c.args.plan.now [] (Simulated c.args.usage) c.in_ok-plant.plant c.in_ok-plant.ensures.read
-    c.in_err-plan.field-0.0 (cc) (let e = c.in_ok-plant.ensures.same in rw e at c.in_err-plan.ensures.refused))
+    rw (p.1, p.2) (plant_refused (g.F.Shelf.files c.args.files.now) (g.F.Shelf.files c.plant_in.new.files) c.args.plant.now (c.args.plan.now ∷ []) (λ contents p. OnPlan (plan_of_text p (content contents 1)) (Simulated c.args.usage p))
+    c.in_err-plant.field-0.0 c.in_err-plant.ensures.same c.in_err-plant.ensures.refused)
 
 pub returns-clause-answer : goal.returns-clause-answer
-returns-clause-answer g c =
-    plan_answer (g.F.Shelf.files c.args.files.now) (g.F.Shelf.files c.plan_in.new.files) c.args.plant.now c.args.plan.now [] (Simulated c.args.usage) c.in_ok-plant.plant c.in_ok-plant.ensures.read
-    c.in_ok-plan.plan (let e = c.in_ok-plant.ensures.same in rw e at c.in_ok-plan.ensures.read)
-    c.in_ok-simulate_plan.field-0.status c.in_ok-simulate_plan.field-0.text.items (let e = c.as_slice.ensures in rw e at c.in_ok-simulate_plan.ensures) (λ _. cc)
+returns-clause-answer g c = (let same = c.in_ok-plant.ensures.same in rw same at c.simulate_on.ensures.answer c.args.plant.now) c.in_ok-plant.ensures.read
