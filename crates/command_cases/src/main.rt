@@ -42,8 +42,8 @@ fn main(rt: HostRuntime) -> io::Result<ExitCode> {
         let _ = names.remove(0);
     }
     let chosen = chosen(rt.alloc(), cases.as_slice(), names.as_slice())?;
-    let tally = try_cases(&rt, chosen.as_slice())?;
-    let (tried, otherwise) = (tally.tried, tally.otherwise);
+    let otherwise = try_cases(&rt, chosen.as_slice())?;
+    let tried = chosen.len();
     if otherwise == 0 {
         println!(rt; "{tried} cases")?;
         return Ok(ExitCode::SUCCESS);

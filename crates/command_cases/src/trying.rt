@@ -22,28 +22,18 @@ pub fn chosen<'a>(
     Ok(chosen)
 }
 
-/// How many cases were tried, and how many came otherwise than they say.
-#[derive(Clone, Copy)]
-pub struct Tally {
-    pub tried: u64,
-    pub otherwise: u64,
-}
-
-/// Tries the cases, and prints a line for each that came as it says, and what came otherwise.
-pub fn try_cases<R: AllocGlobal + Print>(rt: &R, cases: &[&Case]) -> io::Result<Tally> {
-    let mut tally = Tally {
-        tried: 0,
-        otherwise: 0,
-    };
+/// Tries the cases, and prints a line for each that came as it says, and what came otherwise. The answer is how many came
+/// otherwise.
+pub fn try_cases<R: AllocGlobal + Print>(rt: &R, cases: &[&Case]) -> io::Result<u64> {
+    let mut otherwise: u64 = 0;
     for case in cases {
         let found = try_case(rt.alloc(), case)?;
-        tally.tried = tally.tried.saturating_add(1);
         if !found.is_empty() {
-            tally.otherwise = tally.otherwise.saturating_add(1);
+            otherwise = otherwise.saturating_add(1);
         }
         print_case(rt, case, found.as_slice())?;
     }
-    Ok(tally)
+    Ok(otherwise)
 }
 
 // Prints that the case came as it says, or what came otherwise.
