@@ -5,26 +5,18 @@ use Rattle.std.specs.Option.{option_map}
 use Rattle.std.specs.FinMap.{get}
 use Rattle.std.proofs.lemmas.Fmt.{decimal_injective}
 use Rattle.stn_edge.specs.Files.{FileMap, OthersStay}
-use Rattle.stn_top.specs.declared.reply.Reply.{Reply}
-use Rattle.stn_top.specs.declared.stopped.Stopped.{Stopped}
-use Rattle.stn_top.specs.declared.stopped.Stopped.TheVariants.{Refused, ReadFault, WriteFault, Memory}
 use Rattle.least_horizon.specs.LogNames.{OthersStayBelow}
-use Rattle.stn_top.specs.Words.{Request, Solving, Logging, Simulating, Checking, Upgrading, Showing, Replanning, ReplanLogging, CheckingReplan, Estimating, Seeking, Tracing, Auditing, Parting, PartSolving, Joining, Says}
-use Rattle.stn_top.specs.Sources.{IfReplied}
+use Rattle.command_words.specs.Words.{Request, Solving, Logging, Simulating, Checking, Upgrading, Showing, Replanning, ReplanLogging, CheckingReplan, Estimating, Seeking, Tracing, Auditing, Parting, PartSolving, Joining, Says}
 use Rattle.stn_top.specs.Requests.{IsLeft, OthersKept}
-use Rattle.stn_top.specs.Words.{IsLevels, IsPart}
-use Rattle.stn_top.proofs.Horizons.{each_log}
-use Rattle.stn_top.proofs.PartWords.{same_levels, same_part}
+use Rattle.command_words.specs.Words.{IsLevels, IsPart}
+use Rattle.horizon_commands.proofs.Horizons.{each_log}
+use Rattle.command_words.proofs.PartWords.{same_levels, same_part}
 
 -- ---- files that are as before
 
 -- every other file is as before where all are
 pub kept_same : (request : Request) (old new : Option FileMap) → new ≡ old → OthersKept request old new
 kept_same request old new same = λ name others. ap (λ (files : Option FileMap). option_map (λ m. get m name) files) same
-
--- and so is every file but one
-pub stay_same : (log : List ℕ) (old new : Option FileMap) → new ≡ old → OthersStay log old new
-stay_same log old new same = λ name others. ap (λ (files : Option FileMap). option_map (λ m. get m name) files) same
 
 -- and nothing is left
 pub left_same : (request : Request) (old new : Option FileMap) → new ≡ old → IsLeft request old new
@@ -44,14 +36,6 @@ left_same (Auditing plant horizon stem) old new same = same
 left_same (Parting plant levels) old new same = same
 left_same (PartSolving plant levels part budget log) old new same = inl same
 left_same (Joining plant levels stem log) old new same = inl same
-
--- what holds of every reply
-pub replied : (r : Result Reply Stopped) (P : Reply → Type 0) → ((reply : Reply) → P reply) → IfReplied r P
-replied (Ok reply) P is = is reply
-replied (Err (Refused reply)) P is = is reply
-replied (Err ReadFault) P is = tt
-replied (Err WriteFault) P is = tt
-replied (Err Memory) P is = tt
 
 -- ---- a log
 
@@ -74,10 +58,6 @@ kept_joined plant levels stem log old new stay = λ name others. stay name (othe
 -- every file but the logs of a stem is as before
 pub kept_logs : (plant : List ℕ) (budget : ℕ) (stem : List ℕ) (old new : Option FileMap) → OthersStayBelow stem 337 old new → OthersKept (Tracing plant budget stem) old new
 kept_logs plant budget stem old new stay = λ name others. stay name (λ g some below. each_log (λ written. name ≢ written) stem 337 others g some below)
-
--- and so is every file but them where all are
-pub stay_below_same : (stem : List ℕ) (horizon : ℕ) (old new : Option FileMap) → new ≡ old → OthersStayBelow stem horizon old new
-stay_below_same stem horizon old new same = λ name others. ap (λ (files : Option FileMap). option_map (λ m. get m name) files) same
 
 -- what a request leaves
 record Leaves (request : Request) (old new : Option FileMap) : Type 0 where

@@ -1,20 +1,2 @@
-pub mod WordLemmas
-pub mod StepWords
-pub mod TextLemmas
-pub mod Named
-pub mod ReadFiles
-pub mod TankLines
 pub mod AnswerLemmas
-pub mod ReadBack
-pub mod TankAnswers
-pub mod DemoLemmas
 pub mod FileLemmas
-pub mod ReplanLemmas
-pub mod Horizons
-pub mod LogWords
-pub mod Ranges
-pub mod PartWords
-pub mod PartLemmas
-pub mod LevelReplies
-pub mod JoinLemmas
-mod LeastTexts

@@ -1,17 +1,2 @@
-pub mod Words
-pub mod Sources
-pub mod Lines
-pub mod Solving
-pub mod Simulation
-pub mod Checking
-pub mod Upgrading
-pub mod Demo
-pub mod Replanning
-pub mod Estimating
-pub mod Seeking
-pub mod Auditing
-pub mod Parting
-pub mod PartSolving
-pub mod JoiningParts
 pub mod Requests
 pub mod Replies

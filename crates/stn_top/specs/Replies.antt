@@ -1,12 +1,15 @@
 -- What a run answers: its status, and what it puts.
-use Rattle.std.specs.Prelude.{◌≡◌, ◌⊎◌, ℕ, Bool, List, take, Option}
+use Rattle.std.specs.Prelude.{◌≡◌, ◌⊎◌, ℕ, Bool, List, take, codes, Option}
 use Rattle.std.specs.Option.{option_map}
 use Rattle.stn_edge.specs.Count.{Rose}
 use Rattle.stn_edge.specs.Text.{extended}
 use Rattle.stn_edge.specs.Files.{FileMap}
-use Rattle.stn_top.specs.Words.{Request, Says, Joining, HasNoForm}
-use Rattle.stn_top.specs.Lines.{words_text}
+use Rattle.command_words.specs.Words.{Request, Says, Joining, HasNoForm}
 use Rattle.stn_top.specs.Requests.{MayRead, MayWrite, IsAnswer, GetsToWriting}
+
+-- the line on words that have the form of no command
+abbrev pub words_text : List ℕ
+words_text = codes "refused words\n"
 
 -- words of no form are refused with status 2, and the files are as before; else the request that they say is answered
 abbrev pub IsReply : List (List ℕ) → Option FileMap → Option FileMap → ℕ → List ℕ → Type 0
@@ -42,10 +45,6 @@ IsCutOff Replies old new = (new ≡ old) ⊎ PartlyAnswered Replies old new
 -- the words say a request that got to writing a file, and the count of write faults rose
 abbrev pub LogFailed : List (List ℕ) → Option FileMap → ℕ → ℕ → Type 0
 LogFailed words files old new = Rose old new × ((request : Request) × (Says words request × GetsToWriting files request))
-
--- the statuses of refusals
-abbrev pub IsUnwritten : ℕ → Type 0
-IsUnwritten status = (status ≡ 2) ⊎ ((status ≡ 3) ⊎ ((status ≡ 4) ⊎ (status ≡ 5)))
 
 -- the words say no joining of logs
 abbrev pub SayNoJoining : List (List ℕ) → Type 0

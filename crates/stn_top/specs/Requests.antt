@@ -1,41 +1,33 @@
 -- The files of a request, and its answer.
-use Rattle.std.specs.Prelude.{◌≡◌, ◌≢◌, ◌⊎◌, ◌≤◌, ◌^◌, ℕ, Bool, IsTrue, All, List, [], ◌∷◌, map, slice_index_or, Option, None, IfSome, Ok, length}
+use Rattle.std.specs.Prelude.{◌≡◌, ◌≢◌, ◌⊎◌, ◌≤◌, ℕ, Bool, IsTrue, All, List, [], ◌∷◌, Option, None, Ok, length}
 use Rattle.std.specs.Option.{option_map}
-use Rattle.std.specs.List.{range_with_len}
 use Rattle.std.specs.FinMap.{get}
-use Rattle.stn_edge.specs.Files.{FileMap, file_of}
+use Rattle.stn_edge.specs.Files.{FileMap}
 use Rattle.stn_model.specs.declared.plant.Plant.{Plant}
-use Rattle.stn_model.specs.declared.start.Start.{Start}
-use Rattle.stn_model.specs.declared.answer.Outcome.{Outcome}
 use Rattle.plant_text.specs.Reading.{reading}
 use Rattle.plan_text.specs.PlanText.{plan_of_text}
 use Rattle.frozen_plan.specs.Frozen.{kept_starts}
-use Rattle.frozen_plan.specs.Keeping.{StandTogether}
-use Rattle.plan_told.specs.Proofs.{HasPlantProof, IsLeftOf, bytes_in}
-use Rattle.least_horizon.specs.declared.answer.LeastAnswer.{LeastAnswer}
+use Rattle.plan_told.specs.Proofs.{bytes_in}
 use Rattle.least_horizon.specs.LogNames.{logs_in, OthersStayBelow}
-use Rattle.least_horizon.specs.Least.{IsLeast, IsStopped}
 use Rattle.time_grid.specs.Slots.{slots}
-use Rattle.proof_log.specs.LogNames.{log_name}
 use Rattle.log_parts.specs.PartLogs.{AllAreValid}
-use Rattle.stn_top.specs.Words.{Request, IsNoPartLog, Solving, Logging, Simulating, Checking, Upgrading, Showing, Replanning, ReplanLogging, CheckingReplan, Estimating, Seeking, Tracing, Auditing, Parting, PartSolving, Joining}
-use Rattle.stn_top.specs.Sources.{IsReadOf, OnPlant, OnPlan}
-use Rattle.stn_top.specs.Solving.{Solved}
-use Rattle.stn_top.specs.Simulation.{Simulated}
-use Rattle.stn_top.specs.Checking.{Checked}
-use Rattle.stn_top.specs.Upgrading.{Upgraded}
-use Rattle.stn_top.specs.Demo.{Shown}
-use Rattle.stn_top.specs.Estimating.{Estimated}
-use Rattle.stn_top.specs.Replanning.{Replanned, ReplanChecked, LeavesReplan}
-use Rattle.stn_top.specs.Seeking.{Sought, log_names}
-use Rattle.stn_top.specs.Auditing.{Audited}
-use Rattle.stn_top.specs.Parting.{OnLevels, Parted}
-use Rattle.stn_top.specs.PartSolving.{PartSolved, LeavesPart}
-use Rattle.stn_top.specs.JoiningParts.{JoinAnswered, LeavesJoined}
-
--- the names of the logs of a stem for the parts of so many levels
-unfoldable pub part_names : List ℕ → ℕ → List (List ℕ)
-part_names stem levels = map (log_name stem) (range_with_len 0 (2 ^ levels))
+use Rattle.command_words.specs.Words.{Request, IsNoPartLog, Solving, Logging, Simulating, Checking, Upgrading, Showing, Replanning, ReplanLogging, CheckingReplan, Estimating, Seeking, Tracing, Auditing, Parting, PartSolving, Joining}
+use Rattle.command_replies.specs.Answers.{IsAnswerOver, content}
+use Rattle.command_replies.specs.Sources.{IsReadOf, OnPlant, OnPlan}
+use Rattle.answer_texts.specs.Levels.{OnLevels}
+use Rattle.answer_texts.specs.Simulation.{Simulated}
+use Rattle.plan_commands.specs.Upgrading.{Upgraded}
+use Rattle.log_commands.specs.Checking.{Checked}
+use Rattle.log_commands.specs.CheckingReplan.{ReplanChecked}
+use Rattle.log_commands.specs.Estimating.{Estimated}
+use Rattle.planning_commands.specs.Solving.{HoldsLog, Solved}
+use Rattle.planning_commands.specs.Replanning.{CanReplan, HoldsReplan, Replanned}
+use Rattle.planning_commands.specs.PartSolving.{HoldsPart, PartSolved}
+use Rattle.planning_commands.specs.Demo.{Shown}
+use Rattle.horizon_commands.specs.Seeking.{HoldsLogs, Sought, log_names}
+use Rattle.horizon_commands.specs.Auditing.{Audited}
+use Rattle.part_commands.specs.Parting.{Parted}
+use Rattle.part_commands.specs.JoiningParts.{HoldsJoined, JoinAnswered, part_names}
 
 -- the names of the files that a request reads, in the order of its words: the plant, then the plan, or the log to check, or the
 -- logs of the shorter horizons or of the parts
@@ -89,10 +81,6 @@ abbrev pub OthersKept : Request → Option FileMap → Option FileMap → Type 0
 OthersKept request old new =
     (name : List ℕ) → All (λ written. name ≢ written) (written_names request) → option_map (λ files. get files name) new ≡ option_map (λ files. get files name) old
 
--- the bytes of the file of this number among those that a request reads
-abbrev pub content : List (List ℕ) → ℕ → List ℕ
-content contents number = slice_index_or contents number []
-
 -- What is answered to a request whose files have these contents, in order. The bytes of a log that is checked, which is read
 -- in pieces, and of one that is written are known where the files are told.
 abbrev pub AnswersTo : Option FileMap → Option FileMap → List (List ℕ) → Request → ℕ → List ℕ → Type 0
@@ -122,51 +110,8 @@ AnswersTo old new contents (Joining plant levels stem log) status text =
 -- The answer to a request, with the files before and after: there are contents of the files that it reads, which are those of
 -- the files before where the store tells them, and it is the answer over these contents. A refusal of the plant or of the plan
 -- leaves every file as it was.
-pub record IsAnswer (old new : Option FileMap) (request : Request) (status : ℕ) (text : List ℕ) : Type 0 where
-  pub contents : List (List ℕ)
-  pub told : IfSome old (λ m. contents ≡ map (file_of m) (read_names request))
-  pub answers : AnswersTo old new contents request status text
-  pub kept : (status ≡ 3) ⊎ (status ≡ 4) → new ≡ old
-
--- the plant in a file was read, and the file of a log holds the log of a proof over it: begun, or whole, of an outcome
-pub record HoldsLog (old new : Option FileMap) (name log : List ℕ) : Type 0 where
-  pub plant : Plant
-  pub read : IsReadOf reading old name (Ok plant)
-  pub holds : IsLeftOf plant log old new ⊎ ((outcome : Outcome) × HasPlantProof plant (bytes_in log new) outcome)
-
--- the plant and the plan in two files were read, and the file of a log is as it was, or holds a log over the kept starts
-pub record HoldsReplan (old new : Option FileMap) (name plan : List ℕ) (period : ℕ) (log : List ℕ) : Type 0 where
-  pub plant : Plant
-  pub read : IsReadOf reading old name (Ok plant)
-  pub starts : List Start
-  pub read_plan : IsReadOf (plan_of_text plant) old plan (Ok starts)
-  pub holds : LeavesReplan plant period (kept_starts period starts) log old new
-
--- the plant and the plan of a replanning were read, and the starts that are kept of the plan stand together
-pub record CanReplan (files : Option FileMap) (name plan : List ℕ) (period : ℕ) : Type 0 where
-  pub plant : Plant
-  pub read : IsReadOf reading files name (Ok plant)
-  pub starts : List Start
-  pub read_plan : IsReadOf (plan_of_text plant) files plan (Ok starts)
-  pub together : StandTogether plant (kept_starts period starts)
-
--- the plant in a file was read, and the logs of a stem are those of its horizons: where the last was stopped, or of an answer
-pub record HoldsLogs (budget : ℕ) (old new : Option FileMap) (name stem : List ℕ) : Type 0 where
-  pub plant : Plant
-  pub read : IsReadOf reading old name (Ok plant)
-  pub holds : IsStopped plant budget stem old new ⊎ ((said : LeastAnswer) × IsLeast plant budget (logs_in stem new) said)
-
--- the plant in a file was read, and the file of a log is as it was, or holds a log over a part of the plant
-pub record HoldsPart (old new : Option FileMap) (name : List ℕ) (levels part : ℕ) (log : List ℕ) : Type 0 where
-  pub plant : Plant
-  pub read : IsReadOf reading old name (Ok plant)
-  pub holds : LeavesPart plant levels part log old new
-
--- the plant in a file was read, and the file of a log is as it was, or holds the joined log
-pub record HoldsJoined (old new : Option FileMap) (name : List ℕ) (levels : ℕ) (stem log : List ℕ) : Type 0 where
-  pub plant : Plant
-  pub read : IsReadOf reading old name (Ok plant)
-  pub holds : LeavesJoined plant levels stem log old new
+abbrev pub IsAnswer : Option FileMap → Option FileMap → Request → ℕ → List ℕ → Type 0
+IsAnswer old new request status text = IsAnswerOver old new (read_names request) (λ contents. AnswersTo old new contents request) status text
 
 -- what a request leaves, however it ends: the files as they were, or, where it writes logs, logs in their files
 abbrev pub IsLeft : Request → Option FileMap → Option FileMap → Type 0

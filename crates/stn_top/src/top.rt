@@ -3,26 +3,21 @@ ghost use Rattle.std.specs.Prelude.{◌≡◌, ◌≢◌, ◌↔◌, ◌⊎◌, 
 ghost use Rattle.std.specs.Option.{option_map};
 ghost use Rattle.stn_edge.specs.Count.{Rose};
 ghost use Rattle.stn_edge.specs.Text.{extended};
-ghost use Rattle.stn_top.specs.Words.{Request, Says, HasNoForm, texts, meaning};
-ghost use Rattle.stn_top.specs.Sources.{IfReplied};
+ghost use Rattle.command_words.specs.Words.{Request, Says, HasNoForm, texts, meaning};
+ghost use Rattle.command_replies.specs.Answers.{IsUnwritten};
+ghost use Rattle.command_replies.specs.Sources.{IfReplied};
 ghost use Rattle.stn_top.specs.Requests.{MayRead, MayWrite, WritesApart, OthersKept, IsAnswer, IsLeft, GetsToWriting, IsNoJoining};
-ghost use Rattle.stn_top.specs.Replies.{IsReply, Answered, IsCutOff, MayReadAll, MayWriteAll, LogFailed, IsUnwritten, SayNoJoining};
+ghost use Rattle.stn_top.specs.Replies.{IsReply, Answered, IsCutOff, MayReadAll, MayWriteAll, LogFailed, SayNoJoining};
 
-use crate::auditing::audit_file;
-use crate::checking::check_file;
-use crate::command::{Command, command_of};
-use crate::demo::show;
-use crate::estimating::estimate_file;
-use crate::joining::join_file;
-use crate::part_solving::solve_part_file;
-use crate::parting::parts_file;
-use crate::replanning::{check_replan_file, log_replan_file, replan_file};
-use crate::reply::Reply;
-use crate::seeking::{seek_file, trace_file};
-use crate::simulation::simulate_file;
-use crate::solving::{log_file, solve_file};
-use crate::stopped::Stopped;
-use crate::upgrading::upgrade_file;
+use command_replies::{Reply, Stopped};
+use command_words::{Command, command_of};
+use horizon_commands::{audit_file, seek_file, trace_file};
+use log_commands::{check_file, check_replan_file, estimate_file};
+use part_commands::{join_file, parts_file};
+use plan_commands::{simulate_file, upgrade_file};
+use planning_commands::{
+    log_file, log_replan_file, replan_file, show, solve_file, solve_part_file,
+};
 use std::alloc::Global;
 use stn_edge::{Shelf, Sink, Stop};
 

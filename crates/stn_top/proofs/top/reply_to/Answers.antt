@@ -1,23 +1,13 @@
-use Rattle.stn_top.proofs.AnswerLemmas.{logging_unwritten, tracing_unwritten}
-use Rattle.stn_top.proofs.ReplanLemmas.{replan_unwritten}
 use Rattle.stn_top.proofs.FileLemmas.{kept_log, kept_replan, kept_logs, kept_part, kept_joined}
 use Rattle.std.proofs.Common.{ap}
-use Rattle.stn_top.specs.Words.{meaning}
-use Rattle.stn_top.proofs.Horizons.{logs_allowed, all_logs_allowed, parts_allowed}
+use Rattle.command_words.specs.Words.{meaning}
+use Rattle.horizon_commands.proofs.Horizons.{logs_allowed, all_logs_allowed}
+use Rattle.part_commands.proofs.JoinLemmas.{parts_allowed}
 use Rattle.stn_top.proofs.top.reply_to.Goals as goal
-
-pub returns-in-Log-clause-unwritten : goal.returns-in-Log-clause-unwritten
-returns-in-Log-clause-unwritten g c =
-    logging_unwritten (g.F.Shelf.files c.args.files.now) (g.F.Shelf.files c.log_file.new.files) c.in-Log.plant.now c.in-Log.budget.boxes c.in-Log.log.now c.log_file.result c.log_file.ensures.answer
 
 pub returns-in-Log-clause-files : goal.returns-in-Log-clause-files
 returns-in-Log-clause-files g c =
     rw c.in-Log.is (kept_log c.in-Log.plant.now c.in-Log.budget.boxes c.in-Log.log.now (g.F.Shelf.files c.args.files.now) (g.F.Shelf.files c.log_file.new.files) c.log_file.ensures.others)
-
-pub returns-in-LogReplan-clause-unwritten : goal.returns-in-LogReplan-clause-unwritten
-returns-in-LogReplan-clause-unwritten g c =
-    replan_unwritten (g.F.Shelf.files c.args.files.now) (g.F.Shelf.files c.log_replan_file.new.files) c.in-LogReplan.plant.now c.in-LogReplan.plan.now c.in-LogReplan.period.number c.in-LogReplan.budget.boxes c.in-LogReplan.log.now
-    c.log_replan_file.result c.log_replan_file.ensures.answer
 
 pub returns-in-LogReplan-clause-files : goal.returns-in-LogReplan-clause-files
 returns-in-LogReplan-clause-files g c =
@@ -29,10 +19,6 @@ trace_file-requires-clause-logs_writable g c =
     let may = g.F.Shelf.may_write c.args.files.now in
     let is = c.in-LeastLogs.is in
     all_logs_allowed may c.in-LeastLogs.stem.now 337 (rw is at c.requires.may_write)
-
-pub returns-in-LeastLogs-clause-unwritten : goal.returns-in-LeastLogs-clause-unwritten
-returns-in-LeastLogs-clause-unwritten g c =
-    tracing_unwritten (g.F.Shelf.files c.args.files.now) (g.F.Shelf.files c.trace_file.new.files) c.in-LeastLogs.plant.now c.in-LeastLogs.budget.boxes c.in-LeastLogs.stem.now c.trace_file.result c.trace_file.ensures.answer
 
 pub returns-in-LeastLogs-clause-files : goal.returns-in-LeastLogs-clause-files
 returns-in-LeastLogs-clause-files g c =

@@ -1,7 +1,6 @@
-use Rattle.stn_top.specs.Words.{texts, meaning}
-use Rattle.stn_top.proofs.AnswerLemmas.{cut_off, none_cut_off}
+use Rattle.command_words.specs.Words.{texts, meaning}
+use Rattle.stn_top.proofs.AnswerLemmas.{cut_off, none_cut_off, says_apart, says_no_joining}
 use Rattle.stn_top.proofs.FileLemmas.{kept_all, left_all}
-use Rattle.stn_top.proofs.PartWords.{says_apart, says_no_joining}
 use Rattle.stn_top.proofs.top.run.Goals as goal
 
 pub returns-in-Some-clause-part : goal.returns-in-Some-clause-part

@@ -1,0 +1,6 @@
+pub mod Lines
+pub mod Simulation
+pub mod Kept
+pub mod Checking
+pub mod Planning
+pub mod Levels

@@ -1,0 +1,64 @@
+-- The answer of `simulate`, `report` and `picture`: its text, and when it is right.
+use Rattle.std.specs.Prelude.{◌≡◌, ◌<◌, ◌+◌, ℕ, ℤ, length, List, ◌++◌, codes, decimal}
+use Rattle.stn_model.specs.declared.plant.Plant.{Plant}
+use Rattle.stn_model.specs.declared.start.Start.{Start}
+use Rattle.stn_model.specs.Plant.{state_at, utility_at}
+use Rattle.stn_model.specs.declared.violation.Violation.{Violation}
+use Rattle.stn_model.specs.declared.violation.Violation.TheVariants.{Unfit, Busy, Gap, StockLow, StockHigh, Load}
+use Rattle.plan_sim.specs.declared.verdict.Verdict.{Verdict}
+use Rattle.plan_sim.specs.declared.verdict.Verdict.TheVariants.{Feasible, Broken}
+use Rattle.plan_sim.specs.Verdicts.{IsVerdict}
+use Rattle.gantt_report.specs.Report.{report_text}
+use Rattle.plan_picture.specs.Picture.{picture_text}
+use Rattle.answer_texts.specs.Lines.{amount_line}
+use Rattle.command_words.specs.declared.command.PlanUse.{PlanUse}
+use Rattle.command_words.specs.declared.command.PlanUse.TheVariants.{Simulate, Report, Picture}
+
+-- a line on two places of a plan, which are counted from 1
+abbrev pub pair_line : List ℕ → ℕ → ℕ → List ℕ
+pair_line what first second = what ++ (decimal (first + 1) ++ (codes " " ++ (decimal (second + 1) ++ codes "\n")))
+
+-- a line on a name and a time or period
+abbrev pub named_line : List ℕ → List ℕ → ℕ → List ℕ
+named_line what name number = what ++ (name ++ (codes " " ++ (decimal number ++ codes "\n")))
+
+-- the line on what a plan breaks first: places count from 1, states and utilities go by name
+unfoldable pub violation_text : Plant → Violation → List ℕ
+violation_text plant (Unfit place) = codes "broken unfit " ++ (decimal (place + 1) ++ codes "\n")
+violation_text plant (Busy first second) = pair_line (codes "broken busy ") first second
+violation_text plant (Gap first second) = pair_line (codes "broken gap ") first second
+violation_text plant (StockLow state time) = named_line (codes "broken stock-low ") (state_at plant state).name time
+violation_text plant (StockHigh state time) = named_line (codes "broken stock-high ") (state_at plant state).name time
+violation_text plant (Load utility period) = named_line (codes "broken load ") (utility_at plant utility).name period
+
+-- the text that a use of a feasible plan puts: what it earns, its report, or its picture
+abbrev pub feasible_text : PlanUse → Plant → List Start → ℤ → List ℕ
+feasible_text Simulate plant plan earned = amount_line (codes "feasible ") earned
+feasible_text Report plant plan earned = report_text plant plan
+feasible_text Picture plant plan earned = picture_text plant plan
+
+-- the text that a use of a plan puts: that of a feasible plan, or what it breaks first
+abbrev pub use_text : PlanUse → Plant → List Start → Verdict → List ℕ
+use_text usage plant plan (Feasible earned) = feasible_text usage plant plan earned
+use_text usage plant plan (Broken violation) = violation_text plant violation
+
+-- the exit status of a verdict
+abbrev pub verdict_status : Verdict → ℕ
+verdict_status (Feasible earned) = 0
+verdict_status (Broken violation) = 1
+
+-- the violation names a state or a utility of the plant
+abbrev pub IsOfPlant : Plant → Violation → Type 0
+IsOfPlant plant (Unfit place) = Unit {0}
+IsOfPlant plant (Busy first second) = Unit {0}
+IsOfPlant plant (Gap first second) = Unit {0}
+IsOfPlant plant (StockLow state time) = state < length plant.states
+IsOfPlant plant (StockHigh state time) = state < length plant.states
+IsOfPlant plant (Load utility period) = utility < length plant.utilities
+
+-- the answer of `simulate`, `report` and `picture`: the right verdict on the plan, with its status and its text
+pub record Simulated (usage : PlanUse) (plant : Plant) (plan : List Start) (status : ℕ) (text : List ℕ) : Type 0 where
+  pub verdict : Verdict
+  pub right : IsVerdict plant plan verdict
+  pub status_is : status ≡ verdict_status verdict
+  pub text_is : text ≡ use_text usage plant plan verdict

@@ -1,0 +1,4 @@
+pub mod WordLemmas
+pub mod StepWords
+pub mod LogWords
+pub mod PartWords

@@ -1,0 +1,156 @@
+-- The words of a command.
+use Rattle.std.specs.Prelude.{◌≡◌, ◌≢◌, ℕ, ℤ, ◌<◌, ◌≤◌, ◌^◌, unsigned_abs, List, [], ◌∷◌, map, codes, decimal}
+use Rattle.std.specs.Fmt.{signed_decimal}
+use Rattle.proof_log.specs.LogNames.{log_name}
+use Rattle.std.specs.Borrow.{Bor}
+use Rattle.command_words.specs.declared.command.PlanUse.{PlanUse}
+use Rattle.command_words.specs.declared.command.PlanUse.TheVariants.{Simulate, Report, Picture}
+use Rattle.command_words.specs.declared.command.Command as declared
+use Rattle.command_words.specs.declared.command.Command.TheVariants as variants
+
+-- what a planner asks for
+pub data Request : Type 0 where
+  Solving : (plant : List ℕ) (budget : ℕ) → Request
+  Logging : (plant : List ℕ) (budget : ℕ) (log : List ℕ) → Request
+  Simulating : (usage : PlanUse) (plant plan : List ℕ) → Request
+  Checking : (plant log : List ℕ) → Request
+  Upgrading : (plant : List ℕ) → Request
+  Showing : (seed : ℕ) → Request
+  Replanning : (plant plan : List ℕ) (period budget : ℕ) → Request
+  ReplanLogging : (plant plan : List ℕ) (period budget : ℕ) (log : List ℕ) → Request
+  CheckingReplan : (plant plan : List ℕ) (period : ℕ) (log : List ℕ) → Request
+  Estimating : (plant log state : List ℕ) (step : ℤ) (count : ℕ) → Request
+  Seeking : (plant : List ℕ) (budget : ℕ) → Request
+  Tracing : (plant : List ℕ) (budget : ℕ) (stem : List ℕ) → Request
+  Auditing : (plant : List ℕ) (horizon : ℕ) (stem : List ℕ) → Request
+  Parting : (plant : List ℕ) (levels : ℕ) → Request
+  PartSolving : (plant : List ℕ) (levels part budget : ℕ) (log : List ℕ) → Request
+  Joining : (plant : List ℕ) (levels : ℕ) (stem log : List ℕ) → Request
+
+-- the first word of a command that simulates a plan
+abbrev pub use_word : PlanUse → List ℕ
+use_word Simulate = codes "simulate"
+use_word Report = codes "report"
+use_word Picture = codes "picture"
+
+-- the bytes of the words
+abbrev pub texts : List (Bor (List ℕ)) → List (List ℕ)
+texts words = map (λ word. word.now) words
+
+-- the word is a budget in decimal digits, without sign and leading zeros
+pub record IsBudget (word : List ℕ) (budget : ℕ) : Type 0 where
+  pub digits : word ≡ decimal budget
+  pub some : 1 ≤ budget
+  pub most : budget ≤ 100000
+
+-- the word is a seed in decimal digits, without sign and leading zeros
+pub record IsSeed (word : List ℕ) (seed : ℕ) : Type 0 where
+  pub digits : word ≡ decimal seed
+  pub most : seed < 2 ^ 32
+
+-- the word is a period in decimal digits, without sign and leading zeros
+pub record IsPeriod (word : List ℕ) (period : ℕ) : Type 0 where
+  pub digits : word ≡ decimal period
+  pub most : period ≤ 336
+
+-- the word is a step: decimal digits without leading zeros, after a minus where it is below 0
+pub record IsStep (word : List ℕ) (step : ℤ) : Type 0 where
+  pub digits : word ≡ signed_decimal step
+  pub most : unsigned_abs step ≤ 1000000000
+
+-- the word is a number of steps in decimal digits, without sign and leading zeros
+pub record IsStepCount (word : List ℕ) (count : ℕ) : Type 0 where
+  pub digits : word ≡ decimal count
+  pub some : 1 ≤ count
+  pub most : count ≤ 50
+
+-- the word is a horizon, or the number after the last, in decimal digits, without sign and leading zeros
+pub record IsHorizon (word : List ℕ) (horizon : ℕ) : Type 0 where
+  pub digits : word ≡ decimal horizon
+  pub some : 1 ≤ horizon
+  pub most : horizon ≤ 337
+
+-- the file is the log of no horizon of the stem
+abbrev pub IsNoLog : List ℕ → List ℕ → Type 0
+IsNoLog file stem = (g : ℕ) → 1 ≤ g → g ≤ 336 → file ≢ log_name stem g
+
+-- the word is a number of levels in decimal digits, without sign and leading zeros
+pub record IsLevels (word : List ℕ) (levels : ℕ) : Type 0 where
+  pub digits : word ≡ decimal levels
+  pub some : 1 ≤ levels
+  pub most : levels ≤ 8
+
+-- the word is the number of one of the parts of so many levels, in decimal digits, without sign and leading zeros
+pub record IsPart (word : List ℕ) (levels part : ℕ) : Type 0 where
+  pub digits : word ≡ decimal part
+  pub within : part < 2 ^ levels
+
+-- the file is the log of none of the parts of so many levels
+abbrev pub IsNoPartLog : List ℕ → List ℕ → ℕ → Type 0
+IsNoPartLog file stem levels = (part : ℕ) → part < 2 ^ levels → file ≢ log_name stem part
+
+-- the words say the request; no file has an empty name, and a log is not written over a file that is read
+abbrev pub Says : List (List ℕ) → Request → Type 0
+Says words (Solving plant budget) = (word : List ℕ) × ((words ≡ codes "solve" ∷ plant ∷ word ∷ []) × (plant ≢ []) × IsBudget word budget)
+Says words (Logging plant budget log) =
+    (word : List ℕ) × ((words ≡ codes "solve" ∷ plant ∷ word ∷ log ∷ []) × (plant ≢ []) × (log ≢ []) × (log ≢ plant) × IsBudget word budget)
+Says words (Simulating usage plant plan) = (words ≡ use_word usage ∷ plant ∷ plan ∷ []) × (plant ≢ []) × (plan ≢ [])
+Says words (Checking plant log) = (words ≡ codes "check" ∷ plant ∷ log ∷ []) × (plant ≢ []) × (log ≢ [])
+Says words (Upgrading plant) = (words ≡ codes "upgrade" ∷ plant ∷ []) × (plant ≢ [])
+Says words (Showing seed) = (word : List ℕ) × ((words ≡ codes "demo" ∷ word ∷ []) × IsSeed word seed)
+Says words (Replanning plant plan period budget) =
+    (from : List ℕ) × ((most : List ℕ) × ((words ≡ codes "replan" ∷ plant ∷ plan ∷ from ∷ most ∷ []) × (plant ≢ []) × (plan ≢ []) × IsPeriod from period × IsBudget most budget))
+Says words (ReplanLogging plant plan period budget log) =
+    (from : List ℕ) × ((most : List ℕ) × ((words ≡ codes "replan" ∷ plant ∷ plan ∷ from ∷ most ∷ log ∷ [])
+    × (plant ≢ []) × (plan ≢ []) × (log ≢ []) × (log ≢ plant) × (log ≢ plan) × IsPeriod from period × IsBudget most budget))
+Says words (CheckingReplan plant plan period log) =
+    (from : List ℕ) × ((words ≡ codes "check-replan" ∷ plant ∷ plan ∷ from ∷ log ∷ []) × (plant ≢ []) × (plan ≢ []) × (log ≢ []) × IsPeriod from period)
+Says words (Estimating plant log state step count) =
+    (by : List ℕ) × ((times : List ℕ) × ((words ≡ codes "whatif" ∷ plant ∷ log ∷ state ∷ by ∷ times ∷ []) × (plant ≢ []) × (log ≢ []) × IsStep by step × IsStepCount times count))
+Says words (Seeking plant budget) = (word : List ℕ) × ((words ≡ codes "least" ∷ plant ∷ word ∷ []) × (plant ≢ []) × IsBudget word budget)
+Says words (Tracing plant budget stem) =
+    (word : List ℕ) × ((words ≡ codes "least" ∷ plant ∷ word ∷ stem ∷ []) × (plant ≢ []) × (stem ≢ []) × IsNoLog plant stem × IsBudget word budget)
+Says words (Auditing plant horizon stem) =
+    (word : List ℕ) × ((words ≡ codes "check-least" ∷ plant ∷ word ∷ stem ∷ []) × (plant ≢ []) × (stem ≢ []) × IsNoLog plant stem × IsHorizon word horizon)
+Says words (Parting plant levels) = (word : List ℕ) × ((words ≡ codes "parts" ∷ plant ∷ word ∷ []) × (plant ≢ []) × IsLevels word levels)
+Says words (PartSolving plant levels part budget log) =
+    (parts : List ℕ) × ((number : List ℕ) × ((most : List ℕ) × ((words ≡ codes "solve-part" ∷ plant ∷ parts ∷ number ∷ most ∷ log ∷ [])
+    × (plant ≢ []) × (log ≢ []) × (log ≢ plant) × IsLevels parts levels × IsPart number levels part × IsBudget most budget)))
+Says words (Joining plant levels stem log) =
+    (parts : List ℕ) × ((words ≡ codes "join" ∷ plant ∷ parts ∷ stem ∷ log ∷ [])
+    × (plant ≢ []) × (stem ≢ []) × (log ≢ []) × (log ≢ plant) × IsNoPartLog log stem levels × IsLevels parts levels)
+
+-- the words have the form of no command
+abbrev pub HasNoForm : List (List ℕ) → Type 0
+HasNoForm words = (request : Request) → ¬ Says words request
+
+-- the words say no request that tries one horizon after another
+pub record NoHorizons (words : List (List ℕ)) : Type 0 where
+  pub seeking : (plant : List ℕ) (budget : ℕ) → ¬ Says words (Seeking plant budget)
+  pub tracing : (plant stem : List ℕ) (budget : ℕ) → ¬ Says words (Tracing plant budget stem)
+  pub auditing : (plant stem : List ℕ) (horizon : ℕ) → ¬ Says words (Auditing plant horizon stem)
+
+-- the words say no request that speaks of the parts of a plant
+pub record NoParts (words : List (List ℕ)) : Type 0 where
+  pub parting : (plant : List ℕ) (levels : ℕ) → ¬ Says words (Parting plant levels)
+  pub solving : (plant log : List ℕ) (levels part budget : ℕ) → ¬ Says words (PartSolving plant levels part budget log)
+  pub joining : (plant stem log : List ℕ) (levels : ℕ) → ¬ Says words (Joining plant levels stem log)
+
+-- what a command asks for
+abbrev pub meaning : declared.Command → Request
+meaning (variants.Solve plant budget) = Solving plant.now budget.boxes
+meaning (variants.Log plant budget log) = Logging plant.now budget.boxes log.now
+meaning (variants.Simulate usage plant plan) = Simulating usage plant.now plan.now
+meaning (variants.Check plant log) = Checking plant.now log.now
+meaning (variants.Upgrade plant) = Upgrading plant.now
+meaning (variants.Demo seed) = Showing seed
+meaning (variants.Replan plant plan period budget) = Replanning plant.now plan.now period.number budget.boxes
+meaning (variants.LogReplan plant plan period budget log) = ReplanLogging plant.now plan.now period.number budget.boxes log.now
+meaning (variants.CheckReplan plant plan period log) = CheckingReplan plant.now plan.now period.number log.now
+meaning (variants.Estimate plant log state steps) = Estimating plant.now log.now state.now steps.step steps.count
+meaning (variants.Least plant budget) = Seeking plant.now budget.boxes
+meaning (variants.LeastLogs plant budget stem) = Tracing plant.now budget.boxes stem.now
+meaning (variants.CheckLeast plant horizon stem) = Auditing plant.now horizon stem.now
+meaning (variants.Parts plant levels) = Parting plant.now levels.number
+meaning (variants.SolvePart plant part budget log) = PartSolving plant.now part.levels.number part.number budget.boxes log.now
+meaning (variants.Join plant levels stem log) = Joining plant.now levels.number stem.now log.now

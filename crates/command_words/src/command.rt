@@ -1,0 +1,585 @@
+//! The words of a command.
+ghost use Rattle.std.specs.Prelude.{◌≡◌, ◌≢◌, ◌↔◌, ◌<◌, ◌∷◌, true, ℕ, ℤ, List, MatchOption};
+ghost use Rattle.proof_log.specs.LogNames.{log_name};
+ghost use Rattle.command_words.specs.Words.{Says, HasNoForm, IsBudget, IsPeriod, IsSeed, IsStep, IsStepCount, Solving, Logging, Simulating, Checking, Upgrading, Showing, Replanning, ReplanLogging, CheckingReplan, Estimating, texts, meaning, Seeking, Tracing, Auditing, NoHorizons, IsHorizon, IsNoLog, use_word};
+
+use crate::budget::{Budget, MAX_BUDGET};
+use crate::levels::{Levels, Part};
+use crate::part_words::part_form;
+use crate::period::Period;
+use crate::steps::{MAX_STEP, MAX_STEPS, Steps};
+use stn_model::limits::MAX_PERIODS;
+use text_words::read_number;
+
+/// What is done with a plan.
+#[derive(Clone, Copy, Debug, PartialEq, Eq)]
+pub enum PlanUse {
+    /// Say what it earns, or what it breaks first.
+    Simulate,
+    /// Show it, or say what it breaks first.
+    Report,
+    /// Draw it, or say what it breaks first.
+    Picture,
+}
+
+/// What the words ask for.
+#[derive(Clone, Copy)]
+pub enum Command<'a> {
+    /// `solve PLANT BUDGET`: plan, with at most this many boxes.
+    Solve {
+        plant: &'a str,
+        budget: Budget,
+    },
+    /// `solve PLANT BUDGET LOG`: plan, and write the log of the proof.
+    Log {
+        plant: &'a str,
+        budget: Budget,
+        log: &'a str,
+    },
+    /// `simulate PLANT PLAN`, `report PLANT PLAN` and `picture PLANT PLAN`: simulate a plan.
+    Simulate {
+        usage: PlanUse,
+        plant: &'a str,
+        plan: &'a str,
+    },
+    /// `check PLANT LOG`: check a proof log.
+    Check {
+        plant: &'a str,
+        log: &'a str,
+    },
+    /// `upgrade PLANT`: print the plant as a file of version 2.
+    Upgrade {
+        plant: &'a str,
+    },
+    /// `demo SEED`: make a plant of the seed, plan it and check the log.
+    Demo {
+        seed: u32,
+    },
+    /// `replan PLANT PLAN PERIOD BUDGET`: plan on from the starts of a plan before a period.
+    Replan {
+        plant: &'a str,
+        plan: &'a str,
+        period: Period,
+        budget: Budget,
+    },
+    /// `replan PLANT PLAN PERIOD BUDGET LOG`: the same, and write the log of the proof.
+    LogReplan {
+        plant: &'a str,
+        plan: &'a str,
+        period: Period,
+        budget: Budget,
+        log: &'a str,
+    },
+    /// `check-replan PLANT PLAN PERIOD LOG`: check the proof log of such a planning.
+    CheckReplan {
+        plant: &'a str,
+        plan: &'a str,
+        period: Period,
+        log: &'a str,
+    },
+    /// `whatif PLANT LOG STATE STEP COUNT`: say what a larger or a smaller tank would be worth at most.
+    Estimate {
+        plant: &'a str,
+        log: &'a str,
+        state: &'a str,
+        steps: Steps,
+    },
+    /// `least PLANT BUDGET`: find the least horizon, with at most this many boxes for each.
+    Least {
+        plant: &'a str,
+        budget: Budget,
+    },
+    /// `least PLANT BUDGET STEM`: the same, and write the log of each horizon.
+    LeastLogs {
+        plant: &'a str,
+        budget: Budget,
+        stem: &'a str,
+    },
+    /// `check-least PLANT H STEM`: check the logs of the horizons that are shorter than H.
+    CheckLeast {
+        plant: &'a str,
+        horizon: u32,
+        stem: &'a str,
+    },
+    /// `parts PLANT LEVELS`: print the parts of the plant.
+    Parts {
+        plant: &'a str,
+        levels: Levels,
+    },
+    /// `solve-part PLANT LEVELS PART BUDGET LOG`: plan a part of the plant, and write the log of the proof.
+    SolvePart {
+        plant: &'a str,
+        part: Part,
+        budget: Budget,
+        log: &'a str,
+    },
+    /// `join PLANT LEVELS STEM LOG`: check the logs of all parts, and write the log of the plant that they make up.
+    Join {
+        plant: &'a str,
+        levels: Levels,
+        stem: &'a str,
+        log: &'a str,
+    },
+}
+
+/// The command that the words say, if they have the form of one. It takes no memory.
+pub fn command_of<'a>(words: &[&'a str]) -> Option<Command<'a>>
+    ensures { MatchOption result (HasNoForm (texts words.now))
+        (λ command. Says (texts words.now) (meaning command)) }
+{
+    if let Some(command) = solve_of(words) {
+        return Some(command);
+    }
+    if let Some(command) = log_of(words) {
+        return Some(command);
+    }
+    if let Some(command) = simulate_of(words, "simulate", PlanUse::Simulate) {
+        return Some(command);
+    }
+    if let Some(command) = simulate_of(words, "report", PlanUse::Report) {
+        return Some(command);
+    }
+    if let Some(command) = simulate_of(words, "picture", PlanUse::Picture) {
+        return Some(command);
+    }
+    if let Some(command) = check_of(words) {
+        return Some(command);
+    }
+    if let Some(command) = upgrade_of(words) {
+        return Some(command);
+    }
+    if let Some(command) = replan_of(words) {
+        return Some(command);
+    }
+    if let Some(command) = log_replan_of(words) {
+        return Some(command);
+    }
+    if let Some(command) = check_replan_of(words) {
+        return Some(command);
+    }
+    if let Some(command) = estimate_of(words) {
+        return Some(command);
+    }
+    if let Some(command) = demo_of(words) {
+        return Some(command);
+    }
+    if let Some(command) = horizon_form(words) {
+        return Some(command);
+    }
+    part_form(words)
+}
+
+// The command that tries one horizon after another.
+fn horizon_form<'a>(words: &[&'a str]) -> Option<Command<'a>>
+    ensures { MatchOption result (NoHorizons (texts words.now))
+        (λ command. Says (texts words.now) (meaning command)) }
+{
+    if let Some(command) = least_of(words) {
+        return Some(command);
+    }
+    if let Some(command) = least_logs_of(words) {
+        return Some(command);
+    }
+    check_least_of(words)
+}
+
+fn solve_of<'a>(words: &[&'a str]) -> Option<Command<'a>>
+    ensures { MatchOption result ((plant : List ℕ) (budget : ℕ)
+        → ¬ Says (texts words.now) (Solving plant budget))
+        (λ command. Says (texts words.now) (meaning command)) }
+{
+    match words {
+        [first, plant, budget] if *first == "solve" && !plant.is_empty() => {
+            match budget_of(budget) {
+                Some(budget) => Some(Command::Solve { plant, budget }),
+                None => None,
+            }
+        }
+        _ => None,
+    }
+}
+
+fn log_of<'a>(words: &[&'a str]) -> Option<Command<'a>>
+    ensures { MatchOption result ((plant log : List ℕ) (budget : ℕ)
+        → ¬ Says (texts words.now) (Logging plant budget log))
+        (λ command. Says (texts words.now) (meaning command)) }
+{
+    match words {
+        [first, plant, budget, log]
+            if *first == "solve" && !plant.is_empty() && !log.is_empty() && differ(log, plant) => {
+            match budget_of(budget) {
+                Some(budget) => Some(Command::Log { plant, budget, log }),
+                None => None,
+            }
+        }
+        _ => None,
+    }
+}
+
+/// The words are not the same.
+pub fn differ(first: &str, second: &str) -> bool
+    ensures { (result ≡ true) ↔ (first.now ≢ second.now) }
+{
+    first != second
+}
+
+// The command on a plan whose first word is this use's.
+fn simulate_of<'a>(words: &[&'a str], word: &str, usage: PlanUse) -> Option<Command<'a>>
+    requires { word.now ≡ use_word usage }
+    ensures { MatchOption result ((plant plan : List ℕ)
+        → ¬ Says (texts words.now) (Simulating usage plant plan))
+        (λ command. Says (texts words.now) (meaning command)) }
+{
+    match words {
+        [first, plant, plan] if *first == word && !plant.is_empty() && !plan.is_empty() => {
+            Some(Command::Simulate { usage, plant, plan })
+        }
+        _ => None,
+    }
+}
+
+fn check_of<'a>(words: &[&'a str]) -> Option<Command<'a>>
+    ensures { MatchOption result ((plant log : List ℕ)
+        → ¬ Says (texts words.now) (Checking plant log))
+        (λ command. Says (texts words.now) (meaning command)) }
+{
+    match words {
+        [first, plant, log] if *first == "check" && !plant.is_empty() && !log.is_empty() => {
+            Some(Command::Check { plant, log })
+        }
+        _ => None,
+    }
+}
+
+fn upgrade_of<'a>(words: &[&'a str]) -> Option<Command<'a>>
+    ensures { MatchOption result ((plant : List ℕ) → ¬ Says (texts words.now) (Upgrading plant))
+        (λ command. Says (texts words.now) (meaning command)) }
+{
+    match words {
+        [first, plant] if *first == "upgrade" && !plant.is_empty() => {
+            Some(Command::Upgrade { plant })
+        }
+        _ => None,
+    }
+}
+
+fn demo_of<'a>(words: &[&'a str]) -> Option<Command<'a>>
+    ensures { MatchOption result ((seed : ℕ) → ¬ Says (texts words.now) (Showing seed))
+        (λ command. Says (texts words.now) (meaning command)) }
+{
+    match words {
+        [first, seed] if *first == "demo" => match seed_of(seed) {
+            Some(seed) => Some(Command::Demo { seed }),
+            None => None,
+        },
+        _ => None,
+    }
+}
+
+fn replan_of<'a>(words: &[&'a str]) -> Option<Command<'a>>
+    ensures { MatchOption result ((plant plan : List ℕ) (period budget : ℕ)
+        → ¬ Says (texts words.now) (Replanning plant plan period budget))
+        (λ command. Says (texts words.now) (meaning command)) }
+{
+    match words {
+        [first, plant, plan, from, most]
+            if *first == "replan" && !plant.is_empty() && !plan.is_empty() => {
+            match numbers_of(from, most) {
+                Some(Numbers { period, budget }) => Some(Command::Replan {
+                    plant,
+                    plan,
+                    period,
+                    budget,
+                }),
+                None => None,
+            }
+        }
+        _ => None,
+    }
+}
+
+fn log_replan_of<'a>(words: &[&'a str]) -> Option<Command<'a>>
+    ensures { MatchOption result ((plant plan log : List ℕ) (period budget : ℕ)
+        → ¬ Says (texts words.now) (ReplanLogging plant plan period budget log))
+        (λ command. Says (texts words.now) (meaning command)) }
+{
+    match words {
+        [first, plant, plan, from, most, log]
+            if *first == "replan"
+                && !plant.is_empty()
+                && !plan.is_empty()
+                && !log.is_empty()
+                && differ(log, plant)
+                && differ(log, plan) => {
+            match numbers_of(from, most) {
+                Some(Numbers { period, budget }) => Some(Command::LogReplan {
+                    plant,
+                    plan,
+                    period,
+                    budget,
+                    log,
+                }),
+                None => None,
+            }
+        }
+        _ => None,
+    }
+}
+
+fn check_replan_of<'a>(words: &[&'a str]) -> Option<Command<'a>>
+    ensures { MatchOption result ((plant plan log : List ℕ) (period : ℕ)
+        → ¬ Says (texts words.now) (CheckingReplan plant plan period log))
+        (λ command. Says (texts words.now) (meaning command)) }
+{
+    match words {
+        [first, plant, plan, from, log]
+            if *first == "check-replan"
+                && !plant.is_empty()
+                && !plan.is_empty()
+                && !log.is_empty() => {
+            match period_of(from) {
+                Some(period) => Some(Command::CheckReplan {
+                    plant,
+                    plan,
+                    period,
+                    log,
+                }),
+                None => None,
+            }
+        }
+        _ => None,
+    }
+}
+
+// The numbers of a replanning.
+#[derive(Clone, Copy)]
+struct Numbers {
+    period: Period,
+    budget: Budget,
+}
+
+fn numbers_of(from: &str, most: &str) -> Option<Numbers>
+    ensures { MatchOption result ((period budget : ℕ)
+        → IsPeriod from.now period → ¬ IsBudget most.now budget)
+        (λ numbers. IsPeriod from.now numbers.period.number
+        × IsBudget most.now numbers.budget.boxes) }
+{
+    match period_of(from) {
+        Some(period) => match budget_of(most) {
+            Some(budget) => Some(Numbers { period, budget }),
+            None => None,
+        },
+        None => None,
+    }
+}
+
+fn period_of(word: &str) -> Option<Period>
+    ensures { MatchOption result ((n : ℕ)
+        → ¬ IsPeriod word.now n) (λ period. IsPeriod word.now period.number) }
+{
+    match read_number(word.as_bytes(), MAX_PERIODS as u64 + 1) {
+        Some(number) => Some(Period {
+            number: number as u32,
+        }),
+        None => None,
+    }
+}
+
+fn estimate_of<'a>(words: &[&'a str]) -> Option<Command<'a>>
+    ensures { MatchOption result ((plant log state : List ℕ) (step : ℤ) (count : ℕ)
+        → ¬ Says (texts words.now) (Estimating plant log state step count))
+        (λ command. Says (texts words.now) (meaning command)) }
+{
+    match words {
+        [first, plant, log, state, step, count]
+            if *first == "whatif" && !plant.is_empty() && !log.is_empty() => {
+            match steps_of(step, count) {
+                Some(steps) => Some(Command::Estimate {
+                    plant,
+                    log,
+                    state,
+                    steps,
+                }),
+                None => None,
+            }
+        }
+        _ => None,
+    }
+}
+
+// The steps that two words say.
+fn steps_of(step: &str, count: &str) -> Option<Steps>
+    ensures { MatchOption result ((n : ℤ) (m : ℕ) → IsStep step.now n → ¬ IsStepCount count.now m)
+        (λ steps. IsStep step.now steps.step × IsStepCount count.now steps.count) }
+{
+    match (step_of(step.as_bytes()), count_of(count)) {
+        (Some(step), Some(count)) => Some(Steps { step, count }),
+        _ => None,
+    }
+}
+
+fn step_of(word: &[u8]) -> Option<i64>
+    ensures { MatchOption result ((n : ℤ) → ¬ IsStep word.now n) (λ step. IsStep word.now step) }
+{
+    match word {
+        [b'-', digits @ ..] => fall_of(digits),
+        _ => match read_number(word, MAX_STEP + 1) {
+            Some(number) => Some(number as i64),
+            None => None,
+        },
+    }
+}
+
+// The step that a minus and the digits are.
+fn fall_of(digits: &[u8]) -> Option<i64>
+    ensures { MatchOption result ((n : ℤ) → ¬ IsStep (45 ∷ digits.now) n)
+        (λ step. IsStep (45 ∷ digits.now) step) }
+{
+    match read_number(digits, MAX_STEP + 1) {
+        Some(number) => {
+            if number == 0 {
+                None
+            } else {
+                Some(-(number as i64))
+            }
+        }
+        None => None,
+    }
+}
+
+fn count_of(word: &str) -> Option<u32>
+    ensures { MatchOption result ((n : ℕ) → ¬ IsStepCount word.now n)
+        (λ count. IsStepCount word.now count) }
+{
+    match read_number(word.as_bytes(), MAX_STEPS as u64 + 1) {
+        Some(number) if 0 < number => Some(number as u32),
+        _ => None,
+    }
+}
+
+fn least_of<'a>(words: &[&'a str]) -> Option<Command<'a>>
+    ensures { MatchOption result ((plant : List ℕ) (budget : ℕ)
+        → ¬ Says (texts words.now) (Seeking plant budget))
+        (λ command. Says (texts words.now) (meaning command)) }
+{
+    match words {
+        [first, plant, budget] if *first == "least" && !plant.is_empty() => {
+            match budget_of(budget) {
+                Some(budget) => Some(Command::Least { plant, budget }),
+                None => None,
+            }
+        }
+        _ => None,
+    }
+}
+
+fn least_logs_of<'a>(words: &[&'a str]) -> Option<Command<'a>>
+    ensures { MatchOption result ((plant stem : List ℕ) (budget : ℕ)
+        → ¬ Says (texts words.now) (Tracing plant budget stem))
+        (λ command. Says (texts words.now) (meaning command)) }
+{
+    match words {
+        [first, plant, budget, stem]
+            if *first == "least"
+                && !plant.is_empty()
+                && !stem.is_empty()
+                && is_no_log(plant, stem) => {
+            match budget_of(budget) {
+                Some(budget) => Some(Command::LeastLogs {
+                    plant,
+                    budget,
+                    stem,
+                }),
+                None => None,
+            }
+        }
+        _ => None,
+    }
+}
+
+fn check_least_of<'a>(words: &[&'a str]) -> Option<Command<'a>>
+    ensures { MatchOption result ((plant stem : List ℕ) (horizon : ℕ)
+        → ¬ Says (texts words.now) (Auditing plant horizon stem))
+        (λ command. Says (texts words.now) (meaning command)) }
+{
+    match words {
+        [first, plant, horizon, stem]
+            if *first == "check-least"
+                && !plant.is_empty()
+                && !stem.is_empty()
+                && is_no_log(plant, stem) => {
+            match horizon_of(horizon) {
+                Some(horizon) => Some(Command::CheckLeast {
+                    plant,
+                    horizon,
+                    stem,
+                }),
+                None => None,
+            }
+        }
+        _ => None,
+    }
+}
+
+// The file is the log of no horizon of the stem.
+fn is_no_log(file: &str, stem: &str) -> bool
+    ensures { (result ≡ true) ↔ IsNoLog file.now stem.now }
+{
+    match log_number(file, stem, 337) {
+        Some(number) => number == 0,
+        None => true,
+    }
+}
+
+/// The number below the limit of which the file is the log of the stem, if there is one.
+pub fn log_number(file: &str, stem: &str, limit: u64) -> Option<u64>
+    ensures { MatchOption result ((n : ℕ) → n < limit → file.now ≢ log_name stem.now n)
+        (λ number. (number < limit) × (file.now ≡ log_name stem.now number)) }
+{
+    let name = file.as_bytes();
+    let at = stem.len();
+    if name.len() <= at || !same_bytes(&name[..at], stem.as_bytes()) || name[at] != b'.' {
+        return None;
+    }
+    read_number(&name[at + 1..], limit)
+}
+
+// The bytes are the same.
+fn same_bytes(first: &[u8], second: &[u8]) -> bool
+    ensures { (result ≡ true) ↔ (first.now ≡ second.now) }
+{
+    first == second
+}
+
+fn horizon_of(word: &str) -> Option<u32>
+    ensures { MatchOption result ((n : ℕ)
+        → ¬ IsHorizon word.now n) (λ horizon. IsHorizon word.now horizon) }
+{
+    match read_number(word.as_bytes(), 338) {
+        Some(number) if 0 < number => Some(number as u32),
+        _ => None,
+    }
+}
+
+fn seed_of(word: &str) -> Option<u32>
+    ensures { MatchOption result ((n : ℕ)
+        → ¬ IsSeed word.now n) (λ seed. IsSeed word.now seed) }
+{
+    match read_number(word.as_bytes(), 1 << 32) {
+        Some(number) => Some(number as u32),
+        None => None,
+    }
+}
+
+/// The budget that a word says.
+pub fn budget_of(word: &str) -> Option<Budget>
+    ensures { MatchOption result ((n : ℕ)
+        → ¬ IsBudget word.now n) (λ budget. IsBudget word.now budget.boxes) }
+{
+    match read_number(word.as_bytes(), MAX_BUDGET as u64 + 1) {
+        Some(number) if 0 < number => Some(Budget {
+            boxes: number as u32,
+        }),
+        _ => None,
+    }
+}

@@ -1,0 +1,18 @@
+//! What the words after the program's name ask for.
+//!
+//! `command_of` finds the command that the words say, if they have the form of one. What a planner may ask for is a `Request`
+//! of specs/Words; a `Command` is a request as code holds it.
+#![tactic(auto)]
+
+pub mod budget;
+pub mod command;
+pub mod levels;
+mod part_words;
+pub mod period;
+pub mod steps;
+
+pub use budget::{Budget, MAX_BUDGET};
+pub use command::{Command, PlanUse, command_of};
+pub use levels::{Levels, Part, part_count};
+pub use period::Period;
+pub use steps::{MAX_STEP, MAX_STEPS, Steps};

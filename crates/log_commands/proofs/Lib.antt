@@ -1,0 +1,3 @@
+pub mod TankLines
+pub mod TankAnswers
+pub mod CheckReplanLemmas

@@ -1,0 +1,8 @@
+//! The commands on a plant and a plan that are given: `simulate`, `report`, `picture` and `upgrade`.
+#![tactic(auto)]
+
+mod simulation;
+mod upgrading;
+
+pub use simulation::simulate_file;
+pub use upgrading::upgrade_file;

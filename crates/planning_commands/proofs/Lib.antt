@@ -1,0 +1,4 @@
+pub mod SolveLemmas
+pub mod ReplanLemmas
+pub mod PartLemmas
+pub mod DemoLemmas

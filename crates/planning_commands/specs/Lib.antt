@@ -1,0 +1,4 @@
+pub mod Solving
+pub mod Replanning
+pub mod PartSolving
+pub mod Demo

@@ -1,0 +1,52 @@
+-- The answer of `replan`, when it is right, and what it leaves.
+use Rattle.std.specs.Prelude.{◌≡◌, ◌⊎◌, ℕ, List, Option, Ok}
+use Rattle.stn_edge.specs.Files.{FileMap}
+use Rattle.stn_model.specs.declared.plant.Plant.{Plant}
+use Rattle.stn_model.specs.declared.start.Start.{Start}
+use Rattle.stn_model.specs.declared.answer.Outcome.{Outcome}
+use Rattle.stn_model.specs.Answers.{IsOutcomeOf}
+use Rattle.plant_text.specs.Reading.{reading}
+use Rattle.plan_text.specs.PlanText.{plan_of_text}
+use Rattle.row_kit.specs.declared.program.Program.{Program}
+use Rattle.frozen_plan.specs.Frozen.{kept_starts}
+use Rattle.frozen_plan.specs.Keeping.{Keeps, IsKeptPart, StandTogether}
+use Rattle.plan_told.specs.Outcomes.{least_plan, whole_count}
+use Rattle.plan_told.specs.Proofs.{HasProof, IsLeft, bytes_in}
+use Rattle.command_replies.specs.Sources.{IsReadOf}
+use Rattle.answer_texts.specs.Kept.{OnKept}
+use Rattle.answer_texts.specs.Planning.{Planned}
+
+-- The answer of `replan` over a program of the feasible plans that keep the starts: a right outcome of planning among these
+-- plans within the budget. There is a proof of it, and where the bytes of a log are told, they are the text of its log.
+abbrev pub SolvedOver : ℕ → Plant → ℕ → List Start → Option (List ℕ) → Program → ℕ → List ℕ → Type 0
+SolvedOver budget plant period kept log part status text =
+    Planned plant (IsOutcomeOf plant (Keeps plant period kept) (least_plan plant part) (whole_count part) budget) (HasProof plant part log) status text
+
+-- the answer of `replan`
+abbrev pub Replanned : ℕ → Plant → ℕ → List Start → Option (List ℕ) → Type 0 → ℕ → List ℕ → Type 0
+Replanned budget plant period kept log Unchanged status text = OnKept plant period kept Unchanged (SolvedOver budget plant period kept log) status text
+
+-- what an attempt over a part leaves in the file of a log: a log that was begun, if anything, or a whole one, of an outcome
+abbrev pub LeavesLog : Plant → Program → List ℕ → Option FileMap → Option FileMap → Type 0
+LeavesLog plant part log old new = IsLeft plant part log old new ⊎ ((outcome : Outcome) × HasProof plant part (bytes_in log new) outcome)
+
+-- what replanning leaves in the file of its log: it is as it was, or the kept starts stand together and it holds a log over the
+-- program of the plans that keep them
+abbrev pub LeavesReplan : Plant → ℕ → List Start → List ℕ → Option FileMap → Option FileMap → Type 0
+LeavesReplan plant period kept log old new = (new ≡ old) ⊎ ((part : Program) × (IsKeptPart plant period kept part × LeavesLog plant part log old new))
+
+-- the plant and the plan in two files were read, and the file of a log is as it was, or holds a log over the kept starts
+pub record HoldsReplan (old new : Option FileMap) (name plan : List ℕ) (period : ℕ) (log : List ℕ) : Type 0 where
+  pub plant : Plant
+  pub read : IsReadOf reading old name (Ok plant)
+  pub starts : List Start
+  pub read_plan : IsReadOf (plan_of_text plant) old plan (Ok starts)
+  pub holds : LeavesReplan plant period (kept_starts period starts) log old new
+
+-- the plant and the plan of a replanning were read, and the starts that are kept of the plan stand together
+pub record CanReplan (files : Option FileMap) (name plan : List ℕ) (period : ℕ) : Type 0 where
+  pub plant : Plant
+  pub read : IsReadOf reading files name (Ok plant)
+  pub starts : List Start
+  pub read_plan : IsReadOf (plan_of_text plant) files plan (Ok starts)
+  pub together : StandTogether plant (kept_starts period starts)

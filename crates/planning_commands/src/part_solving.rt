@@ -1,0 +1,128 @@
+//! `solve-part PLANT LEVELS PART BUDGET LOG`: planning a part of a plant.
+ghost use Rattle.std.specs.Prelude.{◌≡◌, ◌≢◌, ◌≤◌, ◌⊎◌, [], length, Ok, Err, IsTrue, IfOk};
+ghost use Rattle.stn_edge.specs.Count.{Rose};
+ghost use Rattle.stn_edge.specs.Files.{OthersStay};
+ghost use Rattle.stn_model.specs.Sound.{Sound};
+ghost use Rattle.stn_model.specs.declared.plant.Plant.{Plant};
+ghost use Rattle.plant_text.specs.Reading.{reading};
+ghost use Rattle.time_grid.specs.Slots.{slots};
+ghost use Rattle.plan_told.specs.Proofs.{bytes_in};
+ghost use Rattle.command_replies.specs.Answers.{IsPlantAnswer, IsUnwritten};
+ghost use Rattle.command_replies.specs.Sources.{IfReplied, IfRefused, IsReadOf};
+ghost use Rattle.answer_texts.specs.Levels.{OnLevels};
+ghost use Rattle.planning_commands.specs.PartSolving.{HoldsPart, LeavesPart, PartSolved};
+
+use crate::replanning::log_part;
+use answer_texts::{has_slots, refused_levels};
+use command_replies::{Reply, Stopped, plant_in};
+use command_words::{Budget, Part};
+use log_parts::part_rows;
+use std::alloc::Global;
+use stn_edge::Shelf;
+use stn_model::Plant;
+
+/// Plans a part of the plant in a file, with at most so many boxes, and writes the log of the proof to another. No file is written
+/// but the log, and none before the plant is read and found to have a slot for each level.
+pub fn solve_part_file<F: Shelf>(
+    alloc: Global,
+    files: &mut F,
+    name: &str,
+    part: Part,
+    budget: Budget,
+    log: &str,
+) -> Result<Reply, Stopped>
+    requires plant_readable { IsTrue (F.may_read files.old name.now) }
+    requires log_writable { IsTrue (F.may_write files.old log.now) }
+    ensures answer { IfReplied result (λ reply. IsPlantAnswer (F.files files.old) (F.files files.new)
+        name.now [] (λ _ plant. OnLevels plant part.levels.number (PartSolved budget.boxes plant
+        part.levels.number part.number (bytes_in log.now (F.files files.new))))
+        reply.status reply.text.items) }
+    ensures refused { IfReplied result (λ reply. IsUnwritten reply.status
+        → F.files files.new ≡ F.files files.old) }
+    ensures fault { result ≡ Err Stopped.ReadFault
+        → Rose (F.read_faults files.old) (F.read_faults files.new) }
+    ensures unread { result ≡ Err Stopped.ReadFault → F.files files.new ≡ F.files files.old }
+    ensures write_fault { result ≡ Err Stopped.WriteFault
+        → Rose (F.write_faults files.old) (F.write_faults files.new) }
+    ensures begun { result ≡ Err Stopped.WriteFault
+        → (plant : Plant) × (IsReadOf reading (F.files files.old) name.now (Ok plant)
+        × (part.levels.number ≤ length (slots plant))) }
+    ensures left { (F.files files.new ≡ F.files files.old) ⊎ HoldsPart (F.files files.old)
+        (F.files files.new) name.now part.levels.number part.number log.now }
+    ensures others { OthersStay log.now (F.files files.old) (F.files files.new) }
+    ensures readable { F.may_read files.new ≡ F.may_read files.old }
+    ensures writable { F.may_write files.new ≡ F.may_write files.old }
+    ensures later { F.read_faults files.old ≤ F.read_faults files.new }
+    ensures writes { F.write_faults files.old ≤ F.write_faults files.new }
+{
+    let plant = plant_in(alloc, files, name)?;
+    solve_part(alloc, files, &plant, part, budget, log)
+}
+
+// The answer of planning a part of a plant, whose log is written.
+fn solve_part<F: Shelf>(
+    alloc: Global,
+    files: &mut F,
+    plant: &Plant,
+    part: Part,
+    budget: Budget,
+    log: &str,
+) -> Result<Reply, Stopped>
+    requires sound { Sound plant.now }
+    requires allowed { IsTrue (F.may_write files.old log.now) }
+    ensures answer { IfOk result (λ reply. OnLevels plant.now part.levels.number
+        (PartSolved budget.boxes plant.now part.levels.number part.number
+        (bytes_in log.now (F.files files.new))) reply.status reply.text.items) }
+    ensures refused { IfOk result (λ reply. IsUnwritten reply.status
+        → F.files files.new ≡ F.files files.old) }
+    ensures none { IfRefused result (λ _. ⊥) }
+    ensures no_fault { result ≢ Err Stopped.ReadFault }
+    ensures write_fault { result ≡ Err Stopped.WriteFault
+        → Rose (F.write_faults files.old) (F.write_faults files.new) }
+    ensures begun { result ≡ Err Stopped.WriteFault
+        → part.levels.number ≤ length (slots plant.now) }
+    ensures left { LeavesPart plant.now part.levels.number part.number log.now
+        (F.files files.old) (F.files files.new) }
+    ensures others { OthersStay log.now (F.files files.old) (F.files files.new) }
+    ensures readable { F.may_read files.new ≡ F.may_read files.old }
+    ensures writable { F.may_write files.new ≡ F.may_write files.old }
+    ensures no_read { F.read_faults files.new ≡ F.read_faults files.old }
+    ensures writes { F.write_faults files.old ≤ F.write_faults files.new }
+{
+    if has_slots(alloc, plant, part.levels)? {
+        log_rows_of_part(alloc, files, plant, part, budget, log)
+    } else {
+        Ok(refused_levels(alloc)?)
+    }
+}
+
+// The answer where the plant has a slot for each level.
+fn log_rows_of_part<F: Shelf>(
+    alloc: Global,
+    files: &mut F,
+    plant: &Plant,
+    part: Part,
+    budget: Budget,
+    log: &str,
+) -> Result<Reply, Stopped>
+    requires sound { Sound plant.now }
+    requires enough { part.levels.number ≤ length (slots plant.now) }
+    requires allowed { IsTrue (F.may_write files.old log.now) }
+    ensures answer { IfOk result (λ reply. PartSolved budget.boxes plant.now part.levels.number
+        part.number (bytes_in log.now (F.files files.new)) reply.status reply.text.items) }
+    ensures none { IfRefused result (λ _. ⊥) }
+    ensures no_fault { result ≢ Err Stopped.ReadFault }
+    ensures write_fault { result ≡ Err Stopped.WriteFault
+        → Rose (F.write_faults files.old) (F.write_faults files.new) }
+    ensures left { LeavesPart plant.now part.levels.number part.number log.now
+        (F.files files.old) (F.files files.new) }
+    ensures others { OthersStay log.now (F.files files.old) (F.files files.new) }
+    ensures readable { F.may_read files.new ≡ F.may_read files.old }
+    ensures writable { F.may_write files.new ≡ F.may_write files.old }
+    ensures no_read { F.read_faults files.new ≡ F.read_faults files.old }
+    ensures writes { F.write_faults files.old ≤ F.write_faults files.new }
+{
+    let levels = part.levels.number;
+    let rows = part_rows(alloc, plant, levels, part.number)?;
+    log_part(alloc, files, plant, rows.program, levels, budget, log)
+}

@@ -1,6 +1,0 @@
-use Rattle.stn_top.specs.Words.{texts}
-use Rattle.stn_top.proofs.WordLemmas.{last_horizon_form}
-use Rattle.stn_top.proofs.command.horizon_form.Goals as goal
-
-pub returns : goal.returns
-returns c = last_horizon_form (texts c.args.words.now) c.check_least_of.result c.in_default.ensures c.in_default-least_logs_of.ensures c.check_least_of.ensures

@@ -1,6 +1,0 @@
-use Rattle.stn_top.specs.Words.{texts}
-use Rattle.stn_top.proofs.PartWords.{last_part_form}
-use Rattle.stn_top.proofs.part_words.part_form.Goals as goal
-
-pub returns : goal.returns
-returns c = last_part_form (texts c.args.words.now) c.join_of.result c.in_default.ensures c.in_default-solve_part_of.ensures c.join_of.ensures

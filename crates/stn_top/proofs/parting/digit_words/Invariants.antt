@@ -1,6 +1,0 @@
-use Rattle.std.proofs.Common.{◌≡◌}
-use Rattle.stn_top.specs.Parting.{digit_words}
-use Rattle.stn_top.proofs.parting.digit_words.Given as goal
-
-abbrev pub invariant-loop-place : goal.invariant-loop-place
-invariant-loop-place l = l.text.items ≡ digit_words l.levels.number l.part l.place

@@ -1,6 +1,0 @@
-use Rattle.std.proofs.Common.{◌≡◌}
-use Rattle.stn_top.specs.Parting.{slot_lines}
-use Rattle.stn_top.proofs.parting.slot_lines.Given as goal
-
-abbrev pub invariant-loop-place : goal.invariant-loop-place
-invariant-loop-place l = l.lines.items ≡ slot_lines l.plant l.place

@@ -1,6 +1,0 @@
-use Rattle.std.proofs.Common.{◌∙◌}
-use Rattle.stn_top.proofs.Horizons.{found_text}
-use Rattle.stn_top.proofs.seeking.plan_text.Goals as goal
-
-pub returns : goal.returns
-returns c = rw (← found_text c.args.plant.now c.args.horizon c.args.profit.now c.args.plan.now c.as_str.result.now (c.as_str.ensures.value ∙ c.in_ok-head.ensures)) (let e = c.as_slice.ensures in rw e at c.with_plan.ensures)

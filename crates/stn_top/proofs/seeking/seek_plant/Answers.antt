@@ -1,9 +1,0 @@
-use Rattle.std.specs.Prelude.{None}
-use Rattle.stn_top.proofs.Horizons.{named-least, sought}
-use Rattle.stn_top.proofs.seeking.seek_plant.Goals as goal
-
-pub found-requires : goal.found-requires
-found-requires c = named-least c.args.plant.now c.in_ok-said.said c.requires c.in_ok-said.ensures.least.right
-
-pub returns : goal.returns
-returns c = sought c.args.plant.now c.args.budget.boxes (λ _. None) (λ _. Unit {0}) c.in_ok-said.said c.found.result c.requires c.in_ok-said.ensures.least tt c.in_money.ensures c.found.ensures
