@@ -5,14 +5,19 @@
 # 65,536 bytes) and what it said; what speak puts goes to standard error.
 
 child=""
+copier=""
+reader=""
 signal=""
 caught=""
 
-# Ends the program where the run is ended.
+# Ends the program where the run is ended, and those who hand on what it puts.
 pass_on() {
+    local each
     signal="$1"
     caught=yes
-    [ -z "$child" ] || kill -TERM "$child" 2>/dev/null
+    for each in $child $copier $reader; do
+        kill -TERM "$each" 2>/dev/null
+    done
 }
 
 # Whether the answer is to be explained: there is somebody to speak, and an output to copy.
@@ -42,7 +47,7 @@ start_program() {
 # program says it. (Where a signal and the program's end come at once, bash may know no status; then it is one of a broken run.)
 wait_for_program() {
     local copied
-    [ -z "$signal" ] || kill -TERM "$child" 2>/dev/null
+    [ -z "$signal" ] || pass_on "$signal"
     while :; do
         caught=""
         wait "$child"
@@ -96,7 +101,7 @@ tell_sums() {
 
 # Runs the program on the words and ends with its status.
 run_program() {
-    local status ended sums="" reader="" copier=""
+    local status ended sums=""
     keep_files "$@" || exit
     if [ ${#kept[@]} -eq 0 ] && [ -z "$room" ] && [[ "${1:-}" != check* ]] && { [ -n "$quiet" ] || [ $# -gt 0 ]; } && ! is_explained; then
         exec "$program" "$@"
