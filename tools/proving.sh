@@ -34,11 +34,18 @@ show_progress() {
     done
 }
 
-# Proves the program's crates side by side, then links the program, which `rt run` does and says so by a stamp beside it.
+# Proves the program's crates side by side (those that were killed for want of memory once more, one at a time), then links the program,
+# which `rt run` does and says so by a stamp beside it. The report grows in the file given.
 prove_crates() {
+    local proved=""
     cd "$here/crates/stn" || return
     rm -f out/stn.stamp
-    rt all check --jobs "$(nproc)" && rt run
+    if rt all check --jobs "$(nproc)" >"$1" 2>&1; then
+        proved=yes
+    elif grep -q ': failed (-9)$' "$1"; then
+        rt all check --jobs 1 >>"$1" 2>&1 && proved=yes
+    fi
+    [ -z "$proved" ] || rt run >>"$1" 2>&1
     [ -f out/stn.stamp ]
 }
 
@@ -54,7 +61,8 @@ prove() {
     before="$(sources_sum)"
     complain "proving the program's $(wc -l <"$room/names") crates on $(nproc) processors, and building it, which takes long;" \
         "what is proved is kept for later runs"
-    prove_crates </dev/null >"$room/report" 2>&1 &
+    : >"$room/report"
+    prove_crates "$room/report" </dev/null &
     worker=$!
     trap 'kill_below '"$worker"'; exit 130' INT TERM HUP
     show_progress "$worker" "$room/names" "$room/report"
