@@ -4,6 +4,7 @@
     python3 bench/gate.py            # runs the gate at the top, prints its last line and the table
     python3 bench/gate.py --markdown # the table as docs/gate.md has it
     python3 bench/gate.py NAME..     # the same for these crates and those below them
+    python3 bench/gate.py --beside PID FILE  # watches the checks below a process until it ends; FILE has lines `SECONDS CRATE`
 
 A check is a process of the prover; what it took is read off /proc while it runs, twice a second, so a row may lack half a
 second for each of its checks. 'edits' counts the must-fail edits of the crate.
@@ -84,7 +85,30 @@ def table(taken, markdown):
     return lines
 
 
+def note(taken, greatest, file):
+    """Writes what each crate has taken so far, as a whole. The sums never fall, also where they are read while they are made anew."""
+    sums = {}
+    for (crate, _), used in list(taken.items()):
+        sums[crate] = sums.get(crate, 0.0) + used
+    for crate, used in sums.items():
+        greatest[crate] = max(greatest.get(crate, 0.0), used)
+    with open(file + ".new", "w") as out:
+        out.writelines(f"{used:.1f} {crate}\n" for crate, used in greatest.items())
+    os.replace(file + ".new", file)
+
+
+def beside(pid, file):
+    """Watches the checks below a process, and notes what they took every few seconds, until the process or this one is ended."""
+    taken, greatest, done = {}, {}, threading.Event()
+    threading.Thread(target=watch, args=(pid, taken, done), daemon=True).start()
+    while os.path.isdir(f"/proc/{pid}") and os.path.exists(file):
+        time.sleep(2)
+        note(taken, greatest, file)
+
+
 def main():
+    if sys.argv[1:2] == ["--beside"]:
+        return beside(int(sys.argv[2]), sys.argv[3])
     begun, taken, done = time.monotonic(), {}, threading.Event()
     names = [it for it in sys.argv[1:] if not it.startswith("--")]
     gate = subprocess.Popen(["rt", "ci", *names], cwd=top, stdout=subprocess.PIPE, stderr=subprocess.STDOUT, text=True)

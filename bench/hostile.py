@@ -4,14 +4,14 @@
     python3 bench/hostile.py            # a line for each case that went wrong, and a count
     python3 bench/hostile.py --table    # and a row for each case, with processor seconds and peak memory
 
-Run `./stn` or the gate once before, so that the program is built; where it is not, this says 'skipped'. Each run has 10 seconds of
-processor time, 100 on the clock, 600 MiB of address space and no core file. Large files are made in a folder of their own, as empty
-stretches where that does, and go with it.
+The program is that of STN_PROGRAM, or the one that `./stn` or a gate that passed has left in built/; where there is none, this says
+'skipped'. Each run has 10 seconds of processor time, 100 on the clock, 600 MiB of address space and no core file. Large files are made
+in a folder of their own, as empty stretches where that does, and go with it.
 """
 import os, resource, shutil, signal, subprocess, sys, tempfile
 
 top = os.path.dirname(os.path.dirname(os.path.abspath(__file__)))
-BUILT = os.path.join(top, "crates", "stn", "out", "stn")
+BUILT = os.environ.get("STN_PROGRAM") or os.path.join(top, "built", "stn")
 SECONDS, ON_THE_CLOCK, MEMORY = 10, 100, 600 << 20
 NOBODY = 65534
 TINY = ["dual 1 0", "claim optimal 60 2", "value 0 3", "value 1 3", "end"]

@@ -12,7 +12,7 @@ Seconds are on the clock, in one run after another.
 import datetime, gzip, os, platform, re, resource, shutil, subprocess, sys, tempfile, time
 
 top = os.path.dirname(os.path.dirname(os.path.abspath(__file__)))
-program = os.path.join(top, "crates", "stn", "out", "stn")
+program = os.environ.get("STN_PROGRAM") or os.path.join(top, "built", "stn")
 BUDGETS = {"large-48": ["60"], "make-01": ["2000", "100000"]}
 # The trial with sums, best first, with the means of past trials in its ranking.
 RULE = ("--rule pen --plat 0.001 --rplat 0 --rclo 1 --srule three --zs RS --zsel 7 --pre 100 --shares 8 "

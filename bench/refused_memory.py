@@ -5,16 +5,16 @@
     python3 bench/refused_memory.py --all           # every request of each command
     python3 bench/refused_memory.py --markdown      # the table as docs/performance.md has it
 
-Run `./stn` once before, so that the program is built. A small library in C, which `cc` makes in a folder of its own, stands before
-the C library's `malloc` and `realloc`: it refuses one request (once), or one and all after it (for good). After a refusal the status
-has to be 9, with nothing or a first part of the answer put, or one below 7 with the whole answer. The plant, the plan and the log
-that was read stay as they were. The log that is written is as before or a first part of the log of a run that is refused nothing;
-where the status is 9 and the log another, or below 7, its check has to say yes.
+The program is that of STN_PROGRAM, or the one that `./stn` has left in built/. A small library in C, which `cc` makes in a folder of
+its own, stands before the C library's `malloc` and `realloc`: it refuses one request (once), or one and all after it (for good). After
+a refusal the status has to be 9, with nothing or a first part of the answer put, or one below 7 with the whole answer. The plant, the
+plan and the log that was read stay as they were. The log that is written is as before or a first part of the log of a run that is
+refused nothing; where the status is 9 and the log another, or below 7, its check has to say yes.
 """
 import collections, os, shutil, subprocess, sys, tempfile
 
 top = os.path.dirname(os.path.dirname(os.path.abspath(__file__)))
-BUILT = os.path.join(top, "crates", "stn", "out", "stn")
+BUILT = os.environ.get("STN_PROGRAM") or os.path.join(top, "built", "stn")
 COMMANDS = ["solve plant 31", "solve plant 31 log", "simulate plant plan", "report plant plan", "check plant proof", "upgrade plant", "demo 1"]
 REFUSING = r"""
 #include <errno.h>

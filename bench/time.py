@@ -6,7 +6,7 @@ Run `./stn` once before, so that the program is built:  python3 bench/time.py [M
 import os, resource, subprocess, sys, tempfile, time
 
 top = os.path.dirname(os.path.dirname(os.path.abspath(__file__)))
-program = os.path.join(top, "crates", "stn", "out", "stn")
+program = os.environ.get("STN_PROGRAM") or os.path.join(top, "built", "stn")
 
 
 def peak_of(child):
