@@ -11,6 +11,7 @@ plant_program.py, which also makes its rows, and what a log declares is in decla
 import re
 import sys
 from dataclasses import dataclass, field
+from pathlib import Path
 
 from declared import Sum
 from plant_program import Refused, entry_at, program_of, read_plant, worth
@@ -368,9 +369,9 @@ def check(program, data):
 
 
 def answer(plant, log):
-    """The line and the status that `stn check` answers on the bytes of two files."""
+    """The line and the status that `stn check` answers. `plant` and `log` read the files, the log where the plant has no fault."""
     try:
-        return check(program_of(read_plant(plant)), log)
+        return check(program_of(read_plant(plant())), log())
     except Refused as fault:
         return f"refused plant {fault}", 3
 
@@ -381,7 +382,7 @@ def main(words):
         print("refused words")
         return 2
     try:
-        line, status = answer(*(open(word, "rb").read() for word in words))
+        line, status = answer(*(Path(word).read_bytes for word in words))
     except OSError:
         return 7
     print(line)

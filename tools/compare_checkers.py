@@ -237,7 +237,7 @@ class Comparison:
         """One question: the bytes of a plant and of a log."""
         for name, text in (("plant", plant), ("log", log)):
             (self.room / name).write_bytes(text)
-        theirs, own = self.run("check", self.room / "plant", self.room / "log"), answer(plant, log)
+        theirs, own = self.run("check", self.room / "plant", self.room / "log"), answer(lambda: plant, lambda: log)
         self.asked += 1
         self.seen[kind_of(own[0])] += 1
         if theirs != own:
@@ -276,17 +276,24 @@ def stored():
         yield log.name, log.with_suffix(".toml").read_bytes(), log.read_bytes()
 
 
-def at_random(dice):
-    """Logs at random over plants at random."""
+def plants(dice):
+    """The plants of the examples, and plants made at random."""
+    for plant in sorted((TOP / "examples").glob("*.toml")):
+        yield plant.stem, plant.read_bytes()
     for number in range(RANDOM_PLANTS):
-        plant = toml(random_plant(dice))
+        yield f"plant {number}", toml(random_plant(dice))
+
+
+def at_random(dice):
+    """Logs at random over plants."""
+    for name, plant in plants(dice):
         try:
             program = program_of(read_plant(plant))
         except Refused:
-            yield f"plant {number} at random", plant, b""
+            yield f"{name} alone", plant, b""
             continue
-        for _ in range(RANDOM_LOGS):
-            yield f"plant {number} at random", plant, random_log(dice, program)
+        for number in range(RANDOM_LOGS):
+            yield f"random log {number} of {name}", plant, random_log(dice, program)
 
 
 def main(words):
