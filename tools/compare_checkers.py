@@ -1,0 +1,324 @@
+#!/usr/bin/env python3
+"""Asks the program and check_log.py the same questions, and says where their answers differ.
+
+    python3 tools/compare_checkers.py [PROGRAM] [SEED]
+
+PROGRAM is the built `stn`; without it what STN names, or crates/stn/out/stn. The logs are those of examples/, what
+PROGRAM writes for the plants there, logs made at random over plants made at random, and mutants of all of them: numbers
+changed by one, lines changed, dropped, doubled or exchanged, logs cut off, other plants, plants with faults. KEEP may
+name a folder for the files of each difference. It exits with 0 where all answers and statuses agree, with 1 where some
+differ, and with 2 where there is no program.
+"""
+
+import os
+import random
+import re
+import subprocess
+import sys
+import tempfile
+from collections import Counter
+from pathlib import Path
+
+from check_log import Defect, Judge, LogText, answer
+from plant_program import Refused, program_of, read_plant
+
+TOP = Path(__file__).resolve().parent.parent
+BUDGETS = ("1", "7", "60")
+MUTANTS, MUTANT_PLANTS, RANDOM_PLANTS, RANDOM_LOGS = 500, 250, 40, 8
+GREATEST_MUTANT, SECONDS = 20_000, int(os.environ.get("SECONDS_EACH", 20))
+ODD_NUMBERS = (b"0", b"1", b"2", b"254", b"255", b"256", b"4608", b"50000", b"50001", b"1048576", b"1048577", b"1099511627776",
+               b"1099511627777", b"9" * 30, b"9" * 31, b"-1", b"-0", b"00", b"01", b"-")
+
+
+# ---------------------------------------------------------------- mutants
+
+
+def mutated(text, dice):
+    """A text with one small change."""
+    if dice.random() < 0.1:
+        return text[: dice.randrange(len(text) + 1)]
+    lines = text.split(b"\n")
+    change = dice.choice([by_one] * 6 + [odd_number, dropped, doubled, exchanged, one_byte, copied])
+    return b"\n".join(change(lines, dice.randrange(len(lines)), dice.randrange(len(lines)), dice))
+
+
+def with_number(lines, dice, new):
+    """The lines with one of their numbers, not of the first line, as `new` makes it."""
+    places = [(n, it) for n, line in enumerate(lines) if n for it in re.finditer(rb"-?[0-9]+", line)]
+    if places:
+        n, it = dice.choice(places)
+        lines[n] = lines[n][: it.start()] + new(it[0]) + lines[n][it.end() :]
+    return lines
+
+
+def by_one(lines, _at, _other, dice):
+    return with_number(lines, dice, lambda it: b"%d" % (int(it) + dice.choice((-1, 1))))
+
+
+def odd_number(lines, _at, _other, dice):
+    return with_number(lines, dice, lambda _: dice.choice(ODD_NUMBERS))
+
+
+def dropped(lines, at, _other, _dice):
+    return lines[:at] + lines[at + 1 :]
+
+
+def doubled(lines, at, _other, _dice):
+    return lines[: at + 1] + lines[at:]
+
+
+def exchanged(lines, at, other, _dice):
+    lines[at], lines[other] = lines[other], lines[at]
+    return lines
+
+
+def copied(lines, at, other, _dice):
+    lines[at] = lines[other]
+    return lines
+
+
+def one_byte(lines, at, _other, dice):
+    line = lines[at]
+    place, byte = dice.randrange(len(line) + 1), dice.choice((b" ", b"\t", b"\r", b"x", b"\x00", b"9", b"\n", b"-"))
+    lines[at] = line[:place] + byte + line[place + dice.randrange(2) :]
+    return lines
+
+
+# ---------------------------------------------------------------- plants at random
+
+
+def toml(plant):
+    """A plant of dictionaries as a TOML document."""
+    return "".join(f"{key} = {value_text(value)}\n" for key, value in plant.items()).encode()
+
+
+def value_text(value):
+    """A value as TOML writes it, in one line."""
+    if isinstance(value, dict):
+        return "{ " + ", ".join(f"{key} = {value_text(it)}" for key, it in value.items()) + " }"
+    if isinstance(value, list):
+        return "[" + ", ".join(map(value_text, value)) + "]"
+    return f'"{value}"' if isinstance(value, str) else str(value)
+
+
+def random_plant(dice):
+    """A small plant that uses every table of version 2, with stocks, loads and cleaning that bind."""
+    periods, states, tasks, units = dice.randint(2, 5), "abcd", dice.randint(1, 3), dice.randint(1, 2)
+    some = lambda least, most, make: [make() for _ in range(dice.randint(least, most))]
+    time = lambda: dice.randint(0, periods)
+    utilities = some(0, 2, lambda: {"rate": dice.randint(-1, 1), **limits(dice, 9, periods, True)})
+    plant = {"version": 2, "periods": periods, "state": [
+        {"name": it, "initial": dice.randint(0, 12), "price": dice.randint(-1, 6), "holding": dice.choice((0, 0, 1)),
+         **limits(dice, 16, periods + 1, False)} for it in states]}
+    plant["utility"] = [{"name": f"u{n}", **it} for n, it in enumerate(utilities)]
+    plant["unit"] = [{"name": f"U{n}"} for n in range(units)]
+    plant["task"] = [random_task(dice, f"T{n}", states, len(utilities)) for n in range(tasks)]
+    plant["run"] = [{"task": f"T{t}", "unit": f"U{u}", "min": (least := dice.randint(1, 3)), "max": least + dice.randint(0, 3),
+                     "cost": dice.randint(-1, 2)} for t in range(tasks) for u in range(units) if t == 0 or dice.random() < 0.7]
+    of_tasks = lambda: f"T{dice.randrange(tasks)}"
+    unit = lambda: f"U{dice.randrange(units)}"
+    plant["gap"] = some(0, 4, lambda: {"unit": unit(), "from": of_tasks(), "to": of_tasks(), "periods": dice.randint(0, 2),
+                                       "cost": dice.randint(0, 4)})
+    moved = lambda: {"state": dice.choice(states), "time": time(), "amount": dice.randint(1, 4)}
+    plant["receipt"], plant["delivery"] = some(0, 2, moved), some(0, 1, lambda: {**moved(), "payment": dice.randint(-5, 9)})
+    plant["outage"] = some(0, 1, lambda: {"unit": unit(), "from": (begin := dice.randrange(periods)),
+                                          "to": dice.randint(begin + 1, periods)})
+    return plant
+
+
+def limits(dice, most, count, is_required):
+    """`limit`, `limits` or neither."""
+    kind = dice.choice(("limit", "limits") if is_required else ("limit", "limits", "", ""))
+    return {kind: [dice.randint(0, most) for _ in range(count)] if kind == "limits" else most} if kind else {}
+
+
+def random_task(dice, name, states, utilities):
+    """A task whose inputs and outputs may share a state, with draws that may share a utility."""
+    halves = [["1/1"], ["1/2", "1/2"], ["3/4", "1/4"]]
+    inputs = [{"state": dice.choice(states), "part": part} for part in dice.choice(halves)]
+    outputs = [{"state": dice.choice(states), "part": part, "delay": dice.choice((1, 1, 2))} for part in dice.choice(halves)]
+    length = max(it["delay"] for it in outputs)
+    draws = [{"utility": f"u{dice.randrange(utilities)}", "fixed": [dice.randint(0, 3) for _ in range(length)],
+              "each": [dice.randint(0, 1) for _ in range(length)]} for _ in range(dice.randint(0, 2) if utilities else 0)]
+    return {"name": name, "quantum": 4, "input": inputs, "output": outputs, "draw": draws}
+
+
+# ---------------------------------------------------------------- logs at random
+
+
+def random_log(dice, program):
+    """A log of a small tree over a program, whose claim `below` is the cap that check_log.py finds, or one less."""
+    head = random_head(dice, program)
+    lines = ["stn-log 3", *head] if head else ["stn-log 2"]
+    sums = sum(line.startswith("sum") for line in head)
+    slots, rows = len(program.domains) + sums, len(program.rows) + 2 * sums
+    lines += random_tree(dice, slots, rows, dice.randint(0, 4)) if slots else ["node", "dual 1 0"]
+    cap = mended(lines, program) if dice.random() < 0.9 else 0
+    claim = "infeasible" if cap is None else f"below {cap - dice.randrange(2)}"
+    return "\n".join([*lines, f"claim {claim}", "end", ""]).encode()
+
+
+def mended(lines, program):
+    """The cap of a log's tree, after ends that do not stand were changed to ends that do; 0 where its head has a defect."""
+    for _ in range(len(lines)):
+        try:
+            return cap_of("\n".join([*lines, "claim infeasible", "end", ""]).encode(), program)
+        except Defect as defect:
+            line, kind = map(int, str(defect).split())
+            if kind == 20:
+                return 0
+            while lines[line : line + 1] and lines[line].startswith("mult"):
+                lines.pop(line)
+            lines[line - 1] = "empty" if kind == 11 else "dual 1 0"
+
+
+def cap_of(text, program):
+    """The cap of a log's tree."""
+    log = LogText(text, program).read()
+    return Judge(program, log.head).tree_cap(log.nodes)
+
+
+def random_head(dice, program):
+    """Up to two sums: of some slots, or of what a row counts or its opposite, shown by that row or by the batch sizes."""
+    lines = []
+    for _ in range(dice.choice((0, 0, 1, 2)) if program.slots else 0):
+        number = dice.randrange(len(program.rows))
+        row, times = program.rows[number], dice.choice((1, 1, 1, 2))
+        sign = dice.choice((-1, 1))
+        terms = {j: (sign * fixed, sign * per) for j, (fixed, per) in row.entries.items()}
+        if not terms or dice.random() < 0.4:
+            some = [j for j in range(len(program.slots)) if dice.random() < 0.7] or [0]
+            terms = {j: dice.choice(((1, 0), (0, 1), (1, 2))) for j in some}
+        sides = ["-", "-"] if dice.random() < 0.5 else [str(number), "-"] if sign < 0 else ["-", str(number)]
+        lines.append(f"sum {times} {dice.randint(-3, 30)} {' '.join(sides)} {len(terms)}")
+        lines += [f"term {j} {fixed} {per}" for j, (fixed, per) in terms.items()]
+    return lines
+
+
+def random_tree(dice, slots, rows, depth):
+    """Nodes with cuts, certificates of few rows, and splits."""
+    rows = max(rows, 1)
+    lines = ["node"] + [f"cut {dice.randrange(rows)} {dice.randrange(slots)}" for _ in range(dice.choice((0, 0, 1, 3)))]
+    factors = sorted(dice.sample(range(rows), min(rows, dice.choice((0, 1, 2, 5)))))
+    certificate = [f"mult {row} {dice.randint(1, 6)}" for row in factors]
+    if depth and dice.random() < 0.8:
+        split = f"split {dice.randrange(slots)} {dice.choice((0, 0, 1, 2))} {dice.choice((0, 1, 3))} {len(factors)}"
+        parts = random_tree(dice, slots, rows, depth - 1) + random_tree(dice, slots, rows, depth - 1)
+        return lines + [split, *certificate, *parts]
+    return lines + random_end(dice, certificate, factors)
+
+
+def random_end(dice, certificate, factors):
+    """The ending of a box: a certificate mostly."""
+    if dice.random() < 0.15:
+        return [dice.choice(("empty", "point"))]
+    return [f"{dice.choice(('dual', 'pending'))} {dice.choice((0, 1, 1, 1, 2, 7))} {len(factors)}", *certificate]
+
+
+# ---------------------------------------------------------------- the questions
+
+
+class Comparison:
+    """Asks both, and counts."""
+
+    def __init__(self, program, room):
+        self.program, self.room, self.asked, self.differ = program, Path(room), 0, 0
+        self.seen = Counter()
+
+    def run(self, *words, seconds=600):
+        """What the program puts on its words, and its status; None where it takes too long."""
+        try:
+            done = subprocess.run([self.program, *map(str, words)], stdin=subprocess.DEVNULL, capture_output=True, timeout=seconds)
+        except subprocess.TimeoutExpired:
+            return None
+        return done.stdout.decode().rstrip("\n"), done.returncode
+
+    def ask(self, what, plant, log):
+        """One question: the bytes of a plant and of a log."""
+        for name, text in (("plant", plant), ("log", log)):
+            (self.room / name).write_bytes(text)
+        theirs, own = self.run("check", self.room / "plant", self.room / "log"), answer(lambda: plant, lambda: log)
+        self.asked += 1
+        self.seen[kind_of(own[0])] += 1
+        if theirs != own:
+            self.differ += 1
+            self.keep(what, plant, log)
+            print(f"compare: {what}: the program answers {theirs}, check_log.py {own}", flush=True)
+
+    def keep(self, what, plant, log):
+        """Leaves the files of a difference where KEEP names a folder."""
+        if "KEEP" in os.environ:
+            for name, text in (("toml", plant), ("log", log)):
+                (Path(os.environ["KEEP"]) / f"{self.differ}.{name}").write_bytes(text)
+
+
+def kind_of(line):
+    """An answer without its line or place: `yes CLAIM`, `no KIND` or `refused plant KIND`."""
+    words = line.split()
+    return " ".join([words[0], words[-1]] if words[0] == "no" else words[: 3 if words[0] == "refused" else 2])
+
+
+def written(comparison):
+    """Logs that the program writes for the plants of the examples, (name, plant, log)."""
+    for plant in sorted((TOP / "examples").glob("*.toml")):
+        for budget in BUDGETS:
+            log = comparison.room / "written"
+            if comparison.run("solve", plant, budget, log, seconds=SECONDS):
+                yield f"{plant.stem} with {budget} boxes", plant.read_bytes(), log.read_bytes()
+            else:
+                print(f"compare: solve {plant.name} {budget} takes more than {SECONDS} s and is left out", flush=True)
+                break
+
+
+def stored():
+    """The logs of the examples: NAME.log is one of the plant NAME.toml."""
+    for log in sorted((TOP / "examples").glob("*.log")):
+        yield log.name, log.with_suffix(".toml").read_bytes(), log.read_bytes()
+
+
+def plants(dice):
+    """The plants of the examples, and plants made at random."""
+    for plant in sorted((TOP / "examples").glob("*.toml")):
+        yield plant.stem, plant.read_bytes()
+    for number in range(RANDOM_PLANTS):
+        yield f"plant {number}", toml(random_plant(dice))
+
+
+def at_random(dice):
+    """Logs at random over plants."""
+    for name, plant in plants(dice):
+        try:
+            program = program_of(read_plant(plant))
+        except Refused:
+            yield f"{name} alone", plant, b""
+            continue
+        for number in range(RANDOM_LOGS):
+            yield f"random log {number} of {name}", plant, random_log(dice, program)
+
+
+def main(words):
+    program = words[0] if words else os.environ.get("STN", TOP / "crates" / "stn" / "out" / "stn")
+    dice = random.Random(int(words[1]) if len(words) > 1 else 1)
+    if not os.access(program, os.X_OK):
+        print(f"compare: there is no program at {program}")
+        return 2
+    with tempfile.TemporaryDirectory(prefix="compare-") as room:
+        comparison = Comparison(program, room)
+        logs = [*stored(), *written(comparison), *at_random(dice)]
+        for it in logs:
+            comparison.ask(*it)
+        small = [it for it in logs if len(it[2]) <= GREATEST_MUTANT]
+        for number in range(MUTANTS):
+            name, plant, log = dice.choice(small)
+            comparison.ask(f"mutant {number} of {name}", plant, mutated(log, dice))
+        for number in range(MUTANT_PLANTS):
+            name, plant, log = dice.choice(small)
+            other = mutated(plant, dice) if number % 5 else dice.choice(small)[1]
+            comparison.ask(f"plant {number} in the place of {name}", other, log)
+    print("compare:", ", ".join(f"{count} {kind}" for kind, count in sorted(comparison.seen.items())))
+    print(f"compare: {comparison.asked} logs, {comparison.differ} differences")
+    return int(comparison.differ > 0)
+
+
+if __name__ == "__main__":
+    sys.exit(main(sys.argv[1:]))

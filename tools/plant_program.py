@@ -1,0 +1,507 @@
+"""A plant file, and the program of its plant: slots, rows and profits.
+
+Written from docs/formats.md (the plant file) and docs/model.md (what a plan is) alone, as the other half of
+check_log.py. All numbers are whole or fractions, so nothing is rounded.
+"""
+
+import tomllib
+from collections import Counter
+from dataclasses import dataclass, field, replace
+from fractions import Fraction
+from re import ASCII, fullmatch
+
+BILLION, MILLION = 10**9, 10**6
+GREATEST_FILE, GREATEST_DEPTH, GREATEST_SLOTS, GREATEST_PAIRS = 1 << 20, 80, 512, 8192
+
+
+class Refused(Exception):
+    """The first fault of a plant file: KIND TABLE ITEM INNER KEY."""
+
+
+# ---------------------------------------------------------------- the records of a plant
+
+
+@dataclass
+class State:
+    initial: int
+    limits: list | None  # what may be in stock at each time 0 to H, None where there is no limit
+    price: int
+    holding: int
+
+
+@dataclass
+class Utility:
+    limits: list  # what is there in each period
+    rate: int
+
+
+@dataclass
+class Draw:
+    utility: int
+    fixed: list  # of a batch in each of its periods
+    each: list  # of each of its quanta
+
+
+@dataclass
+class Task:
+    name: str
+    quantum: int
+    inputs: list = field(default_factory=list)  # (state, mass units of a quantum)
+    outputs: list = field(default_factory=list)  # (state, mass units of a quantum, delay)
+    draws: list = field(default_factory=list)
+
+    @property
+    def periods(self):
+        """How long a batch holds its unit: the longest of its delays."""
+        return max(delay for _, _, delay in self.outputs)
+
+
+@dataclass
+class Run:
+    task: int
+    unit: int
+    least: int
+    greatest: int
+    cost: int
+
+
+@dataclass
+class Plant:
+    periods: int
+    states: list = field(default_factory=list)
+    utilities: list = field(default_factory=list)
+    units: list = field(default_factory=list)
+    tasks: list = field(default_factory=list)
+    runs: list = field(default_factory=list)
+    gaps: list = field(default_factory=list)  # (unit, from, to, periods, cost)
+    receipts: list = field(default_factory=list)  # (state, time, amount)
+    deliveries: list = field(default_factory=list)  # (state, time, amount, payment)
+    outages: list = field(default_factory=list)  # (unit, from, to)
+
+
+# ---------------------------------------------------------------- the plant file
+
+
+@dataclass
+class Table:
+    """One table of the file and its place; its keys are read one by one, and the first fault is raised."""
+
+    keys: dict
+    name: str
+    item: int = 0
+    inner: int = 0
+
+    def refuse(self, kind, key="-"):
+        raise Refused(f"{kind} {self.name} {self.item} {self.inner} {key}")
+
+    def get(self, key, types):
+        """The value of a required key."""
+        if key not in self.keys:
+            self.refuse(5, key)
+        if type(self.keys[key]) not in types:
+            self.refuse(6, key)
+        return self.keys[key]
+
+    def whole(self, key, low, high, default=None):
+        """A whole number in its range; a key without a default is required."""
+        if default is not None and key not in self.keys:
+            return default
+        return self.within(key, self.get(key, [int]), low, high)
+
+    def within(self, key, number, low, high):
+        if type(number) is not int:
+            self.refuse(6, key)
+        if not low <= number <= high:
+            self.refuse(7, key)
+        return number
+
+    def numbers(self, key, length, low, high):
+        """A list of so many whole numbers."""
+        numbers = self.get(key, [list])
+        if len(numbers) != length:
+            self.refuse(17, key)
+        return [self.within(key, it, low, high) for it in numbers]
+
+    def own_name(self, earlier):
+        """The name of the item, which no earlier one of the table has."""
+        name = self.get("name", [str])
+        if not fullmatch(r"[A-Za-z][A-Za-z0-9_.-]{0,31}", name, ASCII):
+            self.refuse(8, "name")
+        if name in earlier:
+            self.refuse(9, "name")
+        earlier.append(name)
+        return name
+
+    def named(self, key, names):
+        """The number of the item that the key names."""
+        name = self.get(key, [str])
+        if name not in names:
+            self.refuse(10, key)
+        return names.index(name)
+
+    def part(self):
+        """A fraction of a batch."""
+        text = self.get("part", [str])
+        found = fullmatch(r"([1-9][0-9]{0,4})/([1-9][0-9]{0,4})", text, ASCII)
+        if not found or not int(found[1]) <= int(found[2]) <= 10_000:
+            self.refuse(11, "part")
+        return Fraction(int(found[1]), int(found[2]))
+
+    def limits(self, count, is_required):
+        """`limit` or `limits`: so many numbers, or None where the file has neither."""
+        has_list = "limits" in self.keys
+        if "limit" in self.keys or (is_required and not has_list):
+            limits = [self.whole("limit", 0, BILLION)] * count
+            return self.refuse(21, "limits") if has_list else limits
+        return self.numbers("limits", count, 0, BILLION) if has_list else None
+
+
+class PlantFile:
+    """Reads the tables of a plant file in the order of docs/formats.md."""
+
+    def __init__(self, document):
+        self.top = Table(document, "top")
+        is_second = type(document.get("version")) is int and document["version"] == 2
+        self.version = 2 if is_second else 1
+        arrays = "state utility unit task run gap receipt delivery".split() + ["outage"] * is_second
+        if not document.keys() <= {"version", "periods", *arrays}:
+            self.top.refuse(3)
+        self.top.whole("version", 1, self.version)
+        self.plant = Plant(self.top.whole("periods", 1, 336 if is_second else 96))
+        self.names = {"state": [], "utility": [], "unit": [], "task": []}
+        for array in arrays:
+            getattr(self, "read_" + array)()
+
+    def tables(self, array, most, keys, of_second="", within=None):
+        """The tables of an array, each with no other keys than these; `within` is the table that an inner array stands in."""
+        holder = within or self.top
+        if within is None and array not in holder.keys:
+            return
+        items = holder.get(array, [list])
+        if len(items) > most:
+            holder.refuse(14, array)
+        known = keys.split() + of_second.split() * (self.version == 2)
+        for number, item in enumerate(items, 1):
+            table = Table(item, array, within.item if within else number, number if within else 0)
+            if type(item) is not dict:
+                table.refuse(6)
+            if not item.keys() <= set(known):
+                table.refuse(4)
+            yield table
+
+    def read_state(self):
+        for table in self.tables("state", 40, "name initial limit price holding", "limits"):
+            table.own_name(self.names["state"])
+            initial = table.whole("initial", 0, BILLION, 0)
+            limits = table.limits(self.plant.periods + 1, False)
+            money = [table.whole(key, -MILLION, MILLION, 0) for key in ("price", "holding")]
+            self.plant.states.append(State(initial, limits, *money))
+
+    def read_utility(self):
+        for table in self.tables("utility", 8, "name limit rate", "limits"):
+            table.own_name(self.names["utility"])
+            limits = table.limits(self.plant.periods, True)
+            self.plant.utilities.append(Utility(limits, table.whole("rate", -MILLION, MILLION, 0)))
+
+    def read_unit(self):
+        for table in self.tables("unit", 24, "name"):
+            self.plant.units.append(table.own_name(self.names["unit"]))
+
+    def read_task(self):
+        for table in self.tables("task", 40, "name quantum input output draw"):
+            task = Task(table.own_name(self.names["task"]), table.whole("quantum", 1, MILLION))
+            task.inputs = self.side(table, task, "input", "state part")
+            task.outputs = self.side(table, task, "output", "state part delay")
+            task.draws = self.draws(table, task)
+            self.plant.tasks.append(task)
+
+    def side(self, table, task, array, keys):
+        """The inputs or the outputs of a task: (state, mass units of a quantum), and for an output its delay."""
+        masses, items = [], []
+        for inner in self.tables(array, 8, keys, within=table):
+            state, mass = inner.named("state", self.names["state"]), inner.part() * task.quantum
+            delay = [inner.whole("delay", 1, 96)] if array == "output" else []
+            masses.append((inner, mass))
+            items.append((state, int(mass), *delay))
+        if sum(mass for _, mass in masses) != task.quantum:
+            Table({}, array, table.item).refuse(12)
+        for inner, mass in masses:
+            if mass.denominator != 1:
+                inner.refuse(13, "part")
+        return items
+
+    def draws(self, table, task):
+        """The draws of a task."""
+        draws = []
+        for inner in self.tables("draw", 8, "utility fixed each", within=table) if "draw" in table.keys else ():
+            utility = inner.named("utility", self.names["utility"])
+            draws.append(Draw(utility, *(inner.numbers(key, task.periods, 0, MILLION) for key in ("fixed", "each"))))
+        return draws
+
+    def read_run(self):
+        pairs = []
+        for table in self.tables("run", 64, "task unit min max cost"):
+            pair = table.named("task", self.names["task"]), table.named("unit", self.names["unit"])
+            sizes = table.whole("min", 1, 255), table.whole("max", 1, 255)
+            self.plant.runs.append(Run(*pair, *sizes, table.whole("cost", -MILLION, MILLION, 0)))
+            if sizes[0] > sizes[1]:
+                table.refuse(15, "max")
+            if pair in pairs:
+                table.refuse(16)
+            pairs.append(pair)
+
+    def read_gap(self):
+        for table in self.tables("gap", 4096, "unit from to periods", "cost"):
+            names = [table.named(key, self.names[of]) for key, of in (("unit", "unit"), ("from", "task"), ("to", "task"))]
+            periods = table.whole("periods", 2 - self.version, 96)
+            self.plant.gaps.append((*names, periods, table.whole("cost", 0, MILLION, 0)))
+
+    def moved(self, table):
+        """State, time and amount of a receipt or a delivery."""
+        state = table.named("state", self.names["state"])
+        return state, table.whole("time", 0, self.plant.periods), table.whole("amount", 1, BILLION)
+
+    def read_receipt(self):
+        for table in self.tables("receipt", 256, "state time amount"):
+            self.plant.receipts.append(self.moved(table))
+
+    def read_delivery(self):
+        for table in self.tables("delivery", 256, "state time amount payment"):
+            self.plant.deliveries.append((*self.moved(table), table.whole("payment", -BILLION, BILLION, 0)))
+
+    def read_outage(self):
+        for table in self.tables("outage", 256, "unit from to"):
+            unit = table.named("unit", self.names["unit"])
+            begin, end = table.whole("from", 0, self.plant.periods - 1), table.whole("to", 1, self.plant.periods)
+            if begin >= end:
+                table.refuse(22, "to")
+            self.plant.outages.append((unit, begin, end))
+
+
+def is_in_range(value, depth=0):
+    """Whether the whole numbers of a document have 64 bits, and nothing stands deeper than it may."""
+    if isinstance(value, (dict, list)):
+        inner = value.values() if isinstance(value, dict) else value
+        return depth <= GREATEST_DEPTH and all(is_in_range(it, depth + 1) for it in inner)
+    return type(value) is not int or -(2**63) <= value < 2**63
+
+
+def document_of(data):
+    """The TOML document of a file. `tomllib` reads TOML 1.0: what 1.1 alone allows is refused here."""
+    if len(data) > GREATEST_FILE:
+        Table({}, "top").refuse(1)
+    try:
+        document = tomllib.loads(data.decode("utf-8-sig"))
+    except (UnicodeDecodeError, tomllib.TOMLDecodeError, RecursionError):
+        Table({}, "top").refuse(2)
+    if not is_in_range(document):
+        Table({}, "top").refuse(2)
+    return document
+
+
+def read_plant(data):
+    """The plant of a file, or Refused."""
+    plant = PlantFile(document_of(data)).plant
+    if len(slots_of(plant)) > GREATEST_SLOTS:
+        Table({}, "run").refuse(18)
+    if len(gap_rows(plant, slots_of(plant))) > GREATEST_PAIRS:
+        Table({}, "gap").refuse(19)
+    return plant
+
+
+# ---------------------------------------------------------------- slots and rows
+
+
+@dataclass(frozen=True)
+class Slot:
+    """A run and a period in which a start of it fits."""
+
+    run: int
+    period: int
+    unit: int
+    task: int
+    end: int
+
+
+def slots_of(plant):
+    """By run, then by period: a batch ends by the horizon, and no outage of its unit is in one of its periods."""
+    slots = []
+    for number, run in enumerate(plant.runs):
+        length = plant.tasks[run.task].periods
+        out = [(begin, end) for unit, begin, end in plant.outages if unit == run.unit]
+        for period in range(plant.periods - length + 1):
+            if all(period + length <= begin or end <= period for begin, end in out):
+                slots.append(Slot(number, period, run.unit, run.task, period + length))
+    return slots
+
+
+@dataclass
+class Row:
+    """Is kept where its entries sum to at most its limit. An entry is a pair (fixed, per)."""
+
+    entries: dict
+    limit: int
+
+
+def entry_at(entry, value):
+    """What an entry counts at a value: fixed + per * value from 1 on, and 0 at 0."""
+    return entry[0] + entry[1] * value if value else 0
+
+
+def busy_rows(plant, slots):
+    """By unit and period: the starts that run on the unit in the period."""
+    return [Row({j: (1, 0) for j, slot in enumerate(slots) if slot.unit == unit and slot.period <= t < slot.end}, 1)
+            for unit in range(len(plant.units)) for t in range(plant.periods)]
+
+
+def stock_without(plant, state, time):
+    """The stock of a state at a time where nothing is started."""
+    received = sum(amount for s, t, amount in plant.receipts if s == state and t <= time)
+    delivered = sum(amount for s, t, amount, _ in plant.deliveries if s == state and t <= time)
+    return plant.states[state].initial + received - delivered
+
+
+def gains(plant, slot, state):
+    """What a quantum started in the slot adds to the stock of the state, at which times."""
+    task, by_time = plant.tasks[slot.task], Counter()
+    for s, mass in task.inputs:
+        by_time[slot.period] -= mass * (s == state)
+    for s, mass, delay in task.outputs:
+        by_time[slot.period + delay] += mass * (s == state)
+    return by_time
+
+
+def stock_rows(plant, slots, is_high):
+    """By state and time 0 to H: taken less given is at most what is there (low), or the opposite what has room (high)."""
+    rows, sign = [], 1 if is_high else -1
+    for number, state in enumerate(plant.states):
+        if is_high and state.limits is None:
+            continue
+        gained = [gains(plant, slot, number) for slot in slots]
+        given = [0] * len(slots)
+        for time in range(plant.periods + 1):
+            given = [sum_ + by_time[time] for sum_, by_time in zip(given, gained)]
+            entries = {j: (0, sign * it) for j, it in enumerate(given) if it}
+            there = stock_without(plant, number, time)
+            rows.append(Row(entries, state.limits[time] - there if is_high else there))
+    return rows
+
+
+def load_rows(plant, slots):
+    """By utility and period: the draws in the period."""
+    rows = []
+    for number, utility in enumerate(plant.utilities):
+        for time in range(plant.periods):
+            drawn = {j: draw_at(plant, slot, number, time) for j, slot in enumerate(slots) if slot.period <= time < slot.end}
+            rows.append(Row({j: it for j, it in drawn.items() if it != (0, 0)}, utility.limits[time]))
+    return rows
+
+
+def draw_at(plant, slot, utility, time):
+    """What a batch of the slot draws of the utility in a period of its own: fixed, and for each quantum."""
+    draws = [it for it in plant.tasks[slot.task].draws if it.utility == utility]
+    return sum(it.fixed[time - slot.period] for it in draws), sum(it.each[time - slot.period] for it in draws)
+
+
+def gap_rows(plant, slots):
+    """By unit, slot a and slot b, where a ends by the start of b and b starts before the cleaning after a is over."""
+    rows = []
+    for unit in range(len(plant.units)):
+        own = [j for j, slot in enumerate(slots) if slot.unit == unit]
+        tasks = {slots[j].task for j in own}
+        cleaning = {(i, k): greatest_gap(plant, unit, i, k)[0] for i in tasks for k in tasks}
+        for a in own:
+            for b in own:
+                if slots[a].end <= slots[b].period < slots[a].end + cleaning[slots[a].task, slots[b].task]:
+                    rows.append(gap_row(slots, own, a, b))
+    return rows
+
+
+def gap_row(slots, own, a, b):
+    """A start in a and one in b, less the starts of the unit in periods strictly between, are at most 1."""
+    between = {j: (-1, 0) for j in own if slots[a].period < slots[j].period < slots[b].period}
+    return Row({**between, a: (1, 0), b: (1, 0)}, 1)
+
+
+@dataclass
+class Program:
+    """The plant as sparse rows over slots. What a log declares adds slots and rows after the plant's."""
+
+    plant: Plant
+    slots: list
+    rows: list
+    domains: list  # the values of each slot, ascending: 0 and the batch sizes
+    base: int  # the profit of the plan without starts
+    profits: list  # the profit entry of each slot
+
+    def copy(self):
+        """The same program, to which slots and rows can be added."""
+        return replace(self, rows=[*self.rows], domains=[*self.domains], profits=[*self.profits])
+
+    def add_slot(self, values, profit):
+        """One more slot after the others."""
+        self.domains.append(values)
+        self.profits.append(profit)
+
+    def by_slot(self):
+        """For each slot the rows that have an entry for it."""
+        rows = [[] for _ in self.domains]
+        for number, row in enumerate(self.rows):
+            for slot, entry in row.entries.items():
+                rows[slot].append((number, entry))
+        return rows
+
+
+def profit_entry(plant, slot):
+    """What a start in the slot adds to the value: for itself, and for each quantum."""
+    task, run = plant.tasks[slot.task], plant.runs[slot.run]
+    fixed = -run.cost - sum(plant.utilities[it.utility].rate * sum(it.fixed) for it in task.draws)
+    each = -sum(plant.utilities[it.utility].rate * sum(it.each) for it in task.draws)
+    gained = [(s, -mass, slot.period) for s, mass in task.inputs]
+    gained += [(s, mass, slot.period + delay) for s, mass, delay in task.outputs]
+    for s, mass, time in gained:
+        state = plant.states[s]
+        each += mass * (state.price - state.holding * (plant.periods - time))
+    return fixed, each
+
+
+def base_of(plant):
+    """The profit of the plan without starts: end stocks and payments, less what is paid for holding."""
+    base = sum(payment for *_, payment in plant.deliveries)
+    for number, state in enumerate(plant.states):
+        base += state.price * stock_without(plant, number, plant.periods)
+        base -= state.holding * sum(stock_without(plant, number, t) for t in range(plant.periods))
+    return base
+
+
+def program_of(plant):
+    """The program of a plant: its slots, and its rows family by family."""
+    slots = slots_of(plant)
+    rows = busy_rows(plant, slots) + stock_rows(plant, slots, False) + stock_rows(plant, slots, True)
+    rows += load_rows(plant, slots) + gap_rows(plant, slots)
+    runs = [plant.runs[slot.run] for slot in slots]
+    domains = [(0, *range(run.least, run.greatest + 1)) for run in runs]
+    profits = [profit_entry(plant, it) for it in slots]
+    return Program(plant, slots, rows, domains, base_of(plant), profits)
+
+
+def greatest_gap(plant, unit, before, after):
+    """The cleaning between two tasks on a unit and what the change costs: the greatest that the gaps list, 0 where none does."""
+    listed = [it[3:] for it in plant.gaps if it[:3] == (unit, before, after)]
+    return tuple(max(it, default=0) for it in ([periods for periods, _ in listed], [cost for _, cost in listed]))
+
+
+def changeovers(program, point):
+    """What a point's changes cost: for each two batches that follow one another on a unit."""
+    cost, last = 0, {}
+    for slot in sorted((program.slots[j] for j in point if j < len(program.slots)), key=lambda it: it.period):
+        if slot.unit in last:
+            cost += greatest_gap(program.plant, slot.unit, last[slot.unit], slot.task)[1]
+        last[slot.unit] = slot.task
+    return cost
+
+
+def worth(program, point):
+    """The profit of the plan of a point: its value less its changeovers."""
+    value = program.base + sum(entry_at(program.profits[j], v) for j, v in point.items())
+    return value - changeovers(program, point)
