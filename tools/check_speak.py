@@ -610,7 +610,7 @@ def of_answers():
         _, first = start(room, ["solve", "five.toml", "1"])
     words = first.split()
     percent = -(-1000 * (int(words[3]) - int(words[2])) // int(words[2])) / 10
-    yield Case("budget spent", ["solve", "five.toml", "1"], first, "the 1-box budget", f"a gap of {percent} percent", "Give more boxes", files=files, says=("answer", "budget spent"))
+    yield Case("budget spent", ["solve", "five.toml", "1"], first, "the budget of 1 box was spent", f"a gap of {percent} percent", "Give more boxes", files=files, says=("answer", "budget spent"))
 
 
 def cases():

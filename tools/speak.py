@@ -79,7 +79,7 @@ class Run:
         return sentences(why, f"With limits are {listed(limited)}" if limited else "No state of the plant has a limit")
 
     def status_6(self):
-        budget = f"{self.form['BUDGET']}-box " if "BUDGET" in self.form else ""
+        budget = self.form.get("BUDGET", "")
         if self.line[:2] == ["#", "budget-spent"]:
             return answers.spent(self.line[2:4], budget)
         if self.line[:2] == ["#", "open"]:

@@ -1,5 +1,5 @@
 """What can be done after an answer that is no fault: no plan, or a spent budget."""
-from speaking.texts import do, grouped, means, sentences
+from speaking.texts import count, do, grouped, means, sentences
 
 
 def gap(profit, cap):
@@ -9,13 +9,14 @@ def gap(profit, cap):
 
 
 def spent(words, budget):
-    """`# budget-spent PROFIT CAP`."""
+    """`# budget-spent PROFIT CAP`; the budget is a text of digits, or nothing."""
     profit, cap = words
+    begin = f"the budget of {count(int(budget), 'box')} was spent" if budget else "the budget was spent"
     if profit == "-":
-        return sentences(f"the {budget}budget was spent before a plan was found; none earns more than {grouped(int(cap))}",
+        return sentences(f"{begin} before a plan was found; none earns more than {grouped(int(cap))}",
                          "Give more boxes; if none is found then either, `./stn least PLANT BUDGET` may say what a longer time would do")
     percent = gap(int(profit), int(cap))
-    return sentences(f"the {budget}budget was spent: the plan that is printed earns {grouped(int(profit))}, and none earns more than {grouped(int(cap))}, a gap of {percent} percent",
+    return sentences(f"{begin}: the plan that is printed earns {grouped(int(profit))}, and none earns more than {grouped(int(cap))}, a gap of {percent} percent",
                      do("answer", "budget spent"))
 
 

@@ -214,14 +214,14 @@ def too_many_slots(fault):
     slots = sorted(((len(it), run) for it, run in zip(plant.slots(), plant.runs)), key=lambda it: -it[0])
     most = ", ".join(f"`{task}` on `{unit}` {number}" for number, (task, unit, _, _) in slots[:3])
     return None, f"the plant has {grouped(sum(it[0] for it in slots))} slots (a run and a period in which it can start), and 512 are allowed", (
-        f"Most have {most}"), do("plant", 18)
+        f"Most of them: {most}"), do("plant", 18)
 
 
 def too_many_pairs(fault):
     pairs = Plant(fault.document.root).pairs()
     most = sorted(pairs, key=lambda it: -pairs[it])[:3]
     named = ", ".join(f"on `{unit}` from `{a}` to `{b}` {grouped(pairs[unit, a, b])}" for unit, a, b in most)
-    return None, f"gaps keep {grouped(sum(pairs.values()))} pairs of slots apart, and 8,192 are allowed", f"Most are {named}", do("plant", 19)
+    return None, f"gaps keep {grouped(sum(pairs.values()))} pairs of slots apart, and 8,192 are allowed", f"Most of them: {named}", do("plant", 19)
 
 
 def both_limits(fault):

@@ -54,7 +54,7 @@ def grouped(number):
 
 def count(number, word):
     """So many of something."""
-    many = word[:-1] + "ies" if word.endswith("y") and word[-2] not in "aeiou" else word + ("es" if word.endswith(("s", "ch", "sh")) else "s")
+    many = word[:-1] + "ies" if word.endswith("y") and word[-2] not in "aeiou" else word + ("es" if word.endswith(("s", "x", "ch", "sh")) else "s")
     return f"{grouped(number)} {word if number == 1 else many}"
 
 
