@@ -80,10 +80,11 @@ def check_table(formats):
     for subject, wanted in keys_wanted(formats).items():
         for key in sorted(wanted ^ have.get(subject, set())):
             yield f"sentences.tsv: {subject} {key} stands in {'docs/formats.md' if key in wanted else 'the table'} alone"
-    words = {it for form in have["form"] for it in form.split()[1:]} - {"PLANT", "PLAN", "LOG", "STEM", "STATE", "OUT"}
-    for word in sorted(words ^ have["word"]):
+    words = {it for form in have["form"] for it in form.split()[1:] if it.isupper()} - {"PLANT", "PLAN", "LOG", "STEM", "STATE", "OUT"}
+    for word in sorted(words ^ {it.split()[-1] for it in have["word"]}):
         yield f"sentences.tsv: the word {word} has no row, or no form"
-    for (subject, word), (range_, _) in texts.TABLE.items():
+    for (subject, key), (range_, _) in texts.TABLE.items():
+        word = key.split()[-1]
         if subject == "word" and word not in ("PART", "STEP") and f"{word} is {range_}" not in formats and f"{word} {range_}" not in formats \
                 and f"{word} from {range_}" not in formats:
             yield f"sentences.tsv: docs/formats.md does not say that {word} is {range_}"

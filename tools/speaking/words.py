@@ -16,11 +16,12 @@ def form_of(words):
     return None
 
 
-def ends(name, form):
-    """The least and the greatest number of a word, or nothing where it is no number."""
-    if ("word", name) not in TABLE:
+def ends(command, name, form):
+    """The least and the greatest number of a word, or nothing where it is no number; a command may have a row of its own."""
+    key = f"{command} {name}" if ("word", f"{command} {name}") in TABLE else name
+    if ("word", key) not in TABLE:
         return None
-    low, _, high = means("word", name).replace(",", "").partition(" to ")
+    low, _, high = means("word", key).replace(",", "").partition(" to ")
     return int(low), 2 ** int(form["LEVELS"]) - 1 if name == "PART" and number_of(form["LEVELS"], 1, 8) is not None else int(high)
 
 
@@ -36,7 +37,7 @@ def number_of(word, low, high):
 def faults(words, form):
     """What is wrong with the words of a form, one by one."""
     for name, word in form.items():
-        range_ = ends(name, form)
+        range_ = ends(words[0], name, form)
         if range_ and number_of(word, *range_) is None:
             yield (f"{name} is `{short(word, 40)}`, and should be a whole number from {grouped(range_[0])} to {grouped(range_[1])}, "
                    "without leading zeros or commas")
