@@ -1,0 +1,1 @@
+"""What tools/speak says after a run, in sentences for a person."""
