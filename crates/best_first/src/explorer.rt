@@ -43,24 +43,52 @@ pub fn explore(
     budget: u32,
 ) -> Result<Explored, AllocError> {
     let index = RowIndex::new(alloc, program)?;
-    let mut explorer = Explorer {
-        alloc,
-        tree: Tree::new(alloc, program)?,
-        guide: PlanGuide::new(alloc, program, given)?,
-        hinter: PlanHinter::new(alloc, program, given)?,
-        best: Kept::new(alloc, program)?,
-        counted: 0,
-    };
-    for _ in 0..budget.saturating_mul(MOST_LOOKS) {
-        if explorer.counted >= budget || !explorer.step(program, &index)? {
-            break;
-        }
-    }
-    let Explorer { tree, best, .. } = explorer;
-    Ok(Explored { tree, best })
+    let mut explorer = Explorer::new(alloc, program, given)?;
+    explorer.look_on(program, &index, budget)?;
+    Ok(explorer.ended())
 }
 
 impl Explorer {
+    // A search in memory before its first box. What is large is made last, so that little is let go where memory is wanting.
+    fn new(alloc: Global, program: &Program, given: u32) -> Result<Explorer, AllocError> {
+        let tree = Tree::new(alloc, program)?;
+        let best = Kept::new(alloc, program)?;
+        let guide = PlanGuide::new(alloc, program, given)?;
+        let hinter = PlanHinter::new(alloc, program, given)?;
+        Ok(Explorer {
+            alloc,
+            tree,
+            guide,
+            hinter,
+            best,
+            counted: 0,
+        })
+    }
+
+    // Explores boxes until the tree counts so many, or none is left.
+    fn look_on(
+        &mut self,
+        program: &Program,
+        index: &RowIndex,
+        budget: u32,
+    ) -> Result<(), AllocError>
+        requires index { IsIndex program.now.rows index.now }
+        requires lists { length index.now ≡ length program.now.root }
+    {
+        for _ in 0..budget.saturating_mul(MOST_LOOKS) {
+            if self.counted >= budget || !self.step(program, index)? {
+                break;
+            }
+        }
+        Ok(())
+    }
+
+    // What the search has come to.
+    fn ended(self) -> Explored {
+        let Explorer { tree, best, .. } = self;
+        Explored { tree, best }
+    }
+
     // Explores the next box; false where none is left.
     fn step(&mut self, program: &Program, index: &RowIndex) -> Result<bool, AllocError>
         requires index { IsIndex program.now.rows index.now }
