@@ -1,42 +1,8 @@
-//! Certificates and bounds of the dual simplex over small programs.
-use crate::tables::{
-    CHAIN, CHAIN_ROWS, CROSS, CROSS_ROWS, RING, RING_ROWS, Slots, TORN, TORN_ROWS, Table, program,
-};
-use dual_bound::cap;
-use dual_simplex::{Basis, Outcome, Side, Trial, Workspace, solve_dual};
-use proof_tree::Capped;
+//! Bounds of the dual simplex over small programs: trials, bases, aims and rounded solutions.
+use crate::tables::{CHAIN, CHAIN_ROWS, program};
+use dual_simplex::{Basis, Outcome, Side, Trial, Workspace};
 use row_kit::{Area, Program};
-use std::alloc::{AllocError, Global};
 use std::test::Fail;
-
-// The cap over the root of what the simplex gives, and its scale.
-fn solved(alloc: Global, program: &Program) -> Result<(Capped, u32), AllocError> {
-    let area = Area::new(alloc, program)?;
-    if area.has_empty() {
-        return Ok((Capped::Bad, 0));
-    }
-    let cert = solve_dual(alloc, program, &area)?;
-    Ok((cap(program, &area, &cert), cert.scale))
-}
-
-// The last one cycles without the spread of reduced profits: then 2,000 pivots pass and the cap is that of no multipliers, 0.
-const SOLVED: [(Slots, Table, Capped, u32); 5] = [
-    (CROSS, CROSS_ROWS, Capped::AtMost(4), 16_384),
-    (CHAIN, CHAIN_ROWS, Capped::AtMost(40), 16_384),
-    (CHAIN, &[], Capped::AtMost(48), 1),
-    (TORN, TORN_ROWS, Capped::NoPoint, 0),
-    (RING, RING_ROWS, Capped::NoPoint, 0),
-];
-
-#[test]
-fn roots_are_solved(rt: HostRuntime) -> Result<(), Fail> {
-    let alloc = rt.alloc();
-    for (slots, rows, expected, scale) in SOLVED {
-        let program = program(alloc, slots, rows)?.ok_or("bounds")?;
-        assert_eq!(rt; solved(alloc, &program)?, (expected, scale));
-    }
-    Ok(())
-}
 
 // A fall in whole money, where a money unit is 2 to the power 33.
 fn money(trial: Option<Trial>) -> Option<i64> {

@@ -1,33 +1,10 @@
-//! Sums that are chosen for small programs, and bounds over the programs with them.
-use crate::tables::{CHAIN, ODD_ROWS, TINY, TINY_ROWS, program};
+//! Bounds over a program with sums.
+use crate::tables::{CHAIN, ODD_ROWS, program};
 use dual_simplex::{Basis, Outcome, Side, Trial, Workspace};
 use row_kit::{Area, List};
 use std::test::Fail;
 use sum_choice::choose_sums;
-use sum_slots::{Sum, with_sums};
-
-// The width, the offset and the rows that show the range of the sum at a place; nothing where there is none.
-fn told(sums: &List<Sum>, place: usize) -> (u32, i64, Option<u32>, Option<u32>) {
-    match sums.as_slice().get(place) {
-        None => (0, 0, None, None),
-        Some(sum) => (sum.width, sum.offset, sum.low, sum.high),
-    }
-}
-
-#[test]
-fn starts_and_stocks_are_chosen(rt: HostRuntime) -> Result<(), Fail> {
-    let alloc = rt.alloc();
-    let tiny = program(alloc, TINY, TINY_ROWS)?.ok_or("bounds")?;
-    let sums = choose_sums(alloc, &tiny, tiny.root.as_slice())?;
-    assert_eq!(rt; sums.len(), 2);
-    assert_eq!(rt; told(&sums, 0), (1, 0, None, None));
-    assert_eq!(rt; told(&sums, 1), (1, 6, None, None));
-    let odd = program(alloc, CHAIN, ODD_ROWS)?.ok_or("bounds")?;
-    let sums = choose_sums(alloc, &odd, odd.root.as_slice())?;
-    assert_eq!(rt; sums.len(), 2);
-    assert_eq!(rt; told(&sums, 1), (1, 5, Some(3), None));
-    Ok(())
-}
+use sum_slots::with_sums;
 
 // A fall in whole money, where a money unit is 2 to the power 33.
 fn money(trial: Option<Trial>) -> Option<i64> {

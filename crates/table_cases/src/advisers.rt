@@ -1,0 +1,100 @@
+//! Hinters and guides that try a search.
+use branch_tree::{Advice, Guide, Hinter};
+use dual_bound::{Cert, Mult};
+use row_kit::{Area, List, Program};
+use std::alloc::{AllocError, Global};
+
+/// Offers nothing.
+#[derive(Drop)]
+pub struct Silent;
+
+impl Hinter for Silent {
+    fn offer(&mut self, _program: &Program, _area: &Area, _point: &mut [u8]) -> bool {
+        false
+    }
+}
+
+/// Says of one point at every box that it is lawful; of 255 in every slot where it has no point of as many slots.
+#[derive(Drop)]
+pub struct Teller {
+    pub point: Vec<u8>,
+}
+
+impl Hinter for Teller {
+    fn offer(&mut self, _program: &Program, _area: &Area, point: &mut [u8]) -> bool {
+        if self.point.len() == point.len() {
+            point.copy_from_slice(self.point.as_slice());
+        } else {
+            point.fill(255);
+        }
+        true
+    }
+}
+
+/// Advises a certificate without a total and a slot that is not there, and may leave every part open.
+#[derive(Drop)]
+pub struct Liar {
+    pub leaves: bool,
+}
+
+impl Guide for Liar {
+    fn leaves(&mut self, _program: &Program, _area: &Area, _depth: u32) -> bool {
+        self.leaves
+    }
+
+    fn advise(
+        &mut self,
+        alloc: Global,
+        _program: &Program,
+        _area: &Area,
+        _depth: u32,
+        _best: Option<i128>,
+        point: &mut [u8],
+    ) -> Result<Advice, AllocError> {
+        point.fill(255);
+        let mults = [
+            Mult {
+                row: 45_904,
+                factor: 0,
+            },
+            Mult { row: 3, factor: 1 },
+        ];
+        let cert = Cert {
+            scale: 4_000_000_000,
+            mults: List::from_slice(alloc, &mults)?,
+        };
+        Ok(Advice {
+            cert: Some(cert),
+            slot: Some(4_000_000_000),
+            max: Some(255),
+        })
+    }
+}
+
+/// Advises to split the first slot at a value.
+#[derive(Drop)]
+pub struct Splitter {
+    pub max: u8,
+}
+
+impl Guide for Splitter {
+    fn leaves(&mut self, _program: &Program, _area: &Area, _depth: u32) -> bool {
+        false
+    }
+
+    fn advise(
+        &mut self,
+        _alloc: Global,
+        _program: &Program,
+        _area: &Area,
+        _depth: u32,
+        _best: Option<i128>,
+        _point: &mut [u8],
+    ) -> Result<Advice, AllocError> {
+        Ok(Advice {
+            cert: None,
+            slot: Some(0),
+            max: Some(self.max),
+        })
+    }
+}
