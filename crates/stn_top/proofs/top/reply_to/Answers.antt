@@ -48,3 +48,48 @@ pub returns-in-Join-clause-files : goal.returns-in-Join-clause-files
 returns-in-Join-clause-files g c =
     rw c.in-Join.is (kept_joined c.in-Join.plant.now c.in-Join.levels.number c.in-Join.stem.now c.in-Join.log.now
     (g.F.Shelf.files c.args.files.now) (g.F.Shelf.files c.join_file.new.files) c.join_file.ensures.others)
+
+pub returns-in-Solve-clause-answer : goal.returns-in-Solve-clause-answer
+returns-in-Solve-clause-answer g c = rw c.in-Solve.is c.solve_file.ensures.answer
+
+pub returns-in-Log-clause-answer : goal.returns-in-Log-clause-answer
+returns-in-Log-clause-answer g c = rw c.in-Log.is c.log_file.ensures.answer
+
+pub returns-in-Simulate-clause-answer : goal.returns-in-Simulate-clause-answer
+returns-in-Simulate-clause-answer g c = rw c.in-Simulate.is c.simulate_file.ensures.answer
+
+pub returns-in-Check-clause-answer : goal.returns-in-Check-clause-answer
+returns-in-Check-clause-answer g c = rw c.in-Check.is c.check_file.ensures.answer
+
+pub returns-in-Upgrade-clause-answer : goal.returns-in-Upgrade-clause-answer
+returns-in-Upgrade-clause-answer g c = rw c.in-Upgrade.is c.upgrade_file.ensures.answer
+
+pub returns-in-Replan-clause-answer : goal.returns-in-Replan-clause-answer
+returns-in-Replan-clause-answer g c = rw c.in-Replan.is c.replan_file.ensures.answer
+
+pub returns-in-LogReplan-clause-answer : goal.returns-in-LogReplan-clause-answer
+returns-in-LogReplan-clause-answer g c = rw c.in-LogReplan.is c.log_replan_file.ensures.answer
+
+pub returns-in-CheckReplan-clause-answer : goal.returns-in-CheckReplan-clause-answer
+returns-in-CheckReplan-clause-answer g c = rw c.in-CheckReplan.is c.check_replan_file.ensures.answer
+
+pub returns-in-Estimate-clause-answer : goal.returns-in-Estimate-clause-answer
+returns-in-Estimate-clause-answer g c = rw c.in-Estimate.is c.estimate_file.ensures.answer
+
+pub returns-in-Least-clause-answer : goal.returns-in-Least-clause-answer
+returns-in-Least-clause-answer g c = rw c.in-Least.is c.seek_file.ensures.answer
+
+pub returns-in-LeastLogs-clause-answer : goal.returns-in-LeastLogs-clause-answer
+returns-in-LeastLogs-clause-answer g c = rw c.in-LeastLogs.is c.trace_file.ensures.answer
+
+pub returns-in-CheckLeast-clause-answer : goal.returns-in-CheckLeast-clause-answer
+returns-in-CheckLeast-clause-answer g c = rw c.in-CheckLeast.is c.audit_file.ensures.answer
+
+pub returns-in-Parts-clause-answer : goal.returns-in-Parts-clause-answer
+returns-in-Parts-clause-answer g c = rw c.in-Parts.is c.parts_file.ensures.answer
+
+pub returns-in-SolvePart-clause-answer : goal.returns-in-SolvePart-clause-answer
+returns-in-SolvePart-clause-answer g c = rw c.in-SolvePart.is c.solve_part_file.ensures.answer
+
+pub returns-in-Join-clause-answer : goal.returns-in-Join-clause-answer
+returns-in-Join-clause-answer g c = rw c.in-Join.is c.join_file.ensures.answer
