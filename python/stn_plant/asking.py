@@ -12,26 +12,21 @@ REFUSALS = {2: "words", 3: "plant", 4: "plan", 5: "state"}
 
 
 class Question:
-    """A folder with the files of a question; it goes when the question is answered."""
+    """A folder with the files of a question, the plant as `plant.toml`; it goes when the question is answered."""
 
     def __init__(self, plant=None, timeout=None):
         self.program, self.timeout = programs.find(), timeout
+        self.plant_text = plant if plant is None or isinstance(plant, str) else plant.text()
         self.room = tempfile.TemporaryDirectory(prefix="stn-")
         self.folder = Path(self.room.name)
-        self.plant_text = None
-        if plant is not None:
-            self.put_plant(plant if isinstance(plant, str) else plant.text())
 
     def __enter__(self):
+        if self.plant_text is not None:
+            (self.folder / "plant.toml").write_text(self.plant_text, encoding="utf-8")
         return self
 
     def __exit__(self, kind, fault, trace):
         self.room.cleanup()
-
-    def put_plant(self, text):
-        """The plant that the question is about, as `plant.toml`."""
-        self.plant_text = text
-        (self.folder / "plant.toml").write_text(text, encoding="utf-8")
 
     def plan(self, plan):
         """The word for a plan: the file that is named, or one with the batches that are given."""

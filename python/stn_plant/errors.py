@@ -94,7 +94,7 @@ class InvalidLog(StnError):
     sentence: str
 
     def __str__(self):
-        return self.sentence
+        return f"line {self.line} of the log: {self.sentence}"
 
 
 @dataclass

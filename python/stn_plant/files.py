@@ -1,5 +1,5 @@
 """Files that are written as a whole or not at all, and proof logs."""
-import os, shutil, tempfile, weakref
+import os, secrets, shutil, tempfile, weakref
 from pathlib import Path
 
 
@@ -16,25 +16,23 @@ class whole_file:
         self.path = Path(path)
 
     def __enter__(self):
-        number, name = tempfile.mkstemp(prefix=f".{self.path.name[:100]}.", dir=self.path.parent)
-        os.close(number)
-        self.file = Path(name)
+        self.file = self.path.with_name(f".{self.path.name[:100]}.{secrets.token_hex(8)}")
+        self.file.touch(exist_ok=False)
         return self.file
 
     def __exit__(self, kind, fault, trace):
         try:
             if kind is None:
-                self.file.chmod(self.path.stat().st_mode & 0o777 if self.path.exists() else 0o666 & ~mask())
+                if self.path.exists():
+                    self.file.chmod(self.path.stat().st_mode & 0o777)
                 os.replace(self.file, self.path)
         finally:
             self.file.unlink(missing_ok=True)
 
 
-def mask():
-    """The user's mask of permissions; it can only be read by setting it."""
-    held = os.umask(0o077)
-    os.umask(held)
-    return held
+def look_for_room(path):
+    """Raises what would keep a file from being written, before the work whose result it is to hold."""
+    tempfile.TemporaryFile(dir=Path(path).absolute().parent).close()
 
 
 class Log:

@@ -104,10 +104,13 @@ class Reader:
         self.tasks = list(dict.fromkeys([task for _, task in data["UNIT_TASKS"]] + arcs))
         self.units = list(dict.fromkeys(unit for unit, _ in data["UNIT_TASKS"]))
         self.masses = [number for _, number in self.stocks()]
+        for name in grid.batches:
+            if name not in self.tasks:
+                raise StnError(f"the grid names batches of the task {name}, and the dictionary has no such task")
 
     def plant(self):
         charges = {it: self.charge(it) for it in self.tasks}
-        return Plant(
+        plant = Plant(
             self.periods,
             state=[self.state(it) for it in self.data["STATES"]],
             utility=[Utility("vCost", limit=LOAD, rate=1)] if any(charges.values()) else [],
@@ -115,6 +118,14 @@ class Reader:
             task=[self.task(it, charges[it]) for it in self.tasks],
             run=[self.run(*it) for it in self.data["UNIT_TASKS"]],
             gap=[it for unit, task in self.data["UNIT_TASKS"] for it in self.gaps(unit, task)])
+        self.look_at_load(plant, {named(name): it for name, it in charges.items()})
+        return plant
+
+    def look_at_load(self, plant, charges):
+        """What all units may draw of vCost in a period has to stay within its limit, or it would rule out plans."""
+        load = sum(max(charges[run.task] * run.max for run in plant.run if run.unit == unit.name) for unit in plant.unit)
+        if load > LOAD:
+            raise StnError(f"the vCost of a period may come to {load} money units, and {LOAD} can be held: name a coarser money grid")
 
     def stocks(self):
         """All masses of the states, with what they are."""

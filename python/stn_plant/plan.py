@@ -44,7 +44,10 @@ class Plan(list):
     @classmethod
     def read(cls, path, plant=None):
         """The plan of a plan file that the program takes; comments are left out."""
-        return cls.of(Path(path).read_text(encoding="utf-8"), plant)
+        try:
+            return cls.of(Path(path).read_text(encoding="utf-8"), plant)
+        except ValueError as fault:
+            raise StnError(f"{path} is no plan file ({fault}); `Plant.simulate` of its name has the program say what is wrong") from None
 
     @classmethod
     def of(cls, text, plant=None):
@@ -69,7 +72,7 @@ class Plan(list):
         for it in self:
             row = {"period": it.period, "unit": it.unit, "task": it.task, "quanta": it.quanta}
             if it.task in tasks:
-                row["end"] = it.period + max(out.delay for out in tasks[it.task].output)
+                row["end"] = it.period + max((out.delay for out in tasks[it.task].output), default=0)
                 row["mass"] = it.quanta * tasks[it.task].quantum
             rows.append(row)
         return rows

@@ -11,7 +11,7 @@ from . import slices, toml_text
 from .answers import Claim, Least, Picture, Report, Solution, Standing, Tank
 from .asking import Question, logs_of
 from .errors import StnError
-from .files import Log, write_whole
+from .files import Log, look_for_room, write_whole
 
 
 @dataclass
@@ -196,6 +196,8 @@ class Plant:
         """
         if boxes is not None and seconds is not None:
             raise TypeError("give boxes or seconds")
+        if log is not None:
+            look_for_room(log)
         with Question(self, timeout) as question:
             if seconds is not None:
                 question.wants("resume", "no.toml", "no.log", "1", "out.log", instead="give boxes= in the place of seconds=")
@@ -206,12 +208,16 @@ class Plant:
 
     def replan(self, plan, period, boxes=1000, *, log=None, timeout=None):
         """Keeps the starts of a plan before a period, and plans what comes after. A plan is a list of batches or a file."""
+        if log is not None:
+            look_for_room(log)
         with Question(self, timeout) as question:
             ran = question.ask("replan", "plant.toml", question.plan(plan), period, boxes, "proof.log")
             return Solution.of(ran.lines(), self, kept(question, log))
 
     def improve(self, plan, boxes=1000, *, log=None, timeout=None):
         """Plans the plant from a feasible plan on: the answer earns at least as much. Needs a program with the command `improve`."""
+        if log is not None:
+            look_for_room(log)
         with Question(self, timeout) as question:
             question.wants("improve", "no.toml", "no.plan", "1", instead="use solve or replan")
             ran = question.ask("improve", "plant.toml", question.plan(plan), boxes, "proof.log")
@@ -222,6 +228,8 @@ class Plant:
 
         logs: the first part of the names of files for the logs of the horizons that are tried; else they live as long as the answer.
         """
+        if logs is not None:
+            look_for_room(logs)
         with Question(self, timeout) as question:
             lines = question.ask("least", "plant.toml", boxes, "least").lines()
             found = logs_of(question.folder, "least")
@@ -272,7 +280,7 @@ class Plant:
         with Question(self, timeout) as question:
             lines = question.ask("whatif", "plant.toml", question.log(log), state, step, count).lines()[1:]
             words = [it.split(" ") for it in lines]
-            return [Tank(int(it[0]) * step, None if it[2] == "none" else int(it[2]), Standing.of(it[3:])) for it in words]
+            return [Tank(int(it[0]) * int(step), None if it[2] == "none" else int(it[2]), Standing.of(it[3:])) for it in words]
 
 
 def claim(question, *words):

@@ -2,7 +2,7 @@
 import re, subprocess
 from dataclasses import dataclass
 
-PLACE = re.compile(r", line (\d+)(?:, column (\d+))?(: )?")
+PLACE = re.compile(r", line (\d+)(?:, column (\d+))?(?:: |, )")
 
 
 @dataclass(frozen=True)
@@ -22,8 +22,7 @@ def said(program, ran, words, folder):
     for word in words:
         found = PLACE.match(text, len(word)) if text.startswith(word + ", line ") else None
         if found:
-            rest = text[found.end():] if found.group(3) else text
-            return Said(rest, int(found.group(1)), int(found.group(2)) if found.group(2) else None)
+            return Said(text[found.end():], int(found.group(1)), int(found.group(2)) if found.group(2) else None)
         if text.startswith(word + ": ") and word in ("plant.toml", "plan.txt"):
             return Said(text[len(word) + 2:])
     return Said(text)

@@ -10,7 +10,7 @@ from pathlib import Path
 
 from . import toml_text
 from .asking import Question
-from .errors import NotInstalled, Refused, SheetFault
+from .errors import GridFault, NotInstalled, Refused, SheetFault
 from .files import whole_file
 from .notebooks import exact
 from .plant import Draw, Input, Output, Plant, key_of, kinds_of
@@ -19,8 +19,8 @@ from .plant import Task as TaskRecord
 INNER = {"input": Input, "output": Output, "draw": Draw}
 OUTER = kinds_of(Plant)
 NEEDED = ("plant", "state", "unit", "task", "input", "output", "run")
-NUMBER = re.compile(r"[+-]?\d+")
-DECIMAL = re.compile(r"[+-]?\d*\.?\d+(?:[eE][+-]?\d+)?")
+NUMBER = re.compile(r"[+-]?[0-9]{1,30}")
+DECIMAL = re.compile(r"[+-]?[0-9]{0,30}\.?[0-9]{1,30}(?:[eE][+-]?[0-9]{1,3})?")
 
 
 def columns(table):
@@ -92,7 +92,10 @@ class Book:
             return cell.strip() if isinstance(cell, str) else cell
         if kind == "list":
             return [whole(it) for it in re.split(r"[\s,;]+", cell.strip())] if isinstance(cell, str) else [whole(cell)]
-        return part(cell) if kind == "part" else whole(cell)
+        try:
+            return part(cell) if kind == "part" else whole(cell)
+        except GridFault as fault:
+            raise self.fault(str(fault), table, number, name) from None
 
     def document(self):
         """The tables as a plant file's."""

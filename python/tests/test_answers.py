@@ -4,7 +4,7 @@ from fractions import Fraction
 from pathlib import Path
 
 from stn_plant import (Batch, BrokenPlan, Draw, Gap, Input, InvalidLog, Log, NotInstalled, Outage, Plan, Plant, Refused, Run,
-                       State, Task, Unit, Utility)
+                       State, StnError, Task, Unit, Utility)
 from stn_plant.answers import Claim, Report, Solution
 from tests.here import EXAMPLES, has, needs_program
 
@@ -40,6 +40,11 @@ class Texts(unittest.TestCase):
         self.assertEqual(plan.text(), "0 U make 3\n1 U make 3\n")
         self.assertEqual(plan.table()[0], {"period": 0, "unit": "U", "task": "make", "quanta": 3})
         self.assertIsNone(plan._repr_svg_())
+
+    def test_a_plan_file(self):
+        self.assertEqual(len(Plan.read(EXAMPLES / "five.plan")), 5)
+        with self.assertRaisesRegex(StnError, "no plan file"):
+            Plan.read(EXAMPLES / "tiny.log")
 
     def test_a_plant_as_a_document(self):
         plant = Plant(3, [State('a"b\\', limits=[1, 2, 3, 4])], [Utility("w", limit=3)], [Unit("U")],

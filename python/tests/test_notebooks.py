@@ -51,6 +51,10 @@ class Dictionaries(unittest.TestCase):
         self.assert_fault(small(), Grid(1, 1, batch="1.5"), Fraction(1, 2), "mass grid of 0.5 would")
         with self.assertRaisesRegex(GridFault, "above 0"):
             Grid(0, 1)
+        with self.assertRaisesRegex(StnError, "no such task"):
+            from_dictionary(small(), Grid(1, 1, batches={"coock": 1}))
+        with self.assertRaisesRegex(StnError, "coarser money grid"):
+            from_dictionary(small(vCost=1_000_000_000), Grid(1, 1))
 
     def test_a_third_is_a_third(self):
         self.assertEqual(from_dictionary(small(rho=1 / 3), Grid("1/3", "1/3", batch=1)).task[0].output[0].part, Fraction(1, 3))
