@@ -31,13 +31,13 @@ def lines(text):
     return text.splitlines(keepends=True)
 
 
-def run(notebook, change=lambda source: source):
-    """Runs the code cells in their order and stores their outputs; `change` changes a cell's source for this run."""
+def run(notebook):
+    """Runs the code cells in their order and stores their outputs."""
     names, count = {"__name__": "__main__"}, 0
     for cell in notebook["cells"]:
         if cell["cell_type"] == "code":
             count += 1
-            cell["outputs"] = run_cell(change("".join(cell["source"])), names)
+            cell["outputs"] = run_cell("".join(cell["source"]), names)
             cell["execution_count"] = count
             for it in cell["outputs"]:
                 if it["output_type"] == "execute_result":
