@@ -1,0 +1,175 @@
+"""What the program answers, asked of the examples."""
+import tempfile, tomllib, unittest
+from fractions import Fraction
+from pathlib import Path
+
+from stn_plant import (Batch, BrokenPlan, Draw, Gap, Input, InvalidLog, Log, NotInstalled, Outage, Plan, Plant, Refused, Run,
+                       State, StnError, Task, Unit, Utility)
+from stn_plant.answers import Claim, Report, Solution
+from tests.here import EXAMPLES, has, needs_program
+
+TINY = [(0, "U", "make", 3), (1, "U", "make", 3)]
+
+
+class Texts(unittest.TestCase):
+    """Reading answers and writing plants, without the program."""
+
+    def test_answers_of_solve(self):
+        found = Solution.of(["# budget-spent 10 12", "# boxes 3", "0 U make 3"], None, None)
+        self.assertEqual((found.status, found.profit, found.cap, found.boxes, found.gap), ("budget-spent", 10, 12, 3, 20))
+        self.assertEqual(found.plan, [Batch(0, "U", "make", 3)])
+        none = Solution.of(["# budget-spent - 12", "# boxes 3"], None, None)
+        self.assertEqual((none.profit, none.cap, none.plan, none.gap), (None, 12, None, None))
+        self.assertEqual(Solution.of(["# infeasible", "# boxes 1"], None, None).cap, None)
+        self.assertEqual(Solution.of(["# optimal 0", "# boxes 1"], None, None).plan, [])
+
+    def test_claims(self):
+        self.assertEqual([Claim.of(it).cap for it in ("yes between 3 4", "yes below 5", "yes optimal 6", "yes infeasible")], [4, 5, 6, None])
+        self.assertFalse(Claim.of("no 3 15"))
+        self.assertEqual(Claim.of("no 2 0 19").horizon, 2)
+
+    def test_a_report(self):
+        text = ("gantt\nU   |01\ntask 01 make\nstock\nstate 01 a\nstate 02 b\n   0   4  0\n   1   0  4\nload\nutility 01 w\n   0   7\n"
+                "profit -3\n")
+        found = Report.of(text)
+        self.assertEqual((found.profit, found.stocks, found.loads), (-3, {"a": [4, 0], "b": [0, 4]}, {"w": [7]}))
+
+    def test_a_plan(self):
+        plan = Plan.of("# optimal 60\n# boxes 1\n0 U make 3\n1 U make 3\n")
+        self.assertEqual(plan, Plan(TINY))
+        self.assertEqual(plan.text(), "0 U make 3\n1 U make 3\n")
+        self.assertEqual(plan.table()[0], {"period": 0, "unit": "U", "task": "make", "quanta": 3})
+        self.assertIsNone(plan._repr_svg_())
+
+    def test_a_plan_file(self):
+        self.assertEqual(len(Plan.read(EXAMPLES / "five.plan")), 5)
+        with self.assertRaisesRegex(StnError, "no plan file"):
+            Plan.read(EXAMPLES / "tiny.log")
+
+    def test_a_plant_as_a_document(self):
+        plant = Plant(3, [State('a"b\\', limits=[1, 2, 3, 4])], [Utility("w", limit=3)], [Unit("U")],
+                      [Task("t", 5, [Input('a"b\\', Fraction(2, 5))], [], [Draw("w", [1], [0])])],
+                      [Run("t", "U", 1, 2)], [Gap("U", "t", "t", 1)], outage=[Outage("U", 0, 1)])
+        found = tomllib.loads(plant.text())
+        self.assertEqual(found, {
+            "version": 2, "periods": 3, "state": [{"name": 'a"b\\', "initial": 0, "limits": [1, 2, 3, 4], "price": 0, "holding": 0}],
+            "utility": [{"name": "w", "limit": 3, "rate": 0}], "unit": [{"name": "U"}],
+            "task": [{"name": "t", "quantum": 5, "input": [{"state": 'a"b\\', "part": "2/5"}], "output": [],
+                      "draw": [{"utility": "w", "fixed": [1], "each": [0]}]}],
+            "run": [{"task": "t", "unit": "U", "min": 1, "max": 2, "cost": 0}],
+            "gap": [{"unit": "U", "from": "t", "to": "t", "periods": 1, "cost": 0}], "outage": [{"unit": "U", "from": 0, "to": 1}]})
+
+
+@needs_program
+class Asking(unittest.TestCase):
+    def setUp(self):
+        self.tiny = Plant.read(EXAMPLES / "tiny.toml")
+
+    def test_solve_and_check(self):
+        answer = self.tiny.solve(boxes=31)
+        self.assertEqual((answer.status, answer.profit, answer.cap, answer.boxes), ("optimal", 60, 60, 1))
+        self.assertEqual(answer.plan, Plan(TINY))
+        self.assertEqual(answer.plan.table()[1], {"period": 1, "unit": "U", "task": "make", "quanta": 3, "end": 2, "mass": 6})
+        self.assertIn("<svg", answer.plan._repr_svg_())
+        claim = self.tiny.check(answer.log)
+        self.assertTrue(claim)
+        self.assertEqual((claim.status, claim.profit), ("optimal", 60))
+        with tempfile.TemporaryDirectory() as folder:
+            saved = answer.log.save(Path(folder) / "tiny.log")
+            self.assertTrue(self.tiny.check(saved.path))
+        bad = self.tiny.check(answer.log.read()[:-1])
+        self.assertFalse(bad)
+        self.assertEqual(bad.kind, 2)
+
+    def test_logs_of_the_examples(self):
+        self.assertEqual(self.tiny.check(EXAMPLES / "tiny.log").profit, 60)
+        self.assertEqual(Plant.read(EXAMPLES / "odd.toml").check(str(EXAMPLES / "odd.log")).profit, 34)
+
+    def test_a_spent_budget_and_no_plan(self):
+        self.assertEqual(Plant.read(EXAMPLES / "odd.toml").solve(boxes=1).status, "budget-spent")
+        self.tiny.state[0].initial, self.tiny.state[0].limit = 40, 2
+        self.assertEqual(self.tiny.solve(boxes=10).status, "infeasible")
+
+    def test_a_plan(self):
+        self.assertEqual(self.tiny.simulate(TINY).profit, 60)
+        standing = self.tiny.simulate([(0, "U", "make", 4)])
+        self.assertFalse(standing)
+        self.assertEqual((standing.kind, standing.places), ("unfit", [1]))
+        self.assertTrue(standing.sentence)
+        with self.assertRaises(BrokenPlan) as raised:
+            self.tiny.report([(0, "U", "make", 3), (0, "U", "make", 3)])
+        self.assertEqual((raised.exception.kind, raised.exception.places), ("busy", [1, 2]))
+        self.assertEqual(self.tiny.report(TINY).profit, 60)
+
+    def test_planning_on(self):
+        five, plan = Plant.read(EXAMPLES / "five.toml"), EXAMPLES / "five.plan"
+        self.assertEqual(five.simulate(plan).profit, 854)
+        answer = five.replan(plan, 3, boxes=2000)
+        self.assertEqual((answer.status, answer.profit), ("optimal", 1248))
+        self.assertEqual(five.check_replan(plan, 3, answer.log).profit, 1248)
+        with self.assertRaises(BrokenPlan):
+            five.replan([(0, "heater", "heat", 11)], 1)
+
+    def test_other_tanks(self):
+        tank = Plant.read(EXAMPLES / "tank.toml")
+        found = tank.whatif(EXAMPLES / "tank.log", "prod", 2, 3)
+        self.assertEqual([(it.raised, it.cap, it.standing.profit) for it in found], [(0, 36, 36), (2, 44, 36), (4, 52, 36), (6, 60, 36)])
+        with self.assertRaises(InvalidLog):
+            tank.whatif(b"stn-log 2\n", "prod", 2, 3)
+        with self.assertRaises(Refused) as raised:
+            tank.whatif(EXAMPLES / "tank.log", "no-such", 2, 3)
+        self.assertEqual(raised.exception.subject, "state")
+
+    def test_the_least_horizon(self):
+        due = Plant.read(EXAMPLES / "due.toml")
+        with tempfile.TemporaryDirectory() as folder:
+            answer = due.least(31, logs=Path(folder) / "due")
+            self.assertEqual((answer.status, answer.horizon, answer.profit, list(answer.logs)), ("least", 2, 0, [1, 2]))
+            self.assertTrue(due.check_least(2, Path(folder) / "due"))
+        self.assertFalse(due.check_least(2, {1: due.solve(31).log}))
+
+    def test_refusals(self):
+        self.tiny.run[0].max = 300
+        with self.assertRaises(Refused) as raised:
+            self.tiny.solve()
+        fault = raised.exception
+        self.assertEqual((fault.subject, fault.kind, fault.place, fault.file), ("plant", 7, ("run", 1, 0, "max"), None))
+        if fault.line:
+            self.assertEqual(fault.text.splitlines()[fault.line - 1], "max = 300")
+        with self.assertRaises(Refused) as raised:
+            Plant.of("version = 1\nperiods = 2\n[[unit]]\nname = 'U'\n[[unit]]\nname = 'U'\n")
+        self.assertEqual(raised.exception.kind, 9)
+        with self.assertRaises(Refused) as raised:
+            Plant.read(EXAMPLES / "five.toml").simulate([(0, "heater", "bake", 1)])
+        self.assertEqual((raised.exception.subject, raised.exception.kind, raised.exception.line), ("plan", 2, 1))
+        with self.assertRaises(Refused) as raised:
+            Plant.read(EXAMPLES / "tiny.toml").solve(boxes=0)
+        self.assertEqual(raised.exception.subject, "words")
+
+    def test_a_file_with_a_fault_is_named(self):
+        with tempfile.TemporaryDirectory() as folder:
+            file = Path(folder) / "bad.toml"
+            file.write_text("version = 2\nperiods = 400\n")
+            with self.assertRaises(Refused) as raised:
+                Plant.read(file)
+        self.assertEqual((raised.exception.file, raised.exception.place), (str(file), ("top", 0, 0, "periods")))
+        self.assertIn(raised.exception.line, (2, None))
+
+    @unittest.skipUnless(has("pandas"), "pandas is not installed")
+    def test_a_frame(self):
+        frame = self.tiny.solve(boxes=31).plan.frame()
+        self.assertEqual(list(frame.columns), ["period", "unit", "task", "quanta", "end", "mass"])
+        self.assertEqual(list(frame["mass"]), [6, 6])
+
+    @unittest.skipIf(has("pandas"), "pandas is installed")
+    def test_no_frame(self):
+        with self.assertRaisesRegex(NotInstalled, "pandas"):
+            Plan(TINY).frame()
+
+
+class Logs(unittest.TestCase):
+    def test_a_log_that_is_not_whole_is_not_kept(self):
+        with tempfile.TemporaryDirectory() as folder:
+            with self.assertRaises(FileNotFoundError):
+                Log(Path(folder) / "gone.log").save(Path(folder) / "copy.log")
+            self.assertEqual(list(Path(folder).iterdir()), [])
