@@ -6,7 +6,8 @@ use std::test::Fail;
 use stn_edge::MemShelf;
 use valid_log::LogVerdict;
 
-// The first defect is told before the rest of the file is read: the second read would fail.
+// The first defect is told before the rest of the file is read: its first piece is read for a head and again for the log's
+// lines, and the third read would fail.
 #[test]
 fn logs_are_read_as_streams(rt: HostRuntime) -> Result<(), Fail> {
     let plant = read_plant(rt.alloc(), b"version = 1\nperiods = 1\n")?;
@@ -16,7 +17,7 @@ fn logs_are_read_as_streams(rt: HostRuntime) -> Result<(), Fail> {
     }
     let mut files = MemShelf::new(rt.alloc());
     files.put_file("log", log.as_slice())?;
-    files.fail_call(2, 0)?;
+    files.fail_call(3, 0)?;
     match check_stream(rt.alloc(), &plant, &mut files, "log") {
         Ok(LogVerdict::No(defect)) => {
             assert_eq!(rt; defect, Defect { line: 1, kind: 1 });
