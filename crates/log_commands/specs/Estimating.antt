@@ -11,7 +11,7 @@ use Rattle.proof_log.specs.declared.log.Defect.{Defect}
 use Rattle.valid_log.specs.declared.verdict.LogVerdict.TheVariants.{No}
 use Rattle.sum_slots.specs.declared.sum.Sum.{Sum}
 use Rattle.valid_log.specs.PlantLogs.{IsAnyChecked}
-use Rattle.what_if.specs.Estimate.{IsEstimate}
+use Rattle.what_if.specs.Estimate.{IsEstimate, IsProofCap}
 use Rattle.what_if.specs.OldLogs.{HasPlan, IsValidFor}
 use Rattle.what_if.specs.Raised.{raised}
 use Rattle.command_words.specs.declared.command.PlanUse.TheVariants.{Simulate}
@@ -44,10 +44,16 @@ abbrev pub IsStanding : Plant → Option (List Start) → List ℕ → Type 0
 IsStanding plant None text = text ≡ codes "-\n"
 IsStanding plant (Some plan) text = (status : ℕ) × Simulated Simulate plant plan status text
 
--- The line of a plant: a number, what no plan of it earns more than by an old proof over declared sums, and what is printed of an old plan.
+-- the caps of a plant by an old proof over declared sums are all the proof's own
+abbrev pub AreOwn : Plant → List Sum → RowTree → Type 0
+AreOwn plant sums proof = (cap : Option ℤ) → IsEstimate plant sums proof cap → IsProofCap plant sums proof cap
+
+-- The line of a plant: a number, what no plan of it earns more than by an old proof over declared sums, and what is printed of an
+-- old plan. On the line of number 0, whose plant is the log's, it is the cap that the proof itself has.
 pub record IsTankLine (plant : Plant) (sums : List Sum) (proof : RowTree) (plan : Option (List Start)) (number : ℕ) (line : List ℕ) : Type 0 where
   pub cap : Option ℤ
   pub estimate : IsEstimate plant sums proof cap
+  pub own : number ≡ 0 → IsProofCap plant sums proof cap
   pub standing : List ℕ
   pub stands : IsStanding plant plan standing
   pub text_is : line ≡ line_head number cap ++ standing

@@ -17,6 +17,7 @@ ghost use Rattle.log_commands.specs.Estimating.{
   tank_number,
   text_head,
   AreLines,
+  AreOwn,
   Estimated,
   IsEstimated,
   IsRefusedLog,
@@ -209,6 +210,7 @@ fn estimate_plants(
     requires sound { Sound plant }
     requires there { number < length plant.states }
     requires over { IsClaimOver (length (slots plant)) log.now.claim }
+    requires own { AreOwn plant log.now.sums (tree_of log.now.tree) }
     ensures status { IfOk result (λ reply. reply.status ≡ 0) }
     ensures says { IfOk result (λ reply. IsTankText plant number steps.step steps.count
         log.now.sums (tree_of log.now.tree) log.now.claim reply.text.items) }
@@ -244,6 +246,7 @@ fn put_lines(
     requires sound { Sound plant }
     requires there { number < length plant.states }
     requires short { IfSome plan.now (λ starts. length starts < 2 ^ 32) }
+    requires own { AreOwn plant log.now.sums (tree_of log.now.tree) }
     ensures { OnOk result ((lines : Items ℕ) × ((text.new.items ≡ text.old.items ++ lines)
         × AreLines (λ times. IsTankLine (raised plant number steps.step times) log.now.sums
         (tree_of log.now.tree) plan.now times)
@@ -278,6 +281,7 @@ fn put_line(
 ) -> Result<(), AllocError>
     requires sound { Sound plant.now }
     requires short { IfSome plan.now (λ starts. length starts < 2 ^ 32) }
+    requires own { number ≡ 0 → AreOwn plant.now log.now.sums (tree_of log.now.tree) }
     ensures { OnOk result ((line : Items ℕ) × ((text.new.items ≡ text.old.items ++ line)
         × IsTankLine plant.now log.now.sums (tree_of log.now.tree) plan.now number line)) }
 {

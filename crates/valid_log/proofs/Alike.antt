@@ -170,7 +170,7 @@ have_none s a b outcome [] same none = tt
 have_none s a b outcome (item ∷ items) same none = (λ kind has. none.0 kind (has_defect s b a outcome item kind (turned a b same) has), have_none s a b (after s outcome item) items same none.1)
 
 -- the items of a proof lead to the same cap
-proved_alike : (a b : Program) (items : List RowItem) (proof_cap : Capped) → IsAlike a b → IsProved (row_steps a) a (view_of a.root) items proof_cap → IsProved (row_steps b) b (view_of b.root) items proof_cap
+pub proved_alike : (a b : Program) (items : List RowItem) (proof_cap : Capped) → IsAlike a b → IsProved (row_steps a) a (view_of a.root) items proof_cap → IsProved (row_steps b) b (view_of b.root) items proof_cap
 proved_alike a b items proof_cap same proved =
     let steps = same_steps a b same in
     let sound : HaveNone (row_steps b) a (start (view_of b.root)) items = subst (λ (s : RowSteps). HaveNone s a (start (view_of b.root)) items) steps (subst (λ (ds : List Domain). HaveNone (row_steps a) a (start (view_of ds)) items) same.root proved.sound) in
@@ -186,7 +186,7 @@ sound_alike a b tree claim same sound = record {
 }
 
 -- a text is that of the same log
-log_alike : (a b : Program) (bytes : List ℕ) (tree : RowTree) (claim : Claim) → IsAlike a b → IsLog a bytes tree claim → IsLog b bytes tree claim
+pub log_alike : (a b : Program) (bytes : List ℕ) (tree : RowTree) (claim : Claim) → IsAlike a b → IsLog a bytes tree claim → IsLog b bytes tree claim
 log_alike a b bytes tree claim same is = record { version = is.version; text = is.text; over = subst (λ (ds : List Domain). IsLogOver (length ds) is.version tree claim) same.root is.over }
 
 -- a valid log over the one is a valid log over the other

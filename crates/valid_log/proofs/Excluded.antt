@@ -42,7 +42,7 @@ excluded program tree claim defect sound meaning =
     meaning
 
 -- two logs with one text are the same
-same_text : (program : Program) (bytes : List ℕ) (tree other_tree : RowTree) (claim other : Claim) (is_log : IsLog program bytes tree claim) (other_log : IsLog program bytes other_tree other) → SameLog is_log.version other_log.version tree other_tree claim other []
+pub same_text : (program : Program) (bytes : List ℕ) (tree other_tree : RowTree) (claim other : Claim) (is_log : IsLog program bytes tree claim) (other_log : IsLog program bytes other_tree other) → SameLog is_log.version other_log.version tree other_tree claim other []
 same_text program bytes tree other_tree claim other is_log other_log =
     logs_same (length program.root) is_log.version other_log.version tree other_tree claim other [] is_log.over other_log.over
     (sym is_log.text ∙ other_log.text ∙ sym (append-nil (log_text other_log.version (tree_items other_tree) other)))

@@ -11,4 +11,5 @@ pub mod Excluded
 pub mod Alike
 pub mod Fronts
 pub mod AnyVersions
+pub mod OneLog
 pub mod Again

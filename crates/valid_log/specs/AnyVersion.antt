@@ -132,3 +132,9 @@ pub record IsValidAnyLog (program : Program) (ranges : List Domain) (depth : ℕ
   pub front : Front
   pub stands : IsFront (limits_with program depth 0) bytes front
   pub valid : IsValidWith program ranges depth bytes front claim
+
+-- logs of any version with these sums, proofs and claims are one
+pub record IsOneLog (sums other_sums : List Sum) (tree other_tree : RowTree) (claim other_claim : Claim) : Type 0 where
+  pub sums_same : sums ≡ other_sums
+  pub tree_same : tree ≡ other_tree
+  pub claim_same : claim ≡ other_claim

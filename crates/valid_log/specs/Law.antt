@@ -8,7 +8,8 @@ use Rattle.proof_log.specs.declared.claim.Claim.{Claim}
 use Rattle.valid_log.specs.declared.verdict.LogVerdict.{LogVerdict}
 use Rattle.valid_log.specs.declared.verdict.LogVerdict.TheVariants.{Yes}
 use Rattle.valid_log.specs.Verdict.{IsValidLog, IsVerdict}
-use Rattle.valid_log.specs.AnyVersion.{IsAnyVerdict, IsValidAnyLog}
+use Rattle.row_relax.specs.RowProofs.{RowTree}
+use Rattle.valid_log.specs.AnyVersion.{IsAnyLog, IsAnyVerdict, IsOneLog, IsValidAnyLog}
 
 -- a right answer is yes with a claim exactly where the bytes are a valid log of it
 abbrev pub VerdictsAreExact : Type 0
@@ -32,3 +33,9 @@ abbrev pub YesStays : Type 0
 YesStays =
     (program : Program) (ranges : List Domain) (depth more : ℕ) (bytes : List ℕ) (claim : Claim) (verdict : LogVerdict) → depth ≤ more → IsAnyVerdict program ranges depth bytes (Yes claim)
     → IsAnyVerdict program ranges more bytes verdict → verdict ≡ Yes claim
+
+-- bytes are the text of one log alone, of any version: the same text has the same sums, the same proof and the same claim
+abbrev pub AnyLogsHaveOneText : Type 0
+AnyLogsHaveOneText =
+    (program : Program) (ranges : List Domain) (bytes : List ℕ) (sums other_sums : List Sum) (tree other_tree : RowTree) (claim other_claim : Claim) → IsAnyLog program ranges bytes sums tree claim
+    → IsAnyLog program ranges bytes other_sums other_tree other_claim → IsOneLog sums other_sums tree other_tree claim other_claim

@@ -1,5 +1,5 @@
 //! The law of verdicts.
-ghost use Rattle.valid_log.specs.Law.{AnyVerdictsAreExact, LanesAreAlike, VerdictsAreExact, YesStays};
+ghost use Rattle.valid_log.specs.Law.{AnyLogsHaveOneText, AnyVerdictsAreExact, LanesAreAlike, VerdictsAreExact, YesStays};
 
 /// A right answer on bytes is yes with a claim exactly where the bytes are a valid log of this claim: they have no text defect,
 /// and are the text of a log whose proof and claim have no meaning defect. So is a right answer on a log of any version, where
@@ -13,4 +13,7 @@ pub fn verdicts_are_exact()
 
     // A yes stays the same where more splits may be open.
     ensures stays { YesStays }
+
+    // Bytes are the text of one log alone: what a log declares, proves and claims can be read off its text.
+    ensures one_text { AnyLogsHaveOneText }
 {}

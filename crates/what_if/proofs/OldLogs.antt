@@ -1,5 +1,5 @@
 -- What is read of bytes and checked is an old log.
-use Rattle.std.proofs.Common.{◌≡◌, ℕ, zero, suc, ◌+◌, ◌≤◌, List, [], ◌∷◌, ◌++◌, length, map, drop, length-append, Option, Some, Ok, Err, refl, sym, ap, ◌∙◌, subst, inl, arith}
+use Rattle.std.proofs.Common.{◌≡◌, ℕ, zero, suc, ◌+◌, ◌≤◌, List, [], ◌∷◌, ◌++◌, length, map, drop, length-append, Option, Some, Ok, Err, refl, sym, ap, ◌∙◌, subst, inl, inr, arith}
 use Rattle.std.specs.Prelude.{Result, IfOk, codes}
 use Rattle.std.specs.List.{All}
 use Rattle.std.proofs.lemmas.List.{append-nil, length-map, length-take-le, take_all}
@@ -51,7 +51,7 @@ use Rattle.what_if.specs.laws.Judged.{IsAnyOwnLog, IsOwnLog, IsStopInFile}
 -- the answer yes, on a log that was read
 pub yes_log : (program : Program) (bytes : List ℕ) (log : Log) (claim : Claim) → IsRead (limits_of program 4608) bytes log → IsVerdictOn program (tree_of log.tree) log.claim (Yes claim) → Holds program claim → IsOwnLog program bytes (tree_of log.tree) log.claim
 yes_log program bytes log claim read on holds =
-    record { is_log = record { version = log.version; text = read.text; over = read.over }; sound_log = on.1; holds = subst (Holds program) on.0 holds }
+    record { clean = read.clean; is_log = record { version = log.version; text = read.text; over = read.over }; sound_log = on.1; holds = subst (Holds program) on.0 holds }
 
 -- bytes with a first text defect
 pub text_verdict : (program : Program) (bytes : List ℕ) (defect : Defect) → log_text_defect (limits_of program 4608) bytes ≡ Some (defect.line, defect.kind) → IsVerdict program 4608 bytes (No defect)
@@ -94,9 +94,16 @@ given_same slots Infeasible over = refl
 given_same slots (Between profit most point) over = ap (Between profit most) (sym (take_all slots point (omega (arith, over))))
 given_same slots (Below most) over = refl
 
+-- the answer on the bytes of a valid log is yes
+own_verdict : (program : Program) (bytes : List ℕ) (tree : RowTree) (claim : Claim) → IsOwnLog program bytes tree claim → IsVerdict program 4608 bytes (Yes claim)
+own_verdict program bytes tree claim own =
+    subst (λ (found : Option (ℕ × ℕ)). IsVerdictGiven program bytes found (Yes claim)) (sym own.clean)
+    (record { tree = tree; is_log = own.is_log; sound_log = own.sound_log })
+
 -- a valid log without a head is one without sums
 pub plain_valid : (program : Program) (ranges : List Domain) (bytes : List ℕ) (log : ValidLog) → IsFront (limits_with program 4608 0) bytes Plain → log.sums ≡ [] → IsOwnLog program bytes (tree_of log.tree) log.claim → IsAnyOwnLog program ranges bytes log
 plain_valid program ranges bytes log stands bare own = record {
+  right = record { front = Plain; stands = stands; right = own_verdict program bytes (tree_of log.tree) log.claim own };
   is_log = record {
     front = Plain;
     stands = stands;
@@ -152,6 +159,18 @@ pub headed_valid : (program larger : Program) (ranges : List Domain) (bytes : Li
 headed_valid program larger ranges bytes head own log stands shown enlarged same valid sums_are tree_is claim_is =
     let trees : tree_of own.tree ≡ tree_of log.tree = ap tree_of (sym tree_is) in
     record {
+      right = record {
+        front = Headed head;
+        stands = stands;
+        right = inr (record {
+          shown = shown;
+          larger = larger;
+          enlarged = enlarged;
+          own = Yes own.claim;
+          right = own_verdict larger (behind head.bytes bytes) (tree_of own.tree) own.claim valid;
+          is = ap Yes claim_is;
+        });
+      };
       is_log = record {
         front = Headed head;
         stands = any_depth program 4608 0 bytes head stands;
@@ -199,11 +218,14 @@ shown_defect program larger ranges bytes rest head stop own defect shown enlarge
 pub valid_for : (plant : Plant) (program : Program) (bytes : List ℕ) (log : ValidLog) → Sound plant → IsMadeOf plant program → IsProgramOf plant program → IsAnyOwnLog program (plant_root plant) bytes log
     → IsValidFor plant bytes log.sums (tree_of log.tree) log.claim
 valid_for plant program bytes log sound made means own = record {
-  program = program;
-  of_plant = of_plant plant program sound made means;
+  checked = record {
+    program = program;
+    of_plant = of_plant plant program sound made means;
+    right = own.right;
+    holds = says plant program log.claim sound means own.holds;
+  };
   is_log = own.is_log;
   sound_log = own.sound_log;
-  says = says plant program log.claim sound means own.holds;
 }
 
 -- a claim over some slots and more has, cut back to these, a value for each
@@ -216,11 +238,11 @@ given_over slots more whole (Below most) all over = tt
 -- the claim of a log that is valid for a plant has a value for each of its slots
 pub valid-claim_over : (plant : Plant) (bytes : List ℕ) (sums : List Sum) (proof : RowTree) (claim : Claim) → IsValidFor plant bytes sums proof claim → IsClaimOver (length (slots plant)) claim
 valid-claim_over plant bytes sums proof claim valid =
-    let program = valid.program in
+    let program = valid.checked.program in
     let larger = valid.is_log.larger in
     let more : List Domain = map (sum_domain program (plant_root plant)) sums in
     let all : length larger.root ≡ length program.root + length more = ap length valid.is_log.enlarged.root ∙ length-append program.root more in
-    let own : length program.root ≡ length (slots plant) = ap length valid.of_plant.made.root_is ∙ length-map (slots plant) (slot_domain plant) in
+    let own : length program.root ≡ length (slots plant) = ap length valid.checked.of_plant.made.root_is ∙ length-map (slots plant) (slot_domain plant) in
     subst (λ (n : ℕ). IsClaimOver n claim) own
     (subst (IsClaimOver (length program.root)) (sym valid.is_log.claim_is) (given_over (length program.root) (length more) (length larger.root) valid.is_log.own all valid.is_log.is_log.over.claim_over))
 

@@ -53,6 +53,14 @@ pub record IsPlainWithout (program : Program) (ranges : List Domain) (sums : Lis
 abbrev pub IsCapOver : Program → List Domain → List Sum → RowTree → Option ℤ → Type 0
 IsCapOver program ranges sums proof cap = IsLooseWith program ranges sums proof cap ⊎ IsPlainWithout program ranges sums cap
 
+-- The cap is the own cap of a proof over declared sums, for the plant's program with these sums.
+pub record IsProofCap (plant : Plant) (sums : List Sum) (proof : RowTree) (cap : Option ℤ) : Type 0 where
+  pub program : Program
+  pub made : IsMadeOf plant program
+  pub larger : Program
+  pub enlarged : IsWithSums program (plant_root plant) sums larger
+  pub is : said cap ≡ tree_cap (row_steps larger) (view_of larger.root) proof
+
 -- The cap is that of a proof over declared sums, for the plant's program, and caps the plant's plans.
 pub record IsEstimate (plant : Plant) (sums : List Sum) (proof : RowTree) (cap : Option ℤ) : Type 0 where
   pub program : Program

@@ -1,5 +1,5 @@
 -- Stands in specs/ since clauses of private functions cite it; no public clause does.
-use Rattle.std.specs.Prelude.{◌≡◌, ℕ, List}
+use Rattle.std.specs.Prelude.{◌≡◌, ℕ, List, None}
 use Rattle.row_kit.specs.declared.domain.Domain.{Domain}
 use Rattle.row_kit.specs.declared.program.Program.{Program}
 use Rattle.proof_tree.specs.Tree.{tree_of}
@@ -8,19 +8,23 @@ use Rattle.proof_log.specs.declared.claim.Claim.{Claim}
 use Rattle.proof_log.specs.declared.log.Defect.{Defect}
 use Rattle.proof_log.specs.declared.read.LogStop.{LogStop}
 use Rattle.proof_log.specs.declared.read.LogStop.TheVariants.{Defect as StopDefect}
+use Rattle.log_lines.specs.TextDefect.{log_text_defect}
+use Rattle.valid_log.specs.declared.verdict.LogVerdict.TheVariants.{Yes}
 use Rattle.valid_log.specs.Meaning.{Holds}
-use Rattle.valid_log.specs.Verdict.{IsLog, IsSoundLog}
-use Rattle.valid_log.specs.AnyVersion.{IsAnyLog, in_file}
+use Rattle.valid_log.specs.Verdict.{IsLog, IsSoundLog, limits_of}
+use Rattle.valid_log.specs.AnyVersion.{IsAnyLog, IsAnyVerdict, in_file}
 use Rattle.what_if.specs.declared.old.ValidLog.{ValidLog}
 
--- the bytes are the text of a log over a program, of this proof and this claim, without a defect; the claim holds of all points
+-- the bytes are the text of a log over a program, of this proof and this claim, without a defect of its text or its meaning; the claim holds of all points
 pub record IsOwnLog (program : Program) (bytes : List ℕ) (tree : RowTree) (claim : Claim) : Type 0 where
+  pub clean : log_text_defect (limits_of program 4608) bytes ≡ None
   pub is_log : IsLog program bytes tree claim
   pub sound_log : IsSoundLog program tree claim
   pub holds : Holds program claim
 
--- the same of a log of any version, over the program with the sums that it declares
+-- the same of a log of any version, over the program with the sums that it declares: the answer on it is yes
 pub record IsAnyOwnLog (program : Program) (ranges : List Domain) (bytes : List ℕ) (log : ValidLog) : Type 0 where
+  pub right : IsAnyVerdict program ranges 4608 bytes (Yes log.claim)
   pub is_log : IsAnyLog program ranges bytes log.sums (tree_of log.tree) log.claim
   pub sound_log : IsSoundLog is_log.larger (tree_of log.tree) is_log.own
   pub holds : Holds program log.claim

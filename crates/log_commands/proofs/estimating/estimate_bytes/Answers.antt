@@ -2,6 +2,7 @@
 use Rattle.proof_tree.specs.Tree.{tree_of}
 use Rattle.what_if.specs.OldLogs.{IsOldLog}
 use Rattle.what_if.proofs.OldLogs.{valid-claim_over}
+use Rattle.what_if.proofs.OwnCaps.{own_cap}
 use Rattle.std.proofs.Common.{subst}
 use Rattle.log_commands.proofs.TankAnswers.{defect_answer, valid_answer}
 use Rattle.log_commands.proofs.estimating.estimate_bytes.Goals as goal
@@ -11,6 +12,12 @@ estimate_plants-requires-clause-over c =
     let log = c.in-Valid.log in
     let valid = subst (IsOldLog c.args.plant c.args.bytes.now) c.in-Valid.is c.in_ok-log.ensures in
     valid-claim_over c.args.plant c.args.bytes.now log.sums (tree_of log.tree) log.claim valid
+
+pub estimate_plants-requires-clause-own : goal.estimate_plants-requires-clause-own
+estimate_plants-requires-clause-own c cap estimate =
+    let log = c.in-Valid.log in
+    let valid = subst (IsOldLog c.args.plant c.args.bytes.now) c.in-Valid.is c.in_ok-log.ensures in
+    own_cap c.args.plant c.args.bytes.now log.sums (tree_of log.tree) log.claim cap valid estimate
 
 pub returns-in-Valid : goal.returns-in-Valid
 returns-in-Valid c =

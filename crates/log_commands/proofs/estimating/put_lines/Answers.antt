@@ -7,8 +7,8 @@ use Rattle.proof_tree.specs.Tree.{tree_of}
 use Rattle.stn_model.specs.declared.plant.Plant.{Plant}
 use Rattle.stn_model.specs.Sound.{Sound}
 use Rattle.what_if.specs.Raised.{raised, raised_states}
-use Rattle.what_if.proofs.RaisedSound.{raised-sound}
-use Rattle.log_commands.specs.Estimating.{AreLines, IsTankLine}
+use Rattle.what_if.proofs.RaisedSound.{raised-none, raised-sound}
+use Rattle.log_commands.specs.Estimating.{AreLines, AreOwn, IsTankLine}
 use Rattle.log_commands.proofs.TankLines.{is_but_states, more_lines, raised_plant}
 use Rattle.log_commands.proofs.estimating.put_lines.Goals as goal
 use mir.Syntax.{w64}
@@ -22,6 +22,18 @@ put_line-requires-clause-sound c =
     let is = raised_plant whole c.loop-times.raised c.raise.new.plant c.as_slice.result.now c.args.number c.multiple-amount.result step times
     c.loop-times.invariant.same (grind (arith, common_steps)) (c.multiple-amount.ensures ∙ ap (λ (n : ℤ). pos times *ℤ n) exact) (grind (arith, common_steps)) in
     subst Sound (sym is) (raised-sound whole c.args.number step times c.requires.sound c.requires.there)
+
+pub put_line-requires-clause-own : goal.put_line-requires-clause-own
+put_line-requires-clause-own c first =
+    let whole = c.args.plant in
+    let step = c.args.steps.step in
+    let times = c.loop-times.times in
+    let exact : to_z w64 (of_z w64 step) ≡ step = omega (arith, ints, c.args.steps.small) in
+    let is = raised_plant whole c.loop-times.raised c.raise.new.plant c.as_slice.result.now c.args.number c.multiple-amount.result step times
+    c.loop-times.invariant.same (grind (arith, common_steps)) (c.multiple-amount.ensures ∙ ap (λ (n : ℤ). pos times *ℤ n) exact) (grind (arith, common_steps)) in
+    let none = raised-none whole c.args.number step c.requires.sound c.requires.there in
+    subst (λ (p : Plant). AreOwn p c.args.log.now.sums (tree_of c.args.log.now.tree))
+    (sym (is ∙ ap (raised whole c.args.number step) first ∙ none)) c.requires.own
 
 pub loop-times-init : goal.loop-times-init
 loop-times-init c = record { same = refl; lines = ([], (sym (append-nil c.args.text.now.items), refl)) }

@@ -1,6 +1,7 @@
 use Rattle.valid_log.proofs.Excluded.{exact}
 use Rattle.valid_log.proofs.Alike.{alike, valid_alike}
 use Rattle.valid_log.proofs.AnyVersions.{any_exact, yes-stays}
+use Rattle.valid_log.proofs.OneLog.{one_log}
 use Rattle.valid_log.proofs.law.verdicts_are_exact.Goals as goal
 
 pub returns-clause-exact : goal.returns-clause-exact
@@ -14,3 +15,6 @@ returns-clause-alike c = λ program larger other ranges sums depth bytes claim e
 
 pub returns-clause-stays : goal.returns-clause-stays
 returns-clause-stays c = yes-stays
+
+pub returns-clause-one_text : goal.returns-clause-one_text
+returns-clause-one_text c = one_log
