@@ -1,17 +1,18 @@
 #!/usr/bin/env python3
 """Tries the cases of the commands (docs/cases.md) on the built program, over files in a folder.
 
-    python3 tools/try_cases.py [PROGRAM] [NAME..]   # all cases, or those of these books or beginnings of names
+    python3 tools/try_cases.py [PROGRAM] [NAME..]   # all that it can, or those of these books or beginnings of names
 
 PROGRAM is the built `stn`, else the environment's STN, else crates/stn/out/stn. A line says each difference, the last
-one how many cases were run and how many were not: calls that fail, pieces of reads and calls below the commands want a
-store in memory, which the program has not. It ends with 1 where something differs.
+one how many cases were run and how many want a store in memory, which the program has not: calls that fail, pieces of
+reads and calls below the commands. Those, and all others too, are carried out by crates/command_cases. It ends with 1
+where something differs.
 """
 import os, shutil, subprocess, sys, tempfile
 from concurrent.futures import ThreadPoolExecutor
 
 TOP = os.path.dirname(os.path.dirname(os.path.abspath(__file__)))
-CASES = os.path.join(TOP, "cases")
+CASES = os.path.join(TOP, "crates", "command_cases", "data")
 IN_MEMORY = ("pieces", "shift", "store-fails", "sink-fails")
 texts, cases = {}, {}
 
