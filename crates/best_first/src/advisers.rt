@@ -7,6 +7,7 @@ use crate::explorer::{Explored, explore};
 use crate::kept_guide::KeptGuide;
 use crate::kept_hinter::KeptHinter;
 use box_advice::{Advice, Guide, Hinter};
+use explored_tree::Lead;
 use plan_hints::PlanHinter;
 use row_kit::{Area, Program};
 use split_advice::PlanGuide;
@@ -63,7 +64,8 @@ impl Advisers {
         budget: u32,
     ) -> Result<Advisers, AllocError> {
         let Explored { tree, best } = explore(alloc, program, given, budget)?;
-        let guide = KeptGuide::new(alloc, program, given, tree.nodes, best.worth, budget)?;
+        let lead = Lead::new(alloc, program, tree.nodes, best.worth, budget)?;
+        let guide = KeptGuide::new(alloc, program, given, lead)?;
         Ok(Advisers {
             guide: SearchGuide::Best(guide),
             hinter: SearchHinter::Best(KeptHinter::new(best)),

@@ -4,11 +4,11 @@ ghost use Rattle.row_kit.specs.Area.{present};
 ghost use Rattle.row_kit.specs.Domain.{IsOpen};
 ghost use Rattle.range_prop.specs.Index.{IsIndex};
 
-use crate::caps::exceeds;
-use crate::tree::{Tree, cap_of};
 use box_advice::{Advice, Hinter};
 use dual_simplex::Basis;
-use plan_hints::{Kept, PlanHinter};
+use explored_tree::{Tree, cap_of, exceeds};
+use plan_hints::PlanHinter;
+use plan_repair::Kept;
 use range_prop::{RowIndex, cut_by_index};
 use row_kit::{Area, Domain, Program};
 use split_advice::{PlanGuide, may_split, split_value};
@@ -35,7 +35,8 @@ struct Explorer {
 // How many boxes are explored at most for each that may be counted.
 const MOST_LOOKS: u32 = 4;
 
-/// Searches a program best first, until the tree that is left counts so many boxes, or is closed.
+/// Searches a program best first, until the tree that is left counts so many boxes, or is closed. Four times as many are explored at
+/// most, and none once what is held comes to some 2 GiB.
 pub fn explore(
     alloc: Global,
     program: &Program,

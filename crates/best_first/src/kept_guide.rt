@@ -4,9 +4,8 @@ ghost use Rattle.std.specs.List.{All};
 ghost use Rattle.row_kit.specs.Area.{present};
 ghost use Rattle.row_kit.specs.Domain.{IsOpen};
 
-use crate::caps::exceeds;
-use crate::node::{NONE, Node};
 use box_advice::{Advice, Guide};
+use explored_tree::Lead;
 use row_kit::{Area, Program};
 use split_advice::PlanGuide;
 use std::alloc::{AllocError, Global};
@@ -15,164 +14,26 @@ use std::alloc::{AllocError, Global};
 /// many others as that saves are searched with the advice of a `PlanGuide`.
 #[derive(Drop)]
 pub struct KeptGuide {
+    lead: Lead,
     plain: PlanGuide,
-    nodes: Vec<Node>,
-    path: Vec<u32>,
-    best: Option<i128>,
-    budget: u32,
-    counted: u32,
-    // How many boxes the loop is to count after the present one.
-    ahead: u32,
 }
 
-// How often a slot can be split on the way to a box, at most.
-const MOST_SPLITS: usize = 9;
-
 impl KeptGuide {
-    /// The guide through boxes, where so much is the worth of the best plan, and so many may be counted.
+    /// The guide that leads through boxes, of a program of which the slots from `given` on are those of sums.
     pub fn new(
         alloc: Global,
         program: &Program,
         given: u32,
-        nodes: Vec<Node>,
-        best: Option<i128>,
-        budget: u32,
+        lead: Lead,
     ) -> Result<KeptGuide, AllocError> {
-        let depths = program.root.len().saturating_mul(MOST_SPLITS);
-        let mut guide = KeptGuide {
-            plain: PlanGuide::new(alloc, program, given)?,
-            nodes,
-            path: vec![in alloc; NONE; depths.saturating_add(1)]?,
-            best,
-            budget,
-            counted: 0,
-            ahead: 0,
-        };
-        guide.put_sizes();
-        guide.put_befores();
-        let _ = guide.come_to(0, 0);
-        Ok(guide)
-    }
-
-    // Whether the loop is to count a box.
-    fn is_planned(&self, node: &Node) -> bool {
-        node.explored && exceeds(node.cap, self.best)
-    }
-
-    // Notes for each box how many are to be counted from it on downward: for parts before the box that is split.
-    fn put_sizes(&mut self) {
-        let count = self.nodes.len();
-        for turn in 0..count {
-            let place = count - 1 - turn;
-            let node = &self.nodes[place];
-            if self.is_planned(node) {
-                let first = self.size_of(node.parts);
-                let second = self.size_of(node.parts.wrapping_add(1));
-                self.nodes[place].size = first.saturating_add(second).saturating_add(1);
-            }
-        }
-    }
-
-    // How many boxes are to be counted from one on downward.
-    fn size_of(&self, number: u32) -> u32 {
-        match self.nodes.get(number as usize) {
-            None => 0,
-            Some(node) => node.size,
-        }
-    }
-
-    // Notes for each box how many are to be counted before it: for parts after the box that is split.
-    fn put_befores(&mut self) {
-        for place in 0..self.nodes.len() {
-            self.put_befores_of_parts(place);
-        }
-    }
-
-    // Notes how many boxes are to be counted before the parts of the box at a place.
-    fn put_befores_of_parts(&mut self, place: usize) {
-        let Some(node) = self.nodes.get(place) else {
-            return;
-        };
-        let parts = node.parts;
-        let first = node.before.saturating_add(1);
-        let second = first.saturating_add(self.size_of(parts));
-        self.put_before(parts, first);
-        self.put_before(parts.wrapping_add(1), second);
-    }
-
-    // Notes how many boxes are to be counted before one.
-    fn put_before(&mut self, number: u32, before: u32) {
-        let place = number as usize;
-        if place < self.nodes.len() {
-            self.nodes[place].before = before;
-        }
-    }
-
-    // Notes the box that the loop comes to below so many splits.
-    fn enter(&mut self, depth: u32, number: u32) {
-        let place = depth as usize;
-        if place < self.path.len() {
-            self.path[place] = number;
-        }
-    }
-
-    // The box below so many splits on the way to the present one.
-    fn at(&self, depth: u32) -> u32 {
-        match self.path.get(depth as usize) {
-            None => NONE,
-            Some(number) => *number,
-        }
-    }
-
-    // The part that the loop comes to below so many splits: the first of a split that it has come to none of, else the second.
-    fn part_at(&mut self, depth: u32) -> u32 {
-        let place = self.at(depth.saturating_sub(1)) as usize;
-        if place >= self.nodes.len() {
-            return NONE;
-        }
-        let node = &mut self.nodes[place];
-        if node.parts == NONE {
-            return NONE;
-        }
-        let number = node.parts.saturating_add(node.entered);
-        node.entered = node.entered.saturating_add(1);
-        number
-    }
-
-    // Comes to a box below so many splits; whether to leave it open. Else it is counted.
-    fn come_to(&mut self, depth: u32, number: u32) -> bool {
-        self.enter(depth, number);
-        let leaves = self.is_left(number);
-        if !leaves {
-            self.counted = self.counted.saturating_add(1);
-        }
-        leaves
-    }
-
-    // Whether to leave a box open.
-    fn is_left(&mut self, number: u32) -> bool {
-        let Some(node) = self.nodes.get(number as usize) else {
-            return self.is_spent();
-        };
-        let is_over = exceeds(node.cap, self.best);
-        let is_planned = self.is_planned(node);
-        self.ahead = self
-            .size_of(0)
-            .saturating_sub(node.before)
-            .saturating_sub(u32::from(is_planned));
-        !is_planned && (!is_over || self.is_spent())
-    }
-
-    // Whether the boxes that are counted and those ahead make up the budget.
-    fn is_spent(&self) -> bool {
-        self.counted.saturating_add(self.ahead) >= self.budget
+        let plain = PlanGuide::new(alloc, program, given)?;
+        Ok(KeptGuide { lead, plain })
     }
 }
 
 impl Guide for KeptGuide {
     fn leaves(&mut self, _program: &Program, _area: &Area, depth: u32) -> bool {
-        let number = self.part_at(depth);
-        self.come_to(depth, number)
+        self.lead.leaves(depth)
     }
 
     fn advise(
@@ -184,15 +45,9 @@ impl Guide for KeptGuide {
         best: Option<i128>,
         point: &mut [u8],
     ) -> Result<Advice, AllocError> {
-        let place = self.at(depth) as usize;
-        if place < self.nodes.len() && self.nodes[place].explored {
-            let node = &mut self.nodes[place];
-            return Ok(Advice {
-                cert: node.cert.take(),
-                slot: node.slot,
-                max: node.max,
-            });
+        match self.lead.advice(depth) {
+            Some(advice) => Ok(advice),
+            None => self.plain.advise(alloc, program, area, depth, best, point),
         }
-        self.plain.advise(alloc, program, area, depth, best, point)
     }
 }

@@ -5,7 +5,8 @@ ghost use Rattle.row_kit.specs.Area.{present};
 ghost use Rattle.row_kit.specs.Domain.{IsOpen};
 
 use box_advice::Hinter;
-use plan_hints::{Kept, copy};
+use plan_repair::Kept;
+use row_activity::copy;
 use row_kit::{Area, Program};
 
 /// Offers a plan at the first box.

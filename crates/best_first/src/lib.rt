@@ -4,13 +4,10 @@
 #![tactic(auto)]
 
 mod advisers;
-mod caps;
 mod explorer;
 mod kept_guide;
 mod kept_hinter;
-mod node;
 mod searching;
-mod tree;
 
 pub use advisers::{Advisers, SearchGuide, SearchHinter};
 pub use searching::{build_advised, build_hinted, search_advised, search_hinted};

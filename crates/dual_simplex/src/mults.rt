@@ -1,14 +1,12 @@
 ghost use Rattle.std.specs.Prelude.{◌≡◌, ◌+◌, ◌≤◌, length, true};
 ghost use Rattle.dual_bound.specs.Total.{are_fit};
 
-use crate::dictionary::{Dictionary, Line, Place};
-use crate::filling::slack_variable;
-use crate::leaving::Broken;
-use crate::number::{ONE, OutOfRange, raised};
-use crate::reserved::{at, numbered, put_last};
-use crate::scales::Scales;
 use dual_bound::{MOST_FACTOR, Mult};
 use row_kit::Program;
+use simplex_rows::{Scales, slack_variable};
+use simplex_steps::{
+    Broken, Dictionary, Line, ONE, OutOfRange, Place, at, numbered, put_last, raised,
+};
 
 /// Where factors come from.
 #[derive(Clone, Copy)]

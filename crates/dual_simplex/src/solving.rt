@@ -4,12 +4,12 @@ ghost use Rattle.row_kit.specs.Area.{present};
 ghost use Rattle.row_kit.specs.Domain.{IsOpen};
 ghost use Rattle.dual_simplex.specs.Solved.{HasTotal, IsNoWorseThanPlain, IsPlainOrBetter, IsBelow};
 
-use crate::basis::Basis;
-use crate::reserved::numbered;
 use crate::workspace::{Outcome, Workspace};
 use dual_bound::{Cert, cap};
 use proof_tree::Capped;
 use row_kit::{Area, List, Program};
+use simplex_rows::Basis;
+use simplex_steps::numbered;
 use std::alloc::{AllocError, Global};
 
 // The most steps: each makes at most one pivot.

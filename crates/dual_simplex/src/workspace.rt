@@ -6,23 +6,20 @@ ghost use Rattle.row_kit.specs.Point.{LiesIn};
 ghost use Rattle.dual_bound.specs.Total.{are_fit};
 ghost use Rattle.dual_simplex.specs.Solved.{HasTotals};
 
-use crate::amounts::{Amount, amount_of, list_amounts};
-use crate::basis::{Basis, note_basis, start_from};
-use crate::broken_rows::{add_first, list_broken};
-use crate::dictionary::{Dictionary, Line};
-use crate::filling::{base_worth, fill_columns, slack_variable};
-use crate::leaving::Broken;
 use crate::mults::{Source, list_mults};
-use crate::number::{ONE, OutOfRange, difference, raised, whole, wide};
-use crate::reserved::{numbered, put_last};
 use crate::rounding::rounded;
-use crate::scales::{Scales, first};
-use crate::splitting::{Ends, Prices, Side, ends_of, prices_of, sum_ends, write_stand, write_sum};
-use crate::stepping::{Stepped, objective, step};
-use crate::sums::{are_two_free, most_at, sides_of, terms_of};
-use crate::trial::{Trial, copy_dictionary, restrict, try_steps};
+use crate::splitting::{ends_of, sum_ends, write_stand, write_sum};
 use dual_bound::{Cert, Mult};
 use row_kit::{Area, Domain, Entry, List, Program};
+use simplex_rows::{
+    Amount, Basis, Scales, add_first, amount_of, are_two_free, base_worth, fill_columns, first,
+    list_amounts, list_broken, most_at, note_basis, sides_of, slack_variable, start_from, terms_of,
+};
+use simplex_steps::{
+    Broken, Dictionary, Ends, Line, ONE, OutOfRange, Prices, Side, Stepped, Trial, copy_dictionary,
+    difference, numbered, objective, prices_of, put_last, raised, restrict, step, try_steps, whole,
+    wide,
+};
 use std::alloc::{AllocError, Global};
 
 // Rows that are put into a dictionary at a time.
@@ -76,8 +73,8 @@ impl Workspace {
         let rows = program.rows.len();
         Ok(Workspace {
             scales: Scales::new(alloc, program, given)?,
-            dictionary: Dictionary::new(alloc, program, given)?,
-            trial: Dictionary::new(alloc, program, given)?,
+            dictionary: Dictionary::new(alloc, slots, rows, given)?,
+            trial: Dictionary::new(alloc, slots, rows, given)?,
             stand: Line::new(alloc, slots.min(given as usize).saturating_mul(2))?,
             given,
             domains: Vec::with_capacity(alloc, slots)?,

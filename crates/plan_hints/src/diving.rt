@@ -1,7 +1,7 @@
-use crate::areas::is_single;
+//! Dives: slot after slot is fixed, with cuts after each.
 use crate::finder::Finder;
-use crate::reserved::{numbered, put_last};
 use dual_simplex::Amount;
+use row_activity::{is_single, numbered, put_last};
 use row_kit::{Domain, Program, Tag};
 
 /// In which order a dive fixes slots, and what it wishes for them.
@@ -36,21 +36,25 @@ impl Finder {
 
     // Puts the slots in the order of a dive.
     fn rank(&mut self, program: &Program, dive: Dive) {
-        self.order.clear();
+        self.lists.order.clear();
         for slot in 0..program.tags.len() {
             let slot_number = numbered(slot);
-            let rank = ranked(program.tags.get(slot), self.amount(slot_number), dive);
-            put_last(&mut self.order, (rank, slot_number));
+            let rank = ranked(
+                program.tags.get(slot),
+                self.bounds.amount(slot_number),
+                dive,
+            );
+            put_last(&mut self.lists.order, (rank, slot_number));
         }
-        self.order.sort_unstable();
+        self.lists.order.sort_unstable();
     }
 
     // Fixes the slots in their order; whether all are.
     fn fix_all(&mut self, program: &Program, dive: Dive) -> bool {
         let mut fails = 0u32;
-        for place in 0..self.order.len() {
-            let slot = self.ordered(place);
-            let wish = wish(self.amount(slot), dive);
+        for place in 0..self.lists.order.len() {
+            let slot = self.lists.ordered(place);
+            let wish = wish(self.bounds.amount(slot), dive);
             match self.fix(program, slot, wish) {
                 Some(failed) => fails = fails.saturating_add(failed),
                 None => return false,

@@ -1,13 +1,12 @@
-use crate::areas::{domain_of, least_value};
+//! The hinter: what is looked for in a box, and what is offered.
+use crate::bounds::NONE;
 use crate::diving::{Dive, ONE};
-use crate::finder::{Finder, NONE};
-use crate::hoods::{Hood, LEVELS, Leveled, list_hoods};
-use crate::kept::Kept;
-use crate::reserved::{copy, numbered};
+use crate::finder::Finder;
 use crate::small_search::Picking;
-use crate::sums::{put_sums, without_sums};
 use box_advice::Hinter;
 use dual_simplex::Amount;
+use plan_repair::{Hood, Kept, LEVELS, Leveled, list_hoods, put_sums, without_sums};
+use row_activity::{copy, domain_of, least_value, numbered};
 use row_kit::{Area, Program};
 use std::alloc::{AllocError, Global};
 
@@ -104,14 +103,18 @@ impl Looker {
 
     // Takes what the guide left.
     fn take_left(&mut self, program: &Program, point: &[u8]) {
-        copy(self.finder.point.as_mut_slice(), point);
+        copy(self.finder.plans.point.as_mut_slice(), point);
         self.finder.take_point(program);
     }
 
     // Takes the only point of an area.
     fn take_only(&mut self, program: &Program, area: &Area) {
-        put_only(area, self.finder.point.as_mut_slice());
-        let _ = self.finder.kept.take(program, self.finder.point.as_slice());
+        put_only(area, self.finder.plans.point.as_mut_slice());
+        let _ = self
+            .finder
+            .plans
+            .kept
+            .take(program, self.finder.plans.point.as_slice());
     }
 
     // Dives in a box: for greatest batches at the first, and by the bound, from where that of the last such box has ended.
@@ -122,8 +125,11 @@ impl Looker {
             self.finder.dive(program, Dive::GreatestBack);
         }
         if self.finder.bound(program, None) {
-            self.finder.workspace.save(program, &mut self.finder.start);
-            copy(self.seen.as_mut_slice(), self.finder.amounts.as_slice());
+            self.finder.bounds.save_start(program);
+            copy(
+                self.seen.as_mut_slice(),
+                self.finder.bounds.amounts.as_slice(),
+            );
             self.finder.take_rounded(program);
             self.finder.dive(program, Dive::Amounts(ONE / 20));
             self.finder.dive(program, Dive::Amounts(ONE / 2));
@@ -134,7 +140,7 @@ impl Looker {
     // Searches the box for a first plan, where none is known.
     fn find_first(&mut self, program: &Program) {
         for picking in [Picking::Furthest, Picking::Tried] {
-            if self.finder.kept.worth.is_none() {
+            if self.finder.plans.kept.worth.is_none() {
                 let limit = self.finder.work.saturating_add(10 * MOST_WORK);
                 let mark = self.finder.field.mark();
                 self.finder.search(program, picking, 10 * MOST_SMALL, limit);
@@ -151,7 +157,7 @@ impl Looker {
         let mut stage = 0u32;
         for turn in 0..MOST_TURNS {
             let ended = stage >= most || self.finder.work >= end;
-            if ended || self.finder.kept.worth.is_none() {
+            if ended || self.finder.plans.kept.worth.is_none() {
                 return;
             }
             stage = if self.search_stage(program, stage, turn) {
@@ -189,14 +195,14 @@ impl Looker {
 
     // Searches the neighbourhoods of a level; whether a better plan is found.
     fn search_stage(&mut self, program: &Program, stage: u32, turn: u32) -> bool {
-        let before = self.finder.kept.worth;
+        let before = self.finder.plans.kept.worth;
         let picking = self.picking(stage);
         if stage / 2 >= LEVELS {
             self.search_chances(program, turn, picking);
         } else {
             self.search_level(program, stage / 2, picking);
         }
-        self.finder.kept.worth != before
+        self.finder.plans.kept.worth != before
     }
 
     // How a stage picks: by trials first, each second time that it begins by amounts first.
@@ -256,25 +262,31 @@ impl Looker {
         let anew = self.begins_anew();
         if anew {
             self.begun = self.begun.saturating_add(1);
-            self.finder.kept.worth = None;
+            self.finder.plans.kept.worth = None;
         }
         self.take_left(program, point);
         if anew || self.boxes <= FIRST_BOXES || self.boxes % 16 == 0 {
             self.dive(program, area);
         }
-        let gained = self.boxes < MOST_BOXES && self.finder.kept.worth != self.searched;
+        let gained = self.boxes < MOST_BOXES && self.finder.plans.kept.worth != self.searched;
         if anew || gained {
             self.find_first(program);
             self.search_hoods(program, self.stages(anew));
             self.recall(program);
-            self.searched = self.finder.kept.worth;
+            self.searched = self.finder.plans.kept.worth;
         }
     }
 
     // Goes on from the best of all plans.
     fn recall(&mut self, program: &Program) {
-        let _ = self.best.take(program, self.finder.kept.values.as_slice());
-        let _ = self.finder.kept.take(program, self.best.values.as_slice());
+        let _ = self
+            .best
+            .take(program, self.finder.plans.kept.values.as_slice());
+        let _ = self
+            .finder
+            .plans
+            .kept
+            .take(program, self.best.values.as_slice());
     }
 
     // Whether the best plan has not been offered; then it is.

@@ -1,9 +1,10 @@
+//! Small searches around the best plan.
 use crate::diving::ONE;
 use crate::finder::Finder;
-use crate::hoods::Hood;
-use crate::reserved::numbered;
 use crate::small_search::Picking;
 use dual_simplex::Amount;
+use plan_repair::Hood;
+use row_activity::numbered;
 use row_kit::Program;
 
 // What is that near to a whole number counts as whole: 2 to the power -10.
@@ -29,7 +30,7 @@ impl Finder {
 
     // About the place up to before which a slot holds its lane.
     fn end_of(&self, slot: usize) -> u32 {
-        match self.ends.get(slot) {
+        match self.lists.ends.get(slot) {
             None => 0,
             Some(end) => *end,
         }
@@ -38,7 +39,7 @@ impl Finder {
     // Keeps the values of the best plan outside a neighbourhood.
     fn agree(&mut self, program: &Program, hood: Hood, seen: &[Amount]) {
         for slot in 0..program.tags.len() {
-            let value = value_at(self.kept.values.as_slice(), slot);
+            let value = value_at(self.plans.kept.values.as_slice(), slot);
             let held = if hood == Hood::Bound {
                 slot < seen.len() && is_agreed(&seen[slot], value)
             } else {

@@ -1,8 +1,8 @@
-use crate::areas::is_single;
+//! Small searches, depth first.
 use crate::diving::{Dive, ONE, pair};
 use crate::finder::{Finder, Frame};
-use crate::reserved::{numbered, put_last};
 use dual_simplex::{Amount, Side, Trial};
+use row_activity::{is_single, numbered, put_last};
 use row_kit::{Domain, Program};
 
 /// How a small search picks the slot to split.
@@ -26,7 +26,7 @@ impl Finder {
     /// Searches its area depth first, from the start's basis, for a plan that is worth more than the best: at most so many boxes,
     /// and up to so much work in all.
     pub fn search(&mut self, program: &Program, picking: Picking, most: u32, limit: u64) {
-        self.frames.clear();
+        self.lists.frames.clear();
         let mut boxes = 0u32;
         let mut from = None;
         for _ in 0..most {
@@ -35,9 +35,9 @@ impl Finder {
             }
             boxes = boxes.saturating_add(1);
             from = if self.look(program, picking, from, boxes) {
-                self.frames.len().checked_sub(1)
+                self.lists.frames.len().checked_sub(1)
             } else if self.turn() {
-                Some(self.frames.len())
+                Some(self.lists.frames.len())
             } else {
                 break;
             };
@@ -46,7 +46,7 @@ impl Finder {
 
     // Goes to the lesser part of the last split; false where none is left.
     fn turn(&mut self) -> bool {
-        match self.frames.pop() {
+        match self.lists.frames.pop() {
             None => false,
             Some(frame) => {
                 self.field.back(&self.tables, frame.mark);
@@ -101,13 +101,15 @@ impl Finder {
 
     // Splits a slot, and enters the greater part; false where the way is too long.
     fn split(&mut self, program: &Program, slot: u32, max: u8) -> bool {
-        let depth = self.frames.len();
-        if depth >= self.bases.len() {
+        let depth = self.lists.frames.len();
+        if depth >= self.bounds.bases.len() {
             return false;
         }
-        self.workspace.save(program, &mut self.bases[depth]);
+        self.bounds
+            .workspace
+            .save(program, &mut self.bounds.bases[depth]);
         let mark = self.field.mark();
-        put_last(&mut self.frames, Frame { slot, max, mark });
+        put_last(&mut self.lists.frames, Frame { slot, max, mark });
         self.field.keep_above(&self.tables, slot, max);
         true
     }
@@ -120,7 +122,7 @@ impl Finder {
         for slot in 0..program.tags.len() {
             let domain = self.field.domain(numbered(slot));
             if !is_single(domain) {
-                let far = urgency(domain, self.amount(numbered(slot))) >> 8;
+                let far = urgency(domain, self.bounds.amount(numbered(slot))) >> 8;
                 let rank = pair(
                     far,
                     0i64.saturating_sub(i64::from(program.tags.get(slot).place)),
@@ -137,13 +139,13 @@ impl Finder {
     // The slot whose split costs most on both sides, by trials of those that one step ranks highest.
     fn tried(&mut self, program: &Program) -> Option<(u32, u8)> {
         self.rank_prices(program);
-        if self.order.is_empty() {
+        if self.lists.order.is_empty() {
             return self.furthest(program);
         }
         let mut found = None;
         let mut most = -1i128;
-        for place in 0..self.order.len().min(MOST_TRIED) {
-            let slot = self.ordered(place);
+        for place in 0..self.lists.order.len().min(MOST_TRIED) {
+            let slot = self.lists.ordered(place);
             let max = middle(self.field.domain(slot));
             let score = self.try_split(program, slot, max);
             if score > most {
@@ -156,22 +158,22 @@ impl Finder {
 
     // Orders the slots that lie between their ends by what their splits cost.
     fn rank_prices(&mut self, program: &Program) {
-        self.order.clear();
+        self.lists.order.clear();
         for slot in 0..self.field.slot_count() {
             if let Some(rank) = self.price_rank(program, numbered(slot)) {
-                put_last(&mut self.order, (rank, numbered(slot)));
+                put_last(&mut self.lists.order, (rank, numbered(slot)));
             }
         }
-        self.order.sort_unstable();
+        self.lists.order.sort_unstable();
     }
 
     // What the split of a slot costs by one step, the dearest first; None where it does not lie between its ends.
     fn price_rank(&mut self, program: &Program, slot: u32) -> Option<i64> {
         let domain = self.field.domain(slot);
-        if is_single(domain) || urgency(domain, self.amount(slot)) <= 1 {
+        if is_single(domain) || urgency(domain, self.bounds.amount(slot)) <= 1 {
             return None;
         }
-        match self.workspace.prices(program, slot, middle(domain)) {
+        match self.bounds.workspace.prices(program, slot, middle(domain)) {
             None => None,
             Some(prices) => {
                 let score = product(prices.at_most, prices.above) >> 60;
@@ -186,9 +188,11 @@ impl Finder {
     // What a split costs on both sides.
     fn try_split(&mut self, program: &Program, slot: u32, max: u8) -> i128 {
         let low = self
+            .bounds
             .workspace
             .trial(program, slot, max, Side::AtMost, MOST_STEPS);
         let high = self
+            .bounds
             .workspace
             .trial(program, slot, max, Side::Above, MOST_STEPS);
         product(fall_of(low), fall_of(high))

@@ -1,3 +1,4 @@
+//! An area that is cut by rows, with their least sums.
 use crate::areas::{back_to, domain_of, is_single, keep};
 use crate::ranges::cut_domain;
 use crate::reserved::put_last;

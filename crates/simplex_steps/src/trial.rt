@@ -1,8 +1,8 @@
 use crate::dictionary::{Dictionary, Line, Place};
-use crate::filling::put_line;
+use crate::lines::put_line;
 use crate::number::{OutOfRange, difference};
+use crate::prices::Side;
 use crate::reserved::{copy, put_last};
-use crate::splitting::Side;
 use crate::stepping::{Stepped, objective, step};
 
 /// What a trial bound of a side finds.

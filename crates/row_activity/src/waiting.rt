@@ -1,3 +1,4 @@
+//! Rows that wait to be looked at.
 use crate::reserved::numbered;
 use std::alloc::{AllocError, Global};
 

@@ -1,10 +1,9 @@
-use crate::dictionary::{Column, Dictionary, Place};
 use crate::filling::{add_row, high_variable, low_variable};
-use crate::number::{OutOfRange, less_times};
-use crate::pivoting::pivot;
-use crate::reserved::{at, numbered, put_last};
 use crate::scales::Scales;
 use row_kit::{Domain, Program};
+use simplex_steps::{
+    Column, Dictionary, OutOfRange, Place, at, less_times, numbered, pivot, put_last,
+};
 use std::alloc::{AllocError, Global};
 
 /// Where a bound stands: the rows that bind it, the variables of slots that lie between their ends, and those that stand at their

@@ -1,7 +1,7 @@
 ghost use Rattle.std.specs.Prelude.{◌<◌};
 
-use crate::number::wide;
 use row_kit::{Domain, Entry, Program};
+use simplex_steps::wide;
 use std::alloc::{AllocError, Global};
 
 /// The powers of two by which a program's rows and profits are brought near 1.

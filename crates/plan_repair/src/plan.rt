@@ -1,6 +1,5 @@
-use crate::ranges::range_within;
-use crate::reserved::numbered;
-use crate::tables::{Part, Tables, counted};
+//! A plan that is repaired and improved slot by slot.
+use row_activity::{Part, Tables, counted, numbered, range_within};
 use row_kit::{Domain, Entry, Program};
 use std::alloc::{AllocError, Global};
 

@@ -1,22 +1,39 @@
+//! The boxes of a search in memory, and which is explored next.
 ghost use Rattle.std.specs.Prelude.{◌≡◌, length};
 ghost use Rattle.row_kit.specs.Area.{present};
 
 use crate::caps::{exceeds, number_of};
 use crate::node::{NONE, Node};
 use dual_bound::{Cert, cap};
-use dual_simplex::Basis;
-use plan_hints::numbered;
 use row_kit::{Area, Domain, Program};
+use simplex_rows::Basis;
+use simplex_steps::numbered;
 use std::alloc::{AllocError, Global};
 use std::collections::BinaryHeap;
 
 /// The boxes that are known, parts after the box that is split, and those of them that are still to be explored: the one with the
-/// greatest cap first, of several the deepest.
+/// greatest cap first, of several the deepest. It counts about what it holds in memory: once that is 2 GiB, no box is explored any
+/// more, so that those with the least caps are left open.
 #[derive(Drop)]
 pub struct Tree {
     pub nodes: Vec<Node>,
     open: BinaryHeap<(i128, u32, u32)>,
+    slots: u64,
+    held: u64,
 }
+
+// From so many bytes on no box is explored.
+const MOST_HELD: u64 = 2_147_483_648;
+
+// The bytes of a box without its lists, with room for the list of boxes to grow.
+const BOX_BYTES: u64 = 512;
+
+// The bytes of a domain, of where a bound has ended for each slot, and of a multiplier.
+const DOMAIN_BYTES: u64 = 3;
+
+const BASIS_BYTES: u64 = 24;
+
+const MULT_BYTES: u64 = 16;
 
 impl Tree {
     /// A tree whose root is still to be explored.
@@ -24,6 +41,8 @@ impl Tree {
         let mut tree = Tree {
             nodes: Vec::new(alloc),
             open: BinaryHeap::new(alloc),
+            slots: program.root.len() as u64,
+            held: 0,
         };
         let domains = Vec::from_slice(alloc, program.root.as_slice())?;
         tree.put(Node::new(NONE, 0, i128::MAX, NONE, domains))?;
@@ -36,7 +55,19 @@ impl Tree {
         let place = (node.cap, node.depth, number);
         self.nodes.push(node)?;
         self.open.push(place)?;
+        self.hold(BOX_BYTES, 1);
+        self.hold(DOMAIN_BYTES, self.slots);
         Ok(())
+    }
+
+    // Counts so many bytes more for each item.
+    fn hold(&mut self, bytes: u64, items: u64) {
+        self.held = self.held.saturating_add(bytes.saturating_mul(items));
+    }
+
+    // Counts so many bytes less for each slot.
+    fn release(&mut self, bytes: u64) {
+        self.held = self.held.saturating_sub(bytes.saturating_mul(self.slots));
     }
 
     /// Puts an area as a part of a box that is split.
@@ -63,6 +94,7 @@ impl Tree {
     pub fn put_cert(&mut self, number: u32, cert: Option<Cert>) {
         let place = number as usize;
         if place < self.nodes.len() {
+            self.hold(MULT_BYTES, mult_count(&cert));
             let node = &mut self.nodes[place];
             node.cert = cert;
             node.source = number;
@@ -79,11 +111,15 @@ impl Tree {
             node.max = max;
             node.basis = Some(basis);
             node.parts = parts;
+            self.hold(BASIS_BYTES, self.slots);
         }
     }
 
-    /// The box to explore next; none where no cap leaves anything above the worth of the best plan.
+    /// The box to explore next; none where no cap leaves anything above the worth of the best plan, or too much is held.
     pub fn next(&mut self, best: Option<i128>) -> Option<u32> {
+        if self.held >= MOST_HELD {
+            return None;
+        }
         match self.open.pop() {
             Some((cap, _, number)) if exceeds(cap, best) => Some(number),
             _ => None,
@@ -101,6 +137,7 @@ impl Tree {
         if place >= self.nodes.len() {
             return Vec::new(alloc);
         }
+        self.release(DOMAIN_BYTES);
         let node = &mut self.nodes[place];
         node.explored = true;
         std::mem::replace(&mut node.domains, Vec::new(alloc))
@@ -121,6 +158,7 @@ impl Tree {
             }
             if self.has_explored_parts(parent) {
                 self.nodes[parent].basis = None;
+                self.release(BASIS_BYTES);
             }
         }
         Ok(basis)
@@ -191,6 +229,14 @@ pub fn cap_of(program: &Program, area: &Area, cert: &Option<Cert>) -> i128
     match cert {
         None => i128::MAX,
         Some(cert) => number_of(cap(program, area, cert)),
+    }
+}
+
+// The number of multipliers of a certificate.
+fn mult_count(cert: &Option<Cert>) -> u64 {
+    match cert {
+        None => 0,
+        Some(cert) => cert.mults.len() as u64,
     }
 }
 

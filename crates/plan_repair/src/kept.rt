@@ -1,4 +1,5 @@
-use crate::reserved::copy;
+//! The best plan that is known.
+use row_activity::copy;
 use row_kit::{Program, is_lawful, value, worth};
 use std::alloc::{AllocError, Global};
 

@@ -1,3 +1,4 @@
+//! The values of a domain for which a row has room.
 use crate::tables::least;
 use row_kit::{Domain, Entry};
 

@@ -1,5 +1,4 @@
 use crate::reserved::{fill, numbered, put_last};
-use row_kit::Program;
 use std::alloc::{AllocError, Global};
 
 /// Where a variable stands.
@@ -94,16 +93,20 @@ pub struct Dictionary {
 const MOST_LINES: usize = 1_024;
 
 impl Dictionary {
-    /// A dictionary without lines or columns, with room for the columns of so many first slots of a program, and for its rows.
-    pub fn new(alloc: Global, program: &Program, given: u32) -> Result<Dictionary, AllocError> {
-        let slots = program.root.len();
+    /// A dictionary without lines or columns, for so many slots and rows, with room for the columns of so many first slots.
+    pub fn new(
+        alloc: Global,
+        slots: usize,
+        rows: usize,
+        given: u32,
+    ) -> Result<Dictionary, AllocError> {
         let columns = slots.min(given as usize).saturating_mul(2);
         let variables = slots
             .saturating_mul(2)
-            .saturating_add(program.rows.len())
+            .saturating_add(rows)
             .saturating_add(1);
         let lines = columns
-            .saturating_add(program.rows.len().min(MOST_LINES))
+            .saturating_add(rows.min(MOST_LINES))
             .saturating_add(1);
         Ok(Dictionary {
             columns: Vec::with_capacity(alloc, columns)?,

@@ -1,8 +1,9 @@
-use crate::dictionary::{Dictionary, Line, Place};
-use crate::number::{ONE, OutOfRange, cleaned, less_times, raised, sum};
-use crate::reserved::{at, numbered, put, put_last};
+//! The slots and the rows of a program as columns and lines of a dictionary.
 use crate::scales::{Scales, counted, first};
 use row_kit::{Domain, Entry, Program, Row};
+use simplex_steps::{
+    Dictionary, Line, ONE, OutOfRange, Place, clean, numbered, put, put_line, raised, take_variable,
+};
 
 /// The variable of a slot that says how far it stands at its domain's least value.
 pub fn low_variable(slot: u32) -> u32 {
@@ -142,13 +143,6 @@ pub fn add_row(
     Ok(true)
 }
 
-/// Puts a line at the end.
-pub fn put_line(dictionary: &mut Dictionary, line: Line) {
-    let place = Place::Line(numbered(dictionary.lines.len()));
-    dictionary.put_place(line.variable, place);
-    put_last(&mut dictionary.lines, line);
-}
-
 // Writes what a row has left.
 fn write_row(
     dictionary: &Dictionary,
@@ -203,62 +197,4 @@ pub fn take_entry(
     let high = raised(&high_amount(entry, domain), exponent)?;
     take_variable(dictionary, line, low_variable(entry.slot), low)?;
     take_variable(dictionary, line, high_variable(entry.slot), high)
-}
-
-/// Takes an amount of a variable off a line, wherever the variable stands.
-pub fn take_variable(
-    dictionary: &Dictionary,
-    line: &mut Line,
-    variable: u32,
-    amount: i64,
-) -> Result<(), OutOfRange> {
-    match dictionary.place(variable) {
-        Place::Nowhere => Ok(()),
-        Place::Column(column) => take_column(dictionary, line, column as usize, amount),
-        Place::Line(other) => match dictionary.lines.get(other as usize) {
-            None => Ok(()),
-            Some(other) => take_line(line, other, amount),
-        },
-    }
-}
-
-// Takes an amount of the variable of a column off a line.
-fn take_column(
-    dictionary: &Dictionary,
-    line: &mut Line,
-    column: usize,
-    amount: i64,
-) -> Result<(), OutOfRange> {
-    if column >= dictionary.columns.len() {
-        return Ok(());
-    }
-    let part = sum(at(line.parts.as_slice(), column), amount)?;
-    put(line.parts.as_mut_slice(), column, part);
-    line.value = less_times(line.value, amount, dictionary.columns[column].value())?;
-    Ok(())
-}
-
-// Takes an amount of the variable of another line off a line.
-fn take_line(line: &mut Line, other: &Line, amount: i64) -> Result<(), OutOfRange> {
-    line.constant = less_times(line.constant, amount, other.constant)?;
-    line.value = less_times(line.value, amount, other.value)?;
-    take_parts(line.parts.as_mut_slice(), other.parts.as_slice(), amount)
-}
-
-// Takes an amount of other parts off parts.
-fn take_parts(parts: &mut [i64], others: &[i64], amount: i64) -> Result<(), OutOfRange> {
-    for column in 0..parts.len() {
-        let other = at(others, column);
-        if other != 0 {
-            parts[column] = less_times(parts[column], amount, other)?;
-        }
-    }
-    Ok(())
-}
-
-// Makes parts 0 that are only noise.
-fn clean(parts: &mut [i64]) {
-    for part in parts.iter_mut() {
-        *part = cleaned(*part);
-    }
 }

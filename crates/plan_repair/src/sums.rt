@@ -1,5 +1,5 @@
 //! Programs with sums, and without.
-use crate::reserved::numbered;
+use row_activity::numbered;
 use row_kit::{Entry, List, Program, Row};
 use std::alloc::{AllocError, Global};
 

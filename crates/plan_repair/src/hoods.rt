@@ -1,3 +1,4 @@
+//! Where a plan is left free.
 use row_kit::{Entry, Program, Tag};
 use std::alloc::{AllocError, Global};
 

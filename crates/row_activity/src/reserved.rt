@@ -1,3 +1,4 @@
+//! Lists that are filled without taking memory, and places as numbers.
 /// Puts an item at the end where there is room, and else drops it. It takes no memory.
 pub fn put_last<T: Drop>(list: &mut Vec<T>, item: T) {
     if list.len() < list.capacity() {

@@ -1,11 +1,9 @@
 use crate::amounts::Amount;
-use crate::dictionary::{Dictionary, Place};
 use crate::filling::{add_row, least_amount, slack_variable};
-use crate::number::{ONE, OutOfRange, TINY, lowered, wide};
-use crate::reserved::{numbered, put_last};
 use crate::scales::Scales;
 use crate::sums::is_idle;
 use row_kit::{Domain, Entry, Program, Row};
+use simplex_steps::{Dictionary, ONE, OutOfRange, Place, TINY, lowered, numbered, put_last, wide};
 
 /// Lists the rows that are not in a dictionary and are broken, the most broken first, each with minus what it is broken by.
 pub fn list_broken(

@@ -1,8 +1,6 @@
-use crate::dictionary::Dictionary;
 use crate::filling::{high_variable, low_variable};
-use crate::number::{ONE, OutOfRange, lowered, wide};
-use crate::reserved::{numbered, put_last};
 use row_kit::Domain;
+use simplex_steps::{Dictionary, ONE, OutOfRange, lowered, numbered, put_last, wide};
 
 /// How far a slot is started, from 0 to 1, and how many quanta it makes, each with 30 bits of fraction.
 #[derive(Clone, Copy, PartialEq, Eq, Debug)]

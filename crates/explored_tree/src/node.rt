@@ -1,6 +1,7 @@
+//! A box of the tree that is explored.
 use dual_bound::Cert;
-use dual_simplex::Basis;
 use row_kit::Domain;
+use simplex_rows::Basis;
 
 /// The number of no node.
 pub const NONE: u32 = u32::MAX;
