@@ -89,7 +89,7 @@ pub own_cap : (plant : Plant) (bytes : List ℕ) (sums : List Sum) (proof : RowT
 own_cap plant bytes sums proof claim cap valid estimate =
     elim estimate.is [
       | inl loose ↦ loosely loose
-    | inr plain ↦ absurd (plain.untaken (subst (λ (p : Program). AreSumsOf p (plant_root plant) sums) same (taken plant bytes sums proof claim valid)))
+      | inr plain ↦ absurd (plain.untaken (subst (λ (p : Program). AreSumsOf p (plant_root plant) sums) same (taken plant bytes sums proof claim valid)))
     ]
   where
     same : valid.checked.program ≡ estimate.program
