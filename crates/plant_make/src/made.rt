@@ -11,6 +11,7 @@ use stn_model::{Gap, List, Name, Plant, Run, State, StnUnit, Task, Utility};
 /// The horizon of a plant that is made, in periods.
 const PERIODS: u32 = 12;
 
+/// Puts the states of so many chains.
 fn states(alloc: Global, seed: u32, chains: u32, states: &mut List<State>) -> Result<(), AllocError>
     requires chains { chains ≤ 8 }
     requires empty { states.old ≡ [] }
@@ -22,6 +23,7 @@ fn states(alloc: Global, seed: u32, chains: u32, states: &mut List<State>) -> Re
     Ok(())
 }
 
+/// Puts the tasks of so many chains.
 fn tasks(alloc: Global, seed: u32, chains: u32, tasks: &mut List<Task>) -> Result<(), AllocError>
     requires chains { chains ≤ 8 }
     requires empty { tasks.old ≡ [] }
@@ -33,6 +35,7 @@ fn tasks(alloc: Global, seed: u32, chains: u32, tasks: &mut List<Task>) -> Resul
     Ok(())
 }
 
+/// Puts the runs of so many chains.
 fn runs(seed: u32, chains: u32, runs: &mut List<Run>) -> Result<(), AllocError>
     requires chains { chains ≤ 8 }
     requires empty { runs.old ≡ [] }
@@ -44,6 +47,7 @@ fn runs(seed: u32, chains: u32, runs: &mut List<Run>) -> Result<(), AllocError>
     Ok(())
 }
 
+/// Puts the three units.
 #[tactic(auto, unfolding(crate::specs::Made::units_of))]
 fn units(alloc: Global, units: &mut List<StnUnit>) -> Result<(), AllocError>
     requires { units.old ≡ [] }
@@ -56,6 +60,7 @@ fn units(alloc: Global, units: &mut List<StnUnit>) -> Result<(), AllocError>
     Ok(())
 }
 
+/// Puts the gaps on the three units.
 #[tactic(auto, unfolding(crate::specs::Made::gaps_of))]
 fn gaps(gaps: &mut List<Gap>) -> Result<(), AllocError>
     requires { gaps.old ≡ [] }
@@ -80,7 +85,7 @@ fn gaps(gaps: &mut List<Gap>) -> Result<(), AllocError>
     Ok(())
 }
 
-// The gaps of so many chains: there are some where there is a second chain.
+/// Puts the gaps of so many chains: there are some where there is a second chain.
 fn gaps_between(chains: u32, list: &mut List<Gap>) -> Result<(), AllocError>
     requires { list.old ≡ [] }
     ensures { OnOk result (list.new ≡ (if nat_le 2 chains then chained gaps_of 3 else [])) }
@@ -111,6 +116,7 @@ fn steam(alloc: Global, seed: u32, chains: u32) -> Result<Utility, AllocError>
     })
 }
 
+/// A plant that has nothing but its horizon.
 fn bare_plant(alloc: Global) -> Plant
     ensures { result ≡ bare_plant }
 {

@@ -96,7 +96,7 @@ fn several_value(alloc: Global, limits: &[u64]) -> Result<Option<Value>, AllocEr
     Ok(Some(value))
 }
 
-/// Puts the limits: one number where they are all the same, else their list, or nothing where there are none.
+/// Puts limits: one number where they are all the same, else their list; nothing where there are none.
 pub fn put_limits(alloc: Global, table: &mut Table, limits: &[u64]) -> Result<(), AllocError>
     requires { All (λ n. n ≤ 1000000000) limits.now }
     ensures { OnOk result (table_view table.new ≡ with_entry (with_entry (table_view table.old) (KeyName.Limit, option_map number (lone limits.now))) (KeyName.Limits, option_map numbers (several limits.now))) }
