@@ -1,6 +1,7 @@
 -- Tables that are built key by key.
-use Rattle.std.proofs.Common.{◌≡◌, List, map, refl, ◌∙◌}
-use Rattle.toml.specs.Data.{Data, string, Members, no_members}
+use Rattle.std.proofs.Common.{◌≡◌, ℕ, List, map, refl, ◌∙◌}
+use Rattle.std.specs.List.{fold}
+use Rattle.toml.specs.Data.{Data, string, Members}
 use Rattle.stn_model.specs.declared.plant.Plant.{Plant}
 use Rattle.stn_model.specs.declared.plant.State.{State}
 use Rattle.stn_model.specs.declared.plant.Utility.{Utility}
@@ -16,39 +17,35 @@ use Rattle.stn_model.specs.declared.plant.Delivery.{Delivery}
 use Rattle.stn_model.specs.declared.plant.Outage.{Outage}
 use Rattle.plant_text.specs.declared.fault.KeyName.TheVariants as key
 use Rattle.plant_text.specs.Words.{key_word}
-use Rattle.plant_make.specs.Entries.{with_member, with_entry, table_of, number, some_items}
+use Rattle.plant_make.specs.Entries.{with_member, with_entry, number, some_items}
 use Rattle.plant_make.specs.Printed.{made_of, state_entries, utility_entries, unit_entries, input_entries, output_entries, draw_entries, task_entries, run_entries, gap_entries, receipt_entries, delivery_entries, outage_entries, plant_entries}
 
--- the table of a task
-pub task_chain : (plant : Plant) (task : Task) (t0 t1 t2 t3 t4 t5 : Members) (name quantum : Data) (inputs outputs draws : List Data)
-    → t5 ≡ with_entry t4 (key.Draw, some_items draws) → t4 ≡ with_entry t3 (key.Output, some_items outputs) → t3 ≡ with_entry t2 (key.Input, some_items inputs)
-    → t2 ≡ with_member (key_word key.Quantum) quantum t1 → t1 ≡ with_member (key_word key.Name) name t0 → t0 ≡ no_members
-    → name ≡ string task.name → quantum ≡ number task.quantum
-    → inputs ≡ map (λ (input : Input). made_of (input_entries plant task.quantum input)) task.inputs
-    → outputs ≡ map (λ (output : Output). made_of (output_entries plant task.quantum output)) task.outputs
-    → draws ≡ map (λ (draw : Draw). made_of (draw_entries plant draw)) task.draws
-    → t5 ≡ table_of (task_entries plant task)
-unfolding table_of task_entries
-task_chain plant task t0 t1 t2 t3 t4 t5 name quantum inputs outputs draws e5 e4 e3 e2 e1 e0 named sized ins outs drawn =
-    e5 ∙ rw (e4, e3, e2, e1, e0, named, sized, ins, outs, drawn) refl
+-- the keys of a task
+pub task_chain : (plant : Plant) (task : Task) (t0 t1 t2 t3 t4 t5 : Members) (name : List ℕ) (quantum : Data)
+    → t5 ≡ with_entry t4 (key.Draw, some_items (map (λ (draw : Draw). made_of (draw_entries plant draw)) task.draws))
+    → t4 ≡ with_entry t3 (key.Output, some_items (map (λ (output : Output). made_of (output_entries plant task.quantum output)) task.outputs))
+    → t3 ≡ with_entry t2 (key.Input, some_items (map (λ (input : Input). made_of (input_entries plant task.quantum input)) task.inputs))
+    → t2 ≡ with_member (key_word key.Quantum) quantum t1 → t1 ≡ with_member (key_word key.Name) (string name) t0
+    → name ≡ task.name → quantum ≡ number task.quantum
+    → t5 ≡ fold with_entry t0 (task_entries plant task)
+unfolding task_entries
+task_chain plant task t0 t1 t2 t3 t4 t5 name quantum e5 e4 e3 e2 e1 named sized =
+    e5 ∙ rw (e4, e3, e2, e1, named, sized) refl
 
--- the document of a plant
-pub plant_chain : (plant : Plant) (t0 t1 t2 t3 t4 t5 t6 t7 t8 t9 t10 t11 : Members) (version periods : Data) (states utilities units tasks runs gaps receipts deliveries outages : List Data)
-    → t11 ≡ with_entry t10 (key.Outage, some_items outages) → t10 ≡ with_entry t9 (key.Delivery, some_items deliveries) → t9 ≡ with_entry t8 (key.Receipt, some_items receipts)
-    → t8 ≡ with_entry t7 (key.Gap, some_items gaps) → t7 ≡ with_entry t6 (key.Run, some_items runs) → t6 ≡ with_entry t5 (key.Task, some_items tasks)
-    → t5 ≡ with_entry t4 (key.StnUnit, some_items units) → t4 ≡ with_entry t3 (key.Utility, some_items utilities) → t3 ≡ with_entry t2 (key.State, some_items states)
-    → t2 ≡ with_member (key_word key.Periods) periods t1 → t1 ≡ with_member (key_word key.Version) version t0 → t0 ≡ no_members
+-- the keys at the top
+pub plant_chain : (plant : Plant) (t0 t1 t2 t3 t4 t5 t6 t7 t8 t9 t10 t11 : Members) (version periods : Data)
+    → t11 ≡ with_entry t10 (key.Outage, some_items (map (λ (outage : Outage). made_of (outage_entries plant outage)) plant.outages))
+    → t10 ≡ with_entry t9 (key.Delivery, some_items (map (λ (delivery : Delivery). made_of (delivery_entries plant delivery)) plant.deliveries))
+    → t9 ≡ with_entry t8 (key.Receipt, some_items (map (λ (receipt : Receipt). made_of (receipt_entries plant receipt)) plant.receipts))
+    → t8 ≡ with_entry t7 (key.Gap, some_items (map (λ (gap : Gap). made_of (gap_entries plant gap)) plant.gaps))
+    → t7 ≡ with_entry t6 (key.Run, some_items (map (λ (run : Run). made_of (run_entries plant run)) plant.runs))
+    → t6 ≡ with_entry t5 (key.Task, some_items (map (λ (task : Task). made_of (task_entries plant task)) plant.tasks))
+    → t5 ≡ with_entry t4 (key.StnUnit, some_items (map (λ (unit : StnUnit). made_of (unit_entries unit)) plant.units))
+    → t4 ≡ with_entry t3 (key.Utility, some_items (map (λ (utility : Utility). made_of (utility_entries utility)) plant.utilities))
+    → t3 ≡ with_entry t2 (key.State, some_items (map (λ (state : State). made_of (state_entries state)) plant.states))
+    → t2 ≡ with_member (key_word key.Periods) periods t1 → t1 ≡ with_member (key_word key.Version) version t0
     → version ≡ number 2 → periods ≡ number plant.periods
-    → states ≡ map (λ (state : State). made_of (state_entries state)) plant.states
-    → utilities ≡ map (λ (utility : Utility). made_of (utility_entries utility)) plant.utilities
-    → units ≡ map (λ (unit : StnUnit). made_of (unit_entries unit)) plant.units
-    → tasks ≡ map (λ (task : Task). made_of (task_entries plant task)) plant.tasks
-    → runs ≡ map (λ (run : Run). made_of (run_entries plant run)) plant.runs
-    → gaps ≡ map (λ (gap : Gap). made_of (gap_entries plant gap)) plant.gaps
-    → receipts ≡ map (λ (receipt : Receipt). made_of (receipt_entries plant receipt)) plant.receipts
-    → deliveries ≡ map (λ (delivery : Delivery). made_of (delivery_entries plant delivery)) plant.deliveries
-    → outages ≡ map (λ (outage : Outage). made_of (outage_entries plant outage)) plant.outages
-    → t11 ≡ table_of (plant_entries plant)
-unfolding table_of plant_entries
-plant_chain plant t0 t1 t2 t3 t4 t5 t6 t7 t8 t9 t10 t11 version periods states utilities units tasks runs gaps receipts deliveries outages e11 e10 e9 e8 e7 e6 e5 e4 e3 e2 e1 e0 second horizon a b c d e f g h i =
-    e11 ∙ rw (e10, e9, e8, e7, e6, e5, e4, e3, e2, e1, e0, second, horizon, a, b, c, d, e, f, g, h, i) refl
+    → t11 ≡ fold with_entry t0 (plant_entries plant)
+unfolding plant_entries
+plant_chain plant t0 t1 t2 t3 t4 t5 t6 t7 t8 t9 t10 t11 version periods e11 e10 e9 e8 e7 e6 e5 e4 e3 e2 e1 second horizon =
+    e11 ∙ rw (e10, e9, e8, e7, e6, e5, e4, e3, e2, e1, second, horizon) refl

@@ -93,6 +93,10 @@ gaps_of unit =
 unfoldable pub steam_of : ℕ → ℕ → Utility
 steam_of seed chains = record { name = codes "steam"; limits = replicate made_periods (12 + taken seed (15 * chains) 9); rate = pos 1 }
 
+-- a plant that has nothing but its horizon
+abbrev pub bare_plant : Plant
+bare_plant = record { periods = made_periods; states = []; utilities = []; units = []; tasks = []; runs = []; gaps = []; receipts = []; deliveries = []; outages = [] }
+
 -- the plant of a seed with so many chains
 unfoldable pub plant_made : ℕ → ℕ → Plant
 plant_made seed chains = record {

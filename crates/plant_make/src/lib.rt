@@ -6,6 +6,7 @@
 mod chains;
 mod items;
 mod made;
+mod naming;
 mod numbers;
 mod print;
 mod rows;

@@ -1,7 +1,7 @@
 //! Making a plant of a seed.
-ghost use Rattle.std.specs.Prelude.{◌≡◌, ◌≤◌, nat_le, [], ◌∷◌, IfOk, if◌then◌else◌};
+ghost use Rattle.std.specs.Prelude.{◌≡◌, ◌≤◌, nat_le, [], IfOk, OnOk, if◌then◌else◌};
 ghost use Rattle.stn_model.specs.Sound.{Sound};
-ghost use Rattle.plant_make.specs.Made.{chained, states_of, tasks_of, runs_of, units_of, gaps_of, steam_of, plant_made};
+ghost use Rattle.plant_make.specs.Made.{chained, states_of, tasks_of, runs_of, units_of, gaps_of, steam_of, bare_plant, plant_made};
 
 use crate::chains::{letter_name, put_runs, put_states, put_tasks, repeated};
 use crate::numbers::taken;
@@ -11,56 +11,61 @@ use stn_model::{Gap, List, Name, Plant, Run, State, StnUnit, Task, Utility};
 /// The horizon of a plant that is made, in periods.
 const PERIODS: u32 = 12;
 
-fn states(alloc: Global, seed: u32, chains: u32) -> Result<List<State>, AllocError>
-    requires { chains ≤ 8 }
-    ensures { IfOk result (λ states. states ≡ chained (states_of seed) chains) }
+/// Puts the states of so many chains.
+fn states(alloc: Global, seed: u32, chains: u32, states: &mut List<State>) -> Result<(), AllocError>
+    requires chains { chains ≤ 8 }
+    requires empty { states.old ≡ [] }
+    ensures { OnOk result (states.new ≡ chained (states_of seed) chains) }
 {
-    let mut states = List::new(alloc);
     for chain in 0..chains {
-        put_states(alloc, seed, chain, &mut states)?;
+        put_states(alloc, seed, chain, states)?;
     }
-    Ok(states)
+    Ok(())
 }
 
-fn tasks(alloc: Global, seed: u32, chains: u32) -> Result<List<Task>, AllocError>
-    requires { chains ≤ 8 }
-    ensures { IfOk result (λ tasks. tasks ≡ chained (tasks_of seed) chains) }
+/// Puts the tasks of so many chains.
+fn tasks(alloc: Global, seed: u32, chains: u32, tasks: &mut List<Task>) -> Result<(), AllocError>
+    requires chains { chains ≤ 8 }
+    requires empty { tasks.old ≡ [] }
+    ensures { OnOk result (tasks.new ≡ chained (tasks_of seed) chains) }
 {
-    let mut tasks = List::new(alloc);
     for chain in 0..chains {
-        put_tasks(alloc, seed, chain, &mut tasks)?;
+        put_tasks(alloc, seed, chain, tasks)?;
     }
-    Ok(tasks)
+    Ok(())
 }
 
-fn runs(alloc: Global, seed: u32, chains: u32) -> Result<List<Run>, AllocError>
-    requires { chains ≤ 8 }
-    ensures { IfOk result (λ runs. runs ≡ chained (runs_of seed) chains) }
+/// Puts the runs of so many chains.
+fn runs(seed: u32, chains: u32, runs: &mut List<Run>) -> Result<(), AllocError>
+    requires chains { chains ≤ 8 }
+    requires empty { runs.old ≡ [] }
+    ensures { OnOk result (runs.new ≡ chained (runs_of seed) chains) }
 {
-    let mut runs = List::new(alloc);
     for chain in 0..chains {
-        put_runs(seed, chain, &mut runs)?;
+        put_runs(seed, chain, runs)?;
     }
-    Ok(runs)
+    Ok(())
 }
 
+/// Puts the three units.
 #[tactic(auto, unfolding(crate::specs::Made::units_of))]
-fn units(alloc: Global) -> Result<List<StnUnit>, AllocError>
-    ensures { IfOk result (λ units. units ≡ chained units_of 3) }
+fn units(alloc: Global, units: &mut List<StnUnit>) -> Result<(), AllocError>
+    requires { units.old ≡ [] }
+    ensures { OnOk result (units.new ≡ chained units_of 3) }
 {
-    let mut units = List::new(alloc);
     for unit in 0..3 {
         let name = letter_name(alloc, b'U', unit)?;
         units.push(StnUnit { name })?;
     }
-    Ok(units)
+    Ok(())
 }
 
+/// Puts the gaps on the three units.
 #[tactic(auto, unfolding(crate::specs::Made::gaps_of))]
-fn gaps(alloc: Global) -> Result<List<Gap>, AllocError>
-    ensures { IfOk result (λ gaps. gaps ≡ chained gaps_of 3) }
+fn gaps(gaps: &mut List<Gap>) -> Result<(), AllocError>
+    requires { gaps.old ≡ [] }
+    ensures { OnOk result (gaps.new ≡ chained gaps_of 3) }
 {
-    let mut gaps = List::new(alloc);
     for unit in 0..3 {
         gaps.push(Gap {
             unit,
@@ -77,18 +82,15 @@ fn gaps(alloc: Global) -> Result<List<Gap>, AllocError>
             cost: 0,
         })?;
     }
-    Ok(gaps)
+    Ok(())
 }
 
-// The gaps of so many chains: there are some where there is a second chain.
-fn gaps_between(alloc: Global, chains: u32) -> Result<List<Gap>, AllocError>
-    ensures { IfOk result (λ gaps. gaps ≡ (if nat_le 2 chains then chained gaps_of 3 else [])) }
+/// Puts the gaps of so many chains: there are some where there is a second chain.
+fn gaps_between(chains: u32, list: &mut List<Gap>) -> Result<(), AllocError>
+    requires { list.old ≡ [] }
+    ensures { OnOk result (list.new ≡ (if nat_le 2 chains then chained gaps_of 3 else [])) }
 {
-    if 2 <= chains {
-        gaps(alloc)
-    } else {
-        Ok(List::new(alloc))
-    }
+    if 2 <= chains { gaps(list) } else { Ok(()) }
 }
 
 fn copied(alloc: Global, text: &[u8]) -> Result<Name, AllocError>
@@ -114,33 +116,47 @@ fn steam(alloc: Global, seed: u32, chains: u32) -> Result<Utility, AllocError>
     })
 }
 
-fn utilities(alloc: Global, seed: u32, chains: u32) -> Result<List<Utility>, AllocError>
-    requires { chains ≤ 8 }
-    ensures { IfOk result (λ utilities. utilities ≡ steam_of seed chains ∷ []) }
+/// A plant that has nothing but its horizon.
+fn bare_plant(alloc: Global) -> Plant
+    ensures { result ≡ bare_plant }
 {
-    let mut utilities = List::new(alloc);
-    utilities.push(steam(alloc, seed, chains)?)?;
-    Ok(utilities)
+    Plant {
+        periods: PERIODS,
+        states: List::new(alloc),
+        utilities: List::new(alloc),
+        units: List::new(alloc),
+        tasks: List::new(alloc),
+        runs: List::new(alloc),
+        gaps: List::new(alloc),
+        receipts: List::new(alloc),
+        deliveries: List::new(alloc),
+        outages: List::new(alloc),
+    }
+}
+
+/// Gives a bare plant all that the plant of a seed has.
+#[tactic(auto, unfolding(crate::specs::Made::plant_made))]
+fn fill(alloc: Global, seed: u32, chains: u32, plant: &mut Plant) -> Result<(), AllocError>
+    requires chains { chains ≤ 8 }
+    requires bare { plant.old ≡ bare_plant }
+    ensures { OnOk result (plant.new ≡ plant_made seed chains) }
+{
+    states(alloc, seed, chains, &mut plant.states)?;
+    plant.utilities.push(steam(alloc, seed, chains)?)?;
+    units(alloc, &mut plant.units)?;
+    tasks(alloc, seed, chains, &mut plant.tasks)?;
+    runs(seed, chains, &mut plant.runs)?;
+    gaps_between(chains, &mut plant.gaps)
 }
 
 /// The plant of a seed, with so many chains of a feed, an intermediate and a product on three units.
-#[tactic(auto, unfolding(crate::specs::Made::plant_made))]
 pub fn make(alloc: Global, seed: u32, chains: u32) -> Result<Plant, AllocError>
     requires some { 1 ≤ chains }
     requires most { chains ≤ 8 }
     ensures made { IfOk result (λ plant. plant ≡ plant_made seed chains) }
     ensures sound { IfOk result Sound }
 {
-    Ok(Plant {
-        periods: PERIODS,
-        states: states(alloc, seed, chains)?,
-        utilities: utilities(alloc, seed, chains)?,
-        units: units(alloc)?,
-        tasks: tasks(alloc, seed, chains)?,
-        runs: runs(alloc, seed, chains)?,
-        gaps: gaps_between(alloc, chains)?,
-        receipts: List::new(alloc),
-        deliveries: List::new(alloc),
-        outages: List::new(alloc),
-    })
+    let mut plant = bare_plant(alloc);
+    fill(alloc, seed, chains, &mut plant)?;
+    Ok(plant)
 }

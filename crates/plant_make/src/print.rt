@@ -1,14 +1,15 @@
 //! Printing a plant as a plant file.
 ghost use Rattle.std.specs.Prelude.{◌≡◌, Some, OnOk, OnErr, IfOk, string_bytes};
+ghost use Rattle.std.specs.List.{fold};
 ghost use Rattle.toml.specs.View.{table_view};
 ghost use Rattle.toml.specs.Parse.{parse_document};
 ghost use Rattle.stn_model.specs.Sound.{Sound};
-ghost use Rattle.plant_make.specs.Entries.{table_of};
+ghost use Rattle.plant_make.specs.Entries.{table_of, with_entry};
 ghost use Rattle.plant_make.specs.Printed.{plant_entries};
 ghost use Rattle.plant_make.specs.Meaning.{Puts};
 
-use crate::rows::rows;
-use crate::table::{put, put_items};
+use crate::rows::put_rows;
+use crate::table::put;
 use crate::values::short_value;
 use plant_text::KeyName;
 use std::alloc::{AllocError, Global};
@@ -16,38 +17,34 @@ use stn_model::Plant;
 use toml::Table;
 use toml::ser::Error;
 
-// The document of a plant, of version 2.
-#[tactic(auto, unfolding(crate::specs::Entries::table_of, crate::specs::Printed::plant_entries))]
+/// Puts the keys at the top, of version 2.
+#[tactic(auto, unfolding(crate::specs::Printed::plant_entries))]
+fn put_plant_keys(alloc: Global, plant: &Plant, table: &mut Table) -> Result<(), AllocError>
+    requires { Sound plant.now }
+    ensures { OnOk result (table_view table.new ≡ fold with_entry (table_view table.old) (plant_entries plant.now)) }
+{
+    put(alloc, table, KeyName::Version, short_value(2))?;
+    put(alloc, table, KeyName::Periods, short_value(plant.periods))?;
+    put_rows(alloc, table, KeyName::State, plant, 0, &plant.states)?;
+    put_rows(alloc, table, KeyName::Utility, plant, 0, &plant.utilities)?;
+    put_rows(alloc, table, KeyName::StnUnit, plant, 0, &plant.units)?;
+    put_rows(alloc, table, KeyName::Task, plant, 0, &plant.tasks)?;
+    put_rows(alloc, table, KeyName::Run, plant, 0, &plant.runs)?;
+    put_rows(alloc, table, KeyName::Gap, plant, 0, &plant.gaps)?;
+    put_rows(alloc, table, KeyName::Receipt, plant, 0, &plant.receipts)?;
+    put_rows(alloc, table, KeyName::Delivery, plant, 0, &plant.deliveries)?;
+    put_rows(alloc, table, KeyName::Outage, plant, 0, &plant.outages)?;
+    Ok(())
+}
+
+// The document of a plant.
+#[tactic(auto, unfolding(crate::specs::Entries::table_of))]
 fn document(alloc: Global, plant: &Plant) -> Result<Table, AllocError>
     requires { Sound plant.now }
     ensures { IfOk result (λ t. table_view t ≡ table_of (plant_entries plant.now)) }
 {
-    let states = rows(alloc, plant, 0, plant.states.as_slice())?;
-    let utilities = rows(alloc, plant, 0, plant.utilities.as_slice())?;
-    let units = rows(alloc, plant, 0, plant.units.as_slice())?;
-    let tasks = rows(alloc, plant, 0, plant.tasks.as_slice())?;
-    let runs = rows(alloc, plant, 0, plant.runs.as_slice())?;
-    let gaps = rows(alloc, plant, 0, plant.gaps.as_slice())?;
-    let receipts = rows(alloc, plant, 0, plant.receipts.as_slice())?;
-    let deliveries = rows(alloc, plant, 0, plant.deliveries.as_slice())?;
-    let outages = rows(alloc, plant, 0, plant.outages.as_slice())?;
     let mut table = Table::new(alloc);
-    put(alloc, &mut table, KeyName::Version, short_value(2))?;
-    put(
-        alloc,
-        &mut table,
-        KeyName::Periods,
-        short_value(plant.periods),
-    )?;
-    put_items(alloc, &mut table, KeyName::State, states)?;
-    put_items(alloc, &mut table, KeyName::Utility, utilities)?;
-    put_items(alloc, &mut table, KeyName::StnUnit, units)?;
-    put_items(alloc, &mut table, KeyName::Task, tasks)?;
-    put_items(alloc, &mut table, KeyName::Run, runs)?;
-    put_items(alloc, &mut table, KeyName::Gap, gaps)?;
-    put_items(alloc, &mut table, KeyName::Receipt, receipts)?;
-    put_items(alloc, &mut table, KeyName::Delivery, deliveries)?;
-    put_items(alloc, &mut table, KeyName::Outage, outages)?;
+    put_plant_keys(alloc, plant, &mut table)?;
     Ok(table)
 }
 

@@ -1,64 +1,17 @@
-//! Values of a plant file: names, numbers, lists of numbers, parts.
-ghost use Rattle.std.specs.Prelude.{◌≡◌, ◌<◌, ◌≤◌, ◌==◌, ◌^◌, All, IfOk, IsTrue, length, option_map};
+//! Values of a plant file: numbers, lists of numbers, limits, parts.
+ghost use Rattle.std.specs.Prelude.{◌≡◌, ◌<◌, ◌≤◌, ◌==◌, ◌^◌, All, IfOk, OnOk, option_map};
 ghost use Rattle.std.specs.List.{list_all};
-ghost use Rattle.toml.specs.Data.{string};
-ghost use Rattle.toml.specs.View.{view};
-ghost use Rattle.stn_model.specs.Sound.{Sound, IsPart, is_name};
-ghost use Rattle.plant_make.specs.Entries.{number, numbers};
+ghost use Rattle.toml.specs.View.{view, table_view};
+ghost use Rattle.stn_model.specs.Sound.{IsPart};
+ghost use Rattle.plant_make.specs.Entries.{number, numbers, with_entry};
 ghost use Rattle.plant_make.specs.Numbers.{lone, several, part_of};
-ghost use Rattle.plant_make.specs.Printed.{state_name, utility_name, unit_name, task_name, part_text};
+ghost use Rattle.plant_make.specs.Printed.{part_text};
 
+use crate::table::put_some;
 use fraction::Fraction;
+use plant_text::KeyName;
 use std::alloc::{AllocError, Global};
-use stn_model::Plant;
-use toml::Value;
-
-/// A name as a text.
-pub fn name_value(alloc: Global, name: &[u8]) -> Result<Value, AllocError>
-    requires { IsTrue (is_name name.now) }
-    ensures { IfOk result (λ v. view v ≡ string name.now) }
-{
-    match std::str::from_utf8(name) {
-        Ok(text) => Value::string(alloc, text),
-        Err(_) => unreachable!(),
-    }
-}
-
-/// The name of a state of the plant.
-pub fn state_value(alloc: Global, plant: &Plant, state: u32) -> Result<Value, AllocError>
-    requires sound { Sound plant.now }
-    requires there { state < length plant.now.states }
-    ensures { IfOk result (λ v. view v ≡ state_name plant.now state) }
-{
-    name_value(alloc, plant.states.get(state as usize).name.as_slice())
-}
-
-/// The name of a utility of the plant.
-pub fn utility_value(alloc: Global, plant: &Plant, utility: u32) -> Result<Value, AllocError>
-    requires sound { Sound plant.now }
-    requires there { utility < length plant.now.utilities }
-    ensures { IfOk result (λ v. view v ≡ utility_name plant.now utility) }
-{
-    name_value(alloc, plant.utilities.get(utility as usize).name.as_slice())
-}
-
-/// The name of a unit of the plant.
-pub fn unit_value(alloc: Global, plant: &Plant, unit: u32) -> Result<Value, AllocError>
-    requires sound { Sound plant.now }
-    requires there { unit < length plant.now.units }
-    ensures { IfOk result (λ v. view v ≡ unit_name plant.now unit) }
-{
-    name_value(alloc, plant.units.get(unit as usize).name.as_slice())
-}
-
-/// The name of a task of the plant.
-pub fn task_value(alloc: Global, plant: &Plant, task: u32) -> Result<Value, AllocError>
-    requires sound { Sound plant.now }
-    requires there { task < length plant.now.tasks }
-    ensures { IfOk result (λ v. view v ≡ task_name plant.now task) }
-{
-    name_value(alloc, plant.tasks.get(task as usize).name.as_slice())
-}
+use toml::{Table, Value};
 
 /// A whole number.
 pub fn number_value(n: u64) -> Value
@@ -76,7 +29,7 @@ pub fn short_value(n: u32) -> Value
 }
 
 /// An array of whole numbers.
-pub fn numbers_value(alloc: Global, items: &[u64]) -> Result<Value, AllocError>
+fn numbers_value(alloc: Global, items: &[u64]) -> Result<Value, AllocError>
     requires { All (λ n. n ≤ 1000000000) items.now }
     ensures { IfOk result (λ v. view v ≡ numbers items.now) }
 {
@@ -112,7 +65,7 @@ fn are_all(limits: &[u64], n: u64) -> bool
 
 /// The one number that all limits are, if there is one.
 #[tactic(auto, unfolding(crate::specs::Numbers::lone))]
-pub fn lone_value(limits: &[u64]) -> Option<Value>
+fn lone_value(limits: &[u64]) -> Option<Value>
     requires { All (λ n. n ≤ 1000000000) limits.now }
     ensures { option_map view result ≡ option_map number (lone limits.now) }
 {
@@ -129,7 +82,7 @@ pub fn lone_value(limits: &[u64]) -> Option<Value>
 
 /// The limits, where they are not all the same.
 #[tactic(auto, unfolding(crate::specs::Numbers::several))]
-pub fn several_value(alloc: Global, limits: &[u64]) -> Result<Option<Value>, AllocError>
+fn several_value(alloc: Global, limits: &[u64]) -> Result<Option<Value>, AllocError>
     requires { All (λ n. n ≤ 1000000000) limits.now }
     ensures { IfOk result (λ v. option_map view v ≡ option_map numbers (several limits.now)) }
 {
@@ -141,6 +94,16 @@ pub fn several_value(alloc: Global, limits: &[u64]) -> Result<Option<Value>, All
     }
     let value = numbers_value(alloc, limits)?;
     Ok(Some(value))
+}
+
+/// Puts limits: one number where they are all the same, else their list; nothing where there are none.
+pub fn put_limits(alloc: Global, table: &mut Table, limits: &[u64]) -> Result<(), AllocError>
+    requires { All (λ n. n ≤ 1000000000) limits.now }
+    ensures { OnOk result (table_view table.new ≡ with_entry (with_entry (table_view table.old) (KeyName.Limit, option_map number (lone limits.now))) (KeyName.Limits, option_map numbers (several limits.now))) }
+{
+    put_some(alloc, table, KeyName::Limit, lone_value(limits))?;
+    let several = several_value(alloc, limits)?;
+    put_some(alloc, table, KeyName::Limits, several)
 }
 
 // The part that an amount is of the quantum, in lowest terms.

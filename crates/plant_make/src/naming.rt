@@ -1,0 +1,99 @@
+//! Names in tables: of a record itself, and of the things that it names by number.
+ghost use Rattle.std.specs.Prelude.{◌≡◌, ◌<◌, Some, IfOk, OnOk, IsTrue, length};
+ghost use Rattle.toml.specs.Data.{string};
+ghost use Rattle.toml.specs.View.{view, table_view};
+ghost use Rattle.stn_model.specs.Sound.{Sound, is_name};
+ghost use Rattle.plant_make.specs.Entries.{with_entry};
+ghost use Rattle.plant_make.specs.Printed.{state_name, utility_name, unit_name, task_name};
+
+use crate::table::put;
+use plant_text::KeyName;
+use std::alloc::{AllocError, Global};
+use stn_model::Plant;
+use toml::{Table, Value};
+
+/// A name as a text.
+fn name_value(alloc: Global, name: &[u8]) -> Result<Value, AllocError>
+    requires { IsTrue (is_name name.now) }
+    ensures { IfOk result (λ v. view v ≡ string name.now) }
+{
+    match std::str::from_utf8(name) {
+        Ok(text) => Value::string(alloc, text),
+        Err(_) => unreachable!(),
+    }
+}
+
+/// Puts a key with a name.
+pub fn put_name(
+    alloc: Global,
+    table: &mut Table,
+    key: KeyName,
+    name: &[u8],
+) -> Result<(), AllocError>
+    requires { IsTrue (is_name name.now) }
+    ensures { OnOk result (table_view table.new ≡ with_entry (table_view table.old) (key, Some (string name.now))) }
+{
+    let value = name_value(alloc, name)?;
+    put(alloc, table, key, value)
+}
+
+/// Puts the name of a state of the plant.
+pub fn put_state(
+    alloc: Global,
+    table: &mut Table,
+    plant: &Plant,
+    state: u32,
+) -> Result<(), AllocError>
+    requires sound { Sound plant.now }
+    requires there { state < length plant.now.states }
+    ensures { OnOk result (table_view table.new ≡ with_entry (table_view table.old) (KeyName.State, Some (state_name plant.now state))) }
+{
+    let name = plant.states.get(state as usize).name.as_slice();
+    put_name(alloc, table, KeyName::State, name)
+}
+
+/// Puts the name of a utility of the plant.
+pub fn put_utility(
+    alloc: Global,
+    table: &mut Table,
+    plant: &Plant,
+    utility: u32,
+) -> Result<(), AllocError>
+    requires sound { Sound plant.now }
+    requires there { utility < length plant.now.utilities }
+    ensures { OnOk result (table_view table.new ≡ with_entry (table_view table.old) (KeyName.Utility, Some (utility_name plant.now utility))) }
+{
+    let name = plant.utilities.get(utility as usize).name.as_slice();
+    put_name(alloc, table, KeyName::Utility, name)
+}
+
+/// Puts the name of a unit of the plant.
+pub fn put_unit(
+    alloc: Global,
+    table: &mut Table,
+    plant: &Plant,
+    unit: u32,
+) -> Result<(), AllocError>
+    requires sound { Sound plant.now }
+    requires there { unit < length plant.now.units }
+    ensures { OnOk result (table_view table.new ≡ with_entry (table_view table.old) (KeyName.StnUnit, Some (unit_name plant.now unit))) }
+{
+    let name = plant.units.get(unit as usize).name.as_slice();
+    put_name(alloc, table, KeyName::StnUnit, name)
+}
+
+/// Puts a key with the name of a task of the plant.
+pub fn put_task(
+    alloc: Global,
+    table: &mut Table,
+    key: KeyName,
+    plant: &Plant,
+    task: u32,
+) -> Result<(), AllocError>
+    requires sound { Sound plant.now }
+    requires there { task < length plant.now.tasks }
+    ensures { OnOk result (table_view table.new ≡ with_entry (table_view table.old) (key, Some (task_name plant.now task))) }
+{
+    let name = plant.tasks.get(task as usize).name.as_slice();
+    put_name(alloc, table, key, name)
+}
