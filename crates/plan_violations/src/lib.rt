@@ -1,0 +1,14 @@
+//! Everything that is wrong with a plan: each start that does not fit, each batch that meets another, each that
+//! comes before its unit is cleaned, and each stock and load that is not kept, with amounts.
+#![tactic(auto)]
+
+pub mod breach;
+mod amounts;
+mod loads;
+mod moves;
+mod stocks;
+mod units;
+mod violations;
+
+pub use breach::{Breach, Misfit};
+pub use violations::violations;
