@@ -3,4 +3,5 @@ pub mod Early
 pub mod Known
 pub mod Rows
 pub mod Leads
+pub mod Shown
 pub mod Firsts

@@ -38,13 +38,13 @@ drawn_later plant start utility period h =
     ap (λ (b : Bool). cond b (sum_by (drawn_in utility start.quanta (period - start.period)) (task_at plant start.task).draws) 0)
     (and_left (leb start.period period) (ltb period (end_of plant start)) (lt-leb start.period period h))
 
-nothing_either : (b : Bool) → cond b 0 0 ≡ 0
-nothing_either true = refl
-nothing_either false = refl
+nothing_either : (b : Bool) (n : ℕ) → cond b n n ≡ n
+nothing_either true n = refl
+nothing_either false n = refl
 
 -- a task that is not there draws nothing
 pub nothing_drawn : (plant : Plant) (start : Start) (utility period : ℕ) → length plant.tasks ≤ start.task → drawn plant utility period start ≡ 0
 unfolding drawn
 nothing_drawn plant start utility period out =
     ap (λ (t : Task). cond (leb start.period period && ltb period (end_of plant start)) (sum_by (drawn_in utility start.quanta (period - start.period)) t.draws) 0) (no_task_is plant start out)
-    ∙ nothing_either (leb start.period period && ltb period (end_of plant start))
+    ∙ nothing_either (leb start.period period && ltb period (end_of plant start)) 0

@@ -6,16 +6,16 @@ use Rattle.plan_violations.specs.declared.breach.Breach.{Breach}
 use Rattle.plan_violations.specs.Breaches.{of_level, of_load}
 use Rattle.plan_violations.specs.Lists.{listed_below}
 
--- what the stocks of a table break at a time
-abbrev pub levels_shown : Plant → List ℤ → ℕ → ℕ → List Breach
-levels_shown plant stocks time = listed_below (λ state. of_level plant time state (level plant stocks state time))
+-- what the stock of a state in a table breaks at a time
+unfoldable pub level_shown : Plant → List ℤ → ℕ → ℕ → List Breach
+level_shown plant stocks time state = of_level plant time state (level plant stocks state time)
 
--- what the loads of a table break in a period
-abbrev pub uses_shown : Plant → List ℕ → ℕ → ℕ → List Breach
-uses_shown plant loads period = listed_below (λ utility. of_load plant period utility (used plant loads utility period))
+-- what the load of a utility in a table breaks in a period
+unfoldable pub use_shown : Plant → List ℕ → ℕ → ℕ → List Breach
+use_shown plant loads period utility = of_load plant period utility (used plant loads utility period)
 
 -- what the stocks break at a time, and the loads in the period that begins there
-abbrev pub amounts_shown : Plant → List ℤ → List ℕ → ℕ → List Breach
+unfoldable pub amounts_shown : Plant → List ℤ → List ℕ → ℕ → List Breach
 amounts_shown plant stocks loads time =
-    levels_shown plant stocks time (length plant.states)
-    ++ (if nat_lt time plant.periods then uses_shown plant loads time (length plant.utilities) else [])
+    listed_below (level_shown plant stocks time) (length plant.states)
+    ++ (if nat_lt time plant.periods then listed_below (use_shown plant loads time) (length plant.utilities) else [])

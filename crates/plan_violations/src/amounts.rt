@@ -7,22 +7,18 @@ ghost use Rattle.std.specs.Prelude.{
   ◌+◌,
   ◌*◌,
   ◌++◌,
-  ◌-◌,
   length,
-  sum,
   All,
   OnOk,
-  pos,
   slice_get,
   slice_index,
   unsigned_abs,
 };
-ghost use Rattle.stn_model.specs.Plant.{state_at, utility_at};
 ghost use Rattle.stn_model.specs.Sound.{Sound};
-ghost use Rattle.plan_sim.specs.Faults.{level, used};
+ghost use Rattle.plan_sim.specs.Faults.{level};
 ghost use Rattle.plan_violations.specs.Lists.{listed_below};
-ghost use Rattle.plan_violations.specs.Breaches.{excess, above, of_level, of_load};
-ghost use Rattle.plan_violations.specs.Shown.{levels_shown, uses_shown, amounts_shown};
+ghost use Rattle.plan_violations.specs.Breaches.{excess, above, of_level};
+ghost use Rattle.plan_violations.specs.Shown.{level_shown, use_shown, amounts_shown};
 
 use crate::breach::Breach;
 use std::alloc::AllocError;
@@ -48,6 +44,7 @@ pub fn list_amounts(
     Ok(())
 }
 
+#[tactic(auto, unfolding(crate::specs::Shown::amounts_shown))]
 fn push_amounts(
     plant: &Plant,
     stocks: &[i128],
@@ -80,14 +77,33 @@ fn push_levels(
     requires stocks { length stocks.now ≡ length plant.now.states * (plant.now.periods + 1) }
     requires small { All (λ level. unsigned_abs level ≤ 2 ^ 90) stocks.now }
     requires within { time ≤ plant.now.periods }
-    ensures { OnOk result (found.new.items
-        ≡ found.old.items ++ levels_shown plant.now stocks.now time (length plant.now.states)) }
+    ensures { OnOk result (found.new.items ≡ found.old.items
+        ++ listed_below (level_shown plant.now stocks.now time) (length plant.now.states)) }
 {
     for state in 0..plant.states.len() {
-        let level = level_at(plant, stocks, state, time);
-        push_level(plant, state, time, level, found)?;
+        push_level(plant, stocks, state, time, found)?;
     }
     Ok(())
+}
+
+#[tactic(auto, unfolding(crate::specs::Shown::level_shown))]
+fn push_level(
+    plant: &Plant,
+    stocks: &[i128],
+    state: usize,
+    time: usize,
+    found: &mut Vec<Breach>,
+) -> Result<(), AllocError>
+    requires sound { Sound plant.now }
+    requires stocks { length stocks.now ≡ length plant.now.states * (plant.now.periods + 1) }
+    requires small { All (λ level. unsigned_abs level ≤ 2 ^ 90) stocks.now }
+    requires there { state < length plant.now.states }
+    requires within { time ≤ plant.now.periods }
+    ensures { OnOk result (found.new.items
+        ≡ found.old.items ++ level_shown plant.now stocks.now time state) }
+{
+    let level = level_at(plant, stocks, state, time);
+    push_amiss(plant, state, time, level, found)
 }
 
 fn level_at(plant: &Plant, stocks: &[i128], state: usize, time: usize) -> i128
@@ -101,7 +117,7 @@ fn level_at(plant: &Plant, stocks: &[i128], state: usize, time: usize) -> i128
     stocks[state * (plant.periods as usize + 1) + time]
 }
 
-fn push_level(
+fn push_amiss(
     plant: &Plant,
     state: usize,
     time: usize,
@@ -159,29 +175,31 @@ fn push_uses(
     requires sound { Sound plant.now }
     requires loads { length loads.now ≡ length plant.now.utilities * plant.now.periods }
     requires within { period < plant.now.periods }
-    ensures { OnOk result (found.new.items
-        ≡ found.old.items ++ uses_shown plant.now loads.now period (length plant.now.utilities)) }
+    ensures { OnOk result (found.new.items ≡ found.old.items
+        ++ listed_below (use_shown plant.now loads.now period) (length plant.now.utilities)) }
 {
     for utility in 0..plant.utilities.len() {
-        let drawn = loads[utility * plant.periods as usize + period];
-        push_use(plant, utility, period, drawn, found)?;
+        push_use(plant, loads, utility, period, found)?;
     }
     Ok(())
 }
 
+#[tactic(auto, unfolding(crate::specs::Shown::use_shown))]
 fn push_use(
     plant: &Plant,
+    loads: &[u128],
     utility: usize,
     period: usize,
-    drawn: u128,
     found: &mut Vec<Breach>,
 ) -> Result<(), AllocError>
     requires sound { Sound plant.now }
+    requires loads { length loads.now ≡ length plant.now.utilities * plant.now.periods }
     requires there { utility < length plant.now.utilities }
     requires within { period < plant.now.periods }
     ensures { OnOk result (found.new.items
-        ≡ found.old.items ++ of_load plant.now period utility drawn) }
+        ≡ found.old.items ++ use_shown plant.now loads.now period utility) }
 {
+    let drawn = loads[utility * plant.periods as usize + period];
     let limit = number_at(plant.utilities.get(utility).limits.as_slice(), period);
     let over = drawn.saturating_sub(limit as u128);
     if 0 < over {

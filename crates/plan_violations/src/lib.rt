@@ -4,11 +4,11 @@
 
 pub mod breach;
 mod amounts;
+mod listing;
 mod loads;
 mod moves;
 mod stocks;
 mod units;
-mod violations;
 
 pub use breach::{Breach, Misfit};
-pub use violations::violations;
+pub use listing::violations;

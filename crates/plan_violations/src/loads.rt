@@ -9,6 +9,7 @@ ghost use Rattle.std.specs.Prelude.{
   ◌*◌,
   ℕ,
   length,
+  min,
   sum,
   sum_by,
   All,
@@ -62,13 +63,28 @@ fn draw_batch(plant: &Plant, start: &Start, cells: &mut [u128])
         + drawn plant.now utility period start.now }
     ensures total { sum cells.new ≤ sum cells.old + 2 ^ 66 }
 {
-    let width = plant.periods as usize;
-    if plant.tasks.len() <= start.task as usize || width <= start.period as usize {
+    if plant.tasks.len() <= start.task as usize {
+        return;
+    }
+    if plant.periods <= start.period {
         return;
     }
     let task = task_of(plant, start);
-    let ending = end(plant, start).min(width as u64) as usize;
-    draw_task(width, task.draws.as_slice(), start, ending, cells);
+    let last = last_end(plant, start);
+    draw_task(
+        plant.periods as usize,
+        task.draws.as_slice(),
+        start,
+        last,
+        cells,
+    );
+}
+
+/// The time at which the batch ends, or the horizon, whichever comes first.
+fn last_end(plant: &Plant, start: &Start) -> usize
+    ensures { result ≡ min (end_of plant.now start.now) plant.now.periods }
+{
+    end(plant, start).min(plant.periods as u64) as usize
 }
 
 fn draw_task(width: usize, draws: &[Draw], start: &Start, ending: usize, cells: &mut [u128])

@@ -16,7 +16,7 @@ draw_task-requires-clause-few c =
     omega (arith, ap length (c.as_slice.ensures ∙ ap (λ (t : Task). t.draws) c.task_of-task.ensures), draws_few c.args.plant.now c.args.start.now c.requires.sound there)
 
 pub draw_task-requires-clause-begun : goal.draw_task-requires-clause-begun
-draw_task-requires-clause-begun c = omega (arith, ends_no_earlier c.args.plant.now c.args.start.now)
+draw_task-requires-clause-begun c = omega (arith, c.last_end-last.ensures, ends_no_earlier c.args.plant.now c.args.start.now)
 
 pub draw_task-requires-clause-rows : goal.draw_task-requires-clause-rows
 draw_task-requires-clause-rows c =
@@ -32,3 +32,19 @@ pub draw_task-requires-clause-each : goal.draw_task-requires-clause-each
 draw_task-requires-clause-each c =
     let there : c.args.start.now.task < length c.args.plant.now.tasks = omega arith in
     All-same (λ draw. All (λ amount. amount ≤ 2 ^ 20) draw.each) _ _ (c.as_slice.ensures ∙ ap (λ (t : Task). t.draws) c.task_of-task.ensures) (draws_each c.args.plant.now c.args.start.now c.requires.sound there)
+
+pub draw_task-requires-clause-within : goal.draw_task-requires-clause-within
+draw_task-requires-clause-within c = omega (arith, c.last_end-last.ensures)
+
+pub returns-then-len-start-clause-drawn : goal.returns-then-len-start-clause-drawn
+returns-then-len-start-clause-drawn c = λ u p h. omega (arith, nothing_drawn c.args.plant.now c.args.start.now u p (omega arith))
+
+pub returns-then-plant-start-clause-drawn : goal.returns-then-plant-start-clause-drawn
+returns-then-plant-start-clause-drawn c = λ u p h. omega (arith, drawn_later c.args.plant.now c.args.start.now u p (omega arith))
+
+pub returns-clause-drawn : goal.returns-clause-drawn
+returns-clause-drawn c = λ u p h.
+    let draws : c.as_slice.result.now ≡ (task_at c.args.plant.now c.args.start.now.task).draws = c.as_slice.ensures ∙ ap (λ (t : Task). t.draws) c.task_of-task.ensures in
+    let same : drawn_until c.as_slice.result.now c.args.start.now c.last_end-last.result u p ≡ drawn_until (task_at c.args.plant.now c.args.start.now.task).draws c.args.start.now (min (end_of c.args.plant.now c.args.start.now) c.args.plant.now.periods) u p =
+    ap (λ (xs : List Draw). drawn_until xs c.args.start.now c.last_end-last.result u p) draws ∙ ap (λ (e : ℕ). drawn_until (task_at c.args.plant.now c.args.start.now.task).draws c.args.start.now e u p) c.last_end-last.ensures in
+    omega (arith, c.draw_task.ensures.drawn u p h, same, drawn_cut c.args.plant.now c.args.start.now u p c.args.plant.now.periods h)

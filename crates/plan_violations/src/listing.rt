@@ -1,5 +1,5 @@
 //! Everything that is wrong with a plan.
-ghost use Rattle.std.specs.Prelude.{◌≡◌, ◌<◌, ◌^◌, ◌↔◌, ◌++◌, [], length, IfOk, OnOk};
+ghost use Rattle.std.specs.Prelude.{◌≡◌, ◌<◌, ◌^◌, ◌↔◌, ◌++◌, ◌+◌, [], length, IfOk, OnOk};
 ghost use Rattle.stn_model.specs.Feasible.{Feasible};
 ghost use Rattle.stn_model.specs.Sound.{Sound};
 ghost use Rattle.plan_violations.specs.Lists.{listed_below};
@@ -25,9 +25,11 @@ pub fn violations(alloc: Global, plant: &Plant, plan: &[Start]) -> Result<Vec<Br
     ensures feasible { IfOk result (λ found. (found.items ≡ []) ↔ Feasible plant.now plan.now) }
     ensures first { IfOk result (λ found. BeginsWithFirst plant.now plan.now found.items) }
 {
-    listed(alloc, plant, plan)
+    let found = listed(alloc, plant, plan)?;
+    Ok(found)
 }
 
+#[tactic(auto, unfolding(crate::specs::Breaches::breaches))]
 fn listed(alloc: Global, plant: &Plant, plan: &[Start]) -> Result<Vec<Breach>, AllocError>
     requires sound { Sound plant.now }
     requires few { length plan.now < 2 ^ 32 }
