@@ -18,11 +18,7 @@ use stn_model::{Plant, Start};
 
 /// The text on what a plan breaks: how much it is, and a line for each.
 #[tactic(auto, unfolding(crate::specs::Violations::violations_text))]
-pub fn violations_text(
-    alloc: Global,
-    plant: &Plant,
-    plan: &[Start],
-) -> Result<Vec<u8>, AllocError>
+pub fn violations_text(alloc: Global, plant: &Plant, plan: &[Start]) -> Result<Vec<u8>, AllocError>
     requires sound { Sound plant.now }
     requires short { length plan.now < 2 ^ 32 }
     ensures { IfOk result (λ text. text.items ≡ violations_text plant.now plan.now) }
@@ -70,10 +66,22 @@ fn breach_line(alloc: Global, plant: &Plant, breach: &Breach) -> Result<Vec<u8>,
             early,
         } => gap_line(alloc, *first, *second, *early),
         Breach::StockLow { state, time, short } => {
-            named_by(alloc, "stock-low ", state_name(plant, *state), *time, *short)
+            named_by(
+                alloc,
+                "stock-low ",
+                state_name(plant, *state),
+                *time,
+                *short,
+            )
         }
         Breach::StockHigh { state, time, over } => {
-            named_by(alloc, "stock-high ", state_name(plant, *state), *time, *over)
+            named_by(
+                alloc,
+                "stock-high ",
+                state_name(plant, *state),
+                *time,
+                *over,
+            )
         }
         Breach::Load {
             utility,

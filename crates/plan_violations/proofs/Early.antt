@@ -39,17 +39,17 @@ none_amid plan a b k nearest =
     let q = (start_at plan k).period in
     elim (cases_lt q b.period) [
       | inr g ↦
-        (let all : list_all (λ c. not (is_amid a b c)) plan ≡ true = list_all-from_AllPass (λ c. not (is_amid a b c)) plan
-            (λ j d h. subst (λ (c : Start). not (is_amid a b c) ≡ true) (get_or_default plan j no_start d h)
-            (amid_is_false a b (start_at plan j) (λ u p. let near : q ≤ (start_at plan j).period = nearest.nearest j h (u, p) in omega arith))) in
-        all ∙ sym (le-leb b.period q g))
+          (let all : list_all (λ c. not (is_amid a b c)) plan ≡ true = list_all-from_AllPass (λ c. not (is_amid a b c)) plan
+          (λ j d h. subst (λ (c : Start). not (is_amid a b c) ≡ true) (get_or_default plan j no_start d h)
+          (amid_is_false a b (start_at plan j) (λ u p. let near : q ≤ (start_at plan j).period = nearest.nearest j h (u, p) in omega arith))) in
+          all ∙ sym (le-leb b.period q g))
       | inl l ↦
-        (let out : leb b.period q ≡ false = lt-leb b.period q l in
-        elim (cases_Bool (list_all (λ c. not (is_amid a b c)) plan)) [
-          | inl e ↦ (let pass : not (is_amid a b (start_at plan k)) ≡ true = AllPass-from_list_all (λ c. not (is_amid a b c)) plan e k no_start nearest.there in
-              let low : b.period ≤ q = not_amid a b (start_at plan k) pass nearest.later.0 nearest.later.1 in absurd (omega arith))
-          | inr e ↦ e ∙ sym out
-        ])
+          (let out : leb b.period q ≡ false = lt-leb b.period q l in
+          elim (cases_Bool (list_all (λ c. not (is_amid a b c)) plan)) [
+            | inl e ↦ (let pass : not (is_amid a b (start_at plan k)) ≡ true = AllPass-from_list_all (λ c. not (is_amid a b c)) plan e k no_start nearest.there in
+                let low : b.period ≤ q = not_amid a b (start_at plan k) pass nearest.later.0 nearest.later.1 in absurd (omega arith))
+            | inr e ↦ e ∙ sym out
+          ])
     ]
 
 -- what comes early until the nearest period is what comes early as a next one

@@ -50,9 +50,9 @@ unmet_apart plant a b p q h unit = elim (cases_lt b.period (end_of plant a)) [
   | inl l ↦ elim (cases_lt a.period (end_of plant b)) [
     | inr g ↦ inr g
     | inl k ↦
-      (let common : max a.period b.period < min (end_of plant a) (end_of plant b) = omega arith in
-      let yes : meets plant a b ≡ true = and_from (eqb a.unit b.unit) (ltb (max a.period b.period) (min (end_of plant a) (end_of plant b))) (eq-eqb a.unit b.unit unit) (lt-ltb (max a.period b.period) (min (end_of plant a) (end_of plant b)) common) in
-      absurd (false≢true (sym h ∙ yes)))
+        (let common : max a.period b.period < min (end_of plant a) (end_of plant b) = omega arith in
+        let yes : meets plant a b ≡ true = and_from (eqb a.unit b.unit) (ltb (max a.period b.period) (min (end_of plant a) (end_of plant b))) (eq-eqb a.unit b.unit unit) (lt-ltb (max a.period b.period) (min (end_of plant a) (end_of plant b)) common) in
+        absurd (false≢true (sym h ∙ yes)))
   ]
 ]
 
@@ -143,10 +143,14 @@ module _ (plant : Plant) (plan : List Start) (sound : Sound plant) where
       let found = position-Some (meets plant (start_at plan k)) (drop (k + 1) plan) i no_start e in
       let there : i < length (drop (k + 1) plan) = found.0 in
       let inside : i < length plan - (k + 1) = simp length-drop at there in
-      let here : get_or (drop (k + 1) plan) i no_start ≡ start_at plan (k + 1 + i) = get_or-drop (k + 1) plan i no_start in
-      (omega arith, omega arith, ap (meets plant (start_at plan k)) (sym here) ∙ found.1, λ j h l.
-        let low : j - (k + 1) < i = omega arith in
-        ap (meets plant (start_at plan k)) (sym (at_drop k j h)) ∙ found.2 (j - (k + 1)) low)
+      let here : get_or (drop (k + 1) plan) i no_start ≡ start_at plan (k + 1 + i) = get_or-drop (k + 1) plan i no_start in (
+        omega arith,
+        omega arith,
+        ap (meets plant (start_at plan k)) (sym here) ∙ found.1,
+        λ j h l.
+            let low : j - (k + 1) < i = omega arith in
+            ap (meets plant (start_at plan k)) (sym (at_drop k j h)) ∙ found.2 (j - (k + 1)) low,
+      )
 
   met_after : (k : ℕ) → Met k (meeting_after plant plan k)
   unfolding meeting_after

@@ -22,20 +22,20 @@ pub position_agree : {X : Type 0} (p q : X → Bool) (xs : List X) (d : X) → (
 position_agree p q xs d same =
     elim (cases_lt (position_or_len q xs) (length xs)) [
       | inl l ↦
-        (let i = position_or_len q xs in
-        let before : (k : ℕ) → k < i → q (get_or xs k d) ≡ false = λ k h. fails_before_first q xs k d h in
-        let here : q (get_or xs i d) ≡ true = passes_at_first q xs d l in
-        position_here p xs i d l (λ k h. same k (omega arith) ∙ before k h) (same i l ∙ here) ∙ sym (position_here q xs i d l before here))
+          (let i = position_or_len q xs in
+          let before : (k : ℕ) → k < i → q (get_or xs k d) ≡ false = λ k h. fails_before_first q xs k d h in
+          let here : q (get_or xs i d) ≡ true = passes_at_first q xs d l in
+          position_here p xs i d l (λ k h. same k (omega arith) ∙ before k h) (same i l ∙ here) ∙ sym (position_here q xs i d l before here))
       | inr g ↦
-        (let none : (k : ℕ) → k < length xs → q (get_or xs k d) ≡ false = λ k h. fails_before_first q xs k d (omega arith) in
-        position_nowhere p xs d (λ k h. same k h ∙ none k h) ∙ sym (position_nowhere q xs d none))
+          (let none : (k : ℕ) → k < length xs → q (get_or xs k d) ≡ false = λ k h. fails_before_first q xs k d (omega arith) in
+          position_nowhere p xs d (λ k h. same k h ∙ none k h) ∙ sym (position_nowhere q xs d none))
     ]
 
 -- where no place is found, no item passes
 pub position_none : {X : Type 0} (p : X → Bool) (xs : List X) (d : X) → position p xs ≡ None → (k : ℕ) → k < length xs → p (get_or xs k d) ≡ false
 position_none p xs d e k h = elim (cases_lt (position_or_len p xs) (length xs)) [
   | inl l ↦
-    (let some : Some (position_or_len p xs) ≡ None = ap (λ (b : Bool). cond b (Some (position_or_len p xs)) None) (sym (lt-ltb (position_or_len p xs) (length xs) l)) ∙ e in
-    let f : ⊥ = cc in absurd f)
+      (let some : Some (position_or_len p xs) ≡ None = ap (λ (b : Bool). cond b (Some (position_or_len p xs)) None) (sym (lt-ltb (position_or_len p xs) (length xs) l)) ∙ e in
+      let f : ⊥ = cc in absurd f)
   | inr g ↦ fails_before_first p xs k d (omega arith)
 ]

@@ -2,8 +2,8 @@
 //! comes before its unit is cleaned, and each stock and load that is not kept, with amounts.
 #![tactic(auto)]
 
-pub mod breach;
 mod amounts;
+pub mod breach;
 mod listing;
 mod loads;
 mod moves;
