@@ -173,8 +173,8 @@ def check_examples():
 class Case:
     """A run: its words, what the program answers, and what the sentences have to hold."""
 
-    def __init__(self, what, words, answer, *parts, files=None, says=None):
-        self.what, self.words, self.answer, self.parts, self.files, self.says = what, words, answer, parts, files or {}, says
+    def __init__(self, what, words, answer, *parts, files=None, says=None, lines=1):
+        self.what, self.words, self.answer, self.parts, self.files, self.says, self.lines = what, words, answer, parts, files or {}, says, lines
 
     def run(self):
         """What went wrong, or nothing."""
@@ -189,7 +189,7 @@ class Case:
             said = speak(room, status, self.words)
             plainly = speak(room, status, self.words, STN_PLAIN="1")
         lacking = [it for it in self.parts if it not in said]
-        if lacking or not said.startswith("stn: ") or said.count("\n") != 1:
+        if lacking or not said.startswith("stn: ") or said.count("\n") != self.lines:
             return f"{self.what}: {lacking} is not in {said!r}"
         if not plainly.startswith("stn: ") or (self.says and texts.means(*self.says) not in plainly):
             return f"{self.what}: without python3 it says {plainly!r}"
@@ -496,6 +496,9 @@ def of_plans():
     yield case("load", "0 U make 2\n0 V make 2\n", "broken load steam 0", "`steam` in period 0 is 8, 3 above its limit of 5", "4 by `make` on `V` in period 0")
     yield case("replan: places of what is kept", "2 U make 1\n1 V make 1\n", "broken unfit 1", "(1 quantum, line 2)", "outage",
                words=("replan", "plant.toml", "a.plan", "2", "9"))
+    yield Case("violations", ["violations", "plant.toml", "a.plan"], "violations 3", "a.plan: the plan is not feasible, 3 violations", "takes 1 to 4",
+               "`U` is not clean", "1 period too early", "`steam` in period 0 is 7, 2 above its limit of 5",
+               files={"plant.toml": TINY, "a.plan": "0 U make 5\n1 U rest 1\n"}, says=("answer", "violations"), lines=5)
 
 
 ODD, TANK = READ("examples", "odd.toml"), READ("examples", "tank.toml")

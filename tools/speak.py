@@ -13,6 +13,12 @@ def first_line(file):
         return text.readline(4096).decode("utf-8", "replace").split()
 
 
+def whole_lines(file):
+    """The words of each whole line of a file but the first."""
+    with open(file, "rb") as text:
+        return [it.split() for it in text.read(1 << 21).decode("utf-8", "replace").split("\n")[1:-1]]
+
+
 def content(file, most=1 << 21):
     """The first bytes of a file: more than any plant or plan may have."""
     with files.plain(file) as data:
@@ -22,8 +28,8 @@ def content(file, most=1 << 21):
 class Run:
     """A run that has ended: its status, the first line that it put, and its words."""
 
-    def __init__(self, status, line, words):
-        self.status, self.line, self.words = status, line, words
+    def __init__(self, status, out, words):
+        self.status, self.out, self.line, self.words = status, out, first_line(out), words
         self.form = forms.form_of(words) or {}
         self.command = words[0] if words else ""
 
@@ -39,10 +45,15 @@ class Run:
     def status_0(self):
         return ""
 
+    def broken(self, words, before=None):
+        """What a plan breaks, of which these words speak."""
+        return plans.Broken(self.root(), content(self.form["PLAN"]), self.form["PLAN"], words, before)
+
     def status_1(self):
         if self.line[:1] == ["broken"]:
-            before = int(self.form["PERIOD"]) if "PERIOD" in self.form else None
-            return plans.Broken(self.root(), content(self.form["PLAN"]), self.form["PLAN"], self.line[1:], before).said()
+            return self.broken(self.line[1:], int(self.form["PERIOD"]) if "PERIOD" in self.form else None).said()
+        if self.line[:1] == ["violations"]:
+            return self.broken([]).all_said(int(self.line[1]), whole_lines(self.out))
         if self.line[:1] == ["no"]:
             return self.no()
         if self.line[:2] == ["#", "no-horizon"]:
@@ -96,9 +107,9 @@ class Run:
 
 def main():
     status, out, words = int(sys.argv[1]), sys.argv[2], sys.argv[5:]
-    said = Run(status, first_line(out), words).said()
+    said = Run(status, out, words).said()
     if said:
-        print("stn: " + said)
+        print("\n".join("stn: " + it for it in said.split("\n")))
 
 
 main()

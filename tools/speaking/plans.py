@@ -87,9 +87,20 @@ class Broken:
         self.plan = [it.start() for it in self.batches]
 
     def said(self):
-        kind = self.words[0]
-        tell = {"unfit": self.unfit, "busy": self.busy, "gap": self.gap, "stock-low": self.low, "stock-high": self.high, "load": self.load}[kind]
-        return sentences(f"{self.file}: {tell()}", do("broken", kind))
+        return sentences(f"{self.file}: {self.told()}", do("broken", self.words[0]))
+
+    def told(self):
+        """What is broken, by names and amounts."""
+        tell = {"unfit": self.unfit, "busy": self.busy, "gap": self.gap, "stock-low": self.low, "stock-high": self.high, "load": self.load}
+        return tell[self.words[0]]()
+
+    def all_said(self, number, lines):
+        """Each of the lines of `violations` in a sentence, a line each: of a cut text those that are whole."""
+        said = [sentences(f"{self.file}: the plan is not feasible, {count(number, 'violation')}")]
+        for line in lines:
+            self.words = line
+            said.append(sentences(self.told()))
+        return "\n".join(said + [sentences(do("answer", "violations"))])
 
     def batch(self, word):
         return self.batches[int(word) - 1]

@@ -1,4 +1,5 @@
 pub mod Lines
+pub mod Violations
 pub mod Simulation
 pub mod Kept
 pub mod Checking

@@ -10,6 +10,7 @@ pub mod levels;
 pub mod lines;
 pub mod planning;
 pub mod simulation;
+mod violations;
 
 pub use checking::{checked, claim_line};
 pub use kept::broken;

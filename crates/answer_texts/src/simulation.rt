@@ -1,4 +1,4 @@
-//! What a plan earns or breaks first, its report, and its picture.
+//! What a plan earns or breaks first, its report, its picture, and everything that it breaks.
 ghost use Rattle.std.specs.Prelude.{◌≡◌, ◌+◌, ◌<◌, ◌^◌, ◌++◌, length, IfOk, codes, decimal};
 ghost use Rattle.stn_model.specs.Plant.{state_at, utility_at};
 ghost use Rattle.stn_model.specs.Sound.{Sound};
@@ -8,12 +8,14 @@ ghost use Rattle.answer_texts.specs.Simulation.{
   violation_text,
   verdict_status,
   feasible_text,
+  broken_text,
   use_text,
   IsOfPlant,
   Simulated,
 };
 
 use crate::lines::amount_line;
+use crate::violations::violations_text;
 use command_replies::Reply;
 use command_words::PlanUse;
 use gantt_report::report;
@@ -58,7 +60,7 @@ fn answered(
             Ok(Reply { status: 0, text })
         }
         Verdict::Broken(violation) => {
-            let text = violation_text(alloc, plant, violation)?;
+            let text = broken_text(alloc, usage, plant, plan, violation)?;
             Ok(Reply { status: 1, text })
         }
     }
@@ -84,6 +86,28 @@ fn feasible_text(
             Ok(text)
         }
         PlanUse::Picture => picture(alloc, plant, plan),
+        PlanUse::Violations => amount_line(alloc, "feasible ", profit),
+    }
+}
+
+// What a plan that is not feasible breaks first, or everything that it breaks.
+fn broken_text(
+    alloc: Global,
+    usage: PlanUse,
+    plant: &Plant,
+    plan: &[Start],
+    violation: &Violation,
+) -> Result<Vec<u8>, AllocError>
+    requires sound { Sound plant.now }
+    requires short { length plan.now < 2 ^ 32 }
+    requires named { IsOfPlant plant.now violation.now }
+    ensures { IfOk result (λ text. text.items ≡ broken_text usage plant.now plan.now violation.now) }
+{
+    match usage {
+        PlanUse::Violations => violations_text(alloc, plant, plan),
+        PlanUse::Simulate | PlanUse::Report | PlanUse::Picture => {
+            violation_text(alloc, plant, violation)
+        }
     }
 }
 

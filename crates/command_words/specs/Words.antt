@@ -4,7 +4,7 @@ use Rattle.std.specs.Fmt.{signed_decimal}
 use Rattle.proof_log.specs.LogNames.{log_name}
 use Rattle.std.specs.Borrow.{Bor}
 use Rattle.command_words.specs.declared.command.PlanUse.{PlanUse}
-use Rattle.command_words.specs.declared.command.PlanUse.TheVariants.{Simulate, Report, Picture}
+use Rattle.command_words.specs.declared.command.PlanUse.TheVariants.{Simulate, Report, Picture, Violations}
 use Rattle.command_words.specs.declared.command.Command as declared
 use Rattle.command_words.specs.declared.command.Command.TheVariants as variants
 
@@ -32,6 +32,7 @@ abbrev pub use_word : PlanUse → List ℕ
 use_word Simulate = codes "simulate"
 use_word Report = codes "report"
 use_word Picture = codes "picture"
+use_word Violations = codes "violations"
 
 -- the bytes of the words
 abbrev pub texts : List (Bor (List ℕ)) → List (List ℕ)

@@ -20,6 +20,8 @@ pub enum PlanUse {
     Report,
     /// Draw it, or say what it breaks first.
     Picture,
+    /// Say everything that it breaks, or what it earns.
+    Violations,
 }
 
 /// What the words ask for.
@@ -36,7 +38,7 @@ pub enum Command<'a> {
         budget: Budget,
         log: &'a str,
     },
-    /// `simulate PLANT PLAN`, `report PLANT PLAN` and `picture PLANT PLAN`: simulate a plan.
+    /// `simulate PLANT PLAN`, `report PLANT PLAN`, `picture PLANT PLAN` and `violations PLANT PLAN`: simulate a plan.
     Simulate {
         usage: PlanUse,
         plant: &'a str,
@@ -140,6 +142,9 @@ pub fn command_of<'a>(words: &[&'a str]) -> Option<Command<'a>>
         return Some(command);
     }
     if let Some(command) = simulate_of(words, "picture", PlanUse::Picture) {
+        return Some(command);
+    }
+    if let Some(command) = simulate_of(words, "violations", PlanUse::Violations) {
         return Some(command);
     }
     if let Some(command) = check_of(words) {

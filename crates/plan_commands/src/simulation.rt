@@ -1,4 +1,5 @@
-//! `simulate`, `report` and `picture PLANT PLAN`: what a plan earns or breaks first, its report, and its picture.
+//! `simulate`, `report`, `picture` and `violations PLANT PLAN`: what a plan earns or breaks first, its report, its picture,
+//! and everything that it breaks.
 ghost use Rattle.std.specs.Prelude.{◌≡◌, ◌≢◌, ◌≤◌, [], ℕ, List, Ok, Err, IsTrue};
 ghost use Rattle.stn_edge.specs.Count.{Rose};
 ghost use Rattle.stn_model.specs.Sound.{Sound};
@@ -15,7 +16,7 @@ use stn_edge::Shelf;
 use stn_model::Plant;
 
 /// Simulates the plan in a file on the plant in another, and says what it earns, shows or draws it, or
-/// says what it breaks first. The files are as before.
+/// says what it breaks. The files are as before.
 pub fn simulate_file<F: Shelf>(
     alloc: Global,
     files: &mut F,

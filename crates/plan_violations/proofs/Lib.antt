@@ -1,0 +1,7 @@
+pub mod Places
+pub mod Early
+pub mod Known
+pub mod Rows
+pub mod Leads
+pub mod Shown
+pub mod Firsts

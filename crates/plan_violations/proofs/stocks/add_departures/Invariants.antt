@@ -1,0 +1,11 @@
+use Rattle.std.proofs.Common.{◌≡◌, ℕ, ◌+◌, ◌*◌, ◌^◌, ◌<◌, ◌≤◌, length, sum, sum_by, take}
+use Rattle.stn_model.specs.Stock.{taken, delivered}
+use Rattle.plan_sim.specs.Moves.{summed}
+use Rattle.plan_violations.proofs.stocks.add_departures.Given as goal
+
+abbrev pub invariant-loop-start : goal.invariant-loop-start
+invariant-loop-start l = record {
+  size : length l.cells ≡ length l.plant.states * (l.plant.periods + 1);
+  moved : (state time : ℕ) → time < l.plant.periods + 1 → summed l.cells (l.plant.periods + 1) state time ≡ delivered l.plant state time + sum_by (taken l.plant state time) (take l.start-index l.plan);
+  total : sum l.cells ≤ 2 ^ 38 + l.start-index * 2 ^ 55;
+}

@@ -1,0 +1,14 @@
+use Rattle.std.proofs.Common.{◌≡◌, ℕ, ap, ◌∙◌}
+use Rattle.std.specs.Prelude.{position}
+use Rattle.stn_model.specs.declared.start.Start.{Start}
+use Rattle.stn_model.specs.Violations.{start_at}
+use Rattle.plan_violations.specs.Breaches.{comes_early}
+use Rattle.plan_violations.specs.Next.{early_until}
+use Rattle.plan_violations.proofs.Early.{early_of_nearest, early_nowhere}
+use Rattle.plan_violations.proofs.units.early_next.Goals as goal
+
+pub returns-in-Some-clause-value : goal.returns-in-Some-clause-value
+returns-in-Some-clause-value c = c.first_early.ensures.value ∙ early_of_nearest c.args.plant.now c.args.plan.now c.args.a.now c.in-Some.place c.in-Some.ensures
+
+pub returns-in-None-clause-value : goal.returns-in-None-clause-value
+returns-in-None-clause-value c = early_nowhere c.args.plant.now c.args.plan.now c.args.a.now c.in-None.ensures

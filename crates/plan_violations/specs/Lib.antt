@@ -1,0 +1,5 @@
+pub mod Lists
+pub mod Breaches
+pub mod Laws
+pub mod Next
+pub mod Shown
