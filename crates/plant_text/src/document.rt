@@ -1,23 +1,25 @@
 //! A document as a whole: its sizes, its names, and its arrays.
-ghost use Rattle.std.specs.Prelude.{◌≡◌, ◌≤◌, ◌<◌, ◌==◌, length, take, if◌then◌else◌, IfOk, OnOk, IfErr, None};
+ghost use Rattle.std.specs.Prelude.{◌≡◌, ◌≤◌, ◌<◌, ◌==◌, [], ◌++◌, length, map, take, if◌then◌else◌, IfOk, OnOk, IfErr, None};
 ghost use Rattle.toml.specs.View.{table_view};
-ghost use Rattle.plant_text.specs.Tests.{Gives, first_fault, Stops};
-ghost use Rattle.plant_text.specs.Fields.{fields_tests, at_key, count_of, natural, needed};
+ghost use Rattle.plant_text.specs.Tests.{Gives, first_fault, rows_tests, Stops};
+ghost use Rattle.plant_text.specs.Fields.{field_tests, fields_tests, at_key, count_of, items_of, natural, needed};
+ghost use Rattle.plant_text.specs.Fields as kind;
 ghost use Rattle.plant_text.specs.Names.{places_in};
 ghost use Rattle.plant_text.specs.Scope.{scope_of};
 ghost use Rattle.plant_text.specs.Document.{top_place, is_second, names_at, scope_in, size_fields, array_fields, plant_with, plant_in, size_tests, unknown_tests, document_tests};
 
 use crate::fault::{KeyName, Place, PlantStop, TableName};
-use crate::find::{Key, find, key, read_keys, unknown};
+use crate::find::{Key, find, key, unknown};
 use crate::numbers::Numbers;
+use crate::rows::Row;
 use crate::scope::{Context, Owner};
 use crate::sizes::{too_many_gap_pairs, too_many_slots};
 use crate::values::{count, items_of, rows};
 use std::alloc::{AllocError, Global};
-use stn_model::Plant;
 use stn_model::limits::{
     MAX_EVENTS, MAX_GAPS, MAX_PERIODS, MAX_RUNS, MAX_STATES, MAX_TASKS, MAX_UNITS, MAX_UTILITIES,
 };
+use stn_model::{List, Plant};
 use toml::{Table, Value};
 
 /// The place of the file as a whole.
@@ -64,6 +66,13 @@ fn first(items: &[Value], most: usize) -> &[Value]
     } else {
         items
     }
+}
+
+/// Reads arrays into the lists of a plant, by the rows of the field table.
+macro_rules! read_arrays {
+    ($alloc:expr, $document:expr, $context:expr, $owner:expr, $plant:expr; $($list:ident: ($($key:tt)+) $most:expr;)+) => {
+        $(array($alloc, $document, key!($($key)+), $most, $context, $owner, &mut $plant.$list)?;)+
+    };
 }
 
 /// Numbers the names of an array, of as many items as it may have.
@@ -162,38 +171,73 @@ fn horizon(document: &Table, second: bool) -> Result<u32, PlantStop>
     Ok(periods)
 }
 
-/// The arrays of a document, in their order.
-#[tactic(auto, using(crate::proofs::Faults::faults_append), unfolding(crate::specs::Document::plant_with))]
-fn arrays(alloc: Global, document: &Table, context: &Context) -> Result<Plant, PlantStop>
-    requires { context.now.periods ≤ 336 }
-    ensures gives { Gives result (fields_tests top_place (table_view document.now) (array_fields (scope_of context.now))) (plant_with (scope_of context.now) (table_view document.now)) }
-    ensures few { IfOk result (λ plant. length plant.runs ≤ 64) }
+/// A plant of so many periods that has nothing.
+fn bare_plant(alloc: Global, periods: u32) -> Plant
+    ensures { result.periods ≡ periods }
 {
-    let place = TOP;
-    let owner = NO_OWNER;
-    read_keys! { document, place;
-        states: (optional State) = rows(alloc; MAX_STATES, context, owner);
-        utilities: (optional Utility) = rows(alloc; MAX_UTILITIES, context, owner);
-        units: (optional StnUnit) = rows(alloc; MAX_UNITS, context, owner);
-        tasks: (optional Task) = rows(alloc; MAX_TASKS, context, owner);
-        runs: (optional Run) = rows(alloc; MAX_RUNS, context, owner);
-        gaps: (optional Gap) = rows(alloc; MAX_GAPS, context, owner);
-        receipts: (optional Receipt) = rows(alloc; MAX_EVENTS, context, owner);
-        deliveries: (optional Delivery) = rows(alloc; MAX_EVENTS, context, owner);
-        outages: (since context.second, Outage) = rows(alloc; MAX_EVENTS, context, owner);
+    Plant {
+        periods,
+        states: List::new(alloc),
+        utilities: List::new(alloc),
+        units: List::new(alloc),
+        tasks: List::new(alloc),
+        runs: List::new(alloc),
+        gaps: List::new(alloc),
+        receipts: List::new(alloc),
+        deliveries: List::new(alloc),
+        outages: List::new(alloc),
     }
-    Ok(Plant {
-        periods: context.periods,
-        states,
-        utilities,
-        units,
-        tasks,
-        runs,
-        gaps,
-        receipts,
-        deliveries,
-        outages,
-    })
+}
+
+/// Reads the array at a key of the document, in the place of what is there.
+fn array<R: Row>(
+    alloc: Global,
+    document: &Table,
+    key: Key,
+    most: usize,
+    context: &Context,
+    owner: Owner,
+    into: &mut List<R>,
+) -> Result<(), PlantStop>
+    requires few { most ≤ 4096 }
+    requires horizon { context.now.periods ≤ 336 }
+    ensures passes { OnOk result (first_fault (field_tests top_place (table_view document.now) (record { key = key; kind = kind.tables most (rows_tests (R.tests (scope_of context.now) owner) (R.made (scope_of context.now) owner) []) })) ≡ None) }
+    ensures is { OnOk result (into.new ≡ map (R.made (scope_of context.now) owner) (at_key items_of [] (table_view document.now) key)) }
+    ensures few { OnOk result (length into.new ≤ most) }
+    ensures err { IfErr result (λ e. Stops e (first_fault (field_tests top_place (table_view document.now) (record { key = key; kind = kind.tables most (rows_tests (R.tests (scope_of context.now) owner) (R.made (scope_of context.now) owner) []) })))) }
+{
+    *into = rows(alloc, document, TOP, key, most, context, owner)?;
+    Ok(())
+}
+
+/// Reads the arrays of a document into a plant, in their order.
+#[tactic(auto, unfolding(crate::specs::Document::plant_with))]
+fn arrays(
+    alloc: Global,
+    document: &Table,
+    context: &Context,
+    plant: &mut Plant,
+) -> Result<(), PlantStop>
+    requires horizon { context.now.periods ≤ 336 }
+    requires periods { plant.old.periods ≡ context.now.periods }
+    ensures passes { OnOk result (first_fault (fields_tests top_place (table_view document.now) (array_fields (scope_of context.now))) ≡ None) }
+    ensures is { OnOk result (plant.new ≡ plant_with (scope_of context.now) (table_view document.now)) }
+    ensures few { OnOk result (length plant.new.runs ≤ 64) }
+    ensures err { IfErr result (λ e. Stops e (first_fault (fields_tests top_place (table_view document.now) (array_fields (scope_of context.now))))) }
+{
+    let owner = NO_OWNER;
+    read_arrays! { alloc, document, context, owner, plant;
+        states: (optional State) MAX_STATES;
+        utilities: (optional Utility) MAX_UTILITIES;
+        units: (optional StnUnit) MAX_UNITS;
+        tasks: (optional Task) MAX_TASKS;
+        runs: (optional Run) MAX_RUNS;
+        gaps: (optional Gap) MAX_GAPS;
+        receipts: (optional Receipt) MAX_EVENTS;
+        deliveries: (optional Delivery) MAX_EVENTS;
+        outages: (since context.second, Outage) MAX_EVENTS;
+    }
+    Ok(())
 }
 
 #[tactic(auto, unfolding(crate::specs::Document::size_tests, crate::specs::Tests::first_fault))]
@@ -222,6 +266,18 @@ fn check_sizes(plant: &Plant) -> Result<(), PlantStop>
     Ok(())
 }
 
+/// The plant of a document, read against its context.
+#[tactic(auto, using(crate::proofs::Faults::faults_append))]
+fn plant_against(alloc: Global, document: &Table, context: &Context) -> Result<Plant, PlantStop>
+    requires { context.now.periods ≤ 336 }
+    ensures { Gives result (fields_tests top_place (table_view document.now) (array_fields (scope_of context.now)) ++ size_tests (plant_with (scope_of context.now) (table_view document.now))) (plant_with (scope_of context.now) (table_view document.now)) }
+{
+    let mut plant = bare_plant(alloc, context.periods);
+    arrays(alloc, document, context, &mut plant)?;
+    check_sizes(&plant)?;
+    Ok(plant)
+}
+
 /// The plant of a document, or its first fault.
 #[tactic(auto, using(crate::proofs::Faults::faults_append), unfolding(crate::specs::Document::document_tests, crate::specs::Document::plant_in))]
 pub fn read_document(alloc: Global, document: &Table) -> Result<Plant, PlantStop>
@@ -231,7 +287,5 @@ pub fn read_document(alloc: Global, document: &Table) -> Result<Plant, PlantStop
     check_keys(document, second)?;
     let periods = horizon(document, second)?;
     let context = context_of(alloc, document, second, periods)?;
-    let plant = arrays(alloc, document, &context)?;
-    check_sizes(&plant)?;
-    Ok(plant)
+    plant_against(alloc, document, &context)
 }

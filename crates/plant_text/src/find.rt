@@ -63,25 +63,17 @@ macro_rules! key {
     };
 }
 
-/// Reads keys of a table by the rows of the field table, in their order: each key by the reader of its
-/// kind. Each key becomes a variable.
-macro_rules! read_keys {
-    ($table:expr, $place:expr; $($field:ident: ($($key:tt)+) = $reader:ident($($first:expr),*; $($rest:expr),*);)+) => {
-        $(let $field = $reader($($first,)* $table, $place, $crate::find::key!($($key)+), $($rest),*)?;)+
-    };
-}
-
-/// Reads an item: first as a whole, then its keys as `read_keys` does.
+/// Reads an item: first as a whole, then its keys by the rows of the field table, in their order: each key
+/// by the reader of its kind. Each key becomes a variable.
 macro_rules! read_fields {
     ($value:expr, $place:expr; $($field:ident: ($($key:tt)+) = $reader:ident($($first:expr),*; $($rest:expr),*);)+) => {
         let table = $crate::find::table_of($value, $place, &[$($crate::find::key!($($key)+)),+])?;
-        $crate::find::read_keys! { table, $place; $($field: ($($key)+) = $reader($($first),*; $($rest),*);)+ }
+        $(let $field = $reader($($first,)* table, $place, $crate::find::key!($($key)+), $($rest),*)?;)+
     };
 }
 
 pub(crate) use key;
 pub(crate) use read_fields;
-pub(crate) use read_keys;
 
 /// What a table holds at a key; nothing at a key that the file's version does not know.
 pub fn find(table: &Table, key: Key) -> Option<&Value>
