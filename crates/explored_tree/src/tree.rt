@@ -93,11 +93,12 @@ impl Tree {
     /// Notes the certificate of a box, which says more of it than any above.
     pub fn put_cert(&mut self, number: u32, cert: Option<Cert>) {
         let place = number as usize;
+        let count = mult_count(&cert);
         if place < self.nodes.len() {
-            self.hold(MULT_BYTES, mult_count(&cert));
             let node = &mut self.nodes[place];
             node.cert = cert;
             node.source = number;
+            self.hold(MULT_BYTES, count);
         }
     }
 
@@ -137,10 +138,11 @@ impl Tree {
         if place >= self.nodes.len() {
             return Vec::new(alloc);
         }
-        self.release(DOMAIN_BYTES);
         let node = &mut self.nodes[place];
         node.explored = true;
-        std::mem::replace(&mut node.domains, Vec::new(alloc))
+        let domains = std::mem::replace(&mut node.domains, Vec::new(alloc));
+        self.release(DOMAIN_BYTES);
+        domains
     }
 
     /// Where the bound of a box begins: where that of the split above it has ended.

@@ -57,11 +57,15 @@ impl Bounds {
         from: Option<usize>,
         aim: Option<i128>,
     ) -> bool {
-        let start = match from {
-            Some(place) if place < self.bases.len() => &self.bases[place],
-            _ => &self.start,
+        let outcome = match from {
+            Some(place) if place < self.bases.len() => {
+                let start = &self.bases[place];
+                self.workspace.bound(program, area, start, aim, MOST_STEPS)
+            }
+            _ => self
+                .workspace
+                .bound(program, area, &self.start, aim, MOST_STEPS),
         };
-        let outcome = self.workspace.bound(program, area, start, aim, MOST_STEPS);
         outcome != Outcome::NoPoint && outcome != Outcome::Reached
     }
 

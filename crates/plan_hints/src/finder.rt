@@ -137,18 +137,13 @@ impl Finder {
 
     /// Takes the only point of its area.
     pub fn take_only(&mut self, program: &Program) {
-        for slot in 0..self.plans.point.len() {
-            self.plans.point[slot] = least_value(self.field.domain(numbered(slot)));
-        }
+        put_least(&self.field, self.plans.point.as_mut_slice());
         self.take_point(program);
     }
 
     /// Takes the rounded solution of the last bound.
     pub fn take_rounded(&mut self, program: &Program) {
-        for slot in 0..self.plans.point.len() {
-            let domain = self.field.domain(numbered(slot));
-            self.plans.point[slot] = rounded(self.bounds.amount(numbered(slot)), domain);
-        }
+        put_rounded(&self.field, &self.bounds, self.plans.point.as_mut_slice());
         self.take_point(program);
     }
 
@@ -161,6 +156,21 @@ impl Finder {
             self.field.back(&self.tables, mark);
         }
         lives
+    }
+}
+
+// Writes the least value of each slot.
+fn put_least(field: &Field, point: &mut [u8]) {
+    for slot in 0..point.len() {
+        point[slot] = least_value(field.domain(numbered(slot)));
+    }
+}
+
+// Writes the value of each slot that is nearest to what it comes to.
+fn put_rounded(field: &Field, bounds: &Bounds, point: &mut [u8]) {
+    for slot in 0..point.len() {
+        let number = numbered(slot);
+        point[slot] = rounded(bounds.amount(number), field.domain(number));
     }
 }
 
