@@ -3,6 +3,7 @@
 #![tactic(auto)]
 
 mod amounts;
+mod busy;
 pub mod breach;
 mod listing;
 mod loads;

@@ -8,9 +8,10 @@ ghost use Rattle.plan_violations.specs.Laws.{BeginsWithFirst};
 
 use crate::amounts::list_amounts;
 use crate::breach::Breach;
+use crate::busy::list_busy;
 use crate::loads::loads;
 use crate::stocks::stocks;
-use crate::units::{list_busy, list_gaps, list_unfit};
+use crate::units::{list_gaps, list_unfit};
 use std::alloc::{AllocError, Global};
 use stn_model::{Plant, Start};
 
@@ -36,18 +37,24 @@ fn listed(alloc: Global, plant: &Plant, plan: &[Start]) -> Result<Vec<Breach>, A
     ensures { IfOk result (λ found. found.items ≡ breaches plant.now plan.now) }
 {
     let mut found = Vec::new(alloc);
-    list_units(plant, plan, &mut found)?;
+    list_units(alloc, plant, plan, &mut found)?;
     list_course(alloc, plant, plan, &mut found)?;
     Ok(found)
 }
 
 #[tactic(auto, unfolding(crate::specs::Breaches::of_units))]
-fn list_units(plant: &Plant, plan: &[Start], found: &mut Vec<Breach>) -> Result<(), AllocError>
+fn list_units(
+    alloc: Global,
+    plant: &Plant,
+    plan: &[Start],
+    found: &mut Vec<Breach>,
+) -> Result<(), AllocError>
+    requires sound { Sound plant.now }
     requires few { length plan.now < 2 ^ 32 }
     ensures { OnOk result (found.new.items ≡ found.old.items ++ of_units plant.now plan.now) }
 {
     list_unfit(plant, plan, found)?;
-    list_busy(plant, plan, found)?;
+    list_busy(alloc, plant, plan, found)?;
     list_gaps(plant, plan, found)
 }
 
