@@ -1,8 +1,8 @@
 -- The table of what runs, and the first places that meet.
-use Rattle.std.proofs.Common.{◌≡◌, ℕ, ◌+◌, ◌-◌, ◌*◌, ◌<◌, ◌≤◌, List, length, drop, get_or, set, get_or-set_same, get_or-set_other, arith, refl, sym, ap, ◌∙◌, subst, inl, inr, Option, Some, None, Bool, true, false, cond, ltb, leb, eqb, max, min, ◌&&◌, ◌++◌, [], ◌∷◌}
+use Rattle.std.proofs.Common.{◌≡◌, ℕ, ◌+◌, ◌-◌, ◌*◌, ◌<◌, ◌≤◌, List, length, drop, get_or, set, get_or-set_same, get_or-set_other, arith, refl, sym, ap, ◌∙◌, subst, inl, inr, Some, None, Bool, true, false, cond, ltb, leb, eqb, max, min, ◌&&◌, ◌++◌, [], ◌∷◌}
 use Rattle.std.specs.Prelude.{position}
 use Rattle.std.specs.Option.{option_map}
-use Rattle.std.proofs.lemmas.Bool.{cases_lt, cases_eq, cases_Bool, false≢true, and_parts, and_from, and_left, eqb-true, eq-eqb, ne_eqb, ltb-true, leb-true, lt-ltb, le-ltb, le-leb}
+use Rattle.std.proofs.lemmas.Bool.{cases_lt, cases_eq, cases_Bool, false≢true, and_parts, and_from, eqb-true, eq-eqb, ne_eqb, ltb-true, leb-true, lt-ltb, le-ltb, le-leb}
 use Rattle.std.proofs.lemmas.List.{get_or-drop, length-drop, append-nil}
 use Rattle.std.proofs.lemmas.Nat.{same_from_place}
 use Rattle.std.proofs.lemmas.List.Quantifiers.{position-Some}
@@ -11,7 +11,6 @@ use Rattle.stn_model.specs.declared.start.Start.{Start}
 use Rattle.stn_model.specs.Plant.{end_of}
 use Rattle.stn_model.specs.Violations.{start_at, no_start}
 use Rattle.plan_sim.specs.Moves.{cell}
-use Rattle.plan_violations.specs.declared.breach.Breach.{Breach}
 use Rattle.plan_violations.specs.declared.breach.Breach.TheVariants.{Busy}
 use Rattle.plan_violations.specs.Lists.{listed}
 use Rattle.plan_violations.specs.Breaches.{meets, meeting_after, busy_at}
@@ -52,7 +51,6 @@ module _ (plant : Plant) (plan : List Start) (width : ℕ) (cells : List ℕ) (k
     (unit : (start_at plan k).unit < length plant.units) (inside : end_of plant (start_at plan k) ≤ width)
     (table : IsRunTable plant plan width (k + 1) cells)
     (least : IsLeastIn cells width (start_at plan k).unit (start_at plan k).period (end_of plant (start_at plan k)) (length plan) m) where
-
   not_before : (j : ℕ) → k + 1 ≤ j → j < m → meets plant (start_at plan k) (start_at plan j) ≡ true → ⊥
   not_before j h l e =
       let a = start_at plan k in
@@ -76,12 +74,14 @@ module _ (plant : Plant) (plan : List Start) (width : ℕ) (cells : List ℕ) (k
       let column : at.column < width = (let h = at.high in omega arith) in
       let first = table a.unit at.column unit column in
       let is = at.is in
-      let later : k + 1 ≤ cell cells width a.unit at.column = first.later in
-      (omega arith, λ h.
-        let h2 : cell cells width a.unit at.column < length plan = omega arith in
-        let runs : runs_in plant a.unit at.column (start_at plan m) ≡ true = ap (λ (i : ℕ). runs_in plant a.unit at.column (start_at plan i)) is ∙ first.here h2 in
-        let parts = runs_parts plant a.unit at.column (start_at plan m) runs in
-        meet_from plant a (start_at plan m) at.column (sym parts.0) at.low parts.1.0 at.high parts.1.1)
+      let later : k + 1 ≤ cell cells width a.unit at.column = first.later in (
+        omega arith,
+        λ h.
+            let h2 : cell cells width a.unit at.column < length plan = omega arith in
+            let runs : runs_in plant a.unit at.column (start_at plan m) ≡ true = ap (λ (i : ℕ). runs_in plant a.unit at.column (start_at plan i)) is ∙ first.here h2 in
+            let parts = runs_parts plant a.unit at.column (start_at plan m) runs in
+            meet_from plant a (start_at plan m) at.column (sym parts.0) at.low parts.1.0 at.high parts.1.1,
+      )
 
   pub met_in_table : IsMeeting plant plan k m
   met_in_table = record {
@@ -134,9 +134,9 @@ meeting_some plant plan k m met l =
     let later : k + 1 ≤ m = met.later in
     let in_drop : m - (k + 1) < length (drop (k + 1) plan) = simp length-drop (omega arith) in
     let found : position p (drop (k + 1) plan) ≡ Some (m - (k + 1)) =
-        position_here p (drop (k + 1) plan) (m - (k + 1)) no_start in_drop
-        (λ j h. let low : k + 1 + j < m = omega arith in let from : k + 1 ≤ k + 1 + j = omega arith in ap p (get_or-drop (k + 1) plan j no_start) ∙ met.before (k + 1 + j) from low)
-        (ap p (at_drop plan k m later) ∙ met.here l) in
+    position_here p (drop (k + 1) plan) (m - (k + 1)) no_start in_drop
+    (λ j h. let low : k + 1 + j < m = omega arith in let from : k + 1 ≤ k + 1 + j = omega arith in ap p (get_or-drop (k + 1) plan j no_start) ∙ met.before (k + 1 + j) from low)
+    (ap p (at_drop plan k m later) ∙ met.here l) in
     let back : k + 1 + (m - (k + 1)) ≡ m = omega arith in
     ap (option_map (λ i. k + 1 + i)) found ∙ ap (λ (i : ℕ). Some i) back
 
@@ -199,9 +199,9 @@ pub table_more : (plant : Plant) (plan : List Start) (width k last : ℕ) (old n
 table_more plant plan width k last old new there is put table unit period h l =
     let a = start_at plan k in
     let test : (eqb a.unit unit && leb a.period period && ltb period last) ≡ runs_in plant unit period a =
-        ap (λ (e : ℕ). eqb a.unit unit && leb a.period period && ltb period e) is ∙ put_test plant a unit period width l in
+    ap (λ (e : ℕ). eqb a.unit unit && leb a.period period && ltb period e) is ∙ put_test plant a unit period width l in
     let now : cell new width unit period ≡ cond (runs_in plant unit period a) k (cell old width unit period) =
-        put unit period l ∙ ap (λ (b : Bool). cond b k (cell old width unit period)) test in
+    put unit period l ∙ ap (λ (b : Bool). cond b k (cell old width unit period)) test in
     elim (cases_Bool (runs_in plant unit period a)) [
       | inl e ↦ (let value : cell new width unit period ≡ k = now ∙ ap (λ (b : Bool). cond b k (cell old width unit period)) e in
           subst (IsFirst (runs_in plant unit period) plan k) (sym value) (first_here plan (runs_in plant unit period) k there e))
@@ -229,7 +229,7 @@ put_more old cells w row from column value there inside begun put r c h =
     elim (cases_eq (r * w + c) (row * w + column)) [
       | inl e ↦ (let both = same_from_place r c row column w h inside e in
           let test : (eqb row r && leb from c && ltb c (column + 1)) ≡ true =
-              and_from (eqb row r && leb from c) (ltb c (column + 1)) (and_from (eqb row r) (leb from c) (eq-eqb row r (sym both.0)) (le-leb from c (let k : c ≡ column = both.1 in omega arith))) (lt-ltb c (column + 1) (let k : c ≡ column = both.1 in omega arith)) in
+          and_from (eqb row r && leb from c) (ltb c (column + 1)) (and_from (eqb row r) (leb from c) (eq-eqb row r (sym both.0)) (le-leb from c (let k : c ≡ column = both.1 in omega arith))) (lt-ltb c (column + 1) (let k : c ≡ column = both.1 in omega arith)) in
           ap (λ (i : ℕ). get_or (set cells (row * w + column) value) i 0) e ∙ get_or-set_same cells (row * w + column) value 0 place
           ∙ sym (ap (λ (b : Bool). cond b value (cell old w r c)) test))
       | inr ne ↦ (let other : cell (set cells (row * w + column) value) w r c ≡ cell cells w r c = get_or-set_other cells (row * w + column) (r * w + c) value 0 ne in

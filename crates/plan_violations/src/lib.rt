@@ -3,8 +3,8 @@
 #![tactic(auto)]
 
 mod amounts;
-mod busy;
 pub mod breach;
+mod busy;
 mod listing;
 mod loads;
 mod moves;

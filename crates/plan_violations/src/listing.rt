@@ -18,7 +18,9 @@ use stn_model::{Plant, Start};
 /// Everything that the plan breaks on the plant: starts that do not fit, batches of one unit that meet, batches
 /// that begin before their unit is cleaned, and time by time the stocks and loads that are not kept, with
 /// amounts. Nothing where the plan is feasible, and else the first is what a simulation answers. The only error
-/// is want of memory.
+/// is want of memory. It takes memory for tables over units, states and utilities by periods, and for the list.
+/// Its time is the starts times the periods that they run, but for the next batches on a unit, for which the plan
+/// is looked through for each start.
 pub fn violations(alloc: Global, plant: &Plant, plan: &[Start]) -> Result<Vec<Breach>, AllocError>
     requires sound { Sound plant.now }
     requires few { length plan.now < 2 ^ 32 }

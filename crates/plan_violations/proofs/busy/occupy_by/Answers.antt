@@ -19,7 +19,7 @@ returns-then-len-start-clause-table c =
 pub returns-clause-table : goal.returns-clause-table
 returns-clause-table c =
     let last : c.last_in-last.result ≡ min (end_of c.args.plant.now (start_at c.args.plan.now c.args.place)) c.args.width =
-        c.last_in-last.ensures ∙ ap (λ (s : Start). min (end_of c.args.plant.now s) c.args.width) c.requires.is in
+    c.last_in-last.ensures ∙ ap (λ (s : Start). min (end_of c.args.plant.now s) c.args.width) c.requires.is in
     table_more c.args.plant.now c.args.plan.now c.args.width c.args.place c.last_in-last.result c.args.cells.now c.set_row.new.cells c.requires.there last
     (subst (λ (s : Start). (r k : ℕ) → k < c.args.width → cell c.set_row.new.cells c.args.width r k ≡ put_in c.args.cells.now c.args.width s.unit s.period c.last_in-last.result c.args.place r k) c.requires.is c.set_row.ensures.put)
     c.requires.table

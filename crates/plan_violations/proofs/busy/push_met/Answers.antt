@@ -1,4 +1,4 @@
-use Rattle.std.proofs.Common.{◌≡◌, ◌++◌, List, arith, ap, sym, ◌∙◌}
+use Rattle.std.proofs.Common.{◌++◌, List, arith, ap, sym, ◌∙◌}
 use Rattle.plan_violations.specs.declared.breach.Breach.{Breach}
 use Rattle.plan_violations.proofs.Meeting.{busy_some, busy_nothing, kept_by_none}
 use Rattle.plan_violations.proofs.busy.push_met.Goals as goal
