@@ -1,8 +1,8 @@
 -- The next starts on a unit are those in the nearest later period.
-use Rattle.std.proofs.Common.{◌≡◌, ℕ, ◌<◌, ◌≤◌, List, length, get_or, arith, Bool, true, false, sym, ap, ◌∙◌, subst, cond, inl, inr, ◌&&◌, ltb, leb, eqb, Option, None}
-use Rattle.std.specs.Prelude.{IsTrue, not, position, nat_lt, ◌==◌}
+use Rattle.std.proofs.Common.{◌≡◌, ℕ, ◌<◌, ◌≤◌, List, length, arith, Bool, true, false, sym, ap, ◌∙◌, subst, inl, inr, ◌&&◌, ltb, leb, eqb, None}
+use Rattle.std.specs.Prelude.{not, position, nat_lt, ◌==◌}
 use Rattle.std.specs.List.{list_all}
-use Rattle.std.proofs.lemmas.Bool.{and_parts, not-true, ltb-true, eqb-true, eq-eqb, lt-ltb, le-ltb, le-leb, lt-leb, cases_Bool, and_right, and_left, cases_lt, cases_eq, ne_eqb, false≢true}
+use Rattle.std.proofs.lemmas.Bool.{and_parts, not-true, ltb-true, eqb-true, eq-eqb, lt-ltb, le-ltb, le-leb, lt-leb, cases_Bool, and_right, and_left, cases_lt, cases_eq, ne_eqb}
 use Rattle.std.proofs.lemmas.Bool.Decides.{nat_tests}
 use Rattle.std.proofs.lemmas.List.Sums.{AllPass-from_list_all, list_all-from_AllPass}
 use Rattle.std.proofs.lemmas.List.{get_or_default}

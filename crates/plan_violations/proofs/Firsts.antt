@@ -1,6 +1,6 @@
 -- The list is empty exactly where the plan is feasible, and begins with what the plan breaks first.
 use Rattle.std.proofs.Common.{◌≡◌, ℕ, ◌+◌, ◌-◌, ◌<◌, ◌≤◌, List, [], ◌∷◌, ◌++◌, length, drop, get_or, arith, refl, sym, ap, ◌∙◌, subst, inl, inr, Option, Some, None, Bool, true, false, cond, ltb, eqb, max, min, ◌&&◌}
-use Rattle.std.specs.Prelude.{ℤ, pos, ◌≤ℤ◌, ◌<ℤ◌, ◌-ℤ◌, ◌↔◌, IsTrue, IsSomeAnd, IfSome, slice_get, slice_index, position, not, int_lt, unsigned_abs}
+use Rattle.std.specs.Prelude.{ℤ, pos, ◌≤ℤ◌, ◌<ℤ◌, ◌-ℤ◌, ◌↔◌, IsSomeAnd, IfSome, slice_get, slice_index, position, not, int_lt, unsigned_abs}
 use Rattle.std.specs.Option.{option_map}
 use Rattle.std.proofs.lemmas.Int.{ints, by_lt_z}
 use Rattle.std.proofs.lemmas.Bool.{cases_lt, cases_order, cases_Bool, false≢true, and_parts, and_from, eqb-true, eq-eqb, ltb-true, lt-ltb, le-ltb}
@@ -8,7 +8,6 @@ use Rattle.std.proofs.lemmas.List.{get_or-drop, length-drop}
 use Rattle.std.proofs.lemmas.List.Quantifiers.{position-Some}
 use Rattle.stn_model.specs.declared.plant.Plant.{Plant}
 use Rattle.stn_model.specs.declared.start.Start.{Start}
-use Rattle.stn_model.specs.declared.violation.Violation.TheVariants as first
 use Rattle.stn_model.specs.Plant.{state_at, utility_at, end_of, gap_between}
 use Rattle.stn_model.specs.Fits.{Fits, is_fit}
 use Rattle.stn_model.specs.Batches.{Apart, is_next}
@@ -18,13 +17,13 @@ use Rattle.stn_model.specs.Sound.{Sound}
 use Rattle.stn_model.specs.Feasible.{Feasible, StockKept, LoadKept}
 use Rattle.stn_model.specs.Violations.{BreaksFirst, start_at, no_start, TooSoon}
 use Rattle.stn_model.proofs.Fitting.{ends_later}
-use Rattle.plan_sim.specs.Units.{FitUntil, ApartUntil, ApartThroughout, CleanedUntil, NoneTooSoon, NoTwins, UnitsKept}
+use Rattle.plan_sim.specs.Units.{FitUntil, ApartUntil, ApartThroughout, NoneTooSoon, NoTwins, UnitsKept}
 use Rattle.plan_sim.proofs.Following.{nearest_from_next, nearest_unique}
 use Rattle.plan_sim.proofs.Firsts.{unfit_first, busy_first, gap_first, no_twins, PlanKeptBefore, stock_not_before, load_not_before, feasible_from, feasible_breaks_nothing}
 use Rattle.plan_violations.specs.declared.breach.Breach.{Breach}
 use Rattle.plan_violations.specs.declared.breach.Breach.TheVariants.{Unfit, Busy, Gap, StockLow, StockHigh, Load}
 use Rattle.plan_violations.specs.Lists.{listed, listed_amount, listed_below}
-use Rattle.plan_violations.specs.Breaches.{misfit_of, unfit_at, meets, meeting_after, busy_at, early_by, comes_early, gap_at, excess, above, of_level, of_load, stock_at, load_at, amounts_at, of_units, breaches}
+use Rattle.plan_violations.specs.Breaches.{misfit_of, unfit_at, meets, meeting_after, busy_at, early_by, comes_early, gap_at, excess, above, stock_at, load_at, amounts_at, of_units, breaches}
 use Rattle.plan_violations.specs.Laws.{violation_of, BeginsWithFirst}
 use Rattle.plan_violations.proofs.Places.{position_none}
 use Rattle.plan_violations.proofs.Leads.{Leads, append_none, leads_append, below_none, leads_below, leads_amount, amount_none}

@@ -1,5 +1,5 @@
 -- What is known of the task of a start, where it is there, and where it is not.
-use Rattle.std.proofs.Common.{◌≡◌, ℕ, ◌+◌, ◌*◌, ◌^◌, ◌<◌, ◌≤◌, List, length, arith, sum_by, ap, sym, ◌∙◌, refl}
+use Rattle.std.proofs.Common.{◌≡◌, ℕ, ◌+◌, ◌*◌, ◌^◌, ◌<◌, ◌≤◌, List, length, arith, sum_by, ap}
 use Rattle.std.specs.Prelude.{All}
 use Rattle.std.proofs.lemmas.List.{get_or_past}
 use Rattle.stn_model.specs.declared.plant.Plant.{Plant}
@@ -7,7 +7,6 @@ use Rattle.stn_model.specs.declared.plant.Task.{Task}
 use Rattle.stn_model.specs.declared.start.Start.{Start}
 use Rattle.stn_model.specs.Plant.{end_of, task_at, no_task}
 use Rattle.stn_model.specs.Stock.{given, taken, given_by, taken_by}
-use Rattle.stn_model.specs.Load.{drawn, drawn_in}
 use Rattle.stn_model.specs.Sound.{Sound, SoundTask}
 use Rattle.plan_sim.specs.Moves.{HasRow}
 use Rattle.plan_sim.proofs.Placed.{row_there}

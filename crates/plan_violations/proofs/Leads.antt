@@ -1,7 +1,7 @@
 -- What is known of the first item of a list that is put together of pieces.
-use Rattle.std.proofs.Common.{◌≡◌, ℕ, zero, suc, ◌<◌, ◌≤◌, List, [], ◌∷◌, ◌++◌, arith, refl, sym, ap, ◌∙◌, subst, Bool, true, false, cond, ltb, Option, Some, None, inl, inr}
+use Rattle.std.proofs.Common.{◌≡◌, ℕ, zero, suc, ◌<◌, List, [], ◌∷◌, ◌++◌, arith, refl, sym, ap, ◌∙◌, subst, Bool, cond, inl, inr}
 use Rattle.std.proofs.lemmas.Bool.{cases_lt, lt-ltb, le-ltb}
-use Rattle.plan_violations.specs.Lists.{listed, listed_amount, listed_below}
+use Rattle.plan_violations.specs.Lists.{listed_amount, listed_below}
 
 -- the first item, where there is one, has a property
 abbrev pub Leads : {Y : Type 0} → (Y → Type 0) → List Y → Type 0

@@ -4,9 +4,9 @@ use Rattle.std.proofs.lemmas.Bool.{cases_lt, lt-leb, lt-ltb, le-ltb, and_right, 
 use Rattle.stn_model.specs.declared.plant.Plant.{Plant}
 use Rattle.stn_model.specs.declared.plant.Task.{Task}
 use Rattle.stn_model.specs.declared.start.Start.{Start}
-use Rattle.stn_model.specs.Plant.{end_of, task_at, no_task}
+use Rattle.stn_model.specs.Plant.{end_of, task_at}
 use Rattle.stn_model.specs.Load.{drawn, drawn_in}
-use Rattle.plan_sim.specs.Moves.{summed, moved_by, drawn_until}
+use Rattle.plan_sim.specs.Moves.{moved_by, drawn_until}
 use Rattle.plan_sim.proofs.Tables.{row_step, summed_le}
 use Rattle.plan_violations.proofs.Known.{no_task_is}
 

@@ -1,10 +1,9 @@
 -- The tables of a plan show what the plan breaks.
 use Rattle.std.proofs.Common.{◌≡◌, ℕ, ◌+◌, ◌<◌, ◌≤◌, List, [], ◌++◌, length, arith, sym, ap, ◌∙◌, inl, inr, Bool, cond, ltb}
 use Rattle.std.specs.Prelude.{ℤ}
-use Rattle.std.proofs.lemmas.Bool.{cases_lt, lt-ltb, le-ltb}
+use Rattle.std.proofs.lemmas.Bool.{cases_lt, le-ltb}
 use Rattle.stn_model.specs.declared.plant.Plant.{Plant}
 use Rattle.stn_model.specs.declared.start.Start.{Start}
-use Rattle.plan_sim.specs.Faults.{level, used}
 use Rattle.plan_sim.specs.Tables.{IsStockTable, IsLoadTable}
 use Rattle.plan_violations.specs.declared.breach.Breach.{Breach}
 use Rattle.plan_violations.specs.Lists.{listed_below}

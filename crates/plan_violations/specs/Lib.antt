@@ -3,3 +3,4 @@ pub mod Breaches
 pub mod Laws
 pub mod Next
 pub mod Shown
+pub mod Meeting

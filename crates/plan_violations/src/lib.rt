@@ -4,6 +4,7 @@
 
 mod amounts;
 pub mod breach;
+mod busy;
 mod listing;
 mod loads;
 mod moves;

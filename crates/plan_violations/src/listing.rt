@@ -8,16 +8,19 @@ ghost use Rattle.plan_violations.specs.Laws.{BeginsWithFirst};
 
 use crate::amounts::list_amounts;
 use crate::breach::Breach;
+use crate::busy::list_busy;
 use crate::loads::loads;
 use crate::stocks::stocks;
-use crate::units::{list_busy, list_gaps, list_unfit};
+use crate::units::{list_gaps, list_unfit};
 use std::alloc::{AllocError, Global};
 use stn_model::{Plant, Start};
 
 /// Everything that the plan breaks on the plant: starts that do not fit, batches of one unit that meet, batches
 /// that begin before their unit is cleaned, and time by time the stocks and loads that are not kept, with
 /// amounts. Nothing where the plan is feasible, and else the first is what a simulation answers. The only error
-/// is want of memory.
+/// is want of memory. It takes memory for tables over units, states and utilities by periods, and for the list.
+/// Its time is the starts times the periods that they run, but for the next batches on a unit, for which the plan
+/// is looked through for each start.
 pub fn violations(alloc: Global, plant: &Plant, plan: &[Start]) -> Result<Vec<Breach>, AllocError>
     requires sound { Sound plant.now }
     requires few { length plan.now < 2 ^ 32 }
@@ -36,18 +39,24 @@ fn listed(alloc: Global, plant: &Plant, plan: &[Start]) -> Result<Vec<Breach>, A
     ensures { IfOk result (λ found. found.items ≡ breaches plant.now plan.now) }
 {
     let mut found = Vec::new(alloc);
-    list_units(plant, plan, &mut found)?;
+    list_units(alloc, plant, plan, &mut found)?;
     list_course(alloc, plant, plan, &mut found)?;
     Ok(found)
 }
 
 #[tactic(auto, unfolding(crate::specs::Breaches::of_units))]
-fn list_units(plant: &Plant, plan: &[Start], found: &mut Vec<Breach>) -> Result<(), AllocError>
+fn list_units(
+    alloc: Global,
+    plant: &Plant,
+    plan: &[Start],
+    found: &mut Vec<Breach>,
+) -> Result<(), AllocError>
+    requires sound { Sound plant.now }
     requires few { length plan.now < 2 ^ 32 }
     ensures { OnOk result (found.new.items ≡ found.old.items ++ of_units plant.now plan.now) }
 {
     list_unfit(plant, plan, found)?;
-    list_busy(plant, plan, found)?;
+    list_busy(alloc, plant, plan, found)?;
     list_gaps(plant, plan, found)
 }
 

@@ -18,9 +18,6 @@ ghost use Rattle.plan_violations.specs.Lists.{listed_below};
 ghost use Rattle.plan_violations.specs.Breaches.{
   misfit_of,
   unfit_at,
-  meets,
-  meeting_after,
-  busy_at,
   early_by,
   comes_early,
   gap_at,
@@ -28,6 +25,7 @@ ghost use Rattle.plan_violations.specs.Breaches.{
 ghost use Rattle.plan_violations.specs.Next.{early_until};
 
 use crate::breach::{Breach, Misfit};
+use crate::busy::do_meet;
 use std::alloc::AllocError;
 use stn_model::{Plant, Start, end, fits, gap_of, run_for};
 
@@ -81,68 +79,6 @@ fn misfit(plant: &Plant, start: &Start) -> Misfit
             }
         }
     }
-}
-
-/// Lists each batch that meets a later one of the plan, with the first that it meets.
-pub fn list_busy(plant: &Plant, plan: &[Start], found: &mut Vec<Breach>) -> Result<(), AllocError>
-    requires { length plan.now < 2 ^ 32 }
-    ensures { OnOk result (found.new.items
-        ≡ found.old.items ++ listed_below (busy_at plant.now plan.now) (length plan.now)) }
-{
-    for place in 0..plan.len() {
-        push_busy(plant, plan, place, found)?;
-    }
-    Ok(())
-}
-
-#[tactic(auto, unfolding(crate::specs::Breaches::busy_at))]
-fn push_busy(
-    plant: &Plant,
-    plan: &[Start],
-    place: usize,
-    found: &mut Vec<Breach>,
-) -> Result<(), AllocError>
-    requires few { length plan.now < 2 ^ 32 }
-    requires there { place < length plan.now }
-    ensures { OnOk result (found.new.items ≡ found.old.items ++ busy_at plant.now plan.now place) }
-{
-    match meeting_after(plant, plan, place) {
-        Some(second) => {
-            found.push(Breach::Busy {
-                first: place as u32,
-                second: second as u32,
-            })?;
-        }
-        None => {}
-    }
-    Ok(())
-}
-
-/// The first later place whose batch meets the one at this place.
-#[tactic(auto, unfolding(crate::specs::Breaches::meeting_after))]
-fn meeting_after(plant: &Plant, plan: &[Start], place: usize) -> Option<usize>
-    requires { place < length plan.now }
-    ensures value { result ≡ meeting_after plant.now plan.now place }
-    ensures within { IfSome result (λ second. second < length plan.now) }
-{
-    match first_met(plant, &plan[place], &plan[place + 1..]) {
-        Some(k) => Some(place + 1 + k),
-        None => None,
-    }
-}
-
-fn first_met(plant: &Plant, a: &Start, plan: &[Start]) -> Option<usize>
-    ensures value { result ≡ position (meets plant.now a.now) plan.now }
-    ensures within { IfSome result (λ k. k < length plan.now) }
-{
-    plan.iter().position(|b| do_meet(plant, a, b))
-}
-
-#[tactic(auto, unfolding(crate::specs::Breaches::meets))]
-fn do_meet(plant: &Plant, a: &Start, b: &Start) -> bool
-    ensures { result ≡ meets plant.now a.now b.now }
-{
-    a.unit == b.unit && (a.period.max(b.period) as u64) < end(plant, a).min(end(plant, b))
 }
 
 /// Lists each batch whose next one on the unit comes too early, with the first such one of the plan.

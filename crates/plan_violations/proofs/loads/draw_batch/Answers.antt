@@ -4,7 +4,6 @@ use Rattle.std.proofs.lemmas.List.Elements.{All-same}
 use Rattle.stn_model.specs.declared.plant.Task.{Task}
 use Rattle.stn_model.specs.declared.plant.Draw.{Draw}
 use Rattle.stn_model.specs.Plant.{task_at, end_of}
-use Rattle.stn_model.specs.Load.{drawn}
 use Rattle.plan_sim.specs.Moves.{HasRow, drawn_until}
 use Rattle.plan_violations.proofs.Known.{draws_few, draws_rows, draws_fixed, draws_each, ends_no_earlier}
 use Rattle.plan_violations.proofs.Rows.{drawn_cut, drawn_later, nothing_drawn}

@@ -1,9 +1,4 @@
-use Rattle.std.proofs.Common.{◌≡◌, ℕ, ap, ◌∙◌}
-use Rattle.std.specs.Prelude.{position}
-use Rattle.stn_model.specs.declared.start.Start.{Start}
-use Rattle.stn_model.specs.Violations.{start_at}
-use Rattle.plan_violations.specs.Breaches.{comes_early}
-use Rattle.plan_violations.specs.Next.{early_until}
+use Rattle.std.proofs.Common.{◌∙◌}
 use Rattle.plan_violations.proofs.Early.{early_of_nearest, early_nowhere}
 use Rattle.plan_violations.proofs.units.early_next.Goals as goal
 

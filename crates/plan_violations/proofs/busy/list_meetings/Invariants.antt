@@ -1,7 +1,7 @@
 use Rattle.std.proofs.Common.{◌≡◌, ◌++◌}
 use Rattle.plan_violations.specs.Lists.{listed_below}
 use Rattle.plan_violations.specs.Breaches.{busy_at}
-use Rattle.plan_violations.proofs.units.list_busy.Given as goal
+use Rattle.plan_violations.proofs.busy.list_meetings.Given as goal
 
 abbrev pub invariant-loop-place : goal.invariant-loop-place
 invariant-loop-place l = l.found.items ≡ l.initial.found.items ++ listed_below (busy_at l.plant l.plan) l.place
