@@ -163,7 +163,7 @@ class Drawing:
         name, amount = self.names["task"][start.task], f"{start.quanta} = {start.quanta * self.plant.tasks[start.task].quantum}"
         self.put(f'<g class="c{start.task % 8}"><title>{name} {amount}, {start.period} to {self.end(start)}</title>\n')
         x, y, width = self.x(found[0]), ROW + ROW * start.unit + 1, (found[1] - found[0]) * self.width
-        self.box(f"e{start.task // 8}", x, y, width, 20)
+        self.box(f"d{start.task // 8}", x, y, width, 20)
         self.short("task", x + 4, y + 9, (width - 6) // 6, name)
         self.short("quanta", x + 4, y + 18, (width - 6) // 6, amount)
         self.put("</g>\n")
@@ -264,7 +264,7 @@ class Drawing:
         for task, name in enumerate(self.names["task"]):
             x, y = 240 * (task % line), ROW + ROW * (task // line)
             self.put(f'<g class="c{task % 8}">')
-            self.box(f"e{task // 8}", x + 2, y + 3, 24, 16)
+            self.box(f"d{task // 8}", x + 2, y + 3, 24, 16)
             self.words("task", x + 32, y + 14, name)
             self.put("</g>\n")
         for band in range(self.bands):
@@ -298,11 +298,11 @@ STYLE = """<style>
 .c5{fill:#4b9}
 .c6{fill:#bc3}
 .c7{fill:#aa0}
-.e0{stroke:#333}
-.e1{stroke:#333;stroke-width:3px}
-.e2{stroke:#333;stroke-width:3px;stroke-dasharray:6 3}
-.e3{stroke:#333;stroke-width:3px;stroke-dasharray:2 3}
-.e4{stroke:#fff;stroke-width:3px;stroke-dasharray:4 4}
+.d0{stroke:#333}
+.d1{stroke:#333;stroke-width:3px}
+.d2{stroke:#333;stroke-width:3px;stroke-dasharray:6 3}
+.d3{stroke:#333;stroke-width:3px;stroke-dasharray:2 3}
+.d4{stroke:#fff;stroke-width:3px;stroke-dasharray:4 4}
 @page{size:A3 landscape;margin:8mm}
 @media print{:root{width:404mm;height:281mm}}
 </style>

@@ -84,7 +84,7 @@ color_begin task = codes "<g class=\"c" ++ (decimal (task % 8) ++ codes "\">")
 
 -- the class of a task's edge: one of five
 unfoldable pub edge_class : ℕ → List ℕ
-edge_class task = codes "e" ++ decimal (task / 8)
+edge_class task = codes "d" ++ decimal (task / 8)
 
 -- the size of a batch: its quanta, and their mass
 unfoldable pub size_words : Plant → Start → List ℕ

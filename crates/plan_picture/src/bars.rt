@@ -118,7 +118,7 @@ pub fn edge_class(alloc: Global, task: u32) -> Result<String, AllocError>
     ensures { IfOk result (λ class. string_bytes class ≡ edge_class task) }
 {
     let edge = task / 8;
-    format!(in alloc; "e{edge}")
+    format!(in alloc; "d{edge}")
 }
 
 /// The name of a task; nothing where the task is not there.

@@ -75,7 +75,7 @@ fn push_task_style(text: &mut Vec<u8>) -> Result<(), AllocError>
     ensures { OnOk result (text.new.items ≡ text.old.items ++ task_style) }
 {
     text.extend_from_slice(
-        ".c0{fill:#7ad}\n.c1{fill:#e86}\n.c2{fill:#ed8}\n.c3{fill:#fab}\n.c4{fill:#9df}\n.c5{fill:#4b9}\n.c6{fill:#bc3}\n.c7{fill:#aa0}\n.e0{stroke:#333}\n.e1{stroke:#333;stroke-width:3px}\n.e2{stroke:#333;stroke-width:3px;stroke-dasharray:6 3}\n.e3{stroke:#333;stroke-width:3px;stroke-dasharray:2 3}\n.e4{stroke:#fff;stroke-width:3px;stroke-dasharray:4 4}\n".as_bytes(),
+        ".c0{fill:#7ad}\n.c1{fill:#e86}\n.c2{fill:#ed8}\n.c3{fill:#fab}\n.c4{fill:#9df}\n.c5{fill:#4b9}\n.c6{fill:#bc3}\n.c7{fill:#aa0}\n.d0{stroke:#333}\n.d1{stroke:#333;stroke-width:3px}\n.d2{stroke:#333;stroke-width:3px;stroke-dasharray:6 3}\n.d3{stroke:#333;stroke-width:3px;stroke-dasharray:2 3}\n.d4{stroke:#fff;stroke-width:3px;stroke-dasharray:4 4}\n".as_bytes(),
     )
 }
 
