@@ -1,2 +1,5 @@
 mod Counting
+mod Parts
+mod Places
+mod Promises
 mod Ranges

@@ -6,10 +6,11 @@ use Rattle.stn_model.specs.declared.plant.Plant.{Plant}
 use Rattle.stn_model.specs.declared.start.Start.{Start}
 use Rattle.stn_model.specs.Plant.{task_at}
 use Rattle.stn_model.specs.Profit.{profit}
-use Rattle.plan_picture.specs.Marks.{escaped, words_at, box_at}
-use Rattle.plan_picture.specs.Scale.{x_at, head_height, chart_height}
-use Rattle.plan_picture.specs.Chart.{task_class, gantt}
-use Rattle.plan_picture.specs.Graphs.{moving_count, stocks, loads}
+use Rattle.plan_picture.specs.Marks.{words_at, box_at}
+use Rattle.plan_picture.specs.Scale.{band_count, chart_width, tasks_in_line, band_height, band_top}
+use Rattle.plan_picture.specs.Chart.{part_head, grid}
+use Rattle.plan_picture.specs.Bars.{unit_rows, outage_boxes, cleanings, color_begin, edge_class, bars}
+use Rattle.plan_picture.specs.Graphs.{touched_count, stocks, loads}
 
 -- the first line: the size of the document
 unfoldable pub size_line : ℕ → ℕ → List ℕ
@@ -19,73 +20,92 @@ size_line width height =
 
 -- how words look
 unfoldable pub word_style : List ℕ
-word_style = codes "<style>\ntext{font:11px sans-serif;fill:#222}.title{font-size:15px;font-weight:bold}.head{font-size:13px;font-weight:bold}.name{font-weight:bold;fill:#555}.time{text-anchor:middle;fill:#555}.time,.number{paint-order:stroke;stroke:#fff;stroke-width:3px}.quanta{font-weight:bold}\n"
+word_style = codes "<style>\n.page{fill:#fff;stroke:none}\n.title{font-size:14px;font-weight:bold}\n.head{font-size:12px;font-weight:bold}\n.name{font-weight:bold}\n.time{text-anchor:middle;fill:#555}\n.task{fill:#000}\n.quanta{font-weight:bold;fill:#000}\n.most{fill:#b02a1c}\n"
 
--- how rows, outages, levels and limits look
+-- how rows, outages, cleaning, levels, limits and flags look
 unfoldable pub row_style : List ℕ
-row_style = codes ".row{fill:#f2f2f2}.grid{stroke:#ccc;fill:none}.outage{fill:url(#hatch)}.level,.limit{vector-effect:non-scaling-stroke}.level{fill:#cfe3f5;stroke:#2b6ca3;stroke-width:2px}.limit{fill:none;stroke:#c0392b;stroke-width:1.5px;stroke-dasharray:6 3}\n"
+row_style = codes ".row{fill:#f0f0f0}\n.grid{stroke:#ccc;fill:none}\n.outage{fill:#bbb}\n.clean{stroke:#888;stroke-width:20px;stroke-dasharray:2 4;fill:none}\n.level{fill:#cfe3f5;stroke:#8fbce0}\n.limit{stroke:#b02a1c;stroke-dasharray:6 3;fill:none}\n.cloth{fill:#ffe08a}\n.pole{fill:#7a5200}\n"
 
 -- how tasks look: eight colours that people with colour blindness can tell apart, and five edges
 unfoldable pub task_style : List ℕ
-task_style = codes ".bar{stroke:#333}.c0{fill:#7ad}.c1{fill:#e86}.c2{fill:#ed8}.c3{fill:#fab}.c4{fill:#9df}.c5{fill:#4b9}.c6{fill:#bc3}.c7{fill:#aa0}.e1{stroke-width:4px}.e2{stroke-width:4px;stroke-dasharray:6 3}.e3{stroke-width:4px;stroke-dasharray:2 3}.e4{stroke:#fff;stroke-width:5px;stroke-dasharray:4 4}\n"
+task_style = codes ".c0{fill:#7ad}\n.c1{fill:#e86}\n.c2{fill:#ed8}\n.c3{fill:#fab}\n.c4{fill:#9df}\n.c5{fill:#4b9}\n.c6{fill:#bc3}\n.c7{fill:#aa0}\n.d0{stroke:#333}\n.d1{stroke:#333;stroke-width:3px}\n.d2{stroke:#333;stroke-width:3px;stroke-dasharray:6 3}\n.d3{stroke:#333;stroke-width:3px;stroke-dasharray:2 3}\n.d4{stroke:#fff;stroke-width:3px;stroke-dasharray:4 4}\n"
 
--- how the picture is printed, on one page, what an outage is shaded with, and the white ground
+-- how the picture is printed: on one page
 unfoldable pub page_style : List ℕ
-page_style = codes "@page{size:landscape;margin:8mm}@media print{:root{width:100%;height:100%}}\n</style>\n<defs><pattern id=\"hatch\" width=\"6\" height=\"6\" patternUnits=\"userSpaceOnUse\"><path d=\"M0 6L6 0\" stroke=\"#666\"/></pattern></defs>\n<rect width=\"100%\" height=\"100%\" fill=\"#fff\"/>\n"
+page_style = codes "@page{size:A3 landscape;margin:8mm}\n@media print{:root{width:404mm;height:281mm}}\n</style>\n"
 
 -- how all classes look
 unfoldable pub style : List ℕ
 style = word_style ++ (row_style ++ (task_style ++ page_style))
 
--- the entry of a task in the legend: a patch in its colour, and its name
-unfoldable pub legend_entry : Plant → ℕ → List ℕ
-legend_entry plant task =
-    box_at (task_class task) (16 + 250 * (task % 3)) (36 + 20 * (task / 3)) 24 16
-    ++ words_at (codes "task") (46 + 250 * (task % 3)) (48 + 20 * (task / 3)) (escaped (task_at plant task).name)
+-- the size of a document, how it looks, and its white ground
+unfoldable pub page : ℕ → ℕ → List ℕ
+page width height = size_line width height ++ (style ++ box_at (codes "page") 0 0 width height)
+
+-- the margins, and the letters of all words
+unfoldable pub ground_begin : List ℕ
+ground_begin = codes "<g transform=\"translate(16 8)\" font-family=\"monospace\" font-size=\"10\" stroke=\"none\">\n"
 
 -- the first words: the profit
 unfoldable pub profit_words : ℤ → List ℕ
-profit_words profit = words_at (codes "title") 16 24 (codes "profit " ++ signed_decimal profit)
+profit_words profit = words_at (codes "title") 0 16 (codes "profit " ++ signed_decimal profit)
 
--- what an outage looks like
-unfoldable pub outage_key : List ℕ
-outage_key = box_at (codes "outage") 266 10 24 16 ++ words_at (codes "task") 296 22 (codes "outage")
+-- what an outage, cleaning, a limit and a flag look like
+unfoldable pub keys : List ℕ
+keys = codes "<rect class=\"outage\" x=\"240\" y=\"2\" width=\"24\" height=\"20\"/>\n<text class=\"task\" x=\"270\" y=\"16\">outage</text>\n<path class=\"clean\" d=\"M360 12h24\"/>\n<text class=\"task\" x=\"390\" y=\"16\">cleaning</text>\n<path class=\"limit\" d=\"M480 12h24\"/>\n<text class=\"most\" x=\"510\" y=\"16\">limit</text>\n<rect class=\"pole\" x=\"600\" y=\"2\" width=\"2\" height=\"20\"/>\n<rect class=\"cloth\" x=\"600\" y=\"2\" width=\"24\" height=\"11\"/>\n<text class=\"flag\" x=\"630\" y=\"16\">receipt +, delivery -</text>\n"
 
--- a piece of a limit
-unfoldable pub limit_sample : List ℕ
-limit_sample = codes "<path class=\"limit\" d=\"M516 18h24\"/>\n"
-
--- what a limit looks like
-unfoldable pub limit_key : List ℕ
-limit_key = limit_sample ++ words_at (codes "task") 546 22 (codes "limit")
-
--- the first lines: the profit, and what outages and limits look like
-unfoldable pub keys : Plant → List Start → List ℕ
-keys plant plan = profit_words (profit plant plan) ++ (outage_key ++ limit_key)
+-- the entry of a task in the legend: a patch in its colour and with its edge, and its name
+unfoldable pub legend_entry : Plant → ℕ → List ℕ
+legend_entry plant task =
+    let x = 240 * (task % tasks_in_line plant) in
+    let y = 22 + 22 * (task / tasks_in_line plant) in
+    color_begin task ++ (box_at (edge_class task) (x + 2) (y + 3) 24 16
+    ++ (words_at (codes "task") (x + 32) (y + 14) (task_at plant task).name ++ codes "</g>\n"))
 
 -- the legend: an entry for each task
 abbrev pub legend : Plant → List ℕ
 legend plant = flat_map (legend_entry plant) (range_with_len 0 (length plant.tasks))
 
--- where the chart begins: below the head
-unfoldable pub chart_begin : ℕ → List ℕ
-chart_begin below = codes "<g transform=\"translate(16 " ++ (decimal below ++ codes ")\">\n")
+-- the head: its ground, the profit, what marks look like, and the legend
+unfoldable pub head : Plant → List Start → List ℕ
+head plant plan = ground_begin ++ (profit_words (profit plant plan) ++ (keys ++ legend plant))
 
--- where the chart ends, and the document
-unfoldable pub chart_end : List ℕ
-chart_end = codes "</g>\n</svg>\n"
+-- where a band begins: so far down
+unfoldable pub band_begin : ℕ → List ℕ
+band_begin y = codes "<g transform=\"translate(0 " ++ (decimal y ++ codes ")\">\n")
 
--- the chart below the head: the units with their batches, the stocks that change (of so many states), and the loads
-unfoldable pub chart : Plant → List Start → ℕ → List ℕ
-chart plant plan states =
-    chart_begin (head_height plant) ++ (gantt plant plan (chart_height plant states) ++ (stocks plant plan ++ (loads plant plan states ++ chart_end)))
+-- what stands in the rows of the units of a band: outages, cleaning, and the bars of the batches
+unfoldable pub gantt : Plant → List Start → ℕ → List ℕ
+gantt plant plan band = outage_boxes plant band ++ (cleanings plant plan band ++ bars plant plan band)
+
+-- the units of a band: a head, the rows of all units, the lines of all times, and what stands in the rows
+unfoldable pub units : Plant → List Start → ℕ → ℕ → List ℕ
+units plant plan states band =
+    part_head plant band 0 (codes "units") ++ (unit_rows plant band ++ (grid plant band (band_height plant states)
+    ++ gantt plant plan band))
+
+-- a band: its units with their batches, the stocks of so many states, and the loads
+unfoldable pub band_text : Plant → List Start → ℕ → ℕ → List ℕ
+band_text plant plan states band =
+    band_begin (band_top plant states band) ++ (units plant plan states band ++ (stocks plant plan states band
+    ++ (loads plant plan states band ++ codes "</g>\n")))
+
+-- all bands
+unfoldable pub bands : Plant → List Start → ℕ → List ℕ
+bands plant plan states = flat_map (band_text plant plan states) (range_with_len 0 (band_count plant))
+
+-- the page of a picture with rows for so many states
+unfoldable pub whole_page : Plant → ℕ → List ℕ
+whole_page plant states = page (chart_width plant + 32) (band_top plant states (band_count plant) + 16)
+
+-- where the picture ends
+unfoldable pub picture_end : List ℕ
+picture_end = codes "</g>\n</svg>\n"
 
 -- the picture with rows for so many states
 unfoldable pub picture_with : Plant → List Start → ℕ → List ℕ
-picture_with plant plan states =
-    size_line (x_at plant (plant.periods + 1) + 32) (head_height plant + chart_height plant states + 16)
-    ++ (style ++ (keys plant plan ++ (legend plant ++ chart plant plan states)))
+picture_with plant plan states = whole_page plant states ++ (head plant plan ++ (bands plant plan states ++ picture_end))
 
--- the whole picture, with a row for each state whose stock changes
+-- the whole picture, with a row for each state that is moved
 abbrev pub picture_text : Plant → List Start → List ℕ
-picture_text plant plan = picture_with plant plan (moving_count plant plan)
+picture_text plant plan = picture_with plant plan (touched_count plant plan)

@@ -1,70 +1,58 @@
-//! The Gantt chart: a row for each unit, a bar for each batch, and the outages.
-ghost use Rattle.std.specs.Prelude.{◌≡◌, ◌<◌, ◌+◌, ◌++◌, OnOk, IfOk, length, flat_map};
+//! The Gantt chart of a band: a row for each unit, the outages, and a bar for each batch.
+ghost use Rattle.std.specs.Prelude.{◌≡◌, ◌≤◌, ◌<◌, ◌+◌, ◌*◌, ◌^◌, ◌++◌, IsTrue, OnOk, IfOk, length};
 ghost use Rattle.std.specs.String.{string_bytes};
-ghost use Rattle.stn_model.specs.Plant.{task_at, unit_at, duration_of};
+ghost use Rattle.stn_model.specs.Plant.{task_at, unit_at, end_of};
 ghost use Rattle.stn_model.specs.Sound.{Sound};
-ghost use Rattle.plan_picture.specs.Marks.{escaped};
-ghost use Rattle.plan_picture.specs.Scale.{x_at};
-ghost use Rattle.plan_picture.specs.Chart.{unit_row, unit_rows, outage_box, task_class, bar_frame, title_end, bar_title, bar_words, bar, gantt};
+ghost use Rattle.plan_picture.specs.Marks.{words_at, shortened, title, frame_at};
+ghost use Rattle.plan_picture.specs.Bars.{is_seen, unit_row, unit_rows, outage_box, outage_boxes, color_begin, edge_class, size_words, when_words, bar_title, bar_frame, frame_words, whole_bar, bar, bars};
 
-use crate::marks::{escaped, push_box, push_words};
-use crate::rows::{push_grid, push_part_head, push_row_name};
-use crate::scale::{unit_top, x_at};
+use crate::marks::{Frame, push_frame, push_title, push_words, shortened};
+use crate::rows::push_row_name;
+use crate::scale::{letters_in, period_width, periods_in, unit_top};
+use crate::spans::{is_seen, span};
 use std::alloc::{AllocError, Global};
-use stn_model::{Outage, Plant, Start, duration};
+use stn_model::{Outage, Plant, Start, end};
 
-/// Appends the Gantt chart, with the lines of all times down to this height.
-#[tactic(auto, unfolding(crate::specs::Chart::gantt))]
-pub fn push_gantt(
+/// Appends the rows of all units: their names, and the ground of their idle time.
+#[tactic(auto, using(crate::proofs::Ranges::pieces_next))]
+pub fn push_unit_rows(
     alloc: Global,
     text: &mut Vec<u8>,
     plant: &Plant,
-    plan: &[Start],
-    height: u64,
+    band: u32,
 ) -> Result<(), AllocError>
-    requires { Sound plant.now }
-    ensures { OnOk result (text.new.items ≡ text.old.items ++ gantt plant.now plan.now height) }
-{
-    push_part_head(alloc, text, plant, 0, "units")?;
-    push_unit_rows(alloc, text, plant)?;
-    push_grid(alloc, text, plant, height)?;
-    push_outages(alloc, text, plant)?;
-    push_bars(alloc, text, plant, plan)
-}
-
-#[tactic(auto, using(crate::proofs::Ranges::pieces_next))]
-fn push_unit_rows(alloc: Global, text: &mut Vec<u8>, plant: &Plant) -> Result<(), AllocError>
-    requires { Sound plant.now }
-    ensures { OnOk result (text.new.items ≡ text.old.items ++ unit_rows plant.now) }
+    requires sound { Sound plant.now }
+    requires there { band ≤ 7 }
+    ensures { OnOk result (text.new.items ≡ text.old.items ++ unit_rows plant.now band) }
 {
     for unit in 0..plant.units.len() {
-        push_unit_row(alloc, text, plant, unit as u32)?;
+        push_unit_row(alloc, text, plant, band, unit as u32)?;
     }
     Ok(())
 }
 
-#[tactic(auto, unfolding(crate::specs::Chart::unit_row))]
+#[tactic(auto, unfolding(crate::specs::Bars::unit_row))]
 fn push_unit_row(
     alloc: Global,
     text: &mut Vec<u8>,
     plant: &Plant,
+    band: u32,
     unit: u32,
 ) -> Result<(), AllocError>
     requires sound { Sound plant.now }
-    requires there { unit < length plant.now.units }
-    ensures { OnOk result (text.new.items ≡ text.old.items ++ unit_row plant.now unit) }
+    requires there { band ≤ 7 }
+    requires unit { unit < length plant.now.units }
+    ensures { OnOk result (text.new.items ≡ text.old.items ++ unit_row plant.now band unit) }
 {
     let top = unit_top(unit);
-    push_row_name(alloc, text, plant, top, unit_name(plant, unit))?;
-    push_box(
-        alloc,
-        text,
-        "row",
-        0,
-        top + 14,
-        x_at(plant, plant.periods as u64),
-        32,
-    )
+    push_row_name(alloc, text, top + 15, unit_name(plant, unit))?;
+    let ground = Frame {
+        x: 128,
+        y: top + 1,
+        width: periods_in(plant, band) as u64 * period_width(plant),
+        height: 20,
+    };
+    push_frame(alloc, text, "row", ground)
 }
 
 fn unit_name(plant: &Plant, unit: u32) -> &[u8]
@@ -74,174 +62,242 @@ fn unit_name(plant: &Plant, unit: u32) -> &[u8]
     plant.units.get(unit as usize).name.as_slice()
 }
 
-fn push_outages(alloc: Global, text: &mut Vec<u8>, plant: &Plant) -> Result<(), AllocError>
-    requires { Sound plant.now }
-    ensures { OnOk result (text.new.items
-        ≡ text.old.items ++ flat_map (outage_box plant.now) plant.now.outages) }
+/// Appends the outages that the band shows.
+pub fn push_outages(
+    alloc: Global,
+    text: &mut Vec<u8>,
+    plant: &Plant,
+    band: u32,
+) -> Result<(), AllocError>
+    requires sound { Sound plant.now }
+    requires there { band ≤ 7 }
+    ensures { OnOk result (text.new.items ≡ text.old.items ++ outage_boxes plant.now band) }
 {
     for outage in plant.outages.as_slice() {
-        push_outage(alloc, text, plant, outage)?;
+        push_outage(alloc, text, plant, band, outage)?;
     }
     Ok(())
 }
 
-#[tactic(auto, unfolding(crate::specs::Chart::outage_box))]
+#[tactic(auto, unfolding(crate::specs::Bars::outage_box))]
 fn push_outage(
     alloc: Global,
     text: &mut Vec<u8>,
     plant: &Plant,
+    band: u32,
     outage: &Outage,
 ) -> Result<(), AllocError>
-    requires { Sound plant.now }
-    ensures { OnOk result (text.new.items ≡ text.old.items ++ outage_box plant.now outage.now) }
+    requires sound { Sound plant.now }
+    requires there { band ≤ 7 }
+    ensures { OnOk result (text.new.items
+        ≡ text.old.items ++ outage_box plant.now band outage.now) }
 {
-    let x = x_at(plant, outage.from as u64);
-    let width = x_at(plant, outage.to.saturating_sub(outage.from) as u64);
-    push_box(
-        alloc,
-        text,
-        "outage",
-        x,
-        unit_top(outage.unit) + 14,
-        width,
-        32,
-    )
-}
-
-/// The class of a task.
-#[tactic(auto, unfolding(crate::specs::Chart::task_class))]
-pub fn task_class(alloc: Global, task: u32) -> Result<String, AllocError>
-    ensures { IfOk result (λ class. string_bytes class ≡ task_class task) }
-{
-    let color = task % 8;
-    let edge = task / 8;
-    format!(in alloc; "bar c{color} e{edge}")
-}
-
-/// The name of a task as XML writes it; nothing where the task is not there.
-pub fn task_name(alloc: Global, plant: &Plant, task: u32) -> Result<Vec<u8>, AllocError>
-    ensures { IfOk result (λ name. name.items ≡ escaped (task_at plant.now task).name) }
-{
-    match plant.tasks.as_slice().get(task as usize) {
-        Some(task) => escaped(alloc, task.name.as_slice()),
-        None => Ok(Vec::new(alloc)),
+    let from = outage.from as u64;
+    let to = outage.to as u128;
+    if is_seen(plant, band, from, to) {
+        let frame = span(plant, band, outage.unit, from, to);
+        push_frame(alloc, text, "outage", frame)
+    } else {
+        Ok(())
     }
 }
 
-// How many periods a batch of the task takes; 0 where the task is not there.
-#[tactic(auto, unfolding(stn_model::specs::Plant::duration_of))]
-fn task_duration(plant: &Plant, task: u32) -> u32
-    ensures { result ≡ duration_of (task_at plant.now task) }
+/// Appends where a group in the colour of a task begins.
+#[tactic(auto, unfolding(crate::specs::Bars::color_begin))]
+pub fn push_color_begin(alloc: Global, text: &mut Vec<u8>, task: u32) -> Result<(), AllocError>
+    ensures { OnOk result (text.new.items ≡ text.old.items ++ color_begin task) }
+{
+    let color = task % 8;
+    let begin = format!(in alloc; "<g class=\"c{color}\">")?;
+    text.extend_from_slice(begin.as_bytes())
+}
+
+/// The class of a task's edge.
+#[tactic(auto, unfolding(crate::specs::Bars::edge_class))]
+pub fn edge_class(alloc: Global, task: u32) -> Result<String, AllocError>
+    ensures { IfOk result (λ class. string_bytes class ≡ edge_class task) }
+{
+    let edge = task / 8;
+    format!(in alloc; "d{edge}")
+}
+
+/// The name of a task; nothing where the task is not there.
+pub fn task_name(plant: &Plant, task: u32) -> &[u8]
+    ensures { result.now ≡ (task_at plant.now task).name }
 {
     match plant.tasks.as_slice().get(task as usize) {
-        Some(task) => duration(task),
+        Some(task) => task.name.as_slice(),
+        None => &[],
+    }
+}
+
+// The mass of a batch, in mass units.
+fn mass_of(plant: &Plant, start: &Start) -> u64
+    ensures { result ≡ start.now.quanta * (task_at plant.now start.now.task).quantum }
+{
+    match plant.tasks.as_slice().get(start.task as usize) {
+        Some(task) => start.quanta as u64 * task.quantum as u64,
         None => 0,
     }
 }
 
-// How long a bar is: as long as its task takes.
-fn bar_width(plant: &Plant, start: &Start) -> u64
-    requires { Sound plant.now }
-    ensures { result ≡ x_at plant.now (duration_of (task_at plant.now start.now.task)) }
+#[tactic(auto, unfolding(crate::specs::Bars::size_words))]
+fn size_words(alloc: Global, plant: &Plant, start: &Start) -> Result<String, AllocError>
+    ensures { IfOk result (λ words. string_bytes words ≡ size_words plant.now start.now) }
 {
-    x_at(plant, task_duration(plant, start.task) as u64)
+    let quanta = start.quanta;
+    let mass = mass_of(plant, start);
+    format!(in alloc; "{quanta} = {mass}")
 }
 
-fn push_bars(
+#[tactic(auto, unfolding(crate::specs::Bars::when_words))]
+fn when_words(alloc: Global, plant: &Plant, start: &Start) -> Result<String, AllocError>
+    ensures { IfOk result (λ words. string_bytes words ≡ when_words plant.now start.now) }
+{
+    let from = start.period;
+    let to = end(plant, start);
+    format!(in alloc; ", {from} to {to}")
+}
+
+// What a pointer on the bar of a batch shows.
+#[tactic(auto, unfolding(crate::specs::Bars::bar_title))]
+fn bar_title(alloc: Global, plant: &Plant, start: &Start, size: &str) -> Result<Vec<u8>, AllocError>
+    requires { size.now ≡ size_words plant.now start.now }
+    ensures { IfOk result (λ words. words.items ≡ bar_title plant.now start.now) }
+{
+    let when = when_words(alloc, plant, start)?;
+    let mut words = Vec::new(alloc);
+    words.extend_from_slice(task_name(plant, start.task))?;
+    words.extend_from_slice(" ".as_bytes())?;
+    words.extend_from_slice(size.as_bytes())?;
+    words.extend_from_slice(when.as_bytes())?;
+    Ok(words)
+}
+
+/// Appends the bars of all batches of which the band shows something.
+pub fn push_bars(
     alloc: Global,
     text: &mut Vec<u8>,
     plant: &Plant,
     plan: &[Start],
+    band: u32,
 ) -> Result<(), AllocError>
-    requires { Sound plant.now }
-    ensures { OnOk result (text.new.items ≡ text.old.items ++ flat_map (bar plant.now) plan.now) }
+    requires sound { Sound plant.now }
+    requires there { band ≤ 7 }
+    ensures { OnOk result (text.new.items ≡ text.old.items ++ bars plant.now plan.now band) }
 {
     for start in plan {
-        push_bar(alloc, text, plant, start)?;
+        push_bar(alloc, text, plant, band, start)?;
     }
     Ok(())
 }
 
-#[tactic(auto, unfolding(crate::specs::Chart::bar))]
+#[tactic(auto, unfolding(crate::specs::Bars::bar))]
 fn push_bar(
     alloc: Global,
     text: &mut Vec<u8>,
     plant: &Plant,
+    band: u32,
     start: &Start,
 ) -> Result<(), AllocError>
-    requires { Sound plant.now }
-    ensures { OnOk result (text.new.items ≡ text.old.items ++ bar plant.now start.now) }
+    requires sound { Sound plant.now }
+    requires there { band ≤ 7 }
+    ensures { OnOk result (text.new.items ≡ text.old.items ++ bar plant.now band start.now) }
 {
-    let name = task_name(alloc, plant, start.task)?;
-    push_bar_frame(alloc, text, plant, start)?;
-    push_bar_title(alloc, text, name.as_slice(), start.quanta)?;
-    push_bar_words(alloc, text, plant, start, name.as_slice())?;
-    text.extend_from_slice("</svg>\n".as_bytes())
+    let from = start.period as u64;
+    let to = end(plant, start) as u128;
+    if is_seen(plant, band, from, to) {
+        let frame = span(plant, band, start.unit, from, to);
+        push_whole_bar(alloc, text, plant, band, start, frame)
+    } else {
+        Ok(())
+    }
 }
 
-#[tactic(auto, unfolding(crate::specs::Chart::bar_frame))]
-fn push_bar_frame(
+#[tactic(auto, unfolding(crate::specs::Bars::whole_bar))]
+fn push_whole_bar(
     alloc: Global,
     text: &mut Vec<u8>,
     plant: &Plant,
+    band: u32,
     start: &Start,
+    frame: Frame,
 ) -> Result<(), AllocError>
-    requires { Sound plant.now }
-    ensures { OnOk result (text.new.items ≡ text.old.items ++ bar_frame plant.now start.now) }
+    requires place { frame ≡ bar_frame plant.now band start.now }
+    requires x { frame.x ≤ 2 ^ 51 }
+    requires y { frame.y ≤ 2 ^ 41 }
+    ensures { OnOk result (text.new.items
+        ≡ text.old.items ++ whole_bar plant.now band start.now) }
 {
-    let x = x_at(plant, start.period as u64);
-    let y = unit_top(start.unit) + 14;
-    let width = bar_width(plant, start);
-    let frame = format!(in alloc; "<svg x=\"{x}\" y=\"{y}\" width=\"{width}\" height=\"32\">\n")?;
-    text.extend_from_slice(frame.as_bytes())
+    let size = size_words(alloc, plant, start)?;
+    push_color_begin(alloc, text, start.task)?;
+    push_bar_title(alloc, text, plant, start, size.as_str())?;
+    push_edge(alloc, text, start.task, frame)?;
+    let name = task_name(plant, start.task);
+    push_frame_words(alloc, text, frame, name, size.as_bytes())?;
+    text.extend_from_slice("</g>\n".as_bytes())
 }
 
-#[tactic(auto, unfolding(crate::specs::Chart::bar_title))]
 fn push_bar_title(
     alloc: Global,
     text: &mut Vec<u8>,
-    name: &[u8],
-    quanta: u32,
-) -> Result<(), AllocError>
-    ensures { OnOk result (text.new.items ≡ text.old.items ++ bar_title name.now quanta) }
-{
-    text.extend_from_slice("<title>".as_bytes())?;
-    text.extend_from_slice(name)?;
-    push_title_end(alloc, text, quanta)
-}
-
-#[tactic(auto, unfolding(crate::specs::Chart::title_end))]
-fn push_title_end(alloc: Global, text: &mut Vec<u8>, quanta: u32) -> Result<(), AllocError>
-    ensures { OnOk result (text.new.items ≡ text.old.items ++ title_end quanta) }
-{
-    let end = format!(in alloc; " {quanta}</title>\n")?;
-    text.extend_from_slice(end.as_bytes())
-}
-
-#[tactic(auto, unfolding(crate::specs::Chart::bar_words))]
-fn push_bar_words(
-    alloc: Global,
-    text: &mut Vec<u8>,
     plant: &Plant,
     start: &Start,
-    name: &[u8],
+    size: &str,
 ) -> Result<(), AllocError>
-    requires { Sound plant.now }
+    requires { size.now ≡ size_words plant.now start.now }
     ensures { OnOk result (text.new.items
-        ≡ text.old.items ++ bar_words plant.now start.now name.now) }
+        ≡ text.old.items ++ title (bar_title plant.now start.now)) }
 {
-    let class = task_class(alloc, start.task)?;
-    push_box(
-        alloc,
-        text,
-        class.as_str(),
-        0,
-        0,
-        bar_width(plant, start),
-        32,
-    )?;
-    push_words(alloc, text, "task", 4, 13, name)?;
-    let quanta = start.quanta;
-    let number = format!(in alloc; "{quanta}")?;
-    push_words(alloc, text, "quanta", 4, 27, number.as_bytes())
+    let words = bar_title(alloc, plant, start, size)?;
+    push_title(text, words.as_slice())
+}
+
+/// Appends a rectangle with the edge of a task.
+pub fn push_edge(
+    alloc: Global,
+    text: &mut Vec<u8>,
+    task: u32,
+    frame: Frame,
+) -> Result<(), AllocError>
+    ensures { OnOk result (text.new.items ≡ text.old.items ++ frame_at (edge_class task) frame) }
+{
+    let class = edge_class(alloc, task)?;
+    push_frame(alloc, text, class.as_str(), frame)
+}
+
+// Appends two lines of words in a frame, as far as they have room.
+#[tactic(auto, unfolding(crate::specs::Bars::frame_words))]
+fn push_frame_words(
+    alloc: Global,
+    text: &mut Vec<u8>,
+    frame: Frame,
+    name: &[u8],
+    size: &[u8],
+) -> Result<(), AllocError>
+    requires x { frame.x ≤ 2 ^ 51 }
+    requires y { frame.y ≤ 2 ^ 41 }
+    ensures { OnOk result (text.new.items
+        ≡ text.old.items ++ frame_words frame name.now size.now) }
+{
+    let room = letters_in(frame.width);
+    push_cut(alloc, text, "task", frame.x + 4, frame.y + 9, room, name)?;
+    push_cut(alloc, text, "quanta", frame.x + 4, frame.y + 18, room, size)
+}
+
+// Appends words in a room of so many letters.
+fn push_cut(
+    alloc: Global,
+    text: &mut Vec<u8>,
+    class: &str,
+    x: u64,
+    y: u64,
+    room: u64,
+    words: &[u8],
+) -> Result<(), AllocError>
+    ensures { OnOk result (text.new.items
+        ≡ text.old.items ++ words_at class.now x y (shortened room words.now)) }
+{
+    let cut = shortened(alloc, room, words)?;
+    push_words(alloc, text, class, x, y, cut.as_slice())
 }

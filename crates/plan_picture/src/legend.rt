@@ -1,23 +1,38 @@
-//! The head of a picture: how it looks, the profit, and the legend of the tasks.
-ghost use Rattle.std.specs.Prelude.{◌≡◌, ◌<◌, ◌+◌, ◌^◌, ◌++◌, OnOk, length};
-ghost use Rattle.stn_model.specs.Profit.{profit};
+//! The head of a picture: how it looks, the profit, what marks look like, and the legend of the tasks.
+ghost use Rattle.std.specs.Prelude.{◌≡◌, ◌<◌, ◌^◌, ◌++◌, OnOk, length};
 ghost use Rattle.stn_model.specs.Sound.{Sound};
-ghost use Rattle.plan_picture.specs.Picture.{size_line, word_style, row_style, task_style, page_style, style, legend_entry, profit_words, outage_key, limit_sample, limit_key, keys, legend};
+ghost use Rattle.plan_picture.specs.Picture.{size_line, word_style, row_style, task_style, page_style, style, page, ground_begin, profit_words, keys, legend_entry, legend, head};
 
-use crate::bars::{task_class, task_name};
-use crate::marks::{push_box, push_words};
+use crate::bars::{push_color_begin, push_edge, task_name};
+use crate::marks::{Frame, push_frame, push_words};
+use crate::scale::tasks_in_line;
 use plain_plan::profit_of;
 use std::alloc::{AllocError, Global};
 use stn_model::{Plant, Start};
 
-/// Appends the first line: the size of the document.
-#[tactic(auto, unfolding(crate::specs::Picture::size_line))]
-pub fn push_size(
+/// Appends the size of the document, how it looks, and its white ground.
+#[tactic(auto, unfolding(crate::specs::Picture::page))]
+pub fn push_page(
     alloc: Global,
     text: &mut Vec<u8>,
     width: u64,
     height: u64,
 ) -> Result<(), AllocError>
+    ensures { OnOk result (text.new.items ≡ text.old.items ++ page width height) }
+{
+    push_size(alloc, text, width, height)?;
+    push_style(text)?;
+    let ground = Frame {
+        x: 0,
+        y: 0,
+        width,
+        height,
+    };
+    push_frame(alloc, text, "page", ground)
+}
+
+#[tactic(auto, unfolding(crate::specs::Picture::size_line))]
+fn push_size(alloc: Global, text: &mut Vec<u8>, width: u64, height: u64) -> Result<(), AllocError>
     ensures { OnOk result (text.new.items ≡ text.old.items ++ size_line width height) }
 {
     let line = format!(in alloc;
@@ -26,9 +41,9 @@ pub fn push_size(
     text.extend_from_slice(line.as_bytes())
 }
 
-/// Appends how all classes look.
+// Appends how all classes look.
 #[tactic(auto, unfolding(crate::specs::Picture::style))]
-pub fn push_style(text: &mut Vec<u8>) -> Result<(), AllocError>
+fn push_style(text: &mut Vec<u8>) -> Result<(), AllocError>
     ensures { OnOk result (text.new.items ≡ text.old.items ++ style) }
 {
     push_word_style(text)?;
@@ -42,7 +57,7 @@ fn push_word_style(text: &mut Vec<u8>) -> Result<(), AllocError>
     ensures { OnOk result (text.new.items ≡ text.old.items ++ word_style) }
 {
     text.extend_from_slice(
-        "<style>\ntext{font:11px sans-serif;fill:#222}.title{font-size:15px;font-weight:bold}.head{font-size:13px;font-weight:bold}.name{font-weight:bold;fill:#555}.time{text-anchor:middle;fill:#555}.time,.number{paint-order:stroke;stroke:#fff;stroke-width:3px}.quanta{font-weight:bold}\n".as_bytes(),
+        "<style>\n.page{fill:#fff;stroke:none}\n.title{font-size:14px;font-weight:bold}\n.head{font-size:12px;font-weight:bold}\n.name{font-weight:bold}\n.time{text-anchor:middle;fill:#555}\n.task{fill:#000}\n.quanta{font-weight:bold;fill:#000}\n.most{fill:#b02a1c}\n".as_bytes(),
     )
 }
 
@@ -51,7 +66,7 @@ fn push_row_style(text: &mut Vec<u8>) -> Result<(), AllocError>
     ensures { OnOk result (text.new.items ≡ text.old.items ++ row_style) }
 {
     text.extend_from_slice(
-        ".row{fill:#f2f2f2}.grid{stroke:#ccc;fill:none}.outage{fill:url(#hatch)}.level,.limit{vector-effect:non-scaling-stroke}.level{fill:#cfe3f5;stroke:#2b6ca3;stroke-width:2px}.limit{fill:none;stroke:#c0392b;stroke-width:1.5px;stroke-dasharray:6 3}\n".as_bytes(),
+        ".row{fill:#f0f0f0}\n.grid{stroke:#ccc;fill:none}\n.outage{fill:#bbb}\n.clean{stroke:#888;stroke-width:20px;stroke-dasharray:2 4;fill:none}\n.level{fill:#cfe3f5;stroke:#8fbce0}\n.limit{stroke:#b02a1c;stroke-dasharray:6 3;fill:none}\n.cloth{fill:#ffe08a}\n.pole{fill:#7a5200}\n".as_bytes(),
     )
 }
 
@@ -60,7 +75,7 @@ fn push_task_style(text: &mut Vec<u8>) -> Result<(), AllocError>
     ensures { OnOk result (text.new.items ≡ text.old.items ++ task_style) }
 {
     text.extend_from_slice(
-        ".bar{stroke:#333}.c0{fill:#7ad}.c1{fill:#e86}.c2{fill:#ed8}.c3{fill:#fab}.c4{fill:#9df}.c5{fill:#4b9}.c6{fill:#bc3}.c7{fill:#aa0}.e1{stroke-width:4px}.e2{stroke-width:4px;stroke-dasharray:6 3}.e3{stroke-width:4px;stroke-dasharray:2 3}.e4{stroke:#fff;stroke-width:5px;stroke-dasharray:4 4}\n".as_bytes(),
+        ".c0{fill:#7ad}\n.c1{fill:#e86}\n.c2{fill:#ed8}\n.c3{fill:#fab}\n.c4{fill:#9df}\n.c5{fill:#4b9}\n.c6{fill:#bc3}\n.c7{fill:#aa0}\n.d0{stroke:#333}\n.d1{stroke:#333;stroke-width:3px}\n.d2{stroke:#333;stroke-width:3px;stroke-dasharray:6 3}\n.d3{stroke:#333;stroke-width:3px;stroke-dasharray:2 3}\n.d4{stroke:#fff;stroke-width:3px;stroke-dasharray:4 4}\n".as_bytes(),
     )
 }
 
@@ -69,13 +84,13 @@ fn push_page_style(text: &mut Vec<u8>) -> Result<(), AllocError>
     ensures { OnOk result (text.new.items ≡ text.old.items ++ page_style) }
 {
     text.extend_from_slice(
-        "@page{size:landscape;margin:8mm}@media print{:root{width:100%;height:100%}}\n</style>\n<defs><pattern id=\"hatch\" width=\"6\" height=\"6\" patternUnits=\"userSpaceOnUse\"><path d=\"M0 6L6 0\" stroke=\"#666\"/></pattern></defs>\n<rect width=\"100%\" height=\"100%\" fill=\"#fff\"/>\n".as_bytes(),
+        "@page{size:A3 landscape;margin:8mm}\n@media print{:root{width:404mm;height:281mm}}\n</style>\n".as_bytes(),
     )
 }
 
-/// Appends the profit, and what outages and limits look like.
-#[tactic(auto, unfolding(crate::specs::Picture::keys))]
-pub fn push_keys(
+/// Appends the margins, the profit, what marks look like, and the legend.
+#[tactic(auto, unfolding(crate::specs::Picture::head))]
+pub fn push_head(
     alloc: Global,
     text: &mut Vec<u8>,
     plant: &Plant,
@@ -83,11 +98,21 @@ pub fn push_keys(
 ) -> Result<(), AllocError>
     requires sound { Sound plant.now }
     requires few { length plan.now < 2 ^ 32 }
-    ensures { OnOk result (text.new.items ≡ text.old.items ++ keys plant.now plan.now) }
+    ensures { OnOk result (text.new.items ≡ text.old.items ++ head plant.now plan.now) }
 {
+    push_ground_begin(text)?;
     push_profit(alloc, text, profit_of(plant, plan))?;
-    push_outage_key(alloc, text)?;
-    push_limit_key(alloc, text)
+    push_keys(text)?;
+    push_legend(alloc, text, plant)
+}
+
+#[tactic(auto, unfolding(crate::specs::Picture::ground_begin))]
+fn push_ground_begin(text: &mut Vec<u8>) -> Result<(), AllocError>
+    ensures { OnOk result (text.new.items ≡ text.old.items ++ ground_begin) }
+{
+    text.extend_from_slice(
+        "<g transform=\"translate(16 8)\" font-family=\"monospace\" font-size=\"10\" stroke=\"none\">\n".as_bytes(),
+    )
 }
 
 #[tactic(auto, unfolding(crate::specs::Picture::profit_words))]
@@ -95,35 +120,21 @@ fn push_profit(alloc: Global, text: &mut Vec<u8>, profit: i128) -> Result<(), Al
     ensures { OnOk result (text.new.items ≡ text.old.items ++ profit_words profit) }
 {
     let title = format!(in alloc; "profit {profit}")?;
-    push_words(alloc, text, "title", 16, 24, title.as_bytes())
+    push_words(alloc, text, "title", 0, 16, title.as_bytes())
 }
 
-#[tactic(auto, unfolding(crate::specs::Picture::outage_key))]
-fn push_outage_key(alloc: Global, text: &mut Vec<u8>) -> Result<(), AllocError>
-    ensures { OnOk result (text.new.items ≡ text.old.items ++ outage_key) }
+#[tactic(auto, unfolding(crate::specs::Picture::keys))]
+fn push_keys(text: &mut Vec<u8>) -> Result<(), AllocError>
+    ensures { OnOk result (text.new.items ≡ text.old.items ++ keys) }
 {
-    push_box(alloc, text, "outage", 266, 10, 24, 16)?;
-    push_words(alloc, text, "task", 296, 22, "outage".as_bytes())
+    text.extend_from_slice(
+        "<rect class=\"outage\" x=\"240\" y=\"2\" width=\"24\" height=\"20\"/>\n<text class=\"task\" x=\"270\" y=\"16\">outage</text>\n<path class=\"clean\" d=\"M360 12h24\"/>\n<text class=\"task\" x=\"390\" y=\"16\">cleaning</text>\n<path class=\"limit\" d=\"M480 12h24\"/>\n<text class=\"most\" x=\"510\" y=\"16\">limit</text>\n<rect class=\"pole\" x=\"600\" y=\"2\" width=\"2\" height=\"20\"/>\n<rect class=\"cloth\" x=\"600\" y=\"2\" width=\"24\" height=\"11\"/>\n<text class=\"flag\" x=\"630\" y=\"16\">receipt +, delivery -</text>\n".as_bytes(),
+    )
 }
 
-#[tactic(auto, unfolding(crate::specs::Picture::limit_key))]
-fn push_limit_key(alloc: Global, text: &mut Vec<u8>) -> Result<(), AllocError>
-    ensures { OnOk result (text.new.items ≡ text.old.items ++ limit_key) }
-{
-    push_limit_sample(text)?;
-    push_words(alloc, text, "task", 546, 22, "limit".as_bytes())
-}
-
-#[tactic(auto, unfolding(crate::specs::Picture::limit_sample))]
-fn push_limit_sample(text: &mut Vec<u8>) -> Result<(), AllocError>
-    ensures { OnOk result (text.new.items ≡ text.old.items ++ limit_sample) }
-{
-    text.extend_from_slice("<path class=\"limit\" d=\"M516 18h24\"/>\n".as_bytes())
-}
-
-/// Appends the legend: an entry for each task.
+// Appends the legend: an entry for each task.
 #[tactic(auto, using(crate::proofs::Ranges::pieces_next))]
-pub fn push_legend(alloc: Global, text: &mut Vec<u8>, plant: &Plant) -> Result<(), AllocError>
+fn push_legend(alloc: Global, text: &mut Vec<u8>, plant: &Plant) -> Result<(), AllocError>
     requires { Sound plant.now }
     ensures { OnOk result (text.new.items ≡ text.old.items ++ legend plant.now) }
 {
@@ -136,12 +147,20 @@ pub fn push_legend(alloc: Global, text: &mut Vec<u8>, plant: &Plant) -> Result<(
 // Appends the entry of a task.
 #[tactic(auto, unfolding(crate::specs::Picture::legend_entry))]
 fn push_entry(alloc: Global, text: &mut Vec<u8>, plant: &Plant, task: u32) -> Result<(), AllocError>
+    requires { Sound plant.now }
     ensures { OnOk result (text.new.items ≡ text.old.items ++ legend_entry plant.now task) }
 {
-    let x = 250 * (task % 3) as u64;
-    let y = 20 * (task / 3) as u64;
-    let class = task_class(alloc, task)?;
-    push_box(alloc, text, class.as_str(), 16 + x, 36 + y, 24, 16)?;
-    let name = task_name(alloc, plant, task)?;
-    push_words(alloc, text, "task", 46 + x, 48 + y, name.as_slice())
+    let line = tasks_in_line(plant);
+    let x = 240 * (task as u64 % line);
+    let y = 22 + 22 * (task as u64 / line);
+    push_color_begin(alloc, text, task)?;
+    let patch = Frame {
+        x: x + 2,
+        y: y + 3,
+        width: 24,
+        height: 16,
+    };
+    push_edge(alloc, text, task, patch)?;
+    push_words(alloc, text, "task", x + 32, y + 14, task_name(plant, task))?;
+    text.extend_from_slice("</g>\n".as_bytes())
 }

@@ -1,12 +1,13 @@
-//! Stocks and loads as levels, and which stocks change.
-ghost use Rattle.std.specs.Prelude.{vec_len, ◌≡◌, ◌<◌, ◌^◌, IfOk, length, unsigned_abs, if◌then◌else◌};
+//! Stocks and loads as levels, and which states are moved.
+ghost use Rattle.std.specs.Prelude.{◌≡◌, ◌==◌, ◌≤◌, ◌<◌, ◌^◌, IfOk, All, length, unsigned_abs};
+ghost use Rattle.std.specs.List.{list_any};
 ghost use Rattle.stn_model.specs.Sound.{Sound};
 ghost use Rattle.stn_model.specs.Sums.{greatest_by};
-ghost use Rattle.plan_picture.specs.Graphs.{stocks_of, loads_of, leaves, is_moving, moving_count, graph_top};
+ghost use Rattle.plan_picture.specs.Graphs.{stocks_of, loads_of, moves, is_touched, touched_count, graph_top};
 
 use plain_plan::{load_in, stock_at};
 use std::alloc::{AllocError, Global};
-use stn_model::{Plant, Start};
+use stn_model::{Plant, Start, Task};
 
 /// The stocks of a state at all times, in mass units.
 #[tactic(auto, using(crate::proofs::Ranges::items_next))]
@@ -19,7 +20,9 @@ pub fn stocks_of(
     requires sound { Sound plant.now }
     requires few { length plan.now < 2 ^ 32 }
     ensures value { IfOk result (λ levels. levels.items ≡ stocks_of plant.now plan.now state) }
-    ensures short { IfOk result (λ levels. vec_len levels < 2 ^ 32) }
+    ensures short { IfOk result (λ levels. length levels.items ≤ 337) }
+    ensures small { IfOk result
+        (λ levels. All (λ level. unsigned_abs level ≤ 2 ^ 88) levels.items) }
 {
     let mut levels = Vec::new(alloc);
     for time in 0..plant.periods + 1 {
@@ -39,7 +42,9 @@ pub fn loads_of(
     requires sound { Sound plant.now }
     requires few { length plan.now < 2 ^ 32 }
     ensures value { IfOk result (λ levels. levels.items ≡ loads_of plant.now plan.now utility) }
-    ensures short { IfOk result (λ levels. vec_len levels < 2 ^ 32) }
+    ensures short { IfOk result (λ levels. length levels.items ≤ 337) }
+    ensures small { IfOk result
+        (λ levels. All (λ level. unsigned_abs level ≤ 2 ^ 88) levels.items) }
 {
     let mut levels = Vec::new(alloc);
     for period in 0..plant.periods {
@@ -48,50 +53,94 @@ pub fn loads_of(
     Ok(levels)
 }
 
-/// How many states have a stock that changes.
+/// How many states are moved.
 #[tactic(auto, using(crate::proofs::Counting::count_below_more))]
-pub fn moving_count(alloc: Global, plant: &Plant, plan: &[Start]) -> Result<u64, AllocError>
-    requires sound { Sound plant.now }
-    requires few { length plan.now < 2 ^ 32 }
-    ensures value { IfOk result (λ count. count ≡ moving_count plant.now plan.now) }
-    ensures small { IfOk result (λ count. count < 2 ^ 32) }
+pub fn touched_count(plant: &Plant, plan: &[Start]) -> u64
+    requires { Sound plant.now }
+    ensures value { result ≡ touched_count plant.now plan.now }
+    ensures small { result < 2 ^ 32 }
 {
     let mut count: u64 = 0;
     for state in 0..plant.states.len() {
-        count += moving_rows(alloc, plant, plan, state as u32)?;
+        if is_touched(plant, plan, state as u32) {
+            count += 1;
+        }
     }
-    Ok(count)
+    count
 }
 
-// How many rows a state has: one where its stock changes.
-#[tactic(auto, unfolding(crate::specs::Graphs::is_moving))]
-fn moving_rows(alloc: Global, plant: &Plant, plan: &[Start], state: u32) -> Result<u64, AllocError>
-    requires sound { Sound plant.now }
-    requires few { length plan.now < 2 ^ 32 }
-    requires there { state < length plant.now.states }
-    ensures { IfOk result (λ rows. rows ≡ (if is_moving plant.now plan.now state then 1 else 0)) }
+/// Whether something moves the state: a receipt, a delivery or a batch.
+#[tactic(auto, unfolding(crate::specs::Graphs::is_touched))]
+pub fn is_touched(plant: &Plant, plan: &[Start], state: u32) -> bool
+    ensures { result ≡ is_touched plant.now plan.now state }
 {
-    let levels = stocks_of(alloc, plant, plan, state)?;
-    let initial = plant.states.get(state as usize).initial;
-    Ok(if leaves(initial, levels.as_slice()) {
-        1
-    } else {
-        0
-    })
+    is_received(plant, state) || is_delivered(plant, state) || is_in_plan(plant, plan, state)
 }
 
-/// Whether some level is another than this stock.
-pub fn leaves(initial: u64, levels: &[i128]) -> bool
-    ensures { result ≡ leaves initial levels.now }
+fn is_received(plant: &Plant, state: u32) -> bool
+    ensures { result ≡ list_any (λ receipt. receipt.state == state) plant.now.receipts }
 {
-    let initial = initial as i128;
-    levels.iter().any(|level| *level != initial)
+    plant
+        .receipts
+        .as_slice()
+        .iter()
+        .any(|receipt| receipt.state == state)
 }
 
-/// The height of a row in its own measure: the greatest of its levels and limits, and at least 1.
+fn is_delivered(plant: &Plant, state: u32) -> bool
+    ensures { result ≡ list_any (λ delivery. delivery.state == state) plant.now.deliveries }
+{
+    plant
+        .deliveries
+        .as_slice()
+        .iter()
+        .any(|delivery| delivery.state == state)
+}
+
+fn is_in_plan(plant: &Plant, plan: &[Start], state: u32) -> bool
+    ensures { result ≡ list_any (moves plant.now state) plan.now }
+{
+    for start in plan {
+        if moves(plant, state, start) {
+            return true;
+        }
+    }
+    false
+}
+
+fn moves(plant: &Plant, state: u32, start: &Start) -> bool
+    ensures { result ≡ moves plant.now state start.now }
+{
+    match plant.tasks.as_slice().get(start.task as usize) {
+        Some(task) => is_taken(task, state) || is_given(task, state),
+        None => false,
+    }
+}
+
+fn is_taken(task: &Task, state: u32) -> bool
+    ensures { result ≡ list_any (λ input. input.state == state) task.now.inputs }
+{
+    task.inputs
+        .as_slice()
+        .iter()
+        .any(|input| input.state == state)
+}
+
+fn is_given(task: &Task, state: u32) -> bool
+    ensures { result ≡ list_any (λ output. output.state == state) task.now.outputs }
+{
+    task.outputs
+        .as_slice()
+        .iter()
+        .any(|output| output.state == state)
+}
+
+/// What fills a row: the greatest of its levels and limits, and at least 1.
 #[tactic(auto, unfolding(crate::specs::Graphs::graph_top))]
 pub fn graph_top(levels: &[i128], limits: &[u64]) -> u128
-    ensures { result ≡ graph_top levels.now limits.now }
+    ensures value { result ≡ graph_top levels.now limits.now }
+    ensures some { 1 ≤ result }
+    ensures small { result ≤ 2 ^ 127 }
 {
     let level = highest_level(levels);
     let limit = highest_limit(limits);
@@ -99,7 +148,8 @@ pub fn graph_top(levels: &[i128], limits: &[u64]) -> u128
 }
 
 fn highest_level(levels: &[i128]) -> u128
-    ensures { result ≡ greatest_by unsigned_abs levels.now }
+    ensures value { result ≡ greatest_by unsigned_abs levels.now }
+    ensures small { result ≤ 2 ^ 127 }
 {
     let mut highest = 0;
     for level in levels {

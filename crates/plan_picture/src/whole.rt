@@ -1,25 +1,35 @@
-//! The whole picture.
-ghost use Rattle.std.specs.Prelude.{◌≡◌, ◌<◌, ◌+◌, ◌^◌, ◌++◌, OnOk, IfOk, length};
+//! The whole picture: its head, and its bands.
+ghost use Rattle.std.specs.Prelude.{◌≡◌, ◌≤◌, ◌<◌, ◌^◌, ◌++◌, OnOk, IfOk, length};
 ghost use Rattle.stn_model.specs.Sound.{Sound};
-ghost use Rattle.plan_picture.specs.Picture.{chart_begin, chart_end, chart, picture_with, picture_text};
+ghost use Rattle.plan_picture.specs.Picture.{band_begin, gantt, units, band_text, bands, whole_page, picture_end, picture_with, picture_text};
+ghost use Rattle.plan_picture.specs.Laws.{BarsAreBatches, StepsAreStocks, StepsAreLoads};
 
-use crate::bars::push_gantt;
+use crate::bars::{push_bars, push_outages, push_unit_rows};
+use crate::cleaning::push_cleanings;
 use crate::graphs::{push_loads, push_stocks};
-use crate::legend::{push_keys, push_legend, push_size, push_style};
-use crate::levels::moving_count;
-use crate::scale::{chart_height, head_height, x_at};
+use crate::legend::{push_head, push_page};
+use crate::levels::touched_count;
+use crate::rows::{push_grid, push_part_head};
+use crate::scale::{band_count, band_height, band_top, chart_width};
 use std::alloc::{AllocError, Global};
 use stn_model::{Plant, Start};
 
-/// The picture of the plan, as an SVG document: the Gantt chart, the stocks that change in mass units
-/// at each time, the loads in each period, and the profit in money. It fails only for want of memory,
-/// and takes time in proportion to the starts for each stock and load.
+/// The picture of the plan, as an SVG document in bands of 48 periods: the units with their batches,
+/// the stocks in mass units at each time, the loads in each period, and the profit in money.
+///
+/// In the row of each unit, over each period, stand the bars of the batches that it runs then
+/// (`bars`), and the steps of the rows are the stocks and loads of the definitions (`stocks`,
+/// `loads`). It fails only for want of memory. It takes time in proportion to the starts for each
+/// step, and for the cleaning in each band at most with the cube of the plan.
 pub fn picture(alloc: Global, plant: &Plant, plan: &[Start]) -> Result<Vec<u8>, AllocError>
     requires sound { Sound plant.now }
     requires few { length plan.now < 2 ^ 32 }
-    ensures { IfOk result (λ text. text.items ≡ picture_text plant.now plan.now) }
+    ensures text { IfOk result (λ text. text.items ≡ picture_text plant.now plan.now) }
+    ensures bars { BarsAreBatches plant.now plan.now }
+    ensures stocks { StepsAreStocks plant.now plan.now }
+    ensures loads { StepsAreLoads plant.now plan.now }
 {
-    let states = moving_count(alloc, plant, plan)?;
+    let states = touched_count(plant, plan);
     let mut text = Vec::new(alloc);
     push_picture(alloc, &mut text, plant, plan, states)?;
     Ok(text)
@@ -40,18 +50,38 @@ fn push_picture(
     ensures { OnOk result (text.new.items
         ≡ text.old.items ++ picture_with plant.now plan.now states) }
 {
-    let width = x_at(plant, plant.periods as u64 + 1) + 32;
-    let height = head_height(plant) + chart_height(plant, states) + 16;
-    push_size(alloc, text, width, height)?;
-    push_style(text)?;
-    push_keys(alloc, text, plant, plan)?;
-    push_legend(alloc, text, plant)?;
-    push_chart(alloc, text, plant, plan, states)
+    push_whole_page(alloc, text, plant, states)?;
+    push_head(alloc, text, plant, plan)?;
+    push_bands(alloc, text, plant, plan, states)?;
+    push_end(text)
 }
 
-// Appends the chart, below the head.
-#[tactic(auto, unfolding(crate::specs::Picture::chart))]
-fn push_chart(
+#[tactic(auto, unfolding(crate::specs::Picture::picture_end))]
+fn push_end(text: &mut Vec<u8>) -> Result<(), AllocError>
+    ensures { OnOk result (text.new.items ≡ text.old.items ++ picture_end) }
+{
+    text.extend_from_slice("</g>\n</svg>\n".as_bytes())
+}
+
+// Appends the page of the picture.
+#[tactic(auto, unfolding(crate::specs::Picture::whole_page))]
+fn push_whole_page(
+    alloc: Global,
+    text: &mut Vec<u8>,
+    plant: &Plant,
+    states: u64,
+) -> Result<(), AllocError>
+    requires sound { Sound plant.now }
+    requires small { states < 2 ^ 32 }
+    ensures { OnOk result (text.new.items ≡ text.old.items ++ whole_page plant.now states) }
+{
+    let width = chart_width(plant) + 32;
+    let height = band_top(plant, states, band_count(plant)) + 16;
+    push_page(alloc, text, width, height)
+}
+
+#[tactic(auto, using(crate::proofs::Ranges::pieces_next), unfolding(crate::specs::Picture::bands))]
+fn push_bands(
     alloc: Global,
     text: &mut Vec<u8>,
     plant: &Plant,
@@ -61,26 +91,81 @@ fn push_chart(
     requires sound { Sound plant.now }
     requires few { length plan.now < 2 ^ 32 }
     requires small { states < 2 ^ 32 }
-    ensures { OnOk result (text.new.items ≡ text.old.items ++ chart plant.now plan.now states) }
+    ensures { OnOk result (text.new.items ≡ text.old.items ++ bands plant.now plan.now states) }
 {
-    push_chart_begin(alloc, text, head_height(plant))?;
-    push_gantt(alloc, text, plant, plan, chart_height(plant, states))?;
-    push_stocks(alloc, text, plant, plan)?;
-    push_loads(alloc, text, plant, plan, states)?;
-    push_chart_end(text)
+    for band in 0..band_count(plant) {
+        push_band(alloc, text, plant, plan, states, band)?;
+    }
+    Ok(())
 }
 
-#[tactic(auto, unfolding(crate::specs::Picture::chart_begin))]
-fn push_chart_begin(alloc: Global, text: &mut Vec<u8>, below: u64) -> Result<(), AllocError>
-    ensures { OnOk result (text.new.items ≡ text.old.items ++ chart_begin below) }
+#[tactic(auto, unfolding(crate::specs::Picture::band_text))]
+fn push_band(
+    alloc: Global,
+    text: &mut Vec<u8>,
+    plant: &Plant,
+    plan: &[Start],
+    states: u64,
+    band: u32,
+) -> Result<(), AllocError>
+    requires sound { Sound plant.now }
+    requires few { length plan.now < 2 ^ 32 }
+    requires small { states < 2 ^ 32 }
+    requires there { band ≤ 7 }
+    ensures { OnOk result (text.new.items
+        ≡ text.old.items ++ band_text plant.now plan.now states band) }
 {
-    let begin = format!(in alloc; "<g transform=\"translate(16 {below})\">\n")?;
+    push_band_begin(alloc, text, band_top(plant, states, band))?;
+    push_units(alloc, text, plant, plan, states, band)?;
+    push_stocks(alloc, text, plant, plan, states, band)?;
+    push_loads(alloc, text, plant, plan, states, band)?;
+    text.extend_from_slice("</g>\n".as_bytes())
+}
+
+#[tactic(auto, unfolding(crate::specs::Picture::band_begin))]
+fn push_band_begin(alloc: Global, text: &mut Vec<u8>, y: u64) -> Result<(), AllocError>
+    ensures { OnOk result (text.new.items ≡ text.old.items ++ band_begin y) }
+{
+    let begin = format!(in alloc; "<g transform=\"translate(0 {y})\">\n")?;
     text.extend_from_slice(begin.as_bytes())
 }
 
-#[tactic(auto, unfolding(crate::specs::Picture::chart_end))]
-fn push_chart_end(text: &mut Vec<u8>) -> Result<(), AllocError>
-    ensures { OnOk result (text.new.items ≡ text.old.items ++ chart_end) }
+// Appends the units of a band, with the lines of all times through all its rows.
+#[tactic(auto, unfolding(crate::specs::Picture::units))]
+fn push_units(
+    alloc: Global,
+    text: &mut Vec<u8>,
+    plant: &Plant,
+    plan: &[Start],
+    states: u64,
+    band: u32,
+) -> Result<(), AllocError>
+    requires sound { Sound plant.now }
+    requires small { states < 2 ^ 32 }
+    requires there { band ≤ 7 }
+    ensures { OnOk result (text.new.items
+        ≡ text.old.items ++ units plant.now plan.now states band) }
 {
-    text.extend_from_slice("</g>\n</svg>\n".as_bytes())
+    push_part_head(alloc, text, plant, band, 0, "units")?;
+    push_unit_rows(alloc, text, plant, band)?;
+    push_grid(alloc, text, plant, band, band_height(plant, states))?;
+    push_gantt(alloc, text, plant, plan, band)
+}
+
+// Appends what stands in the rows of the units.
+#[tactic(auto, unfolding(crate::specs::Picture::gantt))]
+fn push_gantt(
+    alloc: Global,
+    text: &mut Vec<u8>,
+    plant: &Plant,
+    plan: &[Start],
+    band: u32,
+) -> Result<(), AllocError>
+    requires sound { Sound plant.now }
+    requires there { band ≤ 7 }
+    ensures { OnOk result (text.new.items ≡ text.old.items ++ gantt plant.now plan.now band) }
+{
+    push_outages(alloc, text, plant, band)?;
+    push_cleanings(alloc, text, plant, plan, band)?;
+    push_bars(alloc, text, plant, plan, band)
 }

@@ -1,7 +1,7 @@
 use Rattle.std.proofs.Common.{◌≡◌, ◌++◌, take}
 use Rattle.std.specs.List.{flat_map}
 use Rattle.plan_picture.specs.Graphs.{level_step}
-use Rattle.plan_picture.proofs.graphs.push_level_steps.Given as goal
+use Rattle.plan_picture.proofs.steps.push_level_steps.Given as goal
 
 abbrev pub invariant-loop-level : goal.invariant-loop-level
-invariant-loop-level l = l.text.items ≡ l.initial.text.items ++ flat_map level_step (take l.level-index l.levels)
+invariant-loop-level l = l.text.items ≡ l.initial.text.items ++ flat_map (level_step l.plant l.y l.top) (take l.level-index l.levels)

@@ -1,7 +1,0 @@
-use Rattle.std.proofs.Common.{◌≡◌, ◌++◌}
-use Rattle.std.specs.List.{flat_map, range_with_len}
-use Rattle.plan_picture.specs.Graphs.{level_mark}
-use Rattle.plan_picture.proofs.graphs.push_level_marks.Given as goal
-
-abbrev pub invariant-loop-time : goal.invariant-loop-time
-invariant-loop-time l = l.text.items ≡ l.initial.text.items ++ flat_map (level_mark l.plant l.y l.levels) (range_with_len 0 l.time)

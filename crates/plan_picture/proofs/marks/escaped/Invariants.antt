@@ -1,6 +1,0 @@
-use Rattle.std.proofs.Common.{◌≡◌, take}
-use Rattle.plan_picture.specs.Marks.{escaped}
-use Rattle.plan_picture.proofs.marks.escaped.Given as goal
-
-abbrev pub invariant-loop-byte : goal.invariant-loop-byte
-invariant-loop-byte l = l.bytes.items ≡ escaped (take l.byte-index l.text)

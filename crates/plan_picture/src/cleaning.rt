@@ -1,0 +1,108 @@
+//! The cleaning of units in a band: from the end of a batch on, where another is a next one.
+ghost use Rattle.std.specs.Prelude.{◌≡◌, ◌≤◌, ◌+◌, ◌++◌, ◌^◌, OnOk};
+ghost use Rattle.stn_model.specs.Sound.{Sound};
+ghost use Rattle.plan_picture.specs.Marks.{frame_at};
+ghost use Rattle.plan_picture.specs.Bars.{stripes, cleaning, cleaning_between, cleaning_after, cleanings};
+
+use crate::marks::Frame;
+use crate::spans::{is_seen, span};
+use plain_plan::profit::is_next;
+use std::alloc::{AllocError, Global};
+use stn_model::{Plant, Start, end, gap_of};
+
+/// Appends the cleaning that the band shows.
+pub fn push_cleanings(
+    alloc: Global,
+    text: &mut Vec<u8>,
+    plant: &Plant,
+    plan: &[Start],
+    band: u32,
+) -> Result<(), AllocError>
+    requires sound { Sound plant.now }
+    requires there { band ≤ 7 }
+    ensures { OnOk result (text.new.items
+        ≡ text.old.items ++ cleanings plant.now plan.now band) }
+{
+    for start in plan {
+        push_cleaning_after(alloc, text, plant, plan, band, start)?;
+    }
+    Ok(())
+}
+
+// Appends the cleaning after a batch.
+fn push_cleaning_after(
+    alloc: Global,
+    text: &mut Vec<u8>,
+    plant: &Plant,
+    plan: &[Start],
+    band: u32,
+    a: &Start,
+) -> Result<(), AllocError>
+    requires sound { Sound plant.now }
+    requires there { band ≤ 7 }
+    ensures { OnOk result (text.new.items
+        ≡ text.old.items ++ cleaning_after plant.now plan.now band a.now) }
+{
+    for b in plan {
+        push_cleaning_between(alloc, text, plant, plan, band, a, b)?;
+    }
+    Ok(())
+}
+
+#[tactic(auto, unfolding(crate::specs::Bars::cleaning_between))]
+fn push_cleaning_between(
+    alloc: Global,
+    text: &mut Vec<u8>,
+    plant: &Plant,
+    plan: &[Start],
+    band: u32,
+    a: &Start,
+    b: &Start,
+) -> Result<(), AllocError>
+    requires sound { Sound plant.now }
+    requires there { band ≤ 7 }
+    ensures { OnOk result (text.new.items
+        ≡ text.old.items ++ cleaning_between plant.now plan.now band a.now b.now) }
+{
+    if is_next(plan, a, b) {
+        let from = end(plant, a);
+        let to = from as u128 + gap_of(plant, a.unit, a.task, b.task) as u128;
+        push_cleaning(alloc, text, plant, band, a.unit, from, to)
+    } else {
+        Ok(())
+    }
+}
+
+#[tactic(auto, unfolding(crate::specs::Bars::cleaning))]
+fn push_cleaning(
+    alloc: Global,
+    text: &mut Vec<u8>,
+    plant: &Plant,
+    band: u32,
+    unit: u32,
+    from: u64,
+    to: u128,
+) -> Result<(), AllocError>
+    requires sound { Sound plant.now }
+    requires there { band ≤ 7 }
+    ensures { OnOk result (text.new.items
+        ≡ text.old.items ++ cleaning plant.now band unit from to) }
+{
+    if is_seen(plant, band, from, to) {
+        push_stripes(alloc, text, span(plant, band, unit, from, to))
+    } else {
+        Ok(())
+    }
+}
+
+#[tactic(auto, unfolding(crate::specs::Bars::stripes))]
+fn push_stripes(alloc: Global, text: &mut Vec<u8>, frame: Frame) -> Result<(), AllocError>
+    requires { frame.y ≤ 2 ^ 41 }
+    ensures { OnOk result (text.new.items ≡ text.old.items ++ stripes frame) }
+{
+    let x = frame.x;
+    let y = frame.y + 10;
+    let width = frame.width;
+    let path = format!(in alloc; "<path class=\"clean\" d=\"M{x} {y}h{width}\"/>\n")?;
+    text.extend_from_slice(path.as_bytes())
+}
