@@ -40,7 +40,7 @@ pub fn judge<R: AllocGlobal + Files + Print, K: Kinds>(rt: &R, kinds: &K) -> Exi
 
 fn judge_files<R: AllocGlobal + Files + Print, K: Kinds>(rt: &R, kinds: &K) -> io::Result<Count> {
     let mut count = Count { right: 0, wrong: 0 };
-    let index = fs::read_to_string(rt, "index")?;
+    let index = read_file(rt, "index")?;
     for name in index.lines() {
         if !name.is_empty() && !name.starts_with('#') {
             judge_file(rt, kinds, name, &mut count)?;
@@ -48,6 +48,15 @@ fn judge_files<R: AllocGlobal + Files + Print, K: Kinds>(rt: &R, kinds: &K) -> i
     }
     put_count(rt, count)?;
     Ok(count)
+}
+
+// The text of a file, or that it can't be read.
+fn read_file<R: AllocGlobal + Files + Print>(rt: &R, name: &str) -> io::Result<String> {
+    let read = fs::read_to_string(rt, name);
+    if read.is_err() {
+        println!(rt; "{name}: can't be read")?;
+    }
+    read
 }
 
 fn put_count<R: Print>(rt: &R, count: Count) -> io::Result<()> {
@@ -62,7 +71,7 @@ fn judge_file<R: AllocGlobal + Files + Print, K: Kinds>(
     name: &str,
     count: &mut Count,
 ) -> io::Result<()> {
-    let text = fs::read_to_string(rt, name)?;
+    let text = read_file(rt, name)?;
     match cases_of(rt.alloc(), text.as_str()) {
         Ok(cases) => judge_cases(rt, kinds, name, cases.as_slice(), count),
         Err(stop) => give_up(rt, name, stop),
