@@ -90,36 +90,32 @@ fn slot_count(rows: &Rows) -> u32 {
     rows.program.root.len() as u32
 }
 
+// Searches a chain with a taker that takes so many items: why it broke off, and how often the hinter was asked.
+fn searched(alloc: Global, rows: &Rows, left: u32) -> (Option<TakeStop>, u32) {
+    let mut hinter = Silent { asked: 0 };
+    let mut taker = Cutoff { left };
+    let ended = search_to(
+        alloc,
+        rows,
+        slot_count(rows),
+        7,
+        &mut hinter,
+        &mut taker,
+        &mut (),
+    );
+    (ended.err(), hinter.asked)
+}
+
 #[test]
 fn items_are_put_while_the_search_runs(rt: HostRuntime) -> Result<(), Fail> {
     let alloc = rt.alloc();
     let rows = Rows {
         program: program(alloc, CHAIN, CHAIN_ROWS)?.ok_or("bounds")?,
     };
-    let mut hinter = Silent { asked: 0 };
-    let broken = search_to(
-        alloc,
-        &rows,
-        slot_count(&rows),
-        7,
-        &mut hinter,
-        &mut Cutoff { left: 1 },
-        &mut (),
-    );
-    assert!(rt; matches!(broken, Err(TakeStop::Memory)));
-    assert!(rt; hinter.asked <= 1);
-    let mut hinter = Silent { asked: 0 };
-    let ended = search_to(
-        alloc,
-        &rows,
-        slot_count(&rows),
-        7,
-        &mut hinter,
-        &mut Cutoff { left: 1_000 },
-        &mut (),
-    );
-    assert!(rt; ended.is_ok());
-    assert!(rt; hinter.asked >= 3);
+    let (broken, asked) = searched(alloc, &rows, 1);
+    assert!(rt; broken == Some(TakeStop::Memory) && asked <= 1);
+    let (broken, asked) = searched(alloc, &rows, 1_000);
+    assert!(rt; broken.is_none() && asked >= 3);
     Ok(())
 }
 
@@ -139,19 +135,28 @@ fn long_row(alloc: Global) -> Result<Row, AllocError> {
     })
 }
 
+// The widest program, with that row.
+fn wide_program(alloc: Global) -> Result<Option<Program>, AllocError> {
+    let mut list = List::new(alloc);
+    list.push(long_row(alloc)?)?;
+    over_rows(alloc, WIDE, list)
+}
+
+// Dives: whether a box is left open and the count is not exact, the cap, and the boxes that were counted.
+fn dived(alloc: Global, rows: &Rows) -> Result<(bool, Capped, u32), AllocError> {
+    let mut hinter = Silent { asked: 0 };
+    let given = slot_count(rows);
+    let (found, exact) = search_guided(alloc, rows, given, 100_000, &mut hinter, &mut Diver)?;
+    Ok((found.left_open && !exact, found.cap, found.spent))
+}
+
 #[test]
 fn a_deep_path_fits_the_stack(rt: HostRuntime) -> Result<(), Fail> {
     let alloc = rt.alloc();
-    let mut list = List::new(alloc);
-    list.push(long_row(alloc)?)?;
     let rows = Rows {
-        program: over_rows(alloc, WIDE, list)?.ok_or("bounds")?,
+        program: wide_program(alloc)?.ok_or("bounds")?,
     };
-    let mut hinter = Silent { asked: 0 };
-    let given = slot_count(&rows);
-    let (found, exact) = search_guided(alloc, &rows, given, 100_000, &mut hinter, &mut Diver)?;
-    assert!(rt; !exact && found.left_open);
-    assert_eq!(rt; found.cap, Capped::AtMost(130_559));
-    assert!(rt; found.spent > 4_000);
+    let (open, cap, spent) = dived(alloc, &rows)?;
+    assert!(rt; open && cap == Capped::AtMost(130_559) && spent > 4_000);
     Ok(())
 }

@@ -92,17 +92,5 @@ pub const CHAIN: Slots = &[(3, 3, 8), (3, 3, 8)];
 
 pub const CHAIN_ROWS: Table = &[(10, &[(0, 0, 2)]), (10, &[(0, 0, 2), (1, 0, 2)])];
 
-/// The same from 10 units of feed, as the rows of a plant: busy, stock of feed, and stock of product at the times 0, 1 and 2.
-pub const ODD_ROWS: Table = &[
-    (1, &[(0, 1, 0)]),
-    (1, &[(1, 1, 0)]),
-    (10, &[(0, 0, 2)]),
-    (10, &[(0, 0, 2), (1, 0, 2)]),
-    (10, &[(0, 0, 2), (1, 0, 2)]),
-    (0, &[]),
-    (0, &[(0, 0, -2)]),
-    (0, &[(0, 0, -2), (1, 0, -2)]),
-];
-
 /// Slots with all values of a byte, each quantum worth 1.
 pub const WIDE: Slots = &[(1, 255, 1); 512];

@@ -1,0 +1,10 @@
+//! Small programs that cases say as steps: `base WORTH`, `slot DOMAIN FIXED PER`, `row LIMIT | SLOT FIXED PER ..`, `change ..`.
+#![tactic(auto)]
+
+mod caps;
+mod parts;
+mod words;
+
+pub use caps::put_cap;
+pub use parts::{is_part, program_of};
+pub use words::{bytes_of, domain_of};

@@ -1,0 +1,44 @@
+//! The cases of small programs of rows: bounds, points, areas, cuts, caps of certificates, steps of the
+//! simplex, and sums.
+#![tactic(auto)]
+
+mod areas;
+mod bases;
+mod caps;
+mod certs;
+mod cuts;
+mod points;
+mod programs;
+mod sums;
+mod tried;
+
+use case_tables::{Kinds, Sheet, Step, judge};
+use std::alloc::{AllocError, Global};
+use std::process::ExitCode;
+
+/// The kinds of cases of this program.
+struct RowKinds;
+
+impl Kinds for RowKinds {
+    fn answer<'a>(
+        &self,
+        alloc: Global,
+        kind: &str,
+        steps: &'a [Step<'a>],
+        sheet: &mut Sheet<'a>,
+    ) -> Result<(), AllocError> {
+        match kind {
+            "programs" => programs::answer(alloc, steps, sheet),
+            "bases" => bases::answer(alloc, false, steps, sheet),
+            "sum_bases" => bases::answer(alloc, true, steps, sheet),
+            _ => {
+                sheet.refuse();
+                Ok(())
+            }
+        }
+    }
+}
+
+fn main(rt: HostRuntime) -> ExitCode {
+    judge(&rt, &RowKinds)
+}

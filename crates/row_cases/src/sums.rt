@@ -1,0 +1,44 @@
+//! Sums that are chosen for a program.
+use crate::points::put_entries;
+use case_tables::Sheet;
+use row_kit::Program;
+use std::alloc::{AllocError, Global};
+use sum_choice::choose_sums;
+use sum_slots::Sum;
+
+/// `sums`: the sums that are chosen over the program's domains, a line each.
+pub fn answer(alloc: Global, program: &Program, sheet: &mut Sheet) -> Result<(), AllocError> {
+    let sums = choose_sums(alloc, program, program.root.as_slice())?;
+    put_sums(sums.as_slice(), sheet);
+    sheet.show(sums.len());
+    sheet.line(" sums");
+    Ok(())
+}
+
+fn put_sums(sums: &[Sum], sheet: &mut Sheet) {
+    for sum in sums {
+        put_sum(sum, sheet);
+    }
+}
+
+// A sum: its width and offset, the rows that show either side of its range, and its terms.
+fn put_sum(sum: &Sum, sheet: &mut Sheet) {
+    sheet.put("width ");
+    sheet.show(sum.width);
+    sheet.put(" offset ");
+    sheet.show(sum.offset);
+    sheet.put(" low ");
+    put_row(sum.low, sheet);
+    sheet.put(" high ");
+    put_row(sum.high, sheet);
+    sheet.put(" ");
+    put_entries(sum.terms.as_slice(), sheet);
+    sheet.line("");
+}
+
+fn put_row(row: Option<u32>, sheet: &mut Sheet) {
+    match row {
+        Some(row) => sheet.show(row),
+        None => sheet.put("-"),
+    }
+}

@@ -1,0 +1,124 @@
+//! Searches of a small program.
+ghost use Rattle.std.specs.Prelude.{◌≤◌};
+
+use crate::advisers::{Liar, Silent, Splitter, Teller};
+use crate::told::{put_best, put_search, put_split};
+use branch_tree::{Searched, search, search_guided};
+use case_programs::{bytes_of, put_cap};
+use case_tables::Sheet;
+use row_relax::Rows;
+use std::alloc::{AllocError, Global};
+
+/// Prints what a search gives.
+pub fn answer_step(
+    alloc: Global,
+    rows: &Rows,
+    verb: &str,
+    sheet: &mut Sheet,
+) -> Result<(), AllocError> {
+    match verb {
+        "search" | "hint" => plain(alloc, rows, sheet),
+        "lie" => guided(alloc, rows, false, sheet),
+        "leave" => guided(alloc, rows, true, sheet),
+        "split" => split(alloc, rows, sheet),
+        _ => {
+            sheet.refuse();
+            Ok(())
+        }
+    }
+}
+
+// A budget of boxes.
+fn budget_of(sheet: &mut Sheet) -> u32
+    ensures { (1 ≤ result) × (result ≤ 100000) }
+{
+    let budget = sheet.number();
+    if budget < 1 || budget > 100_000 {
+        sheet.refuse();
+        return 1;
+    }
+    budget
+}
+
+// The number of slots, none of which is a sum's.
+fn slot_count(rows: &Rows) -> u32 {
+    rows.program.root.len() as u32
+}
+
+// `search BUDGET` with a hinter that says of points outside of every box that they are lawful, and `hint BUDGET VALUE ..` with
+// one that tells this point: the cap, the worth of the best point, and whether a box is left open.
+fn plain(alloc: Global, rows: &Rows, sheet: &mut Sheet) -> Result<(), AllocError> {
+    let budget = budget_of(sheet);
+    let mut hinter = Teller {
+        point: bytes_of(alloc, sheet)?,
+    };
+    let found = search(alloc, rows, slot_count(rows), budget, &mut hinter)?;
+    put_search(&found, sheet);
+    Ok(())
+}
+
+// `lie BUDGET` and `leave BUDGET`, with a guide that advises what is not there, and may leave every part open: the best point,
+// whether a box is left open, whether the count is exact, and the cap where none is open.
+fn guided(alloc: Global, rows: &Rows, leaves: bool, sheet: &mut Sheet) -> Result<(), AllocError> {
+    let budget = budget_of(sheet);
+    let (found, exact) = search_lying(alloc, rows, budget, leaves)?;
+    put_guided(&found, exact, sheet);
+    Ok(())
+}
+
+fn search_lying(
+    alloc: Global,
+    rows: &Rows,
+    budget: u32,
+    leaves: bool,
+) -> Result<(Searched, bool), AllocError>
+    requires { (1 ≤ budget) × (budget ≤ 100000) }
+{
+    let mut hinter = Teller {
+        point: Vec::new(alloc),
+    };
+    let mut guide = Liar { leaves };
+    search_guided(
+        alloc,
+        rows,
+        slot_count(rows),
+        budget,
+        &mut hinter,
+        &mut guide,
+    )
+}
+
+fn put_guided(found: &Searched, exact: bool, sheet: &mut Sheet) {
+    put_best(&found.best, found.left_open, sheet);
+    sheet.line(if exact { "exact" } else { "not exact" });
+    if !found.left_open {
+        put_cap(found.cap, sheet);
+    }
+}
+
+// `split GIVEN VALUE`, with a guide that advises to split the first slot there, where the slots from GIVEN on are sums: the cap,
+// the best point, and where the root is split.
+fn split(alloc: Global, rows: &Rows, sheet: &mut Sheet) -> Result<(), AllocError> {
+    let given = sheet.number();
+    let max = sheet.number();
+    let (found, _) = search_splitting(alloc, rows, given, max)?;
+    put_search(&found, sheet);
+    put_split(&found.tree, sheet);
+    Ok(())
+}
+
+fn search_splitting(
+    alloc: Global,
+    rows: &Rows,
+    given: u32,
+    max: u8,
+) -> Result<(Searched, bool), AllocError> {
+    search_guided(
+        alloc,
+        rows,
+        given,
+        1_000,
+        &mut Silent,
+        &mut Splitter { max },
+    )
+}

@@ -1,0 +1,38 @@
+//! The cases of texts: words, parts of a batch, lines of logs, and stores.
+#![tactic(auto)]
+
+mod files;
+mod log_text;
+mod parts;
+mod words;
+
+use case_tables::{Kinds, Sheet, Step, judge};
+use std::alloc::{AllocError, Global};
+use std::process::ExitCode;
+
+/// The kinds of cases of this program.
+struct TextKinds;
+
+impl Kinds for TextKinds {
+    fn answer<'a>(
+        &self,
+        alloc: Global,
+        kind: &str,
+        steps: &'a [Step<'a>],
+        sheet: &mut Sheet<'a>,
+    ) -> Result<(), AllocError> {
+        match kind {
+            "words" => words::answer(alloc, steps, sheet),
+            "lines" => log_text::answer(alloc, steps, sheet),
+            "stores" => files::answer(alloc, steps, sheet),
+            _ => {
+                sheet.refuse();
+                Ok(())
+            }
+        }
+    }
+}
+
+fn main(rt: HostRuntime) -> ExitCode {
+    judge(&rt, &TextKinds)
+}
