@@ -133,7 +133,8 @@ fn push_line(
     b: &Start,
 ) -> Result<(), AllocError>
     requires { length batches.now < 2 ^ 32 }
-    ensures { OnOk result (text.new.items ≡ text.old.items ++ line_among plant.now batches.now b.now) }
+    ensures { OnOk result (text.new.items
+        ≡ text.old.items ++ line_among plant.now batches.now b.now) }
 {
     text.extend_from_slice(unit_name(plant, b.unit))?;
     text.push(b',')?;

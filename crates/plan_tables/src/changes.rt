@@ -48,8 +48,8 @@ fn is_amid(a: &Start, b: &Start, c: &Start) -> bool
     c.unit == a.unit && a.period < c.period && c.period < b.period
 }
 
-/// What is charged for the changeover before a batch of the unit, in money. It looks at each other batch once, and
-/// through all of them at the one that comes before it.
+/// What is charged for the changeover before a batch of the unit, in money. It looks at each batch of the unit, and
+/// for an earlier one through all of them until one lies between the two.
 #[tactic(auto, unfolding(crate::specs::Batches::charge))]
 pub fn charge(plant: &Plant, batches: &[Start], b: &Start) -> u128
     requires { length batches.now < 2 ^ 32 }

@@ -75,7 +75,8 @@ fn push_state(
     requires sound { Sound plant.now }
     requires few { length plan.now < 2 ^ 32 }
     requires there { state < length plant.now.states }
-    ensures { OnOk result (text.new.items ≡ text.old.items ++ state_lines plant.now plan.now state) }
+    ensures { OnOk result (text.new.items
+        ≡ text.old.items ++ state_lines plant.now plan.now state) }
 {
     for time in 0..plant.periods + 1 {
         push_stock(alloc, text, plant, plan, state, time)?;
@@ -96,7 +97,8 @@ fn push_stock(
     requires sound { Sound plant.now }
     requires few { length plan.now < 2 ^ 32 }
     requires there { state < length plant.now.states }
-    ensures { OnOk result (text.new.items ≡ text.old.items ++ stock_line plant.now plan.now state time) }
+    ensures { OnOk result (text.new.items
+        ≡ text.old.items ++ stock_line plant.now plan.now state time) }
 {
     text.extend_from_slice(state_name(plant, state))?;
     let level = stock_at(plant, plan, state, time);

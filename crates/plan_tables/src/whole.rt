@@ -19,8 +19,9 @@ use stn_model::{Plant, Start};
 /// plant's. It fails only for want of memory. Each batch whose start fits has one line of the batches (`batches`),
 /// and each period of a unit counts once (`periods`).
 ///
-/// Batches and units take time in proportion to the starts for each unit and each period, and for each pair of starts
-/// on one unit; stocks, loads and deliveries in proportion to the starts for each of their lines.
+/// Batches and units take time in proportion to the starts for each unit and, of a unit's own, for each period, and at
+/// most to the cube of a unit's batches, of which a feasible plan has no two in one period; stocks, loads and deliveries
+/// in proportion to the starts for each of their lines.
 #[tactic(auto, using(crate::proofs::Orders::each_once, crate::proofs::Periods::periods_once))]
 pub fn table(
     alloc: Global,
