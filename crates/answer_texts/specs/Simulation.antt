@@ -1,4 +1,4 @@
--- The answer of `simulate`, `report` and `picture`: its text, and when it is right.
+-- The answer of `simulate`, `report`, `picture` and `table`: its text, and when it is right.
 use Rattle.std.specs.Prelude.{◌≡◌, ◌<◌, ◌+◌, ℕ, ℤ, length, List, ◌++◌, codes, decimal}
 use Rattle.stn_model.specs.declared.plant.Plant.{Plant}
 use Rattle.stn_model.specs.declared.start.Start.{Start}
@@ -10,9 +10,10 @@ use Rattle.plan_sim.specs.declared.verdict.Verdict.TheVariants.{Feasible, Broken
 use Rattle.plan_sim.specs.Verdicts.{IsVerdict}
 use Rattle.gantt_report.specs.Report.{report_text}
 use Rattle.plan_picture.specs.Picture.{picture_text}
+use Rattle.plan_tables.specs.Tables.{table_text}
 use Rattle.answer_texts.specs.Lines.{amount_line}
 use Rattle.command_words.specs.declared.command.PlanUse.{PlanUse}
-use Rattle.command_words.specs.declared.command.PlanUse.TheVariants.{Simulate, Report, Picture}
+use Rattle.command_words.specs.declared.command.PlanUse.TheVariants.{Simulate, Report, Picture, Table}
 
 -- a line on two places of a plan, which are counted from 1
 abbrev pub pair_line : List ℕ → ℕ → ℕ → List ℕ
@@ -31,11 +32,12 @@ violation_text plant (StockLow state time) = named_line (codes "broken stock-low
 violation_text plant (StockHigh state time) = named_line (codes "broken stock-high ") (state_at plant state).name time
 violation_text plant (Load utility period) = named_line (codes "broken load ") (utility_at plant utility).name period
 
--- the text that a use of a feasible plan puts: what it earns, its report, or its picture
+-- the text that a use of a feasible plan puts: what it earns, its report, its picture, or one of its tables
 abbrev pub feasible_text : PlanUse → Plant → List Start → ℤ → List ℕ
 feasible_text Simulate plant plan earned = amount_line (codes "feasible ") earned
 feasible_text Report plant plan earned = report_text plant plan
 feasible_text Picture plant plan earned = picture_text plant plan
+feasible_text (Table kind) plant plan earned = table_text kind plant plan
 
 -- the text that a use of a plan puts: that of a feasible plan, or what it breaks first
 abbrev pub use_text : PlanUse → Plant → List Start → Verdict → List ℕ
@@ -56,7 +58,7 @@ IsOfPlant plant (StockLow state time) = state < length plant.states
 IsOfPlant plant (StockHigh state time) = state < length plant.states
 IsOfPlant plant (Load utility period) = utility < length plant.utilities
 
--- the answer of `simulate`, `report` and `picture`: the right verdict on the plan, with its status and its text
+-- the answer of `simulate`, `report`, `picture` and `table`: the right verdict on the plan, with its status and its text
 pub record Simulated (usage : PlanUse) (plant : Plant) (plan : List Start) (status : ℕ) (text : List ℕ) : Type 0 where
   pub verdict : Verdict
   pub right : IsVerdict plant plan verdict

@@ -1,4 +1,4 @@
-//! What a plan earns or breaks first, its report, and its picture.
+//! What a plan earns or breaks first, its report, its picture, and its tables.
 ghost use Rattle.std.specs.Prelude.{◌≡◌, ◌+◌, ◌<◌, ◌^◌, ◌++◌, length, IfOk, codes, decimal};
 ghost use Rattle.stn_model.specs.Plant.{state_at, utility_at};
 ghost use Rattle.stn_model.specs.Sound.{Sound};
@@ -19,6 +19,7 @@ use command_words::PlanUse;
 use gantt_report::report;
 use plan_picture::picture;
 use plan_sim::{Verdict, simulate};
+use plan_tables::table;
 use std::alloc::{AllocError, Global};
 use stn_model::{Plant, Start, Violation};
 
@@ -64,7 +65,7 @@ fn answered(
     }
 }
 
-// What a feasible plan earns, its report, or its picture.
+// What a feasible plan earns, its report, its picture, or one of its tables.
 fn feasible_text(
     alloc: Global,
     usage: PlanUse,
@@ -84,6 +85,7 @@ fn feasible_text(
             Ok(text)
         }
         PlanUse::Picture => picture(alloc, plant, plan),
+        PlanUse::Table(kind) => table(alloc, kind, plant, plan),
     }
 }
 

@@ -1,4 +1,4 @@
-//! The commands on a plant and a plan that are given: `simulate`, `report`, `picture` and `upgrade`.
+//! The commands on a plant and a plan that are given: `simulate`, `report`, `picture`, `table` and `upgrade`.
 #![tactic(auto)]
 
 mod simulation;

@@ -1,4 +1,4 @@
-//! `simulate`, `report` and `picture PLANT PLAN`: what a plan earns or breaks first, its report, and its picture.
+//! `simulate`, `report`, `picture` and `table PLANT PLAN`: what a plan earns or breaks first, its report, picture and tables.
 ghost use Rattle.std.specs.Prelude.{◌≡◌, ◌≢◌, ◌≤◌, [], ℕ, List, Ok, Err, IsTrue};
 ghost use Rattle.stn_edge.specs.Count.{Rose};
 ghost use Rattle.stn_model.specs.Sound.{Sound};
