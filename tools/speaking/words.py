@@ -1,4 +1,6 @@
 """The words of a run: their form, the files that they name, and what is wrong with words of no form."""
+import re
+
 from speaking.texts import TABLE, count, do, grouped, means, meant, sentences, short
 
 FORMS = [key.split(" ") for subject, key in TABLE if subject == "form"]
@@ -19,10 +21,16 @@ def form_of(words):
 def ends(command, name, form):
     """The least and the greatest number of a word, or nothing where it is no number; a command may have a row of its own."""
     key = f"{command} {name}" if ("word", f"{command} {name}") in TABLE else name
-    if ("word", key) not in TABLE:
+    if ("word", key) not in TABLE or choices(name):
         return None
     low, _, high = means("word", key).replace(",", "").partition(" to ")
     return int(low), 2 ** int(form["LEVELS"]) - 1 if name == "PART" and number_of(form["LEVELS"], 1, 8) is not None else int(high)
+
+
+def choices(name):
+    """The words of which a word is one, or nothing where it is no such word."""
+    held = means("word", name) if ("word", name) in TABLE else ""
+    return re.split(", | or ", held) if held[:1].isalpha() else []
 
 
 def number_of(word, low, high):
@@ -41,6 +49,8 @@ def faults(words, form):
         if range_ and number_of(word, *range_) is None:
             yield (f"{name} is `{short(word, 40)}`, and should be a whole number from {grouped(range_[0])} to {grouped(range_[1])}, "
                    "without leading zeros or commas")
+        elif choices(name) and word not in choices(name):
+            yield f"{name} is `{short(word, 40)}`, and should be {means('word', name)}{meant(word, choices(name))}"
         elif name in FILES and word == "":
             yield f"{name} is an empty word, and should name a file"
     written = [it for it in ("LOG", "OUT") if it in form and it in WRITES.get(words[0], ())]

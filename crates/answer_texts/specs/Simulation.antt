@@ -1,4 +1,4 @@
--- The answer of `simulate`, `report`, `picture` and `violations`: its text, and when it is right.
+-- The answer of `simulate`, `report`, `picture`, `table` and `violations`: its text, and when it is right.
 use Rattle.std.specs.Prelude.{◌≡◌, ◌<◌, ◌+◌, ℕ, ℤ, length, List, ◌++◌, codes, decimal}
 use Rattle.stn_model.specs.declared.plant.Plant.{Plant}
 use Rattle.stn_model.specs.declared.start.Start.{Start}
@@ -10,10 +10,11 @@ use Rattle.plan_sim.specs.declared.verdict.Verdict.TheVariants.{Feasible, Broken
 use Rattle.plan_sim.specs.Verdicts.{IsVerdict}
 use Rattle.gantt_report.specs.Report.{report_text}
 use Rattle.plan_picture.specs.Picture.{picture_text}
+use Rattle.plan_tables.specs.Tables.{table_text}
 use Rattle.answer_texts.specs.Lines.{amount_line}
 use Rattle.answer_texts.specs.Violations.{violations_text}
 use Rattle.command_words.specs.declared.command.PlanUse.{PlanUse}
-use Rattle.command_words.specs.declared.command.PlanUse.TheVariants.{Simulate, Report, Picture, Violations}
+use Rattle.command_words.specs.declared.command.PlanUse.TheVariants.{Simulate, Report, Picture, Table, Violations}
 
 -- a line on two places of a plan, which are counted from 1
 abbrev pub pair_line : List ℕ → ℕ → ℕ → List ℕ
@@ -32,11 +33,12 @@ violation_text plant (StockLow state time) = named_line (codes "broken stock-low
 violation_text plant (StockHigh state time) = named_line (codes "broken stock-high ") (state_at plant state).name time
 violation_text plant (Load utility period) = named_line (codes "broken load ") (utility_at plant utility).name period
 
--- the text that a use of a feasible plan puts: what it earns, its report, or its picture
+-- the text that a use of a feasible plan puts: what it earns, its report, its picture, or one of its tables
 abbrev pub feasible_text : PlanUse → Plant → List Start → ℤ → List ℕ
 feasible_text Simulate plant plan earned = amount_line (codes "feasible ") earned
 feasible_text Report plant plan earned = report_text plant plan
 feasible_text Picture plant plan earned = picture_text plant plan
+feasible_text (Table kind) plant plan earned = table_text kind plant plan
 feasible_text Violations plant plan earned = amount_line (codes "feasible ") earned
 
 -- the text that a use of a plan that is not feasible puts: what it breaks first, or everything that it breaks
@@ -44,6 +46,7 @@ abbrev pub broken_text : PlanUse → Plant → List Start → Violation → List
 broken_text Simulate plant plan violation = violation_text plant violation
 broken_text Report plant plan violation = violation_text plant violation
 broken_text Picture plant plan violation = violation_text plant violation
+broken_text (Table kind) plant plan violation = violation_text plant violation
 broken_text Violations plant plan violation = violations_text plant plan
 
 -- the text that a use of a plan puts: that of a feasible plan, or what it breaks
@@ -65,7 +68,7 @@ IsOfPlant plant (StockLow state time) = state < length plant.states
 IsOfPlant plant (StockHigh state time) = state < length plant.states
 IsOfPlant plant (Load utility period) = utility < length plant.utilities
 
--- the answer of `simulate`, `report`, `picture` and `violations`: the right verdict on the plan, with its status and its text
+-- the answer of `simulate`, `report`, `picture`, `table` and `violations`: the right verdict on the plan, with its status and its text
 pub record Simulated (usage : PlanUse) (plant : Plant) (plan : List Start) (status : ℕ) (text : List ℕ) : Type 0 where
   pub verdict : Verdict
   pub right : IsVerdict plant plan verdict

@@ -1,4 +1,4 @@
-//! What a plan earns or breaks first, its report, its picture, and everything that it breaks.
+//! What a plan earns or breaks first, its report, its picture, its tables, and everything that it breaks.
 ghost use Rattle.std.specs.Prelude.{◌≡◌, ◌+◌, ◌<◌, ◌^◌, ◌++◌, length, IfOk, codes, decimal};
 ghost use Rattle.stn_model.specs.Plant.{state_at, utility_at};
 ghost use Rattle.stn_model.specs.Sound.{Sound};
@@ -21,6 +21,7 @@ use command_words::PlanUse;
 use gantt_report::report;
 use plan_picture::picture;
 use plan_sim::{Verdict, simulate};
+use plan_tables::table;
 use std::alloc::{AllocError, Global};
 use stn_model::{Plant, Start, Violation};
 
@@ -66,7 +67,7 @@ fn answered(
     }
 }
 
-// What a feasible plan earns, its report, or its picture.
+// What a feasible plan earns, its report, its picture, or one of its tables.
 fn feasible_text(
     alloc: Global,
     usage: PlanUse,
@@ -86,6 +87,7 @@ fn feasible_text(
             Ok(text)
         }
         PlanUse::Picture => picture(alloc, plant, plan),
+        PlanUse::Table(kind) => table(alloc, kind, plant, plan),
         PlanUse::Violations => amount_line(alloc, "feasible ", profit),
     }
 }
@@ -105,7 +107,7 @@ fn broken_text(
 {
     match usage {
         PlanUse::Violations => violations_text(alloc, plant, plan),
-        PlanUse::Simulate | PlanUse::Report | PlanUse::Picture => {
+        PlanUse::Simulate | PlanUse::Report | PlanUse::Picture | PlanUse::Table(_) => {
             violation_text(alloc, plant, violation)
         }
     }

@@ -2,3 +2,4 @@ pub mod WordLemmas
 pub mod StepWords
 pub mod LogWords
 pub mod PartWords
+pub mod UseWords

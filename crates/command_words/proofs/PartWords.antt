@@ -4,7 +4,7 @@ use Rattle.std.specs.Prelude.{Option, Some, None, MatchOption}
 use Rattle.std.proofs.lemmas.Fmt.{decimal_injective}
 use Rattle.std.proofs.Math.Pow.{pow_mono}
 use Rattle.command_words.specs.declared.command.Command.{Command}
-use Rattle.command_words.specs.Words.{Request, Says, Parting, PartSolving, Joining, NoParts, IsLevels, IsPart, IsNoPartLog, meaning}
+use Rattle.command_words.specs.Words.{Says, Parting, PartSolving, Joining, NoParts, IsLevels, IsPart, IsNoPartLog, meaning}
 
 -- one word says one number of levels
 pub same_levels : (word : List ℕ) (a b : ℕ) → IsLevels word a → IsLevels word b → a ≡ b

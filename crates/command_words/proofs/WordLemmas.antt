@@ -5,7 +5,8 @@ use lib.Pointwise.{pointwise}
 use Rattle.std.proofs.Common.{◌≡◌, true, false, ◌∙◌, ap, ℕ, ℤ, ◌<◌, ◌≤◌, List, [], ◌∷◌, length, get_or, refl, arith, Bor}
 use Rattle.std.specs.Prelude.{Option, Some, None, MatchOption}
 use Rattle.command_words.specs.declared.command.Command.{Command}
-use Rattle.command_words.specs.declared.command.PlanUse.TheVariants.{Simulate, Report, Picture, Violations}
+use Rattle.command_words.specs.declared.command.PlanUse.TheVariants.{Simulate, Report, Picture, Table, Violations}
+use Rattle.plan_tables.specs.declared.kind.TableKind.{TableKind}
 use Rattle.command_words.specs.Words.{texts, Request, Says, HasNoForm, Solving, Logging, Simulating, Checking, Upgrading, Showing, Replanning, ReplanLogging, CheckingReplan, Estimating, Seeking, Tracing, Auditing, Parting, PartSolving, Joining, NoHorizons, NoParts, meaning}
 
 -- three words are the list of their texts
@@ -105,9 +106,13 @@ pub record NoReplanning (words : List (List ℕ)) : Type 0 where
 abbrev NoEstimate : List (List ℕ) → Type 0
 NoEstimate words = (plant log state : List ℕ) (step : ℤ) (count : ℕ) → ¬ Says words (Estimating plant log state step count)
 
--- the words say nothing of a plant alone, and no seed
+-- the words say no table of a plan
+abbrev pub NoTables : List (List ℕ) → Type 0
+NoTables words = (kind : TableKind) → NoFiles words (Simulating (Table kind))
+
+-- the words say nothing of a plant alone, no seed, and no table of a plan
 abbrev NoOther : List (List ℕ) → Type 0
-NoOther words = ((plant : List ℕ) → ¬ Says words (Upgrading plant)) × ((seed : ℕ) → ¬ Says words (Showing seed))
+NoOther words = ((plant : List ℕ) → ¬ Says words (Upgrading plant)) × ((seed : ℕ) → ¬ Says words (Showing seed)) × NoTables words
 
 -- words that have none of the forms
 pub has_no_form : (words : List (List ℕ)) → NoPlanning words → NoFiles words (Simulating Simulate) → NoFiles words (Simulating Report) → NoFiles words (Simulating Picture) → NoFiles words (Simulating Violations) → NoFiles words Checking → NoReplanning words → NoEstimate words → NoOther words → NoHorizons words → NoParts words → HasNoForm words
@@ -117,6 +122,7 @@ has_no_form words solve simulate report picture violations check replan estimate
 has_no_form words solve simulate report picture violations check replan estimate other least parts (Simulating Report plant plan) = report plant plan
 has_no_form words solve simulate report picture violations check replan estimate other least parts (Simulating Picture plant plan) = picture plant plan
 has_no_form words solve simulate report picture violations check replan estimate other least parts (Simulating Violations plant plan) = violations plant plan
+has_no_form words solve simulate report picture violations check replan estimate other least parts (Simulating (Table kind) plant plan) = other.2 kind plant plan
 has_no_form words solve simulate report picture violations check replan estimate other least parts (Checking plant log) = check plant log
 has_no_form words solve simulate report picture violations check replan estimate other least parts (Upgrading plant) = other.0 plant
 has_no_form words solve simulate report picture violations check replan estimate other least parts (Showing seed) = other.1 seed

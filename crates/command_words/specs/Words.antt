@@ -4,7 +4,9 @@ use Rattle.std.specs.Fmt.{signed_decimal}
 use Rattle.proof_log.specs.LogNames.{log_name}
 use Rattle.std.specs.Borrow.{Bor}
 use Rattle.command_words.specs.declared.command.PlanUse.{PlanUse}
-use Rattle.command_words.specs.declared.command.PlanUse.TheVariants.{Simulate, Report, Picture, Violations}
+use Rattle.command_words.specs.declared.command.PlanUse.TheVariants.{Simulate, Report, Picture, Table, Violations}
+use Rattle.plan_tables.specs.declared.kind.TableKind.{TableKind}
+use Rattle.plan_tables.specs.declared.kind.TableKind.TheVariants.{Batches, Stocks, Loads, Units, Deliveries}
 use Rattle.command_words.specs.declared.command.Command as declared
 use Rattle.command_words.specs.declared.command.Command.TheVariants as variants
 
@@ -33,6 +35,23 @@ use_word Simulate = codes "simulate"
 use_word Report = codes "report"
 use_word Picture = codes "picture"
 use_word Violations = codes "violations"
+use_word (Table kind) = codes "table"
+
+-- the word that names a table, if one does: the batches need none
+abbrev pub kind_words : TableKind → List (List ℕ)
+kind_words Batches = []
+kind_words Stocks = codes "stocks" ∷ []
+kind_words Loads = codes "loads" ∷ []
+kind_words Units = codes "units" ∷ []
+kind_words Deliveries = codes "deliveries" ∷ []
+
+-- the words of such a command after its files
+abbrev pub last_words : PlanUse → List (List ℕ)
+last_words (Table kind) = kind_words kind
+last_words Simulate = []
+last_words Report = []
+last_words Picture = []
+last_words Violations = []
 
 -- the bytes of the words
 abbrev pub texts : List (Bor (List ℕ)) → List (List ℕ)
@@ -95,7 +114,7 @@ abbrev pub Says : List (List ℕ) → Request → Type 0
 Says words (Solving plant budget) = (word : List ℕ) × ((words ≡ codes "solve" ∷ plant ∷ word ∷ []) × (plant ≢ []) × IsBudget word budget)
 Says words (Logging plant budget log) =
     (word : List ℕ) × ((words ≡ codes "solve" ∷ plant ∷ word ∷ log ∷ []) × (plant ≢ []) × (log ≢ []) × (log ≢ plant) × IsBudget word budget)
-Says words (Simulating usage plant plan) = (words ≡ use_word usage ∷ plant ∷ plan ∷ []) × (plant ≢ []) × (plan ≢ [])
+Says words (Simulating usage plant plan) = (words ≡ use_word usage ∷ plant ∷ plan ∷ last_words usage) × (plant ≢ []) × (plan ≢ [])
 Says words (Checking plant log) = (words ≡ codes "check" ∷ plant ∷ log ∷ []) × (plant ≢ []) × (log ≢ [])
 Says words (Upgrading plant) = (words ≡ codes "upgrade" ∷ plant ∷ []) × (plant ≢ [])
 Says words (Showing seed) = (word : List ℕ) × ((words ≡ codes "demo" ∷ word ∷ []) × IsSeed word seed)

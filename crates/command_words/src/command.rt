@@ -1,13 +1,15 @@
 //! The words of a command.
-ghost use Rattle.std.specs.Prelude.{◌≡◌, ◌≢◌, ◌↔◌, ◌<◌, ◌∷◌, true, ℕ, ℤ, List, MatchOption};
+ghost use Rattle.std.specs.Prelude.{◌≡◌, ◌≢◌, ◌↔◌, ◌<◌, ◌∷◌, [], true, ℕ, ℤ, List, MatchOption};
 ghost use Rattle.proof_log.specs.LogNames.{log_name};
-ghost use Rattle.command_words.specs.Words.{Says, HasNoForm, IsBudget, IsPeriod, IsSeed, IsStep, IsStepCount, Solving, Logging, Simulating, Checking, Upgrading, Showing, Replanning, ReplanLogging, CheckingReplan, Estimating, texts, meaning, Seeking, Tracing, Auditing, NoHorizons, IsHorizon, IsNoLog, use_word};
+ghost use Rattle.command_words.specs.Words.{Says, HasNoForm, IsBudget, IsPeriod, IsSeed, IsStep, IsStepCount, Solving, Logging, Simulating, Checking, Upgrading, Showing, Replanning, ReplanLogging, CheckingReplan, Estimating, texts, meaning, Seeking, Tracing, Auditing, NoHorizons, IsHorizon, IsNoLog, use_word, last_words};
 
 use crate::budget::{Budget, MAX_BUDGET};
 use crate::levels::{Levels, Part};
 use crate::part_words::part_form;
 use crate::period::Period;
 use crate::steps::{MAX_STEP, MAX_STEPS, Steps};
+use crate::table_words::table_of;
+use plan_tables::TableKind;
 use stn_model::limits::MAX_PERIODS;
 use text_words::read_number;
 
@@ -20,6 +22,8 @@ pub enum PlanUse {
     Report,
     /// Draw it, or say what it breaks first.
     Picture,
+    /// Print one of its tables, or say what it breaks first.
+    Table(TableKind),
     /// Say everything that it breaks, or what it earns.
     Violations,
 }
@@ -38,7 +42,8 @@ pub enum Command<'a> {
         budget: Budget,
         log: &'a str,
     },
-    /// `simulate PLANT PLAN`, `report PLANT PLAN`, `picture PLANT PLAN` and `violations PLANT PLAN`: simulate a plan.
+    /// `simulate PLANT PLAN`, `report PLANT PLAN`, `picture PLANT PLAN`, `table PLANT PLAN ..` and `violations PLANT PLAN`:
+    /// simulate a plan.
     Simulate {
         usage: PlanUse,
         plant: &'a str,
@@ -135,6 +140,9 @@ pub fn command_of<'a>(words: &[&'a str]) -> Option<Command<'a>>
     if let Some(command) = log_of(words) {
         return Some(command);
     }
+    if let Some(command) = table_of(words) {
+        return Some(command);
+    }
     if let Some(command) = simulate_of(words, "simulate", PlanUse::Simulate) {
         return Some(command);
     }
@@ -228,9 +236,10 @@ pub fn differ(first: &str, second: &str) -> bool
     first != second
 }
 
-// The command on a plan whose first word is this use's.
-fn simulate_of<'a>(words: &[&'a str], word: &str, usage: PlanUse) -> Option<Command<'a>>
-    requires { word.now ≡ use_word usage }
+/// The command on a plan whose first word is this use's, and that has no word after its files.
+pub fn simulate_of<'a>(words: &[&'a str], word: &str, usage: PlanUse) -> Option<Command<'a>>
+    requires first { word.now ≡ use_word usage }
+    requires last { last_words usage ≡ [] }
     ensures { MatchOption result ((plant plan : List ℕ)
         → ¬ Says (texts words.now) (Simulating usage plant plan))
         (λ command. Says (texts words.now) (meaning command)) }

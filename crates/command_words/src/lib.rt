@@ -10,6 +10,7 @@ pub mod levels;
 mod part_words;
 pub mod period;
 pub mod steps;
+mod table_words;
 
 pub use budget::{Budget, MAX_BUDGET};
 pub use command::{Command, PlanUse, command_of};

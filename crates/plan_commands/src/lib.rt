@@ -1,4 +1,4 @@
-//! The commands on a plant and a plan that are given: `simulate`, `report`, `picture`, `violations` and `upgrade`.
+//! The commands on a plant and a plan that are given: `simulate`, `report`, `picture`, `table`, `violations` and `upgrade`.
 #![tactic(auto)]
 
 mod simulation;

@@ -1,5 +1,5 @@
-//! `simulate`, `report`, `picture` and `violations PLANT PLAN`: what a plan earns or breaks first, its report, its picture,
-//! and everything that it breaks.
+//! `simulate`, `report`, `picture`, `table` and `violations PLANT PLAN`: what a plan earns or breaks first, its report, picture and
+//! tables, and everything that it breaks.
 ghost use Rattle.std.specs.Prelude.{◌≡◌, ◌≢◌, ◌≤◌, [], ℕ, List, Ok, Err, IsTrue};
 ghost use Rattle.stn_edge.specs.Count.{Rose};
 ghost use Rattle.stn_model.specs.Sound.{Sound};

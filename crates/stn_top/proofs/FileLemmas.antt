@@ -11,6 +11,7 @@ use Rattle.stn_top.specs.Requests.{IsLeft, OthersKept}
 use Rattle.command_words.specs.Words.{IsLevels, IsPart}
 use Rattle.horizon_commands.proofs.Horizons.{each_log}
 use Rattle.command_words.proofs.PartWords.{same_levels, same_part}
+use Rattle.command_words.proofs.UseWords.{no_use}
 
 -- ---- files that are as before
 
@@ -76,7 +77,7 @@ first_byte words = get_or (get_or words 0 []) 0 0
 leaves_log : (words : List (List ℕ)) (plant : List ℕ) (budget : ℕ) (log : List ℕ) (other : Request) (old new : Option FileMap) → Says words (Logging plant budget log) → Says words other
     → Leaves (Logging plant budget log) old new → Leaves other old new
 leaves_log words plant budget log (Solving plant2 budget2) old new says also is = (let same = ap length (sym says.1.0 ∙ also.1.0) in absurd (omega (arith, same)))
-leaves_log words plant budget log (Simulating usage plant2 plan2) old new says also is = (let same = ap length (sym says.1.0 ∙ also.0) in absurd (omega (arith, same)))
+leaves_log words plant budget log (Simulating usage plant2 plan2) old new says also is = absurd (no_use words usage plant2 plan2 also.0 (let long = ap length says.1.0 in omega (arith, long)) (λ t. let first = ap first_byte says.1.0 in omega (arith, t, first)))
 leaves_log words plant budget log (Checking plant2 log2) old new says also is = (let same = ap length (sym says.1.0 ∙ also.0) in absurd (omega (arith, same)))
 leaves_log words plant budget log (Upgrading plant2) old new says also is = (let same = ap length (sym says.1.0 ∙ also.0) in absurd (omega (arith, same)))
 leaves_log words plant budget log (Showing seed) old new says also is = (let same = ap length (sym says.1.0 ∙ also.1.0) in absurd (omega (arith, same)))
@@ -104,7 +105,7 @@ leaves_replan : (words : List (List ℕ)) (plant plan : List ℕ) (period budget
     → Leaves (ReplanLogging plant plan period budget log) old new → Leaves other old new
 leaves_replan words plant plan period budget log (Solving plant2 budget2) old new says also is = (let same = ap length (sym says.1.1.0 ∙ also.1.0) in absurd (omega (arith, same)))
 leaves_replan words plant plan period budget log (Logging plant2 budget2 log2) old new says also is = (let same = ap length (sym says.1.1.0 ∙ also.1.0) in absurd (omega (arith, same)))
-leaves_replan words plant plan period budget log (Simulating usage plant2 plan2) old new says also is = (let same = ap length (sym says.1.1.0 ∙ also.0) in absurd (omega (arith, same)))
+leaves_replan words plant plan period budget log (Simulating usage plant2 plan2) old new says also is = absurd (no_use words usage plant2 plan2 also.0 (let long = ap length says.1.1.0 in omega (arith, long)) (λ t. let first = ap first_byte says.1.1.0 in omega (arith, t, first)))
 leaves_replan words plant plan period budget log (Checking plant2 log2) old new says also is = (let same = ap length (sym says.1.1.0 ∙ also.0) in absurd (omega (arith, same)))
 leaves_replan words plant plan period budget log (Upgrading plant2) old new says also is = (let same = ap length (sym says.1.1.0 ∙ also.0) in absurd (omega (arith, same)))
 leaves_replan words plant plan period budget log (Showing seed) old new says also is = (let same = ap length (sym says.1.1.0 ∙ also.1.0) in absurd (omega (arith, same)))
@@ -136,7 +137,7 @@ leaves_logs : (words : List (List ℕ)) (plant : List ℕ) (budget : ℕ) (stem 
     → Leaves (Tracing plant budget stem) old new → Leaves other old new
 leaves_logs words plant budget stem (Solving plant2 budget2) old new says also is = (let same = ap length (sym says.1.0 ∙ also.1.0) in absurd (omega (arith, same)))
 leaves_logs words plant budget stem (Logging plant2 budget2 log2) old new says also is = (let same = ap first_byte (sym says.1.0 ∙ also.1.0) in absurd (omega (arith, same)))
-leaves_logs words plant budget stem (Simulating usage plant2 plan2) old new says also is = (let same = ap length (sym says.1.0 ∙ also.0) in absurd (omega (arith, same)))
+leaves_logs words plant budget stem (Simulating usage plant2 plan2) old new says also is = absurd (no_use words usage plant2 plan2 also.0 (let long = ap length says.1.0 in omega (arith, long)) (λ t. let first = ap first_byte says.1.0 in omega (arith, t, first)))
 leaves_logs words plant budget stem (Checking plant2 log2) old new says also is = (let same = ap length (sym says.1.0 ∙ also.0) in absurd (omega (arith, same)))
 leaves_logs words plant budget stem (Upgrading plant2) old new says also is = (let same = ap length (sym says.1.0 ∙ also.0) in absurd (omega (arith, same)))
 leaves_logs words plant budget stem (Showing seed) old new says also is = (let same = ap length (sym says.1.0 ∙ also.1.0) in absurd (omega (arith, same)))
@@ -167,7 +168,7 @@ leaves_part : (words : List (List ℕ)) (plant : List ℕ) (levels part budget :
     → Leaves (PartSolving plant levels part budget log) old new → Leaves other old new
 leaves_part words plant levels part budget log (Solving plant2 budget2) old new says also is = (let same = ap length (sym says.1.1.1.0 ∙ also.1.0) in absurd (omega (arith, same)))
 leaves_part words plant levels part budget log (Logging plant2 budget2 log2) old new says also is = (let same = ap length (sym says.1.1.1.0 ∙ also.1.0) in absurd (omega (arith, same)))
-leaves_part words plant levels part budget log (Simulating usage plant2 plan2) old new says also is = (let same = ap length (sym says.1.1.1.0 ∙ also.0) in absurd (omega (arith, same)))
+leaves_part words plant levels part budget log (Simulating usage plant2 plan2) old new says also is = absurd (no_use words usage plant2 plan2 also.0 (let long = ap length says.1.1.1.0 in omega (arith, long)) (λ t. let first = ap first_byte says.1.1.1.0 in omega (arith, t, first)))
 leaves_part words plant levels part budget log (Checking plant2 log2) old new says also is = (let same = ap length (sym says.1.1.1.0 ∙ also.0) in absurd (omega (arith, same)))
 leaves_part words plant levels part budget log (Upgrading plant2) old new says also is = (let same = ap length (sym says.1.1.1.0 ∙ also.0) in absurd (omega (arith, same)))
 leaves_part words plant levels part budget log (Showing seed) old new says also is = (let same = ap length (sym says.1.1.1.0 ∙ also.1.0) in absurd (omega (arith, same)))
@@ -197,7 +198,7 @@ leaves_join : (words : List (List ℕ)) (plant : List ℕ) (levels : ℕ) (stem 
     → Leaves (Joining plant levels stem log) old new → Leaves other old new
 leaves_join words plant levels stem log (Solving plant2 budget2) old new says also is = (let same = ap length (sym says.1.0 ∙ also.1.0) in absurd (omega (arith, same)))
 leaves_join words plant levels stem log (Logging plant2 budget2 log2) old new says also is = (let same = ap length (sym says.1.0 ∙ also.1.0) in absurd (omega (arith, same)))
-leaves_join words plant levels stem log (Simulating usage plant2 plan2) old new says also is = (let same = ap length (sym says.1.0 ∙ also.0) in absurd (omega (arith, same)))
+leaves_join words plant levels stem log (Simulating usage plant2 plan2) old new says also is = absurd (no_use words usage plant2 plan2 also.0 (let long = ap length says.1.0 in omega (arith, long)) (λ t. let first = ap first_byte says.1.0 in omega (arith, t, first)))
 leaves_join words plant levels stem log (Checking plant2 log2) old new says also is = (let same = ap length (sym says.1.0 ∙ also.0) in absurd (omega (arith, same)))
 leaves_join words plant levels stem log (Upgrading plant2) old new says also is = (let same = ap length (sym says.1.0 ∙ also.0) in absurd (omega (arith, same)))
 leaves_join words plant levels stem log (Showing seed) old new says also is = (let same = ap length (sym says.1.0 ∙ also.1.0) in absurd (omega (arith, same)))

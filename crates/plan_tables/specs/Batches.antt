@@ -1,0 +1,83 @@
+-- The table of the batches: a line for each start of a plan, by units and periods.
+use Rattle.std.specs.Prelude.{ℕ, ℤ, ◌*◌, ◌==◌, Bool, List, ◌++◌, length, filter, flat_map, sum_by, codes, decimal}
+use Rattle.std.specs.List.{range_with_len}
+use Rattle.std.specs.List.Sorted.{IsPermutation}
+use Rattle.std.specs.Fmt.{signed_decimal}
+use Rattle.stn_model.specs.declared.plant.Plant.{Plant}
+use Rattle.stn_model.specs.declared.start.Start.{Start}
+use Rattle.stn_model.specs.Plant.{task_at, unit_at, run_on, end_of}
+use Rattle.stn_model.specs.Profit.{cost_of, changeover}
+
+-- the batch is on this unit
+abbrev pub is_on : ℕ → Start → Bool
+is_on unit start = start.unit == unit
+
+-- the batches of a unit, as they stand in the plan
+abbrev pub on_unit : List Start → ℕ → List Start
+on_unit plan unit = filter (is_on unit) plan
+
+-- the batches that start in a period
+abbrev pub starting : List Start → ℕ → List Start
+starting batches period = filter (λ start. start.period == period) batches
+
+-- batches one period after another
+unfoldable pub by_period : ℕ → List Start → List Start
+by_period periods batches = flat_map (starting batches) (range_with_len 0 periods)
+
+-- the batches of a unit, one period after another
+abbrev pub unit_order : Plant → List Start → ℕ → List Start
+unit_order plant plan unit = by_period plant.periods (on_unit plan unit)
+
+-- all batches, one unit after another
+abbrev pub in_order : Plant → List Start → List Start
+in_order plant plan = flat_map (unit_order plant plan) (range_with_len 0 (length plant.units))
+
+-- what is charged for the changeover before a batch: it is the next one of some batch of its unit
+unfoldable pub charge : Plant → List Start → Start → ℕ
+charge plant batches b = sum_by (λ a. changeover plant batches a b) batches
+
+-- the mass of a batch: its quanta times its task's quantum
+abbrev pub mass_of : Plant → Start → ℕ
+mass_of plant start = start.quanta * (task_at plant start.task).quantum
+
+-- what a batch costs: the cost of its run
+abbrev pub batch_cost : Plant → Start → ℤ
+batch_cost plant start = cost_of (run_on plant start.task start.unit)
+
+-- when a batch runs and how large it is, after the names of its unit and its task
+unfoldable pub size_cells : ℕ → ℕ → ℕ → ℕ → List ℕ
+size_cells start end quanta mass = codes "," ++ (decimal start ++ (codes "," ++ (decimal end ++ (codes "," ++ (decimal quanta ++ (codes "," ++ decimal mass))))))
+
+-- what a batch costs, and what is charged on it
+unfoldable pub cost_cells : ℤ → ℕ → List ℕ
+cost_cells cost charged = codes "," ++ (signed_decimal cost ++ (codes "," ++ (decimal charged ++ codes "\n")))
+
+-- the numbers of a batch on which so much is charged
+unfoldable pub batch_numbers : Plant → Start → ℕ → List ℕ
+batch_numbers plant b charged = size_cells b.period (end_of plant b) b.quanta (mass_of plant b) ++ cost_cells (batch_cost plant b) charged
+
+-- the line of a batch, among the batches of its unit
+unfoldable pub line_among : Plant → List Start → Start → List ℕ
+line_among plant batches b =
+    (unit_at plant b.unit).name ++ (codes "," ++ ((task_at plant b.task).name
+    ++ batch_numbers plant b (charge plant batches b)))
+
+-- the line of a batch
+abbrev pub batch_line : Plant → List Start → Start → List ℕ
+batch_line plant plan b = line_among plant (on_unit plan b.unit) b
+
+-- the lines of all batches
+abbrev pub batch_lines : Plant → List Start → List ℕ
+batch_lines plant plan = flat_map (batch_line plant plan) (in_order plant plan)
+
+-- the head line of the batches
+unfoldable pub batches_head : List ℕ
+batches_head = codes "unit,task,start,end,quanta,mass,cost,changeover\n"
+
+-- the table of the batches
+abbrev pub batches_text : Plant → List Start → List ℕ
+batches_text plant plan = batches_head ++ batch_lines plant plan
+
+-- each batch of the plan has one line, and there is no other line
+abbrev pub EachOnce : Plant → List Start → Type 0
+EachOnce plant plan = IsPermutation plan (in_order plant plan)

@@ -1,0 +1,125 @@
+#!/usr/bin/env python3
+"""A second maker of tables: prints of a plant and a feasible plan what `stn table PLANT PLAN [WORD]` prints.
+
+    python3 tools/plan_tables.py PLANT PLAN [stocks|loads|units|deliveries]
+
+Written from docs/formats.md and docs/model.md alone, apart from the proved program, by going through times and periods one
+by one. It needs Python 3.11 and nothing else, and is no part of what is proved. A plant file is read by plant_program.py.
+"""
+
+import sys
+import tomllib
+from pathlib import Path
+
+from plant_program import read_plant
+
+HEADS = {
+    "batches": "unit,task,start,end,quanta,mass,cost,changeover",
+    "stocks": "state,time,stock,limit,receipt,delivery",
+    "loads": "utility,period,load,limit",
+    "units": "unit,running,out,cleaning,idle,batches,changeover",
+    "deliveries": "delivery,state,time,amount,payment,stock",
+}
+
+
+def names_of(data, table):
+    """The names of a table's items, in the order of the file."""
+    return [item["name"] for item in tomllib.loads(data.decode()).get(table, [])]
+
+
+class Tables:
+    """The tables of a plan: `lines(kind)` are those behind the head."""
+
+    def __init__(self, data, plan):
+        self.plant = read_plant(data)
+        self.states, self.utilities = names_of(data, "state"), names_of(data, "utility")
+        self.units, self.tasks = names_of(data, "unit"), names_of(data, "task")
+        words = [line.split(" ") for line in plan.splitlines() if not line.startswith("#")]
+        starts = [(self.units.index(unit), int(period), self.tasks.index(task), int(quanta)) for period, unit, task, quanta in words]
+        self.starts = sorted(starts)
+
+    def end(self, start):
+        return start[1] + self.plant.tasks[start[2]].periods
+
+    def before(self, start):
+        """The batch before this one on its unit, or None."""
+        earlier = [other for other in self.starts if other[0] == start[0] and other[1] < start[1]]
+        return earlier[-1] if earlier else None
+
+    def change(self, start):
+        """Periods of cleaning and cost between the batch before a batch and it."""
+        before = self.before(start)
+        listed = [gap for gap in self.plant.gaps if before and gap[:3] == (start[0], before[2], start[2])]
+        return max([gap[3] for gap in listed], default=0), max([gap[4] for gap in listed], default=0)
+
+    def stock(self, state, time):
+        """What stands at a time, counted up from time 0."""
+        stock = self.plant.states[state].initial
+        for now in range(time + 1):
+            stock += self.outside(self.plant.receipts, state, now) - self.outside(self.plant.deliveries, state, now)
+            for _, period, task, quanta in self.starts:
+                stock -= sum(quanta * amount for of, amount in self.plant.tasks[task].inputs if of == state and period == now)
+                stock += sum(quanta * amount for of, amount, delay in self.plant.tasks[task].outputs if of == state and period + delay == now)
+        return stock
+
+    def outside(self, events, state, time):
+        return sum(event[2] for event in events if event[:2] == (state, time))
+
+    def load(self, utility, period):
+        load = 0
+        for start in self.starts:
+            if start[1] <= period < self.end(start):
+                place = period - start[1]
+                drawn = [draw for draw in self.plant.tasks[start[2]].draws if draw.utility == utility]
+                load += sum(draw.fixed[place] + start[3] * draw.each[place] for draw in drawn)
+        return load
+
+    def batches(self):
+        for start in self.starts:
+            unit, period, task, quanta = start
+            cost = next(run.cost for run in self.plant.runs if (run.task, run.unit) == (task, unit))
+            mass = quanta * self.plant.tasks[task].quantum
+            yield self.units[unit], self.tasks[task], period, self.end(start), quanta, mass, cost, self.change(start)[1]
+
+    def stocks(self):
+        for place, name in enumerate(self.states):
+            limits = self.plant.states[place].limits
+            for time in range(self.plant.periods + 1):
+                limit = "" if limits is None else limits[time]
+                receipt, delivery = (self.outside(events, place, time) for events in (self.plant.receipts, self.plant.deliveries))
+                yield name, time, self.stock(place, time), limit, receipt, delivery
+
+    def loads(self):
+        for place, name in enumerate(self.utilities):
+            for period in range(self.plant.periods):
+                yield name, period, self.load(place, period), self.plant.utilities[place].limits[period]
+
+    def doing(self, unit, period):
+        """Which of the columns a period of a unit counts in."""
+        own = [start for start in self.starts if start[0] == unit]
+        if any(start[1] <= period < self.end(start) for start in own):
+            return 0
+        if any(of == unit and begin <= period < end for of, begin, end in self.plant.outages):
+            return 1
+        cleaned = [(self.end(self.before(start)), self.change(start)[0]) for start in own if self.before(start)]
+        return 2 if any(end <= period < end + gap for end, gap in cleaned) else 3
+
+    def units_lines(self):
+        for unit, name in enumerate(self.units):
+            doing = [self.doing(unit, period) for period in range(self.plant.periods)]
+            own = [start for start in self.starts if start[0] == unit]
+            yield name, *(doing.count(column) for column in range(4)), len(own), sum(self.change(start)[1] for start in own)
+
+    def deliveries(self):
+        for number, (state, time, amount, payment) in enumerate(self.plant.deliveries, 1):
+            yield number, self.states[state], time, amount, payment, self.stock(state, time)
+
+    def text(self, kind):
+        """The whole table."""
+        lines = getattr(self, "units_lines" if kind == "units" else kind)()
+        return "".join(",".join(map(str, line)) + "\n" for line in [(HEADS[kind],), *lines])
+
+
+if __name__ == "__main__":
+    plant, plan, kind = ([*sys.argv[1:], "batches"] if len(sys.argv) == 3 else sys.argv[1:] if len(sys.argv) == 4 else sys.exit(__doc__))
+    sys.stdout.write(Tables(Path(plant).read_bytes(), Path(plan).read_text()).text(kind))
