@@ -17,6 +17,7 @@ ghost use Rattle.horizon_commands.specs.Seeking.{
   least_status,
   EarnsMoney,
   HoldsLogs,
+  LeavesFound,
   NamesItems,
   Sought,
 };
@@ -120,8 +121,7 @@ fn trace_plant<F: Shelf>(
     ensures write_fault { result ≡ Err Stopped.WriteFault
         → Rose (F.write_faults files.old) (F.write_faults files.new) }
     ensures left { IsStopped plant.now budget.boxes stem.now (F.files files.old) (F.files files.new)
-        ⊎ ((said : LeastAnswer)
-        × IsLeast plant.now budget.boxes (logs_in stem.now (F.files files.new)) said) }
+        ⊎ LeavesFound plant.now budget.boxes stem.now (F.files files.old) (F.files files.new) }
     ensures others { OthersStayBelow stem.now 337 (F.files files.old) (F.files files.new) }
     ensures readable { F.may_read files.new ≡ F.may_read files.old }
     ensures writable { F.may_write files.new ≡ F.may_write files.old }
