@@ -1,8 +1,8 @@
 -- What the work on a request comes to, from what its call promises.
-use Rattle.std.proofs.Common.{◌≡◌, ◌≢◌, ◌≤◌, ℕ, List, [], Option, Some, None, Err, refl, arith}
-use Rattle.std.specs.Prelude.{Result, IfSome}
+use Rattle.std.proofs.Common.{◌≡◌, ◌≢◌, ◌≤◌, ℕ, [], Option, Some, None, Err, refl, arith}
+use Rattle.std.specs.Prelude.{Result, IfSome, map}
 use Rattle.stn_edge.specs.Count.{Rose}
-use Rattle.stn_edge.specs.Files.{FileMap}
+use Rattle.stn_edge.specs.Files.{FileMap, file_of}
 use Rattle.command_words.specs.Words.{Request, Showing}
 use Rattle.command_replies.specs.declared.reply.Reply.{Reply}
 use Rattle.command_replies.specs.declared.stopped.Stopped.{Stopped}
@@ -50,7 +50,7 @@ wrote request old new reads reads_new writes writes_new result answer refused fa
 }
 
 -- no file is read for the demonstration
-none_told : (files : Option FileMap) → IfSome files (λ m. [] ≡ [])
+none_told : (files : Option FileMap) → IfSome files (λ m. [] ≡ map (file_of m) [])
 none_told None = tt
 none_told (Some m) = refl
 
