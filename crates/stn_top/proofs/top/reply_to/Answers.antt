@@ -1,6 +1,6 @@
 -- Each command's work comes to what its call promises.
 use Rattle.std.proofs.Common.{ap, refl}
-use Rattle.command_words.specs.Words.{meaning, Solving, Logging, Simulating, Checking, Upgrading, Showing, Replanning, ReplanLogging, CheckingReplan, Estimating, Seeking, Tracing, Auditing, Parting, PartSolving, Joining}
+use Rattle.command_words.specs.Words.{meaning, Solving, Logging, Simulating, Checking, Upgrading, Replanning, ReplanLogging, CheckingReplan, Estimating, Seeking, Tracing, Auditing, Parting, PartSolving, Joining}
 use Rattle.horizon_commands.proofs.Horizons.{logs_allowed, all_logs_allowed}
 use Rattle.part_commands.proofs.JoinLemmas.{parts_allowed}
 use Rattle.stn_top.proofs.FileLemmas.{kept_log, kept_replan, kept_logs, kept_part, kept_joined}
