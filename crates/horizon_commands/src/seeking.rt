@@ -6,10 +6,9 @@ ghost use Rattle.stn_model.specs.Sound.{Sound};
 ghost use Rattle.stn_model.specs.declared.plant.Plant.{Plant};
 ghost use Rattle.plant_text.specs.Reading.{reading};
 ghost use Rattle.plan_text.specs.PlanLines.{IsNamed};
-ghost use Rattle.least_horizon.specs.declared.answer.LeastAnswer.{LeastAnswer};
 ghost use Rattle.least_horizon.specs.declared.answer.LeastAnswer.TheVariants.{At};
 ghost use Rattle.least_horizon.specs.LogNames.{logs_in, AreAllowed, OthersStayBelow};
-ghost use Rattle.least_horizon.specs.Least.{IsLeast, IsStopped};
+ghost use Rattle.least_horizon.specs.Least.{IsStopped};
 ghost use Rattle.command_replies.specs.Answers.{IsPlantAnswer, IsUnwritten};
 ghost use Rattle.command_replies.specs.Sources.{IfReplied, IfRefused, IsReadOf};
 ghost use Rattle.horizon_commands.specs.Seeking.{
