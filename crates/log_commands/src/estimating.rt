@@ -65,24 +65,24 @@ pub fn estimate_file<F: Shelf>(
     ensures later { F.read_faults files.old ≤ F.read_faults files.new }
     ensures no_write { F.write_faults files.new ≡ F.write_faults files.old }
 {
-    let mut plant = plant_in(alloc, files, plant)?;
-    estimate_log(alloc, files, &mut plant, log, state, steps)
+    let plant = plant_in(alloc, files, plant)?;
+    estimate_log(alloc, files, plant, log, state, steps)
 }
 
 // The answer on a plant and a log in a file.
 fn estimate_log<F: Shelf>(
     alloc: Global,
     files: &mut F,
-    plant: &mut Plant,
+    plant: Plant,
     log: &str,
     state: &str,
     steps: Steps,
 ) -> Result<Reply, Stopped>
     requires allowed { IsTrue (F.may_read files.old log.now) }
-    requires sound { Sound plant.old }
+    requires sound { Sound plant }
     ensures answer { IfOk result
         (λ reply. OnBytes (option_map (λ m. file_of m log.now) (F.files files.old))
-        (λ bytes. Estimated state.now steps.step steps.count bytes plant.old reply.status
+        (λ bytes. Estimated state.now steps.step steps.count bytes plant reply.status
         reply.text.items)) }
     ensures none { IfRefused result (λ _. ⊥) }
     ensures fault { result ≡ Err Stopped.ReadFault
@@ -94,7 +94,7 @@ fn estimate_log<F: Shelf>(
     ensures later { F.read_faults files.old ≤ F.read_faults files.new }
     ensures no_write { F.write_faults files.new ≡ F.write_faults files.old }
 {
-    match tank_number(plant, state.as_bytes()) {
+    match tank_number(&plant, state.as_bytes()) {
         Some(number) => estimate_tank(alloc, files, plant, number, log, steps),
         None => Ok(refused_state(alloc)?),
     }
@@ -141,17 +141,17 @@ fn refused_state(alloc: Global) -> Result<Reply, AllocError>
 fn estimate_tank<F: Shelf>(
     alloc: Global,
     files: &mut F,
-    plant: &mut Plant,
+    plant: Plant,
     number: u32,
     log: &str,
     steps: Steps,
 ) -> Result<Reply, Stopped>
     requires allowed { IsTrue (F.may_read files.old log.now) }
-    requires sound { Sound plant.old }
-    requires there { number < length plant.old.states }
+    requires sound { Sound plant }
+    requires there { number < length plant.states }
     ensures answer { IfOk result
         (λ reply. OnBytes (option_map (λ m. file_of m log.now) (F.files files.old))
-        (λ bytes. OnTank plant.old number steps.step steps.count bytes reply.status reply.text.items)) }
+        (λ bytes. OnTank plant number steps.step steps.count bytes reply.status reply.text.items)) }
     ensures none { IfRefused result (λ _. ⊥) }
     ensures fault { result ≡ Err Stopped.ReadFault
         → Rose (F.read_faults files.old) (F.read_faults files.new) }
@@ -181,18 +181,18 @@ fn long_log(alloc: Global) -> Result<Reply, AllocError>
 // The answer on a state with limits and the bytes of a log.
 fn estimate_bytes(
     alloc: Global,
-    plant: &mut Plant,
+    plant: Plant,
     number: u32,
     bytes: &[u8],
     steps: Steps,
 ) -> Result<Reply, AllocError>
-    requires sound { Sound plant.old }
-    requires there { number < length plant.old.states }
+    requires sound { Sound plant }
+    requires there { number < length plant.states }
     requires short { length bytes.now ≤ 67108864 }
-    ensures { IfOk result (λ reply. OnTank plant.old number steps.step steps.count bytes.now
+    ensures { IfOk result (λ reply. OnTank plant number steps.step steps.count bytes.now
         reply.status reply.text.items) }
 {
-    match old_log(alloc, plant, bytes)? {
+    match old_log(alloc, &plant, bytes)? {
         OldLog::Valid(log) => estimate_plants(alloc, plant, number, &log, steps),
         OldLog::Defective(defect) => checked(alloc, &LogVerdict::No(defect)),
     }
@@ -201,20 +201,20 @@ fn estimate_bytes(
 // The answer on a state with limits and a valid log.
 fn estimate_plants(
     alloc: Global,
-    plant: &mut Plant,
+    plant: Plant,
     number: u32,
     log: &ValidLog,
     steps: Steps,
 ) -> Result<Reply, AllocError>
-    requires sound { Sound plant.old }
-    requires there { number < length plant.old.states }
-    requires over { IsClaimOver (length (slots plant.old)) log.now.claim }
+    requires sound { Sound plant }
+    requires there { number < length plant.states }
+    requires over { IsClaimOver (length (slots plant)) log.now.claim }
     ensures status { IfOk result (λ reply. reply.status ≡ 0) }
-    ensures says { IfOk result (λ reply. IsTankText plant.old number steps.step steps.count
+    ensures says { IfOk result (λ reply. IsTankText plant number steps.step steps.count
         log.now.sums (tree_of log.now.tree) log.now.claim reply.text.items) }
 {
-    let plan = claimed_plan(alloc, plant, &log.claim)?;
-    let mut text = text_head(alloc, plant, number)?;
+    let plan = claimed_plan(alloc, &plant, &log.claim)?;
+    let mut text = text_head(alloc, &plant, number)?;
     put_lines(alloc, plant, number, log, &plan, steps, &mut text)?;
     Ok(Reply { status: 0, text })
 }
@@ -234,26 +234,27 @@ fn text_head(alloc: Global, plant: &Plant, number: u32) -> Result<Vec<u8>, Alloc
 // Puts a line for each plant whose limits of the state are raised.
 fn put_lines(
     alloc: Global,
-    plant: &mut Plant,
+    plant: Plant,
     number: u32,
     log: &ValidLog,
     plan: &Option<List<Start>>,
     steps: Steps,
     text: &mut Vec<u8>,
 ) -> Result<(), AllocError>
-    requires sound { Sound plant.old }
-    requires there { number < length plant.old.states }
+    requires sound { Sound plant }
+    requires there { number < length plant.states }
     requires short { IfSome plan.now (λ starts. length starts < 2 ^ 32) }
     ensures { OnOk result ((lines : Items ℕ) × ((text.new.items ≡ text.old.items ++ lines)
-        × AreLines (λ times. IsTankLine (raised plant.old number steps.step times) log.now.sums
+        × AreLines (λ times. IsTankLine (raised plant number steps.step times) log.now.sums
         (tree_of log.now.tree) plan.now times)
         (steps.count + 1) lines)) }
 {
-    let states = mem::replace(&mut plant.states, List::new(alloc));
+    let mut raised = plant;
+    let states = mem::replace(&mut raised.states, List::new(alloc));
     for times in 0..steps.count + 1 {
         let amount = multiple(times, steps.step);
-        raise(alloc, plant, states.as_slice(), number, amount)?;
-        put_line(alloc, plant, times, log, plan, text)?;
+        raise(alloc, &mut raised, states.as_slice(), number, amount)?;
+        put_line(alloc, &raised, times, log, plan, text)?;
     }
     Ok(())
 }

@@ -9,16 +9,16 @@ use Rattle.log_commands.proofs.estimating.estimate_bytes.Goals as goal
 pub estimate_plants-requires-clause-over : goal.estimate_plants-requires-clause-over
 estimate_plants-requires-clause-over c =
     let log = c.in-Valid.log in
-    let valid = subst (IsOldLog c.args.plant.now c.args.bytes.now) c.in-Valid.is c.in_ok-log.ensures in
-    valid-claim_over c.args.plant.now c.args.bytes.now log.sums (tree_of log.tree) log.claim valid
+    let valid = subst (IsOldLog c.args.plant c.args.bytes.now) c.in-Valid.is c.in_ok-log.ensures in
+    valid-claim_over c.args.plant c.args.bytes.now log.sums (tree_of log.tree) log.claim valid
 
 pub returns-in-Valid : goal.returns-in-Valid
 returns-in-Valid c =
     let log = c.in-Valid.log in
-    let valid = subst (IsOldLog c.args.plant.now c.args.bytes.now) c.in-Valid.is c.in_ok-log.ensures in
-    valid_answer c.args.plant.now c.args.number c.args.steps.step c.args.steps.count c.args.bytes.now log.sums (tree_of log.tree) log.claim c.estimate_plants.result c.requires.short valid c.estimate_plants.ensures.status c.estimate_plants.ensures.says
+    let valid = subst (IsOldLog c.args.plant c.args.bytes.now) c.in-Valid.is c.in_ok-log.ensures in
+    valid_answer c.args.plant c.args.number c.args.steps.step c.args.steps.count c.args.bytes.now log.sums (tree_of log.tree) log.claim c.estimate_plants.result c.requires.short valid c.estimate_plants.ensures.status c.estimate_plants.ensures.says
 
 pub returns-in-Defective : goal.returns-in-Defective
 returns-in-Defective c =
-    let right = subst (IsOldLog c.args.plant.now c.args.bytes.now) c.in-Defective.is c.in_ok-log.ensures in
-    defect_answer c.args.plant.now c.args.number c.args.steps.step c.args.steps.count c.args.bytes.now c.in-Defective.defect c.checked.result c.requires.short right c.checked.ensures
+    let right = subst (IsOldLog c.args.plant c.args.bytes.now) c.in-Defective.is c.in_ok-log.ensures in
+    defect_answer c.args.plant c.args.number c.args.steps.step c.args.steps.count c.args.bytes.now c.in-Defective.defect c.checked.result c.requires.short right c.checked.ensures

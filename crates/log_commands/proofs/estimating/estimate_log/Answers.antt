@@ -9,4 +9,4 @@ use Rattle.log_commands.proofs.estimating.estimate_log.Goals as goal
 pub returns-in_ok-refused_state-in-None-clause-answer : goal.returns-in_ok-refused_state-in-None-clause-answer
 returns-in_ok-refused_state-in-None-clause-answer g c =
     let reply = c.in_ok-refused_state-in-None.field-0 in
-    refused_answer (option_map (λ m. file_of m c.args.log.now) (g.F.Shelf.files c.args.files.now)) c.args.state.now c.args.steps.step c.args.steps.count c.args.plant.now reply.status reply.text.items (grind (arith, common_steps)) c.in_ok-refused_state-in-None.ensures
+    refused_answer (option_map (λ m. file_of m c.args.log.now) (g.F.Shelf.files c.args.files.now)) c.args.state.now c.args.steps.step c.args.steps.count c.args.plant reply.status reply.text.items (grind (arith, common_steps)) c.in_ok-refused_state-in-None.ensures

@@ -15,11 +15,11 @@ use mir.Syntax.{w64}
 
 pub put_line-requires-clause-sound : goal.put_line-requires-clause-sound
 put_line-requires-clause-sound c =
-    let whole = c.args.plant.now in
+    let whole = c.args.plant in
     let step = c.args.steps.step in
     let times = c.loop-times.times in
     let exact : to_z w64 (of_z w64 step) ≡ step = omega (arith, ints, c.args.steps.small) in
-    let is = raised_plant whole c.loop-times.plant c.raise.new.plant c.as_slice.result.now c.args.number c.multiple-amount.result step times
+    let is = raised_plant whole c.loop-times.raised c.raise.new.plant c.as_slice.result.now c.args.number c.multiple-amount.result step times
     c.loop-times.invariant.same (grind (arith, common_steps)) (c.multiple-amount.ensures ∙ ap (λ (n : ℤ). pos times *ℤ n) exact) (grind (arith, common_steps)) in
     subst Sound (sym is) (raised-sound whole c.args.number step times c.requires.sound c.requires.there)
 
@@ -28,11 +28,11 @@ loop-times-init c = record { same = refl; lines = ([], (sym (append-nil c.args.t
 
 pub loop-times-preserved : goal.loop-times-preserved
 loop-times-preserved c =
-    let whole = c.args.plant.now in
+    let whole = c.args.plant in
     let step = c.args.steps.step in
     let times = c.loop-times.times in
     let exact : to_z w64 (of_z w64 step) ≡ step = omega (arith, ints, c.args.steps.small) in
-    let is = raised_plant whole c.loop-times.plant c.raise.new.plant c.as_slice.result.now c.args.number c.multiple-amount.result step times
+    let is = raised_plant whole c.loop-times.raised c.raise.new.plant c.as_slice.result.now c.args.number c.multiple-amount.result step times
     c.loop-times.invariant.same (grind (arith, common_steps)) (c.multiple-amount.ensures ∙ ap (λ (n : ℤ). pos times *ℤ n) exact) (grind (arith, common_steps)) in
     let put = c.in_ok-put_line.ensures in
     let line = subst (λ (p : Plant). IsTankLine p c.args.log.now.sums (tree_of c.args.log.now.tree) c.args.plan.now times put.0) is put.1.1 in
@@ -46,4 +46,4 @@ pub returns : goal.returns
 returns c =
     let lines = c.loop-times.invariant.lines in
     let all : c.loop-times.times ≡ c.args.steps.count + 1 = grind (arith, common_steps) in
-    (lines.0, (lines.1.0, subst (λ (k : ℕ). AreLines (λ n. IsTankLine (raised c.args.plant.now c.args.number c.args.steps.step n) c.args.log.now.sums (tree_of c.args.log.now.tree) c.args.plan.now n) k lines.0) all lines.1.1))
+    (lines.0, (lines.1.0, subst (λ (k : ℕ). AreLines (λ n. IsTankLine (raised c.args.plant c.args.number c.args.steps.step n) c.args.log.now.sums (tree_of c.args.log.now.tree) c.args.plan.now n) k lines.0) all lines.1.1))

@@ -7,7 +7,7 @@ use Rattle.log_commands.proofs.estimating.put_lines.Given as goal
 
 abbrev pub invariant-loop-times : goal.invariant-loop-times
 invariant-loop-times l = record {
-  same : l.plant ≡ with_states l.fn.plant l.plant.states;
+  same : l.raised ≡ with_states l.fn.plant l.raised.states;
   lines : (lines : List ℕ) × ((l.text.items ≡ l.initial.text.items ++ lines)
       × AreLines (λ times. IsTankLine (raised l.fn.plant l.number l.steps.step times) l.log.sums (tree_of l.log.tree) l.plan times) l.times lines);
 }
