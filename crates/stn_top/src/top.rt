@@ -30,6 +30,7 @@ use stn_edge::{Shelf, Sink, Stop};
 /// | `solve PLANT BUDGET LOG` | plans, and writes the log of the proof; LOG is not the word PLANT |
 /// | `simulate PLANT PLAN` | simulates the plan, and says what it earns or what it breaks first |
 /// | `report PLANT PLAN` | simulates the plan, and shows it or says what it breaks first |
+/// | `picture PLANT PLAN` | simulates the plan, and draws it or says what it breaks first |
 /// | `check PLANT LOG` | checks a proof log, and says its claim or its first defect |
 /// | `upgrade PLANT` | prints the plant as a plant file of version 2 |
 /// | `demo SEED` | makes a plant of the seed, plans it with 500 boxes, and checks the log; no file is touched |
