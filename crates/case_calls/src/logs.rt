@@ -7,7 +7,7 @@ use crate::no_answer::NoAnswer;
 use answer_texts::checked;
 use log_lines::Limits;
 use plant_check::{MOST_DEPTH, check_bytes, check_log};
-use proof_log::{Log, LogStop, read_log};
+use proof_log::{LogStop, read_log};
 use row_relax::Rows;
 use row_set::program_of;
 use std::alloc::{AllocError, Global};

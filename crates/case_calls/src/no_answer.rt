@@ -4,7 +4,7 @@ use plant_text::PlantStop;
 use std::alloc::{AllocError, AllocFailed};
 
 /// Why a call has no answer.
-#[derive(Clone, Copy, Debug, PartialEq, Eq)]
+#[derive(Clone, Copy)]
 pub enum NoAnswer {
     /// A file is not there or is refused, a word is no number, or there is no such call.
     Unasked,
