@@ -34,6 +34,7 @@ _stn() {
         COMMAND) mapfile -t COMPREPLY < <(compgen -W "$(awk '$1 == "form" { print $2 }' "$_stn_commands")" -- "$current") ;;
         PREFIX) mapfile -t COMPREPLY < <(compgen -d -- "$current") ;;
         PLANT) mapfile -t COMPREPLY < <(compgen -d -S / -- "$current"; compgen -f -X '!*.toml' -- "$current") ;;
+        TABLE) mapfile -t COMPREPLY < <(compgen -W "stocks loads units deliveries" -- "$current") ;;
         PLAN | LOG | STEM | OUT) mapfile -t COMPREPLY < <(compgen -f -- "$current") ;;
     esac
 }
