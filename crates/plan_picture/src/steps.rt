@@ -130,6 +130,7 @@ fn push_level_steps(
     Ok(())
 }
 
+/// The words of a limit.
 #[tactic(auto, unfolding(crate::specs::Graphs::limit_words))]
 pub fn limit_words(alloc: Global, limit: u64) -> Result<String, AllocError>
     ensures { IfOk result (λ words. string_bytes words ≡ limit_words limit) }
