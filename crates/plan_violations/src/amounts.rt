@@ -128,7 +128,8 @@ fn push_amiss(
     requires there { state < length plant.now.states }
     requires within { time ≤ plant.now.periods }
     requires small { unsigned_abs level ≤ 2 ^ 90 }
-    ensures { OnOk result (found.new.items ≡ found.old.items ++ of_level plant.now time state level) }
+    ensures { OnOk result (found.new.items
+        ≡ found.old.items ++ of_level plant.now time state level) }
 {
     let short = excess(0, level);
     let over = above(plant.states.get(state).limits.as_slice(), time, level);
