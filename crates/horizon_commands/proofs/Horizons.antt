@@ -1,5 +1,5 @@
 -- The logs of a stem, their names, and the names in an answer.
-use Rattle.std.proofs.Common.{◌≡◌, ℕ, ◌-◌, ◌^◌, ◌<◌, ◌≤◌, List, [], ◌∷◌, ◌++◌, All, Bool, IsTrue, Option, codes, decimal, arith, subst, ap, ◌∙◌, append_assoc}
+use Rattle.std.proofs.Common.{◌≡◌, ℕ, ◌-◌, ◌<◌, ◌≤◌, List, [], ◌∷◌, ◌++◌, All, Bool, IsTrue, Option, codes, decimal, arith, subst, ap, ◌∙◌, append_assoc}
 use Rattle.std.specs.Prelude.{ℤ, Result, Ok, Err, IfOk}
 use Rattle.std.specs.Fmt.{signed_decimal}
 use Rattle.std.proofs.lemmas.List.Elements.{All-tail}

@@ -1,6 +1,6 @@
 -- The text of a least horizon, read as plan text, says the answer's plan.
 use Rattle.std.proofs.Common.{◌≡◌, ℕ, ℤ, ◌<◌, ◌≤◌, ◌^◌, List, [], ◌∷◌, ◌++◌, length, codes, decimal, refl, sym, ap, ◌∙◌, arith, append_assoc, length-append}
-use Rattle.std.specs.Prelude.{All, Ok, get_or}
+use Rattle.std.specs.Prelude.{All, Ok}
 use Rattle.std.specs.Fmt.{signed_decimal}
 use Rattle.std.proofs.lemmas.Fmt.{length-decimal-le_wide}
 use Rattle.stn_model.specs.declared.plant.Plant.{Plant}
@@ -9,7 +9,7 @@ use Rattle.stn_model.specs.Sound.{Sound}
 use Rattle.stn_model.specs.Feasible.{Feasible}
 use Rattle.plan_text.specs.PlanLines.{plan_lines}
 use Rattle.plan_text.specs.PlanText.{plan_of_text}
-use Rattle.plan_text.specs.ReadsBack.{IsRemark, comment_lines, IsWritable}
+use Rattle.plan_text.specs.ReadsBack.{IsRemark, IsWritable}
 use Rattle.least_horizon.specs.declared.answer.LeastAnswer.{LeastAnswer}
 use Rattle.least_horizon.specs.declared.answer.LeastAnswer.TheVariants.{At, Nowhere, Open}
 use Rattle.least_horizon.specs.PlantAt.{plant_at}

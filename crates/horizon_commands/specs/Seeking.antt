@@ -11,7 +11,7 @@ use Rattle.plan_text.specs.PlanText.{plan_of_text}
 use Rattle.least_horizon.specs.declared.answer.LeastAnswer.{LeastAnswer}
 use Rattle.least_horizon.specs.declared.answer.LeastAnswer.TheVariants.{At, Nowhere, Open}
 use Rattle.proof_log.specs.LogNames.{log_name}
-use Rattle.least_horizon.specs.LogNames.{logs_in}
+use Rattle.least_horizon.specs.LogNames.{logs_in, OthersStayBelow}
 use Rattle.least_horizon.specs.Least.{IsLeast, IsStopped, untried}
 use Rattle.command_replies.specs.Sources.{IsReadOf}
 use Rattle.answer_texts.specs.Planning.{IsMoney}
@@ -62,8 +62,15 @@ pub record Sought (budget : ℕ) (plant : Plant) (logs : ℕ → Option (List �
   pub text_is : text ≡ least_text plant said
   pub reads_back : plan_of_text plant text ≡ Ok (shown_plan said)
 
+-- what a search for the least horizon leaves that came to an answer: the logs of a stem are those of the horizons that were solved,
+-- and every other file is as it was, be it the log of a horizon that was not tried
+pub record LeavesFound (plant : Plant) (budget : ℕ) (stem : List ℕ) (old new : Option FileMap) : Type 0 where
+  pub said : LeastAnswer
+  pub least : IsLeast plant budget (logs_in stem new) said
+  pub others : OthersStayBelow stem (untried plant said) old new
+
 -- the plant in a file was read, and the logs of a stem are those of its horizons: where the last was stopped, or of an answer
 pub record HoldsLogs (budget : ℕ) (old new : Option FileMap) (name stem : List ℕ) : Type 0 where
   pub plant : Plant
   pub read : IsReadOf reading old name (Ok plant)
-  pub holds : IsStopped plant budget stem old new ⊎ ((said : LeastAnswer) × IsLeast plant budget (logs_in stem new) said)
+  pub holds : IsStopped plant budget stem old new ⊎ LeavesFound plant budget stem old new

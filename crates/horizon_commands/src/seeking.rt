@@ -6,10 +6,9 @@ ghost use Rattle.stn_model.specs.Sound.{Sound};
 ghost use Rattle.stn_model.specs.declared.plant.Plant.{Plant};
 ghost use Rattle.plant_text.specs.Reading.{reading};
 ghost use Rattle.plan_text.specs.PlanLines.{IsNamed};
-ghost use Rattle.least_horizon.specs.declared.answer.LeastAnswer.{LeastAnswer};
 ghost use Rattle.least_horizon.specs.declared.answer.LeastAnswer.TheVariants.{At};
 ghost use Rattle.least_horizon.specs.LogNames.{logs_in, AreAllowed, OthersStayBelow};
-ghost use Rattle.least_horizon.specs.Least.{IsLeast, IsStopped};
+ghost use Rattle.least_horizon.specs.Least.{IsStopped};
 ghost use Rattle.command_replies.specs.Answers.{IsPlantAnswer, IsUnwritten};
 ghost use Rattle.command_replies.specs.Sources.{IfReplied, IfRefused, IsReadOf};
 ghost use Rattle.horizon_commands.specs.Seeking.{
@@ -17,6 +16,7 @@ ghost use Rattle.horizon_commands.specs.Seeking.{
   least_status,
   EarnsMoney,
   HoldsLogs,
+  LeavesFound,
   NamesItems,
   Sought,
 };
@@ -120,8 +120,7 @@ fn trace_plant<F: Shelf>(
     ensures write_fault { result ≡ Err Stopped.WriteFault
         → Rose (F.write_faults files.old) (F.write_faults files.new) }
     ensures left { IsStopped plant.now budget.boxes stem.now (F.files files.old) (F.files files.new)
-        ⊎ ((said : LeastAnswer)
-        × IsLeast plant.now budget.boxes (logs_in stem.now (F.files files.new)) said) }
+        ⊎ LeavesFound plant.now budget.boxes stem.now (F.files files.old) (F.files files.new) }
     ensures others { OthersStayBelow stem.now 337 (F.files files.old) (F.files files.new) }
     ensures readable { F.may_read files.new ≡ F.may_read files.old }
     ensures writable { F.may_write files.new ≡ F.may_write files.old }

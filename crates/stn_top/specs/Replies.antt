@@ -42,6 +42,12 @@ pub record PartlyAnswered (Replies : ℕ → List ℕ → Type 0) (old new : Opt
 abbrev pub IsCutOff : (ℕ → List ℕ → Type 0) → Option (List ℕ) → Option (List ℕ) → Type 0
 IsCutOff Replies old new = (new ≡ old) ⊎ PartlyAnswered Replies old new
 
+-- the sink failed when all work was done: its count of faults rose, and a first part of the text of such a reply was put, which may
+-- be empty
+pub record PutFailed (Replies : ℕ → List ℕ → Type 0) (faults faults_new : ℕ) (old new : Option (List ℕ)) : Type 0 where
+  pub rose : Rose faults faults_new
+  pub reply : PartlyAnswered Replies old new
+
 -- the words say a request that got to writing a file, and the count of write faults rose
 abbrev pub LogFailed : List (List ℕ) → Option FileMap → ℕ → ℕ → Type 0
 LogFailed words files old new = Rose old new × ((request : Request) × (Says words request × GetsToWriting files request))

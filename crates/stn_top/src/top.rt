@@ -6,8 +6,10 @@ ghost use Rattle.stn_edge.specs.Text.{extended};
 ghost use Rattle.command_words.specs.Words.{Request, Says, HasNoForm, texts, meaning};
 ghost use Rattle.command_replies.specs.Answers.{IsUnwritten};
 ghost use Rattle.command_replies.specs.Sources.{IfReplied};
+ghost use Rattle.planning_commands.specs.Demo.{Shown};
 ghost use Rattle.stn_top.specs.Requests.{MayRead, MayWrite, WritesApart, OthersKept, IsAnswer, IsLeft, GetsToWriting, IsNoJoining};
-ghost use Rattle.stn_top.specs.Replies.{IsReply, Answered, IsCutOff, MayReadAll, MayWriteAll, LogFailed, SayNoJoining};
+ghost use Rattle.stn_top.specs.Replies.{IsReply, Answered, IsCutOff, MayReadAll, MayWriteAll, LogFailed, PutFailed, SayNoJoining};
+ghost use Rattle.stn_top.specs.Done.{IsDone};
 
 use command_replies::{Reply, Stopped};
 use command_words::{Command, command_of};
@@ -58,8 +60,11 @@ pub fn run<F: Shelf, K: Sink>(alloc: Global, words: &[&str], files: &mut F, out:
     ensures read_fault { result ≡ 7 → Rose (F.read_faults files.old) (F.read_faults files.new) }
     ensures nothing { result ≡ 7 → K.written out.new ≡ K.written out.old }
 
-    // 8 comes only where the sink failed, or the file of a log whose plant was read.
-    ensures write_fault { result ≡ 8 → Rose (K.faults out.old) (K.faults out.new)
+    // 8 comes only where the sink failed when all work was done, so that the answer's log is whole, or where
+    // the file of a log failed whose plant was read.
+    ensures write_fault { result ≡ 8
+        → PutFailed (IsReply (texts words.now) (F.files files.old) (F.files files.new))
+        (K.faults out.old) (K.faults out.new) (K.written out.old) (K.written out.new)
         ⊎ LogFailed (texts words.now) (F.files files.old) (F.write_faults files.old)
         (F.write_faults files.new) }
 
@@ -102,7 +107,9 @@ fn answer<F: Shelf, K: Sink>(alloc: Global, command: Command, files: &mut F, out
     ensures asked { result ≢ 2 }
     ensures read_fault { result ≡ 7 → Rose (F.read_faults files.old) (F.read_faults files.new) }
     ensures nothing { result ≡ 7 → K.written out.new ≡ K.written out.old }
-    ensures write_fault { result ≡ 8 → Rose (K.faults out.old) (K.faults out.new)
+    ensures write_fault { result ≡ 8
+        → PutFailed (IsAnswer (F.files files.old) (F.files files.new) (meaning command.entry))
+        (K.faults out.old) (K.faults out.new) (K.written out.old) (K.written out.new)
         ⊎ (Rose (F.write_faults files.old) (F.write_faults files.new)
         × GetsToWriting (F.files files.old) (meaning command.entry)) }
     ensures part { 7 < result → IsCutOff
@@ -148,28 +155,16 @@ fn put<K: Sink>(out: &mut K, status: u8, text: &[u8]) -> u8
     }
 }
 
-// What a command answers.
+// What has come of a command's work.
 fn reply_to<F: Shelf>(alloc: Global, command: Command, files: &mut F) -> Result<Reply, Stopped>
     requires may_read { MayRead (F.may_read files.old) (meaning command) }
     requires may_write { MayWrite (F.may_write files.old) (meaning command) }
     requires apart { WritesApart (meaning command) }
-    ensures answer { IfReplied result (λ reply. IsAnswer (F.files files.old) (F.files files.new)
-        (meaning command.entry) reply.status reply.text.items) }
-    ensures unwritten { IfReplied result (λ reply. IsUnwritten reply.status
-        → F.files files.new ≡ F.files files.old) }
-    ensures fault { result ≡ Err Stopped.ReadFault
-        → Rose (F.read_faults files.old) (F.read_faults files.new) }
-    ensures unread { result ≡ Err Stopped.ReadFault → IsNoJoining (meaning command.entry)
-        → F.files files.new ≡ F.files files.old }
-    ensures write_fault { result ≡ Err Stopped.WriteFault
-        → Rose (F.write_faults files.old) (F.write_faults files.new)
-        × GetsToWriting (F.files files.old) (meaning command.entry) }
-    ensures files { OthersKept (meaning command.entry) (F.files files.old) (F.files files.new) }
-    ensures left { IsLeft (meaning command.entry) (F.files files.old) (F.files files.new) }
+    ensures done { IsDone (meaning command.entry) (F.files files.old) (F.files files.new)
+        (F.read_faults files.old) (F.read_faults files.new)
+        (F.write_faults files.old) (F.write_faults files.new) result }
     ensures readable { F.may_read files.new ≡ F.may_read files.old }
     ensures writable { F.may_write files.new ≡ F.may_write files.old }
-    ensures reads { F.read_faults files.old ≤ F.read_faults files.new }
-    ensures writes { F.write_faults files.old ≤ F.write_faults files.new }
 {
     match command {
         Command::Solve { plant, budget } => solve_file(alloc, files, plant, budget),
@@ -177,7 +172,7 @@ fn reply_to<F: Shelf>(alloc: Global, command: Command, files: &mut F) -> Result<
         Command::Simulate { usage, plant, plan } => simulate_file(alloc, files, usage, plant, plan),
         Command::Check { plant, log } => check_file(alloc, files, plant, log),
         Command::Upgrade { plant } => upgrade_file(alloc, files, plant),
-        Command::Demo { seed } => Ok(show(alloc, seed)?),
+        Command::Demo { seed } => demonstrate(alloc, seed),
         Command::Replan {
             plant,
             plan,
@@ -228,4 +223,13 @@ fn reply_to<F: Shelf>(alloc: Global, command: Command, files: &mut F) -> Result<
             log,
         } => join_file(alloc, files, plant, levels, stem, log),
     }
+}
+
+// What the demonstration answers. It touches no file.
+fn demonstrate(alloc: Global, seed: u32) -> Result<Reply, Stopped>
+    ensures answer { IfReplied result (λ reply. Shown seed reply.status reply.text.items) }
+    ensures no_read { result ≢ Err Stopped.ReadFault }
+    ensures no_write { result ≢ Err Stopped.WriteFault }
+{
+    Ok(show(alloc, seed)?)
 }

@@ -7,10 +7,10 @@ pub found-requires : goal.found-requires
 found-requires g c = named-least c.args.plant.now c.in-Ok.said c.requires.sound c.in-Ok.ensures.least.right
 
 pub returns-in_ok-found-in-Ok-clause-left : goal.returns-in_ok-found-in-Ok-clause-left
-returns-in_ok-found-in-Ok-clause-left g c = inr (c.in-Ok.said, c.in-Ok.ensures.least)
+returns-in_ok-found-in-Ok-clause-left g c = inr (record { said = c.in-Ok.said; least = c.in-Ok.ensures.least; others = c.in-Ok.ensures.others })
 
 pub returns-in_err-found-in-Ok-clause-left : goal.returns-in_err-found-in-Ok-clause-left
-returns-in_err-found-in-Ok-clause-left g c = inr (c.in-Ok.said, c.in-Ok.ensures.least)
+returns-in_err-found-in-Ok-clause-left g c = inr (record { said = c.in-Ok.said; least = c.in-Ok.ensures.least; others = c.in-Ok.ensures.others })
 
 pub returns-in_ok-found-in-Ok-clause-others : goal.returns-in_ok-found-in-Ok-clause-others
 returns-in_ok-found-in-Ok-clause-others g c =

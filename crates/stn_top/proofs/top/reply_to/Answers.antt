@@ -1,18 +1,111 @@
-use Rattle.stn_top.proofs.FileLemmas.{kept_log, kept_replan, kept_logs, kept_part, kept_joined}
-use Rattle.std.proofs.Common.{ap}
-use Rattle.command_words.specs.Words.{meaning}
+-- Each command's work comes to what its call promises.
+use Rattle.std.proofs.Common.{ap, refl}
+use Rattle.command_words.specs.Words.{meaning, Solving, Logging, Simulating, Checking, Upgrading, Replanning, ReplanLogging, CheckingReplan, Estimating, Seeking, Tracing, Auditing, Parting, PartSolving, Joining}
 use Rattle.horizon_commands.proofs.Horizons.{logs_allowed, all_logs_allowed}
 use Rattle.part_commands.proofs.JoinLemmas.{parts_allowed}
+use Rattle.stn_top.proofs.FileLemmas.{kept_log, kept_replan, kept_logs, kept_part, kept_joined}
+use Rattle.stn_top.proofs.DoneLemmas.{only_read, wrote, demonstrated}
 use Rattle.stn_top.proofs.top.reply_to.Goals as goal
 
-pub returns-in-Log-clause-files : goal.returns-in-Log-clause-files
-returns-in-Log-clause-files g c =
-    rw c.in-Log.is (kept_log c.in-Log.plant.now c.in-Log.budget.boxes c.in-Log.log.now (g.F.Shelf.files c.args.files.now) (g.F.Shelf.files c.log_file.new.files) c.log_file.ensures.others)
+pub returns-in-Solve-clause-done : goal.returns-in-Solve-clause-done
+returns-in-Solve-clause-done g c =
+    rw c.in-Solve.is (only_read (Solving c.in-Solve.plant.now c.in-Solve.budget.boxes) (g.F.Shelf.files c.args.files.now) (g.F.Shelf.files c.solve_file.new.files) (g.F.Shelf.read_faults c.args.files.now) (g.F.Shelf.read_faults c.solve_file.new.files)
+    (g.F.Shelf.write_faults c.args.files.now) (g.F.Shelf.write_faults c.solve_file.new.files) c.solve_file.result
+    c.solve_file.ensures.answer c.solve_file.ensures.fault c.solve_file.ensures.unwritten c.solve_file.ensures.same c.solve_file.ensures.later c.solve_file.ensures.no_write)
 
-pub returns-in-LogReplan-clause-files : goal.returns-in-LogReplan-clause-files
-returns-in-LogReplan-clause-files g c =
-    rw c.in-LogReplan.is (kept_replan c.in-LogReplan.plant.now c.in-LogReplan.plan.now c.in-LogReplan.period.number c.in-LogReplan.budget.boxes c.in-LogReplan.log.now
-    (g.F.Shelf.files c.args.files.now) (g.F.Shelf.files c.log_replan_file.new.files) c.log_replan_file.ensures.others)
+pub returns-in-Simulate-clause-done : goal.returns-in-Simulate-clause-done
+returns-in-Simulate-clause-done g c =
+    rw c.in-Simulate.is (only_read (Simulating c.in-Simulate.usage c.in-Simulate.plant.now c.in-Simulate.plan.now) (g.F.Shelf.files c.args.files.now) (g.F.Shelf.files c.simulate_file.new.files) (g.F.Shelf.read_faults c.args.files.now) (g.F.Shelf.read_faults c.simulate_file.new.files)
+    (g.F.Shelf.write_faults c.args.files.now) (g.F.Shelf.write_faults c.simulate_file.new.files) c.simulate_file.result
+    c.simulate_file.ensures.answer c.simulate_file.ensures.fault c.simulate_file.ensures.unwritten c.simulate_file.ensures.same c.simulate_file.ensures.later c.simulate_file.ensures.no_write)
+
+pub returns-in-Check-clause-done : goal.returns-in-Check-clause-done
+returns-in-Check-clause-done g c =
+    rw c.in-Check.is (only_read (Checking c.in-Check.plant.now c.in-Check.log.now) (g.F.Shelf.files c.args.files.now) (g.F.Shelf.files c.check_file.new.files) (g.F.Shelf.read_faults c.args.files.now) (g.F.Shelf.read_faults c.check_file.new.files)
+    (g.F.Shelf.write_faults c.args.files.now) (g.F.Shelf.write_faults c.check_file.new.files) c.check_file.result
+    c.check_file.ensures.answer c.check_file.ensures.fault c.check_file.ensures.unwritten c.check_file.ensures.same c.check_file.ensures.later c.check_file.ensures.no_write)
+
+pub returns-in-Upgrade-clause-done : goal.returns-in-Upgrade-clause-done
+returns-in-Upgrade-clause-done g c =
+    rw c.in-Upgrade.is (only_read (Upgrading c.in-Upgrade.plant.now) (g.F.Shelf.files c.args.files.now) (g.F.Shelf.files c.upgrade_file.new.files) (g.F.Shelf.read_faults c.args.files.now) (g.F.Shelf.read_faults c.upgrade_file.new.files)
+    (g.F.Shelf.write_faults c.args.files.now) (g.F.Shelf.write_faults c.upgrade_file.new.files) c.upgrade_file.result
+    c.upgrade_file.ensures.answer c.upgrade_file.ensures.fault c.upgrade_file.ensures.unwritten c.upgrade_file.ensures.same c.upgrade_file.ensures.later c.upgrade_file.ensures.no_write)
+
+pub returns-in-Replan-clause-done : goal.returns-in-Replan-clause-done
+returns-in-Replan-clause-done g c =
+    rw c.in-Replan.is (only_read (Replanning c.in-Replan.plant.now c.in-Replan.plan.now c.in-Replan.period.number c.in-Replan.budget.boxes) (g.F.Shelf.files c.args.files.now) (g.F.Shelf.files c.replan_file.new.files) (g.F.Shelf.read_faults c.args.files.now) (g.F.Shelf.read_faults c.replan_file.new.files)
+    (g.F.Shelf.write_faults c.args.files.now) (g.F.Shelf.write_faults c.replan_file.new.files) c.replan_file.result
+    c.replan_file.ensures.answer c.replan_file.ensures.fault c.replan_file.ensures.unwritten c.replan_file.ensures.same c.replan_file.ensures.later c.replan_file.ensures.no_write)
+
+pub returns-in-CheckReplan-clause-done : goal.returns-in-CheckReplan-clause-done
+returns-in-CheckReplan-clause-done g c =
+    rw c.in-CheckReplan.is (only_read (CheckingReplan c.in-CheckReplan.plant.now c.in-CheckReplan.plan.now c.in-CheckReplan.period.number c.in-CheckReplan.log.now) (g.F.Shelf.files c.args.files.now) (g.F.Shelf.files c.check_replan_file.new.files) (g.F.Shelf.read_faults c.args.files.now) (g.F.Shelf.read_faults c.check_replan_file.new.files)
+    (g.F.Shelf.write_faults c.args.files.now) (g.F.Shelf.write_faults c.check_replan_file.new.files) c.check_replan_file.result
+    c.check_replan_file.ensures.answer c.check_replan_file.ensures.fault c.check_replan_file.ensures.unwritten c.check_replan_file.ensures.same c.check_replan_file.ensures.later c.check_replan_file.ensures.no_write)
+
+pub returns-in-Estimate-clause-done : goal.returns-in-Estimate-clause-done
+returns-in-Estimate-clause-done g c =
+    rw c.in-Estimate.is (only_read (Estimating c.in-Estimate.plant.now c.in-Estimate.log.now c.in-Estimate.state.now c.in-Estimate.steps.step c.in-Estimate.steps.count) (g.F.Shelf.files c.args.files.now) (g.F.Shelf.files c.estimate_file.new.files) (g.F.Shelf.read_faults c.args.files.now) (g.F.Shelf.read_faults c.estimate_file.new.files)
+    (g.F.Shelf.write_faults c.args.files.now) (g.F.Shelf.write_faults c.estimate_file.new.files) c.estimate_file.result
+    c.estimate_file.ensures.answer c.estimate_file.ensures.fault c.estimate_file.ensures.unwritten c.estimate_file.ensures.same c.estimate_file.ensures.later c.estimate_file.ensures.no_write)
+
+pub returns-in-Least-clause-done : goal.returns-in-Least-clause-done
+returns-in-Least-clause-done g c =
+    rw c.in-Least.is (only_read (Seeking c.in-Least.plant.now c.in-Least.budget.boxes) (g.F.Shelf.files c.args.files.now) (g.F.Shelf.files c.seek_file.new.files) (g.F.Shelf.read_faults c.args.files.now) (g.F.Shelf.read_faults c.seek_file.new.files)
+    (g.F.Shelf.write_faults c.args.files.now) (g.F.Shelf.write_faults c.seek_file.new.files) c.seek_file.result
+    c.seek_file.ensures.answer c.seek_file.ensures.fault c.seek_file.ensures.unwritten c.seek_file.ensures.same c.seek_file.ensures.later c.seek_file.ensures.no_write)
+
+pub returns-in-CheckLeast-clause-done : goal.returns-in-CheckLeast-clause-done
+returns-in-CheckLeast-clause-done g c =
+    rw c.in-CheckLeast.is (only_read (Auditing c.in-CheckLeast.plant.now c.in-CheckLeast.horizon c.in-CheckLeast.stem.now) (g.F.Shelf.files c.args.files.now) (g.F.Shelf.files c.audit_file.new.files) (g.F.Shelf.read_faults c.args.files.now) (g.F.Shelf.read_faults c.audit_file.new.files)
+    (g.F.Shelf.write_faults c.args.files.now) (g.F.Shelf.write_faults c.audit_file.new.files) c.audit_file.result
+    c.audit_file.ensures.answer c.audit_file.ensures.fault c.audit_file.ensures.unwritten c.audit_file.ensures.same c.audit_file.ensures.later c.audit_file.ensures.no_write)
+
+pub returns-in-Parts-clause-done : goal.returns-in-Parts-clause-done
+returns-in-Parts-clause-done g c =
+    rw c.in-Parts.is (only_read (Parting c.in-Parts.plant.now c.in-Parts.levels.number) (g.F.Shelf.files c.args.files.now) (g.F.Shelf.files c.parts_file.new.files) (g.F.Shelf.read_faults c.args.files.now) (g.F.Shelf.read_faults c.parts_file.new.files)
+    (g.F.Shelf.write_faults c.args.files.now) (g.F.Shelf.write_faults c.parts_file.new.files) c.parts_file.result
+    c.parts_file.ensures.answer c.parts_file.ensures.fault c.parts_file.ensures.unwritten c.parts_file.ensures.same c.parts_file.ensures.later c.parts_file.ensures.no_write)
+
+pub returns-in-Demo-clause-done : goal.returns-in-Demo-clause-done
+returns-in-Demo-clause-done g c =
+    rw c.in-Demo.is (demonstrated c.in-Demo.seed (g.F.Shelf.files c.args.files.now) (g.F.Shelf.read_faults c.args.files.now) (g.F.Shelf.write_faults c.args.files.now) c.demonstrate.result
+    c.demonstrate.ensures.answer c.demonstrate.ensures.no_read c.demonstrate.ensures.no_write)
+
+pub returns-in-Log-clause-done : goal.returns-in-Log-clause-done
+returns-in-Log-clause-done g c =
+    rw c.in-Log.is (wrote (Logging c.in-Log.plant.now c.in-Log.budget.boxes c.in-Log.log.now) (g.F.Shelf.files c.args.files.now) (g.F.Shelf.files c.log_file.new.files) (g.F.Shelf.read_faults c.args.files.now) (g.F.Shelf.read_faults c.log_file.new.files)
+    (g.F.Shelf.write_faults c.args.files.now) (g.F.Shelf.write_faults c.log_file.new.files) c.log_file.result
+    c.log_file.ensures.answer c.log_file.ensures.refused c.log_file.ensures.fault (λ is _. c.log_file.ensures.unread is) c.log_file.ensures.write_fault c.log_file.ensures.begun
+    (kept_log c.in-Log.plant.now c.in-Log.budget.boxes c.in-Log.log.now (g.F.Shelf.files c.args.files.now) (g.F.Shelf.files c.log_file.new.files) c.log_file.ensures.others) c.log_file.ensures.left c.log_file.ensures.later c.log_file.ensures.writes)
+
+pub returns-in-LogReplan-clause-done : goal.returns-in-LogReplan-clause-done
+returns-in-LogReplan-clause-done g c =
+    rw c.in-LogReplan.is (wrote (ReplanLogging c.in-LogReplan.plant.now c.in-LogReplan.plan.now c.in-LogReplan.period.number c.in-LogReplan.budget.boxes c.in-LogReplan.log.now) (g.F.Shelf.files c.args.files.now) (g.F.Shelf.files c.log_replan_file.new.files) (g.F.Shelf.read_faults c.args.files.now) (g.F.Shelf.read_faults c.log_replan_file.new.files)
+    (g.F.Shelf.write_faults c.args.files.now) (g.F.Shelf.write_faults c.log_replan_file.new.files) c.log_replan_file.result
+    c.log_replan_file.ensures.answer c.log_replan_file.ensures.refused c.log_replan_file.ensures.fault (λ is _. c.log_replan_file.ensures.unread is) c.log_replan_file.ensures.write_fault c.log_replan_file.ensures.begun
+    (kept_replan c.in-LogReplan.plant.now c.in-LogReplan.plan.now c.in-LogReplan.period.number c.in-LogReplan.budget.boxes c.in-LogReplan.log.now (g.F.Shelf.files c.args.files.now) (g.F.Shelf.files c.log_replan_file.new.files) c.log_replan_file.ensures.others) c.log_replan_file.ensures.left c.log_replan_file.ensures.later c.log_replan_file.ensures.writes)
+
+pub returns-in-LeastLogs-clause-done : goal.returns-in-LeastLogs-clause-done
+returns-in-LeastLogs-clause-done g c =
+    rw c.in-LeastLogs.is (wrote (Tracing c.in-LeastLogs.plant.now c.in-LeastLogs.budget.boxes c.in-LeastLogs.stem.now) (g.F.Shelf.files c.args.files.now) (g.F.Shelf.files c.trace_file.new.files) (g.F.Shelf.read_faults c.args.files.now) (g.F.Shelf.read_faults c.trace_file.new.files)
+    (g.F.Shelf.write_faults c.args.files.now) (g.F.Shelf.write_faults c.trace_file.new.files) c.trace_file.result
+    c.trace_file.ensures.answer c.trace_file.ensures.refused c.trace_file.ensures.fault (λ is _. c.trace_file.ensures.unread is) c.trace_file.ensures.write_fault c.trace_file.ensures.begun
+    (kept_logs c.in-LeastLogs.plant.now c.in-LeastLogs.budget.boxes c.in-LeastLogs.stem.now (g.F.Shelf.files c.args.files.now) (g.F.Shelf.files c.trace_file.new.files) c.trace_file.ensures.others) c.trace_file.ensures.left c.trace_file.ensures.later c.trace_file.ensures.writes)
+
+pub returns-in-SolvePart-clause-done : goal.returns-in-SolvePart-clause-done
+returns-in-SolvePart-clause-done g c =
+    rw c.in-SolvePart.is (wrote (PartSolving c.in-SolvePart.plant.now c.in-SolvePart.part.levels.number c.in-SolvePart.part.number c.in-SolvePart.budget.boxes c.in-SolvePart.log.now) (g.F.Shelf.files c.args.files.now) (g.F.Shelf.files c.solve_part_file.new.files) (g.F.Shelf.read_faults c.args.files.now) (g.F.Shelf.read_faults c.solve_part_file.new.files)
+    (g.F.Shelf.write_faults c.args.files.now) (g.F.Shelf.write_faults c.solve_part_file.new.files) c.solve_part_file.result
+    c.solve_part_file.ensures.answer c.solve_part_file.ensures.refused c.solve_part_file.ensures.fault (λ is _. c.solve_part_file.ensures.unread is) c.solve_part_file.ensures.write_fault c.solve_part_file.ensures.begun
+    (kept_part c.in-SolvePart.plant.now c.in-SolvePart.part.levels.number c.in-SolvePart.part.number c.in-SolvePart.budget.boxes c.in-SolvePart.log.now (g.F.Shelf.files c.args.files.now) (g.F.Shelf.files c.solve_part_file.new.files) c.solve_part_file.ensures.others) c.solve_part_file.ensures.left c.solve_part_file.ensures.later c.solve_part_file.ensures.writes)
+
+pub returns-in-Join-clause-done : goal.returns-in-Join-clause-done
+returns-in-Join-clause-done g c =
+    rw c.in-Join.is (wrote (Joining c.in-Join.plant.now c.in-Join.levels.number c.in-Join.stem.now c.in-Join.log.now) (g.F.Shelf.files c.args.files.now) (g.F.Shelf.files c.join_file.new.files) (g.F.Shelf.read_faults c.args.files.now) (g.F.Shelf.read_faults c.join_file.new.files)
+    (g.F.Shelf.write_faults c.args.files.now) (g.F.Shelf.write_faults c.join_file.new.files) c.join_file.result
+    c.join_file.ensures.answer c.join_file.ensures.refused c.join_file.ensures.fault (λ _ no. absurd (no c.in-Join.plant.now c.in-Join.levels.number c.in-Join.stem.now c.in-Join.log.now refl)) c.join_file.ensures.write_fault c.join_file.ensures.begun
+    (kept_joined c.in-Join.plant.now c.in-Join.levels.number c.in-Join.stem.now c.in-Join.log.now (g.F.Shelf.files c.args.files.now) (g.F.Shelf.files c.join_file.new.files) c.join_file.ensures.others) c.join_file.ensures.left c.join_file.ensures.later c.join_file.ensures.writes)
 
 pub trace_file-requires-clause-logs_writable : goal.trace_file-requires-clause-logs_writable
 trace_file-requires-clause-logs_writable g c =
@@ -20,20 +113,11 @@ trace_file-requires-clause-logs_writable g c =
     let is = c.in-LeastLogs.is in
     all_logs_allowed may c.in-LeastLogs.stem.now 337 (rw is at c.requires.may_write)
 
-pub returns-in-LeastLogs-clause-files : goal.returns-in-LeastLogs-clause-files
-returns-in-LeastLogs-clause-files g c =
-    rw c.in-LeastLogs.is (kept_logs c.in-LeastLogs.plant.now c.in-LeastLogs.budget.boxes c.in-LeastLogs.stem.now (g.F.Shelf.files c.args.files.now) (g.F.Shelf.files c.trace_file.new.files) c.trace_file.ensures.others)
-
 pub audit_file-requires-clause-logs_readable : goal.audit_file-requires-clause-logs_readable
 audit_file-requires-clause-logs_readable g c =
     let may = g.F.Shelf.may_read c.args.files.now in
     let is = c.in-CheckLeast.is in
     logs_allowed may c.in-CheckLeast.plant.now c.in-CheckLeast.stem.now c.in-CheckLeast.horizon (rw is at c.requires.may_read)
-
-pub returns-in-SolvePart-clause-files : goal.returns-in-SolvePart-clause-files
-returns-in-SolvePart-clause-files g c =
-    rw c.in-SolvePart.is (kept_part c.in-SolvePart.plant.now c.in-SolvePart.part.levels.number c.in-SolvePart.part.number c.in-SolvePart.budget.boxes c.in-SolvePart.log.now
-    (g.F.Shelf.files c.args.files.now) (g.F.Shelf.files c.solve_part_file.new.files) c.solve_part_file.ensures.others)
 
 pub join_file-requires-clause-logs_readable : goal.join_file-requires-clause-logs_readable
 join_file-requires-clause-logs_readable g c =
@@ -43,53 +127,3 @@ join_file-requires-clause-logs_readable g c =
 
 pub join_file-requires-clause-apart : goal.join_file-requires-clause-apart
 join_file-requires-clause-apart g c = c.requires.apart c.in-Join.plant.now c.in-Join.levels.number c.in-Join.stem.now c.in-Join.log.now (ap meaning c.in-Join.is)
-
-pub returns-in-Join-clause-files : goal.returns-in-Join-clause-files
-returns-in-Join-clause-files g c =
-    rw c.in-Join.is (kept_joined c.in-Join.plant.now c.in-Join.levels.number c.in-Join.stem.now c.in-Join.log.now
-    (g.F.Shelf.files c.args.files.now) (g.F.Shelf.files c.join_file.new.files) c.join_file.ensures.others)
-
-pub returns-in-Solve-clause-answer : goal.returns-in-Solve-clause-answer
-returns-in-Solve-clause-answer g c = rw c.in-Solve.is c.solve_file.ensures.answer
-
-pub returns-in-Log-clause-answer : goal.returns-in-Log-clause-answer
-returns-in-Log-clause-answer g c = rw c.in-Log.is c.log_file.ensures.answer
-
-pub returns-in-Simulate-clause-answer : goal.returns-in-Simulate-clause-answer
-returns-in-Simulate-clause-answer g c = rw c.in-Simulate.is c.simulate_file.ensures.answer
-
-pub returns-in-Check-clause-answer : goal.returns-in-Check-clause-answer
-returns-in-Check-clause-answer g c = rw c.in-Check.is c.check_file.ensures.answer
-
-pub returns-in-Upgrade-clause-answer : goal.returns-in-Upgrade-clause-answer
-returns-in-Upgrade-clause-answer g c = rw c.in-Upgrade.is c.upgrade_file.ensures.answer
-
-pub returns-in-Replan-clause-answer : goal.returns-in-Replan-clause-answer
-returns-in-Replan-clause-answer g c = rw c.in-Replan.is c.replan_file.ensures.answer
-
-pub returns-in-LogReplan-clause-answer : goal.returns-in-LogReplan-clause-answer
-returns-in-LogReplan-clause-answer g c = rw c.in-LogReplan.is c.log_replan_file.ensures.answer
-
-pub returns-in-CheckReplan-clause-answer : goal.returns-in-CheckReplan-clause-answer
-returns-in-CheckReplan-clause-answer g c = rw c.in-CheckReplan.is c.check_replan_file.ensures.answer
-
-pub returns-in-Estimate-clause-answer : goal.returns-in-Estimate-clause-answer
-returns-in-Estimate-clause-answer g c = rw c.in-Estimate.is c.estimate_file.ensures.answer
-
-pub returns-in-Least-clause-answer : goal.returns-in-Least-clause-answer
-returns-in-Least-clause-answer g c = rw c.in-Least.is c.seek_file.ensures.answer
-
-pub returns-in-LeastLogs-clause-answer : goal.returns-in-LeastLogs-clause-answer
-returns-in-LeastLogs-clause-answer g c = rw c.in-LeastLogs.is c.trace_file.ensures.answer
-
-pub returns-in-CheckLeast-clause-answer : goal.returns-in-CheckLeast-clause-answer
-returns-in-CheckLeast-clause-answer g c = rw c.in-CheckLeast.is c.audit_file.ensures.answer
-
-pub returns-in-Parts-clause-answer : goal.returns-in-Parts-clause-answer
-returns-in-Parts-clause-answer g c = rw c.in-Parts.is c.parts_file.ensures.answer
-
-pub returns-in-SolvePart-clause-answer : goal.returns-in-SolvePart-clause-answer
-returns-in-SolvePart-clause-answer g c = rw c.in-SolvePart.is c.solve_part_file.ensures.answer
-
-pub returns-in-Join-clause-answer : goal.returns-in-Join-clause-answer
-returns-in-Join-clause-answer g c = rw c.in-Join.is c.join_file.ensures.answer
