@@ -1,4 +1,3 @@
 pub mod SolveLemmas
 pub mod ReplanLemmas
 pub mod PartLemmas
-pub mod DemoLemmas

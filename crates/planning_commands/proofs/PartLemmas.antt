@@ -1,6 +1,6 @@
 -- Planning a part of a plant: its answer, and the files of it.
-use Rattle.std.proofs.Common.{◌≡◌, ℕ, zero, suc, ◌+◌, ◌-◌, ◌<◌, ◌≤◌, List, [], ◌∷◌, length, map, sum_by, refl, ap, inl, inr, arith, add-one, true, nat_lt}
-use Rattle.std.specs.Prelude.{◌↔◌, ◌⊎◌, ◌==◌, min, Option, Result, Ok, Err, IfOk, IfSome}
+use Rattle.std.proofs.Common.{◌≡◌, ℕ, zero, suc, ◌-◌, ◌<◌, ◌≤◌, List, length, map, sum_by, refl, inl, inr, arith, add-one, true, nat_lt}
+use Rattle.std.specs.Prelude.{◌↔◌, ◌==◌, min, Option, Result, Ok, Err, IfOk}
 use Rattle.std.specs.List.{range_with_len}
 use Rattle.std.proofs.lemmas.List.{length-map}
 use Rattle.std.proofs.lemmas.List.FromFn.{sum_by-map-range_with_len_more}
@@ -16,12 +16,11 @@ use Rattle.row_set.specs.Parts.{IsPartOf, IsAdmitted}
 use Rattle.row_set.specs.PlantProgram.{slot_domain}
 use Rattle.branch_tree.specs.Searched.{spared}
 use Rattle.plan_told.specs.Outcomes.{IsPartOutcome, least_plan, whole_count}
-use Rattle.plan_told.specs.Proofs.{HasProof, depth_over, claim_of, bytes_in}
+use Rattle.plan_told.specs.Proofs.{HasProof, depth_over, claim_of}
 use Rattle.log_parts.specs.PlantParts.{digit, cut_domain, cut_root, part_root, IsOfPart}
-use Rattle.log_parts.specs.PartLogs.{IsPartProgram}
 use Rattle.command_replies.specs.declared.reply.Reply.{Reply}
 use Rattle.answer_texts.specs.Planning.{Planned}
-use Rattle.planning_commands.specs.PartSolving.{HasPartProof, PartSolvedOver, PartSolved}
+use Rattle.planning_commands.specs.PartSolving.{HasPartProof, PartSolved}
 use Rattle.command_replies.specs.Answers.{IsUnwritten}
 use Rattle.answer_texts.proofs.StatusLemmas.{solved-status}
 use Rattle.valid_log.proofs.Deeper.{plant-deeper}

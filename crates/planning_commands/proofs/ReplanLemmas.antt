@@ -1,5 +1,5 @@
 -- Replanning: answers over the plans that keep the first starts of a plan.
-use Rattle.std.proofs.Common.{◌≡◌, ℕ, ℤ, List, Option, Some, None, Ok, Err, inl, inr}
+use Rattle.std.proofs.Common.{ℕ, ℤ, List, Option, Some, None, Ok, Err, inl, inr}
 use Rattle.std.specs.Prelude.{MatchOption, IfOk, Result}
 use Rattle.stn_model.specs.declared.plant.Plant.{Plant}
 use Rattle.stn_model.specs.declared.start.Start.{Start}

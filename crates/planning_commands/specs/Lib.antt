@@ -1,4 +1,3 @@
 pub mod Solving
 pub mod Replanning
 pub mod PartSolving
-pub mod Demo

@@ -10,7 +10,7 @@ use Rattle.command_replies.specs.declared.stopped.Stopped.TheVariants.{ReadFault
 use Rattle.command_replies.specs.Answers.{IsUnwritten}
 use Rattle.command_replies.specs.Sources.{IfReplied}
 use Rattle.command_replies.proofs.AnswerLemmas.{replied, replied_from}
-use Rattle.planning_commands.specs.Demo.{Shown}
+use Rattle.demo_commands.specs.Demo.{Shown}
 use Rattle.stn_top.specs.Requests.{IsAnswer, IsLeft, IsNoJoining, GetsToWriting, OthersKept}
 use Rattle.stn_top.specs.Done.{IsDone}
 use Rattle.stn_top.proofs.FileLemmas.{kept_same, left_same}

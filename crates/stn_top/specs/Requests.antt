@@ -23,7 +23,7 @@ use Rattle.log_commands.specs.Estimating.{Estimated}
 use Rattle.planning_commands.specs.Solving.{HoldsLog, Solved}
 use Rattle.planning_commands.specs.Replanning.{CanReplan, HoldsReplan, Replanned}
 use Rattle.planning_commands.specs.PartSolving.{HoldsPart, PartSolved}
-use Rattle.planning_commands.specs.Demo.{Shown}
+use Rattle.demo_commands.specs.Demo.{Shown}
 use Rattle.horizon_commands.specs.Seeking.{HoldsLogs, Sought, log_names}
 use Rattle.horizon_commands.specs.Auditing.{Audited}
 use Rattle.part_commands.specs.Parting.{Parted}

@@ -6,20 +6,19 @@ ghost use Rattle.stn_edge.specs.Text.{extended};
 ghost use Rattle.command_words.specs.Words.{Request, Says, HasNoForm, texts, meaning};
 ghost use Rattle.command_replies.specs.Answers.{IsUnwritten};
 ghost use Rattle.command_replies.specs.Sources.{IfReplied};
-ghost use Rattle.planning_commands.specs.Demo.{Shown};
+ghost use Rattle.demo_commands.specs.Demo.{Shown};
 ghost use Rattle.stn_top.specs.Requests.{MayRead, MayWrite, WritesApart, OthersKept, IsAnswer, IsLeft, GetsToWriting, IsNoJoining};
 ghost use Rattle.stn_top.specs.Replies.{IsReply, Answered, IsCutOff, MayReadAll, MayWriteAll, LogFailed, PutFailed, SayNoJoining};
 ghost use Rattle.stn_top.specs.Done.{IsDone};
 
 use command_replies::{Reply, Stopped};
 use command_words::{Command, command_of};
+use demo_commands::show;
 use horizon_commands::{audit_file, seek_file, trace_file};
 use log_commands::{check_file, check_replan_file, estimate_file};
 use part_commands::{join_file, parts_file};
 use plan_commands::{simulate_file, upgrade_file};
-use planning_commands::{
-    log_file, log_replan_file, replan_file, show, solve_file, solve_part_file,
-};
+use planning_commands::{log_file, log_replan_file, replan_file, solve_file, solve_part_file};
 use std::alloc::Global;
 use stn_edge::{Shelf, Sink, Stop};
 
@@ -31,6 +30,7 @@ use stn_edge::{Shelf, Sink, Stop};
 /// | `solve PLANT BUDGET LOG` | plans, and writes the log of the proof; LOG is not the word PLANT |
 /// | `simulate PLANT PLAN` | simulates the plan, and says what it earns or what it breaks first |
 /// | `report PLANT PLAN` | simulates the plan, and shows it or says what it breaks first |
+/// | `picture PLANT PLAN` | simulates the plan, and draws it or says what it breaks first |
 /// | `check PLANT LOG` | checks a proof log, and says its claim or its first defect |
 /// | `upgrade PLANT` | prints the plant as a plant file of version 2 |
 /// | `demo SEED` | makes a plant of the seed, plans it with 500 boxes, and checks the log; no file is touched |

@@ -17,7 +17,7 @@ use Rattle.stn_model.specs.Feasible.{Feasible, StockKept}
 use Rattle.plant_make.specs.Made.{chained, states_of, plant_made}
 use Rattle.answer_texts.specs.Planning.{status_of}
 use Rattle.answer_texts.specs.Checking.{checked_text, claim_text}
-use Rattle.planning_commands.specs.Demo.{shown_plant, demo_head, demo_text, answer_line, Shown}
+use Rattle.demo_commands.specs.Demo.{shown_plant, demo_head, demo_text, answer_line, Shown}
 use Rattle.row_kit.specs.declared.program.Program.{Program}
 use Rattle.row_set.specs.PlantProgram.{IsMadeOf, plant_root}
 use Rattle.valid_log.specs.declared.verdict.LogVerdict.{LogVerdict}

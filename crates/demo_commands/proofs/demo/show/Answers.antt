@@ -1,5 +1,5 @@
-use Rattle.planning_commands.proofs.DemoLemmas.{shown}
-use Rattle.planning_commands.proofs.demo.show.Goals as goal
+use Rattle.demo_commands.proofs.DemoLemmas.{shown}
+use Rattle.demo_commands.proofs.demo.show.Goals as goal
 
 pub returns-in-Ok : goal.returns-in-Ok
 returns-in-Ok c =

@@ -1,6 +1,6 @@
 use Rattle.stn_edge.specs.Files.{file_of}
-use Rattle.planning_commands.proofs.DemoLemmas.{checked_line}
-use Rattle.planning_commands.proofs.demo.check_line.Goals as goal
+use Rattle.demo_commands.proofs.DemoLemmas.{checked_line}
+use Rattle.demo_commands.proofs.demo.check_line.Goals as goal
 
 pub returns-in_ok-reply-in-Ok : goal.returns-in_ok-reply-in-Ok
 returns-in_ok-reply-in-Ok c =

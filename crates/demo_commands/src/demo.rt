@@ -6,7 +6,7 @@ ghost use Rattle.stn_model.specs.declared.answer.Outcome.{Outcome};
 ghost use Rattle.plan_told.specs.Proofs.{HasPlantProof, bytes_in, claim_of};
 ghost use Rattle.answer_texts.specs.Checking.{claim_text};
 ghost use Rattle.answer_texts.specs.Planning.{profit_word, status_of};
-ghost use Rattle.planning_commands.specs.Demo.{shown_plant, answer_line, demo_head, Shown};
+ghost use Rattle.demo_commands.specs.Demo.{shown_plant, answer_line, demo_head, Shown};
 
 use answer_texts::{amount_line, checked};
 use command_replies::Reply;

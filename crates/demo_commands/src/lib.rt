@@ -1,0 +1,6 @@
+//! The demonstration: `demo`.
+#![tactic(auto)]
+
+mod demo;
+
+pub use demo::show;
