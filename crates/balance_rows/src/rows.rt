@@ -1,3 +1,4 @@
+//! The low and high rows of a plant's states.
 ghost use Rattle.std.specs.Prelude.{◌≡◌, ◌≤◌, ◌<◌, ◌++◌, ◌+◌, ◌-ℤ◌, pos, length, map, slice_index, IfOk, OnOk, OnErr};
 ghost use Rattle.stn_model.specs.Sound.{Sound};
 ghost use Rattle.stn_model.specs.Plant.{state_at};

@@ -1,3 +1,4 @@
+//! Who advises a search: as it goes on, or from boxes explored before.
 ghost use Rattle.std.specs.Prelude.{◌≡◌, length};
 ghost use Rattle.std.specs.List.{All};
 ghost use Rattle.row_kit.specs.Area.{present};

@@ -1,3 +1,4 @@
+//! The search in memory, best first.
 ghost use Rattle.std.specs.Prelude.{◌≡◌, length, OnOk, IfOk};
 ghost use Rattle.std.specs.List.{All};
 ghost use Rattle.row_kit.specs.Area.{present};

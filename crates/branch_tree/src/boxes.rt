@@ -1,3 +1,4 @@
+//! The search of a box: its cuts, its end, and both parts of its split.
 ghost use Rattle.std.specs.Prelude.{◌≡◌, ◌≢◌, ℕ, ◌+◌, ◌<◌, ◌≤◌, List as Listed, Option, Some, None, length, map, false, ⊤, IfOk, IfSome, OnOk, OnErr, IsErrOf, IsTrue, true, ◌≤ℤ◌};
 ghost use Rattle.std.specs.List.{All};
 ghost use Rattle.std.specs.Option.{IsSomeAnd, option_map};

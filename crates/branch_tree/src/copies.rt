@@ -1,3 +1,4 @@
+//! Copies of what a proof over rows holds.
 ghost use Rattle.std.specs.Prelude.{◌≡◌, IfOk};
 
 use dual_bound::Cert;

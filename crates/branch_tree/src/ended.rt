@@ -1,3 +1,4 @@
+//! What a search comes to.
 use proof_tree::Capped;
 use row_kit::Found;
 use row_relax::RowProof;

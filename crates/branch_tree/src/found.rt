@@ -1,3 +1,4 @@
+//! Points that are found, and whether they are lawful.
 ghost use Rattle.std.specs.Prelude.{◌≡◌, length, MatchOption, IfOk, IfSome, ◌≤ℤ◌};
 ghost use Rattle.std.specs.List.{All};
 ghost use Rattle.std.specs.Option.{IsSomeAnd};

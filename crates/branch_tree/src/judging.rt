@@ -1,3 +1,4 @@
+//! Which certificate a box takes, and what its cap leaves open.
 ghost use Rattle.std.specs.Prelude.{◌≡◌, length, IfOk, true, false, [], Some, unsigned_abs, ◌<◌, ◌^◌};
 ghost use Rattle.std.specs.List.{All};
 ghost use Rattle.row_kit.specs.Area.{present};

@@ -1,3 +1,4 @@
+//! The items of a proof, put one after another.
 ghost use Rattle.std.specs.Prelude.{◌≡◌, ◌≢◌, ◌≤◌, ◌<◌, length, Option, Some, None, [], ◌∷◌, map, option_to_list, IfOk, IfSome, OnOk, OnErr, IsErrOf};
 ghost use Rattle.std.specs.List.{All};
 ghost use Rattle.row_kit.specs.Area.{present};

@@ -1,3 +1,4 @@
+//! How far a search has come.
 use dual_bound::Cert;
 use range_prop::RowIndex;
 use row_kit::Found;

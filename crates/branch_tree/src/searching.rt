@@ -1,3 +1,4 @@
+//! The search of a root.
 ghost use Rattle.std.specs.Prelude.{◌≡◌, ◌≢◌, ◌≤◌, List, [], IfOk, OnOk, OnErr, IsErrOf, IsTrue, ◌↔◌, false, true};
 ghost use Rattle.proof_tree.specs.Taker.{Rose};
 ghost use Rattle.proof_tree.specs.Tree.{tree_of};

@@ -5,7 +5,7 @@ use Rattle.plan_tables.specs.declared.kind.TableKind.{TableKind}
 use Rattle.plan_tables.specs.declared.kind.TableKind.TheVariants.{Batches, Stocks, Loads, Units, Deliveries}
 use Rattle.command_words.specs.declared.command.Command.{Command}
 use Rattle.command_words.specs.declared.command.PlanUse.{PlanUse}
-use Rattle.command_words.specs.declared.command.PlanUse.TheVariants.{Simulate, Report, Picture, Table}
+use Rattle.command_words.specs.declared.command.PlanUse.TheVariants.{Simulate, Report, Picture, Table, Violations}
 use Rattle.command_words.specs.Words.{Says, Simulating, use_word, last_words, kind_words, meaning}
 
 -- the words that say a use of a plan
@@ -18,6 +18,7 @@ use_form Simulate plant plan = inl refl
 use_form Report plant plan = inl refl
 use_form Picture plant plan = inl refl
 use_form (Table kind) plant plan = inr refl
+use_form Violations plant plan = inl refl
 
 -- so more words of which the first begins with another letter say none
 pub no_use : (words : List (List ℕ)) (usage : PlanUse) (plant plan : List ℕ) → words ≡ words_of usage plant plan → 4 ≤ length words → get_or (get_or words 0 []) 0 0 ≢ 116 → ⊥

@@ -1,3 +1,4 @@
+//! The cap that a certificate gives.
 ghost use Rattle.std.specs.Prelude.{◌≡◌, ◌<◌, ◌^◌, length, unsigned_abs, Some};
 ghost use Rattle.row_kit.specs.Area.{present};
 ghost use Rattle.dual_bound.specs.Total.{total_at};

@@ -1,3 +1,4 @@
+//! Certificates: a scale, and factors of rows.
 use row_kit::List;
 
 /// A row and its factor, 1 or more. A row without a factor counts as one with factor 0.

@@ -1,3 +1,5 @@
+//! The limits of certificates.
+
 /// The greatest factor of a row.
 pub const MOST_FACTOR: u64 = 1_099_511_627_776;
 

@@ -1,3 +1,4 @@
+//! The total of a certificate over an area.
 ghost use Rattle.std.specs.Prelude.{◌≡◌, ℕ, ◌+◌, ◌*◌, ◌≤◌, ◌<◌, ◌^◌, ◌↔◌, length, nat_lt, IsTrue, IfSome, pos, ◌+ℤ◌, ◌*ℤ◌, ◌≤ℤ◌, unsigned_abs};
 ghost use Rattle.std.specs.List.{All, list_all};
 ghost use Rattle.row_kit.specs.Area.{present};

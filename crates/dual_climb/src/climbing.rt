@@ -1,3 +1,4 @@
+//! Better certificates by steps along subgradients.
 ghost use Rattle.std.specs.Prelude.{◌≡◌, ℕ, ◌+◌, ◌≤◌, ◌<◌, length, IsTrue, IsSome, IfOk, Some, true, false};
 ghost use Rattle.row_kit.specs.Area.{present};
 ghost use Rattle.dual_bound.specs.Total.{total_at, total_of};

@@ -1,3 +1,4 @@
+//! Factors for all rows, and those that are not 0.
 ghost use Rattle.std.specs.Prelude.{◌≡◌, ℕ, ◌≤◌, ◌<◌, ◌^◌, length, drop, true, IfOk};
 ghost use Rattle.dual_bound.specs.Total.{are_fit};
 ghost use Rattle.dual_climb.specs.laws.Sums.{HaveSameSums, IsFull, factor_first};

@@ -1,3 +1,4 @@
+//! What slots gain under a certificate.
 ghost use Rattle.std.specs.Prelude.{◌≡◌, ℕ, ◌+◌, ◌*◌, ◌≤◌, ◌<◌, ◌^◌, length, pos, ◌+ℤ◌, ◌*ℤ◌, ◌-ℤ◌};
 ghost use Rattle.std.specs.List.{All};
 ghost use Rattle.row_kit.specs.Area.{present};

@@ -1,3 +1,4 @@
+//! Factors with what slots gain under them, changed a row at a time.
 ghost use Rattle.std.specs.Prelude.{◌≡◌, ℕ, ◌+◌, ◌≤◌, ◌<◌, ◌^◌, length, pos, ◌+ℤ◌, ◌≤ℤ◌, IsTrue, true, false};
 ghost use Rattle.std.specs.List.{All};
 ghost use Rattle.row_kit.specs.Area.{present};

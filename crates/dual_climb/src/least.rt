@@ -1,3 +1,4 @@
+//! The factor of a row at which the total is least.
 ghost use Rattle.std.specs.Prelude.{◌≡◌, ℕ, ◌+◌, ◌-◌, ◌≤◌, ◌<◌, ◌↔◌, ◌^◌, length, pos, ◌*ℤ◌, ◌-ℤ◌, ◌≤ℤ◌, ◌<ℤ◌, IsTrue, false};
 ghost use Rattle.row_kit.specs.Area.{present};
 ghost use Rattle.dual_climb.specs.laws.Along.{part_along, IsAlong};

@@ -1,3 +1,4 @@
+//! A step of all factors at once.
 ghost use Rattle.std.specs.Prelude.{◌≡◌, ◌≤◌, ◌<◌, ◌^◌, length, pos, ◌≤ℤ◌, IsSome, IfOk};
 ghost use Rattle.std.specs.List.{All};
 ghost use Rattle.row_kit.specs.Area.{present};

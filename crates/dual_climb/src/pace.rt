@@ -1,3 +1,5 @@
+//! How far the next step goes.
+
 // How far the next step goes: the total is to fall a gap below the least that has been seen.
 #[derive(Drop)]
 pub struct Pace {

@@ -1,3 +1,4 @@
+//! Better certificates by one row's factor at a time.
 ghost use Rattle.std.specs.Prelude.{◌≡◌, ℕ, ◌+◌, ◌≤◌, ◌<◌, ◌^◌, ◌↔◌, ◌⊎◌, length, pos, ◌+ℤ◌, ◌≤ℤ◌, IsTrue, IsSome, IfOk, OnErr, Some, true, false, unsigned_abs};
 ghost use Rattle.std.specs.List.{All};
 ghost use Rattle.row_kit.specs.Area.{present};

@@ -1,3 +1,4 @@
+//! The factors of rows, read off a bound.
 ghost use Rattle.std.specs.Prelude.{◌≡◌, ◌+◌, ◌≤◌, length, true};
 ghost use Rattle.dual_bound.specs.Total.{are_fit};
 

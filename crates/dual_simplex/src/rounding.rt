@@ -1,3 +1,4 @@
+//! Whole values near what slots come to.
 ghost use Rattle.std.specs.Prelude.{◌≡◌, ℕ, ◌<◌, length};
 ghost use Rattle.row_kit.specs.Domain.{Holds, IsNormal, IsOpen};
 

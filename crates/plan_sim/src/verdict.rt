@@ -1,3 +1,4 @@
+//! What a simulation says.
 use stn_model::Violation;
 
 /// What the simulation of a plan says.

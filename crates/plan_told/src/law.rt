@@ -1,3 +1,4 @@
+//! The law of searches over programs with sums.
 ghost use Rattle.plan_told.specs.Law.{SumsAreTold};
 
 /// The law of searches over programs with sums: what is told of the end of one, as of the given program, is a right outcome of

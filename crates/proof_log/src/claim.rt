@@ -1,3 +1,4 @@
+//! What a log claims of its plant.
 use row_kit::List;
 
 /// What a log says of its plant.

@@ -1,3 +1,4 @@
+//! A log, and what may be wrong with one.
 use crate::claim::Claim;
 use row_relax::RowProof;
 

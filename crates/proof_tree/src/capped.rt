@@ -1,3 +1,4 @@
+//! Caps on the worths of points.
 ghost use Rattle.std.specs.Prelude.{◌≡◌};
 ghost use Rattle.proof_tree.specs.Cap.{greater};
 

@@ -1,3 +1,4 @@
+//! The cap of a proof.
 ghost use Rattle.std.specs.Prelude.{◌≡◌, [], MatchBool};
 ghost use Rattle.proof_tree.specs.Cap.{Bounds};
 ghost use Rattle.proof_tree.specs.Views.{View, present, KeepsViews};

@@ -1,3 +1,4 @@
+//! The items of a proof.
 use crate::relaxation::Relaxation;
 
 /// A piece of a proof. The items of a proof are, in prefix order: `Node`, its cuts, its found point if

@@ -1,3 +1,4 @@
+//! Lists that a contract sees as the list of their items.
 ghost use Rattle.std.specs.Prelude.{◌≡◌, ◌+◌, ◌<◌, ◌^◌, length, [], ◌∷◌, ◌++◌, OnOk, OnErr, slice_get};
 
 use std::alloc::{AllocError, Global};

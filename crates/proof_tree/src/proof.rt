@@ -1,3 +1,4 @@
+//! A proof: a tree of nodes and their ends.
 use crate::list::List;
 
 /// How a node of a proof ends. The parameters are the types of a cut's name, a certificate, a pick and

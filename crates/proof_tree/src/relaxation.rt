@@ -1,3 +1,4 @@
+//! What a proof asks of the areas that it caps.
 ghost use Rattle.std.specs.Prelude.{◌≡◌, ◌+◌, ◌<◌, ℤ, List as Listed, length, take};
 ghost use Rattle.proof_tree.specs.Relaxation.{Steps, IsSound};
 ghost use Rattle.proof_tree.specs.Views.{View, Point, present, MovesTo};

@@ -1,3 +1,4 @@
+//! A stack.
 ghost use Rattle.std.specs.Prelude.{◌≡◌, ◌<◌, [], ◌∷◌, length, drop, OnOk, OnErr, MatchOption};
 
 use std::alloc::{AllocError, Global};

@@ -1,3 +1,4 @@
+//! The walk over the items of a proof, one after another.
 ghost use Rattle.std.specs.Prelude.{List as Items, ◌++◌, ◌<◌, ◌≡◌, [], ◌∷◌, length, drop, map, IsTrue, IfOk, OnOk, OnErr};
 ghost use Rattle.proof_tree.specs.Items.{tree_items, depth};
 ghost use Rattle.proof_tree.specs.declared.item.Item.{Item};

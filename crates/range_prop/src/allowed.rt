@@ -1,3 +1,4 @@
+//! The values at which an entry counts at most so much.
 ghost use Rattle.std.specs.Prelude.{◌≡◌, ℕ, ◌*◌, ◌<◌, ◌≤◌, ◌^◌, ◌↔◌, ◌&&◌, nat_le, pos, ◌≤ℤ◌, int_le, unsigned_abs};
 ghost use Rattle.row_kit.specs.Row.{counted};
 ghost use Rattle.range_prop.specs.laws.Sums.{IsLight};

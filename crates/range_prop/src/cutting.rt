@@ -1,3 +1,4 @@
+//! The cut of one row at one slot.
 ghost use Rattle.std.specs.Prelude.{◌≡◌, ℕ, List, ◌<◌, ◌≤◌, ◌↔◌, IsTrue, false, length, ◌+ℤ◌, ◌≤ℤ◌};
 ghost use Rattle.std.specs.List.{All, Any, list_any, sum_by};
 ghost use Rattle.row_kit.specs.Area.{present, with_domain};

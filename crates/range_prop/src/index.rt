@@ -1,3 +1,4 @@
+//! The rows of each slot.
 ghost use Rattle.std.specs.Prelude.{◌≡◌, ℕ, ◌<◌, ◌≤◌, ◌↔◌, ◌⊎◌, length, replicate, OnOk, IfOk, List as Listed, [], slice_index_or};
 ghost use Rattle.std.specs.List.{All, Contains};
 ghost use Rattle.range_prop.specs.Index.{list_of, AreListed, HasEntry, IsIndex};

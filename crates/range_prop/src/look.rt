@@ -1,3 +1,4 @@
+//! The cuts of one row at all its slots.
 ghost use Rattle.std.specs.Prelude.{◌≡◌, ◌+◌, ◌-◌, ◌<◌, ◌≤◌, ◌^◌, ◌⊎◌, OnOk, length, take, pos, ◌-ℤ◌, ◌≤ℤ◌, unsigned_abs};
 ghost use Rattle.std.specs.List.{All, Any};
 ghost use Rattle.row_kit.specs.Row.{row_at};

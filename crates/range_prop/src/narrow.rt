@@ -1,3 +1,4 @@
+//! Domains that keep the values with room.
 ghost use Rattle.std.specs.Prelude.{◌≡◌, ℕ, ◌<◌, ◌≤◌, ◌^◌, ◌↔◌, not, IsTrue, length, pos, ◌+ℤ◌, ◌≤ℤ◌, int_le, unsigned_abs};
 ghost use Rattle.std.specs.List.{sum_by};
 ghost use Rattle.row_kit.specs.Area.{present, with_domain, is_same};

@@ -1,3 +1,4 @@
+//! Rows that are looked at as long as some wait.
 ghost use Rattle.std.specs.Prelude.{◌≡◌, ℕ, ◌+◌, ◌*◌, ◌<◌, ◌≤◌, ◌≢◌, Bool, true, false, length, take, List, OnOk, OnErr, IfOk, if◌then◌else◌};
 ghost use Rattle.std.specs.List.{All, Any, sum_by};
 ghost use Rattle.row_kit.specs.Area.{present};

@@ -1,3 +1,4 @@
+//! The rows that wait for a look.
 ghost use Rattle.std.specs.Prelude.{◌≡◌, ℕ, ◌+◌, ◌<◌, ◌≤◌, ◌==◌, Bool, true, false, length, slice_index_or, slice_set, IfOk, OnOk, MatchOption};
 ghost use Rattle.std.specs.List.{All, count_by, list_any};
 ghost use Rattle.range_prop.specs.laws.Queue.{waits};

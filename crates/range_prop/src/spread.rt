@@ -1,3 +1,4 @@
+//! The least and the most that an entry counts.
 ghost use Rattle.std.specs.Prelude.{◌≡◌, ℕ, ◌*◌, ◌≤◌, ◌^◌, pos, ◌+ℤ◌, ◌*ℤ◌, ◌≤ℤ◌, unsigned_abs, ◌⊎◌};
 ghost use Rattle.row_kit.specs.Domain.{Holds, values_of};
 ghost use Rattle.row_kit.specs.Row.{counted};

@@ -1,3 +1,4 @@
+//! Which rows wait after a cut.
 ghost use Rattle.std.specs.Prelude.{◌≡◌, ℕ, ◌<◌, ◌≢◌, true, length, OnOk};
 ghost use Rattle.std.specs.List.{All, Contains};
 ghost use Rattle.range_prop.specs.Index.{list_of};

@@ -1,3 +1,4 @@
+//! Areas: a domain for each slot, at each mark.
 ghost use Rattle.std.specs.Prelude.{◌≡◌, ℕ, ◌+◌, ◌-◌, ◌≤◌, ◌<◌, ◌↔◌, length, take, IsTrue, IfOk, slice_index_or, [], ◌∷◌, ◌++◌};
 ghost use Rattle.std.specs.List.{All, Any};
 

@@ -1,3 +1,4 @@
+//! The worth of a point, with what its changeovers cost.
 ghost use Rattle.std.specs.Prelude.{◌≡◌, ℕ, ◌*◌, ◌≤◌, ◌<◌, ◌^◌, unsigned_abs, ◌==◌, ◌&&◌, min, nat_le, length, ◌≤ℤ◌, slice_index, slice_index_or, if◌then◌else◌};
 ghost use Rattle.std.specs.List.{All};
 ghost use Rattle.row_kit.specs.Bounds.{IsBoundedChange};

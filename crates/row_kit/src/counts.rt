@@ -1,3 +1,4 @@
+//! Domains with one value, and with none.
 ghost use Rattle.std.specs.Prelude.{◌↔◌, IsTrue};
 ghost use Rattle.std.specs.List.{All, Any};
 ghost use Rattle.row_kit.specs.Domain.{IsBare, IsSingle};

@@ -1,3 +1,4 @@
+//! Domains: the values that a slot may have.
 ghost use Rattle.std.specs.Prelude.{◌≡◌, ℕ, ◌+◌, ◌≤◌, ◌<◌, ◌↔◌, ◌==◌, length, IsTrue};
 ghost use Rattle.std.specs.List.{Contains};
 

@@ -1,3 +1,4 @@
+//! What a slot's domain was before.
 use crate::domain::Domain;
 
 // What a slot's domain was before a change.

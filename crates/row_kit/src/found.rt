@@ -1,3 +1,4 @@
+//! Points that were found.
 use crate::list::List;
 
 /// A point that was found, with its worth in money.

@@ -1,3 +1,4 @@
+//! Entries of what slots count.
 ghost use Rattle.std.specs.Prelude.{◌≡◌, ◌<◌, ◌^◌, length, count_by, not, IfOk};
 ghost use Rattle.row_kit.specs.Row.{is_nothing, entries_from};
 

@@ -1,3 +1,4 @@
+//! The value of a point, and whether it is lawful.
 ghost use Rattle.std.specs.Prelude.{◌≡◌, ℕ, ◌*◌, ◌≤◌, ◌<◌, ◌^◌, ◌↔◌, length, IsTrue, pos, ◌+ℤ◌, ◌*ℤ◌, ◌≤ℤ◌, unsigned_abs, if◌then◌else◌};
 ghost use Rattle.std.specs.List.{All};
 ghost use Rattle.row_kit.specs.laws.Small.{IsSmall};

@@ -1,3 +1,4 @@
+//! The constraint model over slots.
 ghost use Rattle.std.specs.Prelude.{◌≡◌, ◌≤◌, ◌↔◌, length, unsigned_abs, IsSome, IfSome};
 ghost use Rattle.std.specs.List.{All};
 ghost use Rattle.row_kit.specs.Domain.{IsNormal, IsOpen};

@@ -1,3 +1,4 @@
+//! Rows, entries, tags and changes.
 use crate::list::List;
 
 /// What one slot counts in a row or in the profit: `fixed + per * v` at a value v of 1 or more, and 0 at the value 0.

@@ -1,3 +1,4 @@
+//! The trail of an area: what its domains were.
 ghost use Rattle.std.specs.Prelude.{◌≡◌, ℕ, ◌+◌, ◌*◌, ◌≤◌, ◌<◌, length, take, false, IfOk, slice_index_or, slice_set, vec_len, vec_capacity, []};
 ghost use Rattle.std.specs.List.{sum_by};
 ghost use Rattle.row_kit.specs.Area.{history, is_same, with_domain, IsSound};

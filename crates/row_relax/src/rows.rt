@@ -1,3 +1,4 @@
+//! Rows as a relaxation.
 ghost use Rattle.std.specs.Prelude.{◌≡◌, ◌∷◌, [], map, IfOk};
 ghost use Rattle.row_kit.specs.Point.{IsLawful, worth_of};
 ghost use Rattle.proof_tree.specs.Views.{present as shown_last};

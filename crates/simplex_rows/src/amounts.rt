@@ -1,3 +1,4 @@
+//! How far slots are started and how many quanta they make.
 use crate::filling::{high_variable, low_variable};
 use row_kit::Domain;
 use simplex_steps::{Dictionary, ONE, OutOfRange, lowered, numbered, put_last, wide};

@@ -1,3 +1,4 @@
+//! Where a bound stands.
 use crate::filling::{add_row, high_variable, low_variable};
 use crate::scales::Scales;
 use row_kit::{Domain, Program};

@@ -1,3 +1,4 @@
+//! The rows that a bound breaks.
 use crate::amounts::Amount;
 use crate::filling::{add_row, least_amount, slack_variable};
 use crate::scales::Scales;

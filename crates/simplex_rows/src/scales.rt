@@ -1,3 +1,4 @@
+//! The powers of two that bring rows and profits near 1.
 ghost use Rattle.std.specs.Prelude.{◌<◌};
 
 use row_kit::{Domain, Entry, Program};

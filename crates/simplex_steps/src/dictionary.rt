@@ -1,3 +1,4 @@
+//! The dictionary of the simplex: its lines and columns.
 use crate::reserved::{fill, numbered, put_last};
 use std::alloc::{AllocError, Global};
 

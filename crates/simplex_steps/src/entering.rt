@@ -1,3 +1,4 @@
+//! Which variable enters where a line is mended.
 use crate::dictionary::{Column, Dictionary};
 use crate::leaving::Broken;
 use crate::number::{OutOfRange, TINY, over, times};

@@ -1,3 +1,4 @@
+//! Which line is mended next.
 use crate::dictionary::{Dictionary, Line};
 use crate::number::TINY;
 

@@ -1,3 +1,4 @@
+//! Numbers with 30 bits of fraction.
 ghost use Rattle.std.specs.Prelude.{◌≡◌, ◌≤◌, ◌^◌, ◌*ℤ◌, unsigned_abs, IfOk};
 
 /// A number would leave the range of the fixed point, 2 to the power 30 in absolute value.

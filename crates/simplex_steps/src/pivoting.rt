@@ -1,3 +1,4 @@
+//! The exchange of a line and a column.
 use crate::dictionary::{Column, Dictionary, Line, Place, Share};
 use crate::number::{ONE, OutOfRange, cleaned, less_times, over};
 use crate::reserved::{at, numbered, put, put_last};

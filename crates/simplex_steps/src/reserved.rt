@@ -1,3 +1,4 @@
+//! Lists that have their room before.
 ghost use Rattle.std.specs.Prelude.{◌≡◌, ◌≤◌, ◌⊎◌, [], ◌∷◌, ◌++◌};
 
 /// Puts an item at the end where there is room, and else drops it. It takes no memory.

@@ -1,3 +1,4 @@
+//! A step of the dual simplex.
 use crate::dictionary::{Column, Dictionary};
 use crate::entering::{Entering, choose};
 use crate::leaving::{Broken, most_broken};

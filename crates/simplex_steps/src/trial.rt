@@ -1,3 +1,4 @@
+//! A trial bound of one side of a split.
 use crate::dictionary::{Dictionary, Line, Place};
 use crate::lines::put_line;
 use crate::number::{OutOfRange, difference};

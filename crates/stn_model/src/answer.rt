@@ -1,3 +1,4 @@
+//! What planning answers.
 use crate::list::List;
 use crate::start::Start;
 

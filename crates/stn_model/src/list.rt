@@ -1,3 +1,4 @@
+//! Lists that a contract sees as the list of their items.
 ghost use Rattle.std.specs.Prelude.{◌≡◌, ◌<◌, ◌++◌, ◌∷◌, [], length, slice_index_or, OnOk, OnErr, IsTrue, ◌↔◌};
 
 use std::alloc::{AllocError, Global};

@@ -1,3 +1,5 @@
+//! The start of a batch.
+
 /// The start of a batch: a task on a unit in a period. A plan is any list of starts.
 #[derive(Clone, Copy, Debug, PartialEq, Eq)]
 pub struct Start {

@@ -1,3 +1,5 @@
+//! What a plan breaks.
+
 /// What a plan breaks. Places in the plan count from 0.
 #[derive(Clone, Copy, Debug, PartialEq, Eq)]
 pub enum Violation {

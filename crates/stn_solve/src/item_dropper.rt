@@ -1,3 +1,4 @@
+//! A taker that keeps nothing.
 use proof_tree::{Item, NodeTaker, TakeStop};
 use row_relax::Rows;
 

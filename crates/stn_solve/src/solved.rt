@@ -1,3 +1,4 @@
+//! An outcome with its proof and its claim.
 use proof_log::Claim;
 use row_relax::RowProof;
 use stn_model::Outcome;

@@ -1,3 +1,4 @@
+//! The sums that a search splits on.
 ghost use Rattle.std.specs.Prelude.{◌≡◌, ◌+◌, ◌*◌, ◌≤◌, length, IfOk};
 ghost use Rattle.std.specs.List.{All};
 ghost use Rattle.sum_slots.specs.Shown.{IsShown};

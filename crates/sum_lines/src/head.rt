@@ -1,3 +1,4 @@
+//! Heads of logs, and what stands at the front of one.
 use proof_log::Defect;
 use row_kit::List;
 use sum_slots::Sum;

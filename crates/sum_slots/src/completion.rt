@@ -1,3 +1,4 @@
+//! Points with the values of sums.
 ghost use Rattle.std.specs.Prelude.{◌≡◌, ◌≤◌, length, unsigned_abs, IfOk};
 ghost use Rattle.std.specs.List.{All};
 ghost use Rattle.sum_slots.specs.Larger.{completed};

@@ -1,3 +1,4 @@
+//! What terms count over domains.
 ghost use Rattle.std.specs.Prelude.{◌≡◌, ◌*◌, ◌≤◌, ◌^◌, length, map, pos, ◌*ℤ◌, unsigned_abs};
 ghost use Rattle.row_kit.specs.Bounds.{AreBounded};
 ghost use Rattle.row_kit.specs.Row.{counted, entries_sum};

@@ -1,3 +1,4 @@
+//! The program with a slot for each sum.
 ghost use Rattle.std.specs.Prelude.{◌≡◌, ◌+◌, ◌*◌, ◌≤◌, ◌++◌, length, map, IfOk};
 ghost use Rattle.std.specs.List.{All};
 ghost use Rattle.sum_slots.specs.Larger.{IsWithSums, sum_domain};

@@ -1,3 +1,4 @@
+//! The law of programs with sums.
 ghost use Rattle.sum_slots.specs.Law.{SumsLaw};
 
 /// Where each declared sum is shown by domains in which the points lie, a point of the larger program is lawful exactly where it is a lawful point of the given

@@ -1,3 +1,4 @@
+//! Rows whose entries are a multiple of a sum's terms.
 ghost use Rattle.std.specs.Prelude.{◌≡◌, ◌*◌, ◌≤◌, ◌^◌, false, map, pos, ◌*ℤ◌, unsigned_abs, IfSome};
 ghost use Rattle.std.specs.List.{All};
 ghost use Rattle.std.specs.Ordering.{int_eq};

@@ -1,3 +1,4 @@
+//! Whether the values of a sum are shown to lie in a byte.
 ghost use Rattle.std.specs.Prelude.{◌≡◌, ◌≤◌, ◌^◌, ◌↔◌, false, length, map, pos, neg_ℤ, ◌≤ℤ◌, unsigned_abs, IsTrue, IfSome, MatchOption};
 ghost use Rattle.std.specs.List.{All};
 ghost use Rattle.row_kit.specs.Bounds.{AreBounded};

@@ -1,3 +1,4 @@
+//! Declared sums.
 use row_kit::{Entry, List};
 
 /// A declared sum. Its value at a point is the whole quotient of its offset plus what its terms count by its width. That the

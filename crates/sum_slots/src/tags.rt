@@ -1,3 +1,4 @@
+//! The lane of the slots of sums.
 ghost use Rattle.std.specs.Prelude.{◌≡◌, ◌≤◌, ◌==◌, ◌++◌, length, map, OnOk};
 ghost use Rattle.std.specs.List.{All, list_any};
 ghost use Rattle.sum_slots.specs.Larger.{sum_tag};

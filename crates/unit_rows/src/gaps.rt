@@ -1,3 +1,4 @@
+//! The gap rows of units.
 ghost use Rattle.std.specs.Prelude.{◌≡◌, ◌<◌, ◌^◌, ◌++◌, length, map, take, IfOk, OnOk, OnErr};
 ghost use Rattle.stn_model.specs.Sound.{Sound};
 ghost use Rattle.stn_model.specs.Plant.{run_at};

@@ -1,3 +1,4 @@
+//! Slots of a unit.
 ghost use Rattle.std.specs.Prelude.{◌≡◌, ◌<◌, ◌^◌, length};
 ghost use Rattle.stn_model.specs.Sound.{Sound};
 ghost use Rattle.unit_rows.specs.Busy.{slot_end, is_on};

@@ -1,3 +1,4 @@
+//! The load rows of utilities.
 ghost use Rattle.std.specs.Prelude.{◌≡◌, ◌≤◌, ◌<◌, ◌++◌, pos, length, map, slice_index, IfOk, OnOk, OnErr};
 ghost use Rattle.stn_model.specs.Sound.{Sound};
 ghost use Rattle.stn_model.specs.Plant.{utility_at};

@@ -1,3 +1,4 @@
+//! What no plan of a plant earns more than, by a proof for another one.
 ghost use Rattle.std.specs.Prelude.{◌≡◌, ◌↔◌, ◌+◌, ◌*◌, ◌≤◌, length, IsTrue, IfOk};
 ghost use Rattle.std.specs.List.{All};
 ghost use Rattle.stn_model.specs.Sound.{Sound};

@@ -1,3 +1,4 @@
+//! The loose cap of a proof, over rows that may be others.
 ghost use Rattle.std.specs.Prelude.{◌≡◌, ◌≢◌, [], map, None, false};
 ghost use Rattle.row_kit.specs.Point.{IsLawful, worth_of};
 ghost use Rattle.proof_tree.specs.declared.capped.Capped.TheVariants.{Bad};

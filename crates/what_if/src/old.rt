@@ -1,3 +1,4 @@
+//! An old log, valid or not.
 use proof_log::{Claim, Defect};
 use row_kit::List;
 use row_relax::RowProof;

@@ -1,3 +1,4 @@
+//! A plant with other limits of one state.
 ghost use Rattle.std.specs.Prelude.{◌≡◌, ℕ, ℤ, ◌<◌, ◌++◌, length, map, IfOk, OnOk, OnErr};
 ghost use Rattle.stn_model.specs.declared.plant.Plant.{Plant};
 ghost use Rattle.stn_model.specs.Sound.{Sound};
