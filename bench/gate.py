@@ -85,6 +85,30 @@ def table(taken, markdown):
     return lines
 
 
+def below(path=os.path.join(top, "crates.txt")):
+    """What each crate of the repository stands on, of those that are the repository's own."""
+    found = {}
+    with open(path) as it:
+        for line in it:
+            name, colon, rest = line.split("#")[0].partition(":")
+            if colon:
+                found[name.split()[0]] = rest.split()
+    return {name: [it for it in names if it in found] for name, names in found.items()}
+
+
+def longest_chain(taken):
+    """The crates that have to be proved one after another and take longest, lowest first, and their processor seconds."""
+    stands_on, known = below(), {}
+
+    def chain(name):
+        if name not in known:
+            rest = max((chain(it) for it in stands_on[name]), key=lambda it: it[0], default=(0.0, []))
+            known[name] = (rest[0] + taken.get((name, "proof"), 0.0), [*rest[1], name])
+        return known[name]
+
+    return max((chain(name) for name in stands_on), key=lambda it: it[0], default=(0.0, []))
+
+
 def note(taken, greatest, file):
     """Writes what each crate has taken so far, as a whole. The sums never fall, also where they are read while they are made anew."""
     sums = {}
@@ -125,6 +149,8 @@ def main():
     done.set()
     watcher.join()
     print("\n".join(table(taken, "--markdown" in sys.argv)))
+    seconds, names = longest_chain(taken)
+    print(f"\nthe longest chain, {seconds / 60:.1f} minutes of proofs: {', '.join(names)}")
     minutes = (time.monotonic() - begun) / 60
     whole = sum(taken.values()) / 60
     print(f"\n{last}; {minutes:.0f} minutes on the clock, {whole:.0f} of processor time, {os.cpu_count()} processors")
