@@ -59,7 +59,8 @@ def watch(root, taken, done):
     while not done.is_set():
         now = children_of(root)
         for pid, (parent, used) in now.items():
-            if pid not in kinds:
+            # (a process that was seen before it became the prover is looked at again)
+            if not kinds.get(pid):
                 kinds[pid] = kind_of(pid)
             if kinds[pid] and kinds.get(parent) is None:
                 seconds[pid] = max(seconds.get(pid, 0.0), used)
