@@ -1,4 +1,5 @@
 """What the program answered, as objects. Profits and caps are in money units of the plant."""
+import csv
 from dataclasses import dataclass, field
 from pathlib import Path
 
@@ -112,6 +113,37 @@ class Standing:
         if words[0] == "feasible":
             return cls(True, int(words[1]))
         return None if words[0] == "-" else cls(False, None, words[1], places(words[2:]), sentence)
+
+
+@dataclass
+class Violation:
+    """One line of `violations`.
+
+    kind: `unfit`, `busy`, `gap`, `stock-low`, `stock-high` or `load`.
+    places: as of `Standing`; behind the place of `unfit` the cause: `run`, `size`, `horizon` or `outage`.
+    by: by how many periods, mass units or units of a utility, where that is told.
+    """
+
+    kind: str
+    places: list[int | str]
+    by: int | None = None
+
+    @classmethod
+    def of(cls, words):
+        """The violation of a line's words."""
+        if words[-2] == "by":
+            return cls(words[0], places(words[1:-2]), int(words[-1]))
+        return cls(words[0], places(words[1:]))
+
+
+def rows(text):
+    """The lines of a table of comma-separated values, as dictionaries by its head."""
+    return [{key: cell(value) for key, value in row.items()} for row in csv.DictReader(text.splitlines())]
+
+
+def cell(text):
+    """What a cell of a table holds: a name begins with a letter, a number does not, and nothing may stand there."""
+    return None if text == "" else text if text[0].isalpha() else int(text)
 
 
 @dataclass

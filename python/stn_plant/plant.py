@@ -8,7 +8,7 @@ from dataclasses import dataclass, field
 from pathlib import Path
 
 from . import slices, toml_text
-from .answers import Claim, Least, Picture, Report, Solution, Standing, Tank
+from .answers import Claim, Least, Picture, Report, Solution, Standing, Tank, Violation, rows
 from .asking import Question, logs_of
 from .errors import StnError
 from .files import Log, look_for_room, write_whole
@@ -263,6 +263,19 @@ class Plant:
             words = ["simulate", "plant.toml", question.plan(plan)]
             ran = question.ask(*words, no=True)
             return Standing.of(ran.lines()[0].split(" "), question.said(ran, words).text if ran.status else "")
+
+    def violations(self, plan, timeout=None):
+        """Everything that a plan breaks, in the order in which `simulate` looks: none where it is feasible."""
+        with Question(self, timeout) as question:
+            lines = question.ask("violations", "plant.toml", question.plan(plan), no=True).lines()
+            return [Violation.of(it.split(" ")) for it in lines[1:]]
+
+    def table(self, plan, table="batches", timeout=None):
+        """A table of a feasible plan, `batches`, `stocks`, `loads`, `units` or `deliveries`: a dictionary for each line, by its head,
+        of names and whole numbers, and None where nothing stands."""
+        with Question(self, timeout) as question:
+            words = [] if table == "batches" else [table]
+            return rows(question.ask("table", "plant.toml", question.plan(plan), *words).out)
 
     def report(self, plan, timeout=None):
         """Shows a feasible plan: a chart of units, stocks, loads and profit."""

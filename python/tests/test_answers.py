@@ -5,7 +5,7 @@ from pathlib import Path
 
 from stn_plant import (Batch, BrokenPlan, Draw, Gap, Input, InvalidLog, Log, NotInstalled, Outage, Plan, Plant, Refused, Run,
                        State, StnError, Task, Unit, Utility)
-from stn_plant.answers import Claim, Report, Solution
+from stn_plant.answers import Claim, Report, Solution, Violation, rows
 from tests.here import EXAMPLES, has, needs_program
 
 TINY = [(0, "U", "make", 3), (1, "U", "make", 3)]
@@ -33,6 +33,17 @@ class Texts(unittest.TestCase):
                 "profit -3\n")
         found = Report.of(text)
         self.assertEqual((found.profit, found.stocks, found.loads), (-3, {"a": [4, 0], "b": [0, 4]}, {"w": [7]}))
+
+    def test_a_violation(self):
+        self.assertEqual(Violation.of("unfit 2 size".split(" ")), Violation("unfit", [2, "size"]))
+        self.assertEqual(Violation.of("gap 1 3 by 2".split(" ")), Violation("gap", [1, 3], 2))
+        self.assertEqual(Violation.of("stock-low feed 0 by 4".split(" ")), Violation("stock-low", ["feed", 0], 4))
+
+    def test_a_table(self):
+        text = "state,time,stock,limit,receipt,delivery\noil,0,-4,,0,0\noil,1,6,9,10,0\n"
+        self.assertEqual(rows(text)[0], {"state": "oil", "time": 0, "stock": -4, "limit": None, "receipt": 0, "delivery": 0})
+        self.assertEqual(rows(text)[1]["limit"], 9)
+        self.assertEqual(rows("delivery,state,time,amount,payment,stock\n"), [])
 
     def test_a_plan(self):
         plan = Plan.of("# optimal 60\n# boxes 1\n0 U make 3\n1 U make 3\n")
@@ -93,6 +104,11 @@ class Asking(unittest.TestCase):
     def test_a_plan(self):
         self.assertEqual(self.tiny.simulate(TINY).profit, 60)
         standing = self.tiny.simulate([(0, "U", "make", 4)])
+        twice = [(0, "U", "make", 3), (0, "U", "make", 4)]
+        self.assertEqual(self.tiny.violations(twice)[:3],
+                         [Violation("unfit", [2, "size"]), Violation("busy", [1, 2]), Violation("stock-low", ["feed", 0], 2)])
+        with self.assertRaises(BrokenPlan):
+            self.tiny.table(twice)
         self.assertFalse(standing)
         self.assertEqual((standing.kind, standing.places), ("unfit", [1]))
         self.assertTrue(standing.sentence)
@@ -104,6 +120,10 @@ class Asking(unittest.TestCase):
     def test_planning_on(self):
         five, plan = Plant.read(EXAMPLES / "five.toml"), EXAMPLES / "five.plan"
         self.assertEqual(five.simulate(plan).profit, 854)
+        self.assertEqual(five.violations(plan), [])
+        self.assertEqual(five.table(plan)[0], {"unit": "heater", "task": "heat", "start": 1, "end": 2, "quanta": 4, "mass": 40, "cost": 0,
+                                               "changeover": 0})
+        self.assertEqual([it["running"] for it in five.table(plan, "units")], [1, 5, 0, 2])
         answer = five.replan(plan, 3, boxes=2000)
         self.assertEqual((answer.status, answer.profit), ("optimal", 1248))
         self.assertEqual(five.check_replan(plan, 3, answer.log).profit, 1248)
