@@ -28,7 +28,8 @@ use Rattle.valid_log.specs.Claims.{Says}
 use Rattle.log_parts.specs.declared.joins.Joined.{Joined}
 use Rattle.log_parts.specs.declared.joins.Joined.TheVariants.{Done, No}
 use Rattle.log_parts.specs.Joining.{IsJoined}
-use Rattle.log_parts.specs.PartLogs.{IsPartProgram, IsJoinedLog, IsJoining, IsJoiningIn, IsJoinBegun, LeavesJoin, AllAreValid, JoinSays, IsNo, logs_of, no_tree, tree_over}
+use Rattle.plant_parts.specs.PlantParts.{IsPartProgram}
+use Rattle.log_parts.specs.PartLogs.{IsJoinedLog, IsJoining, IsJoiningIn, IsJoinBegun, LeavesJoin, AllAreValid, JoinSays, IsNo, logs_of, no_tree, tree_over}
 use Rattle.log_parts.specs.laws.Checked.{HaveClaims, MayDeclare}
 use Rattle.log_parts.specs.laws.Copying.{part_limits, front_text, joined_text, AreLogsOf, HasWritten, HasLeft, IsClaim, IsFit}
 use Rattle.log_parts.proofs.JoinedValid.{AllTrees, joined_fit, joined_log}

@@ -18,9 +18,9 @@ use Rattle.proof_log.specs.declared.claim.Claim.TheVariants.{Optimal, Infeasible
 use Rattle.proof_log.specs.ClaimSays.{HasWorth, NoneAbove}
 use Rattle.valid_log.specs.Claims.{SaysOf, Says}
 use Rattle.log_parts.specs.declared.joining.ClaimedPlan.{ClaimedPlan}
-use Rattle.log_parts.specs.PlantParts.{IsOfPart}
+use Rattle.plant_parts.specs.PlantParts.{IsOfPart}
 use Rattle.log_parts.specs.Joining.{plan_of, cap_of, EarnsAtMost, EarnsBelow, IsCapped, IsBestOf, IsGreatestCap, IsBestPlan, IsBestCap, claim_with, IsJoined, EachSays, better, greater}
-use Rattle.log_parts.proofs.Meaning.{of-some}
+use Rattle.plant_parts.proofs.Meaning.{of-some}
 
 -- what holds of both numbers of a test holds of the one that it takes
 pub by-less : {X : Type 0} (a b : ℤ) (P : X → Type 0) (x y : X) → (a <ℤ b → P x) → (b ≤ℤ a → P y) → P (if int_lt a b then x else y)

@@ -61,15 +61,15 @@ use Rattle.valid_log.proofs.Saying.{of_plant}
 use Rattle.log_parts.specs.declared.joining.ClaimedPlan.{ClaimedPlan}
 use Rattle.log_parts.specs.Joining.{plan_of, IsBestPlan, IsBestCap, IsJoined}
 use Rattle.log_parts.specs.PartLogs.{IsJoinedLog, IsPartLog, no_tree, tree_over}
-use Rattle.log_parts.specs.PlantParts.{IsOfPart, cut_root}
+use Rattle.plant_parts.specs.PlantParts.{IsOfPart, cut_root}
 use Rattle.log_parts.specs.laws.Checked.{MayDeclare}
 use Rattle.log_parts.specs.laws.Copying.{IsFit, IsPointed}
-use Rattle.log_parts.proofs.Cutting.{AreFirstOfSlots, AreOfSlots, IsOfSlot, length-cut}
+use Rattle.plant_parts.proofs.Cutting.{AreFirstOfSlots, AreOfSlots, IsOfSlot, length-cut}
 use Rattle.log_parts.proofs.FinePoints.{fine-item, fine-whole}
 use Rattle.log_parts.proofs.JoinedClaims.{joined-says}
 use Rattle.log_parts.proofs.JoinedSound.{HasNoDefect, IsNotAbove, AllowsNone, IsCappedBy, greater-real, greater-not_above, greater-allows_none, plan-fine, capped-fine, no_cap-none, best-place, with-sound}
 use Rattle.log_parts.proofs.JoinedTexts.{IsWrittenItem, IsWrittenClaim, IsWrittenLog, IsWrittenPlan, over-lead, part-lead, log-written, node-written, split-written, plan-written, cap-written, with-written, log-over, text-clean}
-use Rattle.log_parts.proofs.Meaning.{part-exact, plant-slots}
+use Rattle.plant_parts.proofs.Meaning.{part-exact, plant-slots}
 use Rattle.log_parts.proofs.LargerClaims.{claim-at, fine-pointed, given-larger, joined-larger, joined-pointed, larger-none, own-larger}
 use Rattle.log_parts.proofs.PartCaps.{IsPart, cap-same, lawful-part}
 use Rattle.log_parts.proofs.PartSums.{larger-whole, none-enlarged, part-larger, root-larger, shown-same}

@@ -1,7 +1,4 @@
-pub mod Digits
-pub mod Cutting
 pub mod JoinedClaims
-pub mod Meaning
 pub mod PartCaps
 pub mod FinePoints
 pub mod RootSplits

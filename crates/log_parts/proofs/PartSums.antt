@@ -22,8 +22,8 @@ use Rattle.sum_slots.specs.Law.{IsSameWithSums}
 use Rattle.sum_slots.specs.Shown.{IsShown, most_by_row, most_count, opposites, value_up_to}
 use Rattle.sum_slots.specs.Sum.{IsByte, value_at}
 use Rattle.sum_slots.proofs.Joined.{All-second}
-use Rattle.log_parts.specs.PlantParts.{cut_domain, cut_root}
-use Rattle.log_parts.proofs.Cutting.{cut-at, cut-rest, length-cut}
+use Rattle.plant_parts.specs.PlantParts.{cut_domain, cut_root}
+use Rattle.plant_parts.proofs.Cutting.{cut-at, cut-rest, length-cut}
 use Rattle.log_parts.proofs.PartCaps.{IsPart, lawful-part}
 
 -- ---- what is shown, by the rows alone

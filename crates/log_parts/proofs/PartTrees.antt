@@ -25,7 +25,8 @@ use Rattle.valid_log.specs.declared.verdict.LogVerdict.TheVariants.{Yes, No}
 use Rattle.valid_log.specs.Verdict.{IsLog, IsSoundLog, IsValid, IsVerdict, IsVerdictGiven, limits_of}
 use Rattle.valid_log.specs.AnyVersion.{IsFrontVerdict, front_bytes, front_sums, given_claim, given_verdict, limits_with}
 use Rattle.valid_log.proofs.LogFronts.{limits_same}
-use Rattle.log_parts.specs.PartLogs.{IsPartLog, IsPartProgram}
+use Rattle.plant_parts.specs.PlantParts.{IsPartProgram}
+use Rattle.log_parts.specs.PartLogs.{IsPartLog}
 use Rattle.log_parts.specs.laws.Checked.{IsClear, IsFoundLog}
 use Rattle.log_parts.proofs.OneFront.{front_at, fronts_same}
 use Rattle.log_parts.proofs.PartSums.{none-enlarged}

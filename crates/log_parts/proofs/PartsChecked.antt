@@ -39,9 +39,9 @@ use Rattle.log_parts.specs.declared.fronts.PartCheck.TheVariants as check
 use Rattle.log_parts.specs.Joining.{EachSays}
 use Rattle.log_parts.specs.OtherSums.{IsOtherSums}
 use Rattle.log_parts.specs.laws.Checked.{AreChecked, AreSumsOf, HaveClaims, IsClear, IsCompared, IsDeclaredBy, IsFoundLog, IsOtherFront, IsPartCheck, MayBeDeclared, MayDeclare, PartSays, head_limits}
-use Rattle.log_parts.specs.PartLogs.{AreValid, IsPartProgram, IsPartVerdict, IsRefused, IsValidPart, logs_of}
-use Rattle.log_parts.specs.PlantParts.{IsOfPart, part_root}
-use Rattle.log_parts.proofs.Cutting.{length-cut}
+use Rattle.log_parts.specs.PartLogs.{AreValid, IsPartVerdict, IsRefused, IsValidPart, logs_of}
+use Rattle.plant_parts.specs.PlantParts.{IsOfPart, part_root, IsPartProgram}
+use Rattle.plant_parts.proofs.Cutting.{length-cut}
 use Rattle.log_parts.proofs.OneFront.{fronts_same}
 use Rattle.log_parts.proofs.PartTrees.{part_tree}
 

@@ -22,10 +22,10 @@ use Rattle.row_relax.specs.RowProofs.{RowItem, RowTree}
 use Rattle.row_relax.specs.Steps.{row_steps, shown_if}
 use Rattle.row_relax.specs.View.{domains_of, view_of}
 use Rattle.row_relax.specs.laws.Shown.{domains_of-view_of}
-use Rattle.log_parts.specs.PlantParts.{digit, kept_off, kept_on, cut_domain, cut_root}
+use Rattle.plant_parts.specs.PlantParts.{digit, kept_off, kept_on, cut_domain, cut_root}
 use Rattle.log_parts.specs.PartLogs.{no_mults, no_tree, tree_over}
-use Rattle.log_parts.proofs.Cutting.{IsOfSlot, AreFirstOfSlots, cut-off, cut-on, cut-rest, length-cut, cut-at}
-use Rattle.log_parts.proofs.Digits.{digit-half, digit-last}
+use Rattle.plant_parts.proofs.Cutting.{IsOfSlot, AreFirstOfSlots, cut-off, cut-on, cut-rest, length-cut, cut-at}
+use Rattle.plant_parts.proofs.Digits.{digit-half, digit-last}
 
 -- ---- the two sides of a split at 0
 

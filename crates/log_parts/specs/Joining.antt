@@ -6,7 +6,7 @@ use Rattle.proof_log.specs.declared.claim.Claim.{Claim}
 use Rattle.proof_log.specs.declared.claim.Claim.TheVariants.{Optimal, Infeasible, Between, Below}
 use Rattle.valid_log.specs.Claims.{SaysOf}
 use Rattle.log_parts.specs.declared.joining.ClaimedPlan.{ClaimedPlan}
-use Rattle.log_parts.specs.PlantParts.{IsOfPart}
+use Rattle.plant_parts.specs.PlantParts.{IsOfPart}
 
 -- the plan of a claim: its profit, and its values
 abbrev pub plan_of : Claim → Option ClaimedPlan

@@ -1,5 +1,4 @@
 pub mod Joining
-pub mod PlantParts
 pub mod OtherSums
 pub mod PartLogs
 pub mod laws

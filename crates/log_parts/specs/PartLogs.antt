@@ -6,7 +6,6 @@ use Rattle.row_kit.specs.declared.program.Program.{Program}
 use Rattle.dual_bound.specs.declared.cert.Cert.{Cert}
 use Rattle.proof_tree.specs.Tree.{leaf, split, no_point}
 use Rattle.row_relax.specs.RowProofs.{RowTree}
-use Rattle.row_set.specs.Parts.{IsPartOf}
 use Rattle.row_set.specs.PlantProgram.{plant_root}
 use Rattle.proof_log.specs.declared.claim.Claim.{Claim}
 use Rattle.proof_log.specs.declared.claim.Claim.TheVariants.{Infeasible}
@@ -23,12 +22,7 @@ use Rattle.log_parts.specs.declared.joins.Joined.{Joined}
 use Rattle.log_parts.specs.declared.joins.Joined.TheVariants.{Done, No}
 use Rattle.log_parts.specs.Joining.{IsJoined}
 use Rattle.log_parts.specs.OtherSums.{IsOtherSums}
-use Rattle.log_parts.specs.PlantParts.{part_root}
-
--- the program is that of a part of the plant
-pub record IsPartProgram (plant : Plant) (levels part : ℕ) (program : Program) : Type 0 where
-  pub is_part : IsPartOf plant program
-  pub root : program.root ≡ part_root plant levels part
+use Rattle.plant_parts.specs.PlantParts.{IsPartProgram}
 
 -- the verdict is right on the log of a part, of any version, in which at most 4,608 splits less one for each level may be open
 pub record IsPartVerdict (plant : Plant) (levels part : ℕ) (bytes : List ℕ) (said : LogVerdict) : Type 0 where

@@ -11,10 +11,10 @@ ghost use Rattle.log_parts.specs.PartLogs.{logs_of};
 ghost use Rattle.log_parts.specs.laws.Checked.{AreChecked, AllSay, AreSumsOf, IsPartCheck, MayBeDeclared, MayDeclare, PartSays};
 
 use crate::fronts::{Declared, PartCheck, compared, sums_of};
-use crate::parting::part_rows;
 use log_check::CheckStop;
 use log_lines::Limits;
 use plant_check::{MOST_DEPTH, check_part};
+use plant_parts::part_rows;
 use proof_log::{Claim, Defect, log_name};
 use row_kit::{List, Program};
 use std::alloc::{AllocError, Global};

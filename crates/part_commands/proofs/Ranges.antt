@@ -8,7 +8,7 @@ use Rattle.std.proofs.lemmas.List.Concat.{flat_map-append}
 use Rattle.time_grid.specs.Slots.{slots}
 use Rattle.stn_model.specs.declared.plant.Plant.{Plant}
 use Rattle.part_commands.specs.Parting.{slot_line, slot_lines, digit_word, digit_words, part_line, part_lines}
-use Rattle.log_parts.specs.PlantParts.{digit}
+use Rattle.plant_parts.specs.PlantParts.{digit}
 
 -- one number more
 range_more : (f : ℕ → List ℕ) (n : ℕ) → flat_map f (range_with_len 0 (n + 1)) ≡ flat_map f (range_with_len 0 n) ++ f n

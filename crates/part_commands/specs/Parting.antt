@@ -4,7 +4,7 @@ use Rattle.std.specs.List.{flat_map, range_with_len}
 use Rattle.stn_model.specs.declared.plant.Plant.{Plant}
 use Rattle.stn_model.specs.Plant.{run_at, task_at, unit_at}
 use Rattle.time_grid.specs.Slots.{slots}
-use Rattle.log_parts.specs.PlantParts.{digit}
+use Rattle.plant_parts.specs.PlantParts.{digit}
 use Rattle.answer_texts.specs.Levels.{OnLevels}
 
 -- the line on a slot: its number, the names of its unit and its task, and its period

@@ -19,7 +19,7 @@ ghost use Rattle.part_commands.specs.Parting.{
 use answer_texts::{has_slots, refused_levels};
 use command_replies::{Reply, Stopped, plant_in};
 use command_words::{Levels, part_count};
-use log_parts::digit;
+use plant_parts::digit;
 use std::alloc::{AllocError, Global};
 use stn_edge::Shelf;
 use stn_model::Plant;

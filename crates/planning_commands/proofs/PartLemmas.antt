@@ -17,7 +17,7 @@ use Rattle.row_set.specs.PlantProgram.{slot_domain}
 use Rattle.branch_tree.specs.Searched.{spared}
 use Rattle.plan_told.specs.Outcomes.{IsPartOutcome, least_plan, whole_count}
 use Rattle.plan_told.specs.Proofs.{HasProof, depth_over, claim_of}
-use Rattle.log_parts.specs.PlantParts.{digit, cut_domain, cut_root, part_root, IsOfPart}
+use Rattle.plant_parts.specs.PlantParts.{digit, cut_domain, cut_root, part_root, IsOfPart}
 use Rattle.command_replies.specs.declared.reply.Reply.{Reply}
 use Rattle.answer_texts.specs.Planning.{Planned}
 use Rattle.planning_commands.specs.PartSolving.{HasPartProof, PartSolved}

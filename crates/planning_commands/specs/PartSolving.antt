@@ -11,8 +11,7 @@ use Rattle.valid_log.specs.declared.verdict.LogVerdict.TheVariants.{Yes}
 use Rattle.valid_log.specs.PlantLogs.{IsPlantVerdict}
 use Rattle.plan_told.specs.Outcomes.{least_plan, whole_count}
 use Rattle.plan_told.specs.Proofs.{HasProof, claim_of}
-use Rattle.log_parts.specs.PartLogs.{IsPartProgram}
-use Rattle.log_parts.specs.PlantParts.{IsOfPart}
+use Rattle.plant_parts.specs.PlantParts.{IsOfPart, IsPartProgram}
 use Rattle.command_replies.specs.Sources.{IsReadOf}
 use Rattle.answer_texts.specs.Planning.{Planned}
 use Rattle.planning_commands.specs.Replanning.{LeavesLog}

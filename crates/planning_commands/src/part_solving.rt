@@ -16,7 +16,7 @@ use crate::replanning::log_part;
 use answer_texts::{has_slots, refused_levels};
 use command_replies::{Reply, Stopped, plant_in};
 use command_words::{Budget, Part};
-use log_parts::part_rows;
+use plant_parts::part_rows;
 use std::alloc::Global;
 use stn_edge::Shelf;
 use stn_model::Plant;

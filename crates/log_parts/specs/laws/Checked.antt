@@ -26,8 +26,8 @@ use Rattle.log_parts.specs.declared.fronts.PartCheck.TheVariants as check
 use Rattle.valid_log.specs.Claims.{SaysOf}
 use Rattle.log_parts.specs.Joining.{EachSays}
 use Rattle.log_parts.specs.OtherSums.{IsOtherSums}
-use Rattle.log_parts.specs.PartLogs.{AreValid, IsPartProgram, IsPartVerdict, IsRefused}
-use Rattle.log_parts.specs.PlantParts.{IsOfPart}
+use Rattle.log_parts.specs.PartLogs.{AreValid, IsPartVerdict, IsRefused}
+use Rattle.plant_parts.specs.PlantParts.{IsOfPart, IsPartProgram}
 
 -- the limits of the heads of the logs of a plant's parts
 abbrev pub head_limits : Plant → ℕ → Limits

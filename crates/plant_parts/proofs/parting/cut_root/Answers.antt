@@ -1,7 +1,7 @@
 -- One more domain, and all.
 use Rattle.std.proofs.Common.{◌≡◌, ◌<◌, ◌∙◌, length, arith}
-use Rattle.log_parts.proofs.Cutting.{cut-next, cut-all}
-use Rattle.log_parts.proofs.parting.cut_root.Goals as goal
+use Rattle.plant_parts.proofs.Cutting.{cut-next, cut-all}
+use Rattle.plant_parts.proofs.parting.cut_root.Goals as goal
 
 pub loop-place-preserved : goal.loop-place-preserved
 loop-place-preserved c =

@@ -6,7 +6,7 @@ ghost use Rattle.stn_model.specs.Feasible.{Feasible};
 ghost use Rattle.stn_model.specs.Sound.{Sound};
 ghost use Rattle.time_grid.specs.Slots.{slots};
 ghost use Rattle.row_set.specs.Parts.{IsPartOf, IsAdmitted};
-ghost use Rattle.log_parts.specs.PlantParts.{digit, cut_domain, cut_root, part_root, IsOfPart, IsOfSomePart};
+ghost use Rattle.plant_parts.specs.PlantParts.{digit, cut_domain, cut_root, part_root, IsOfPart, IsOfSomePart};
 
 use row_kit::{Domain, List};
 use row_relax::Rows;

@@ -1,8 +1,8 @@
 -- The plant's program with the root of a part.
 use Rattle.std.proofs.Common.{refl, ap, ◌∙◌}
-use Rattle.log_parts.specs.PlantParts.{cut_root}
-use Rattle.log_parts.proofs.Meaning.{part-bounds, part-part, part-exact}
-use Rattle.log_parts.proofs.parting.part_rows.Goals as goal
+use Rattle.plant_parts.specs.PlantParts.{cut_root}
+use Rattle.plant_parts.proofs.Meaning.{part-bounds, part-part, part-exact}
+use Rattle.plant_parts.proofs.parting.part_rows.Goals as goal
 
 pub invariant_of-program : goal.invariant_of-program
 invariant_of-program c =

@@ -4,7 +4,7 @@ use Rattle.std.specs.Prelude.{◌↔◌, nat_lt, if◌then◌else◌}
 use Rattle.std.proofs.lemmas.Bool.{cases_lt, cases_eq, lt-ltb, le-ltb}
 use Rattle.std.proofs.lemmas.Nat.{shr-shr, div-mul-add, mod-mul-add, mod_below}
 use Rattle.std.proofs.Math.Nat.{pow-suc}
-use Rattle.log_parts.specs.PlantParts.{digit}
+use Rattle.plant_parts.specs.PlantParts.{digit}
 
 pub digit-below : (levels part place : ℕ) → digit levels part place < 2
 digit-below levels part place = mod_below (part / 2 ^ (levels - 1 - place)) 2 (omega arith)

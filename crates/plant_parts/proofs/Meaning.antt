@@ -22,9 +22,9 @@ use Rattle.row_kit.specs.Point.{LiesIn}
 use Rattle.row_set.specs.Parts.{IsWithin, IsButRoot, IsPartOf, IsAdmitted}
 use Rattle.row_set.specs.PlantProgram.{slot_domain, IsMadeOf, IsProgramOf}
 use Rattle.row_set.proofs.Roots.{holds-of}
-use Rattle.log_parts.specs.PlantParts.{digit, cut_domain, cut_root, part_root, StartsIn, IsOfPart, IsOfSomePart}
-use Rattle.log_parts.proofs.Cutting.{AreOfSlots, IsOfSlot, length-cut, cut-at, cut-holds, holds-cut, root-normal, root-open, root-within}
-use Rattle.log_parts.proofs.Digits.{number_of, number-below, digit-number, same-number}
+use Rattle.plant_parts.specs.PlantParts.{digit, cut_domain, cut_root, part_root, StartsIn, IsOfPart, IsOfSomePart}
+use Rattle.plant_parts.proofs.Cutting.{AreOfSlots, IsOfSlot, length-cut, cut-at, cut-holds, holds-cut, root-normal, root-open, root-within}
+use Rattle.plant_parts.proofs.Digits.{number_of, number-below, digit-number, same-number}
 
 -- the domain of a slot in the plant
 own-at : (plant : Plant) (k : ℕ) → k < length (slots plant) → domain_at (map (slot_domain plant) (slots plant)) k ≡ slot_domain plant (get_or (slots plant) k (0, 0))

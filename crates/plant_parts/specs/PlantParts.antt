@@ -7,7 +7,9 @@ use Rattle.stn_model.specs.Feasible.{Feasible}
 use Rattle.time_grid.specs.Slots.{slots}
 use Rattle.time_grid.specs.PlanPoint.{quanta_in}
 use Rattle.row_kit.specs.declared.domain.Domain.{Domain}
+use Rattle.row_kit.specs.declared.program.Program.{Program}
 use Rattle.row_kit.specs.Domain.{domain_at}
+use Rattle.row_set.specs.Parts.{IsPartOf}
 use Rattle.row_set.specs.PlantProgram.{slot_domain}
 
 -- the binary digit of a part's number that stands for a slot: of so many levels the first slot's has the greatest weight
@@ -34,6 +36,11 @@ cut_root levels part whole = map (λ place. cut_domain levels part place (domain
 -- the root of a part of a plant
 abbrev pub part_root : Plant → ℕ → ℕ → List Domain
 part_root plant levels part = cut_root levels part (map (slot_domain plant) (slots plant))
+
+-- the program is that of a part of the plant
+pub record IsPartProgram (plant : Plant) (levels part : ℕ) (program : Program) : Type 0 where
+  pub is_part : IsPartOf plant program
+  pub root : program.root ≡ part_root plant levels part
 
 -- the plan starts a batch in the slot of this place
 abbrev pub StartsIn : Plant → List Start → ℕ → Type 0

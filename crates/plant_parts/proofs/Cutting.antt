@@ -8,8 +8,8 @@ use Rattle.std.proofs.lemmas.List.{get_or_default}
 use Rattle.row_kit.specs.declared.domain.Domain.{Domain}
 use Rattle.row_kit.specs.Domain.{Holds, IsNormal, IsOpen, domain_at, no_values}
 use Rattle.row_set.specs.Parts.{IsWithin}
-use Rattle.log_parts.specs.PlantParts.{digit, kept_off, kept_on, cut_domain, cut_root}
-use Rattle.log_parts.proofs.Digits.{digit-below}
+use Rattle.plant_parts.specs.PlantParts.{digit, kept_off, kept_on, cut_domain, cut_root}
+use Rattle.plant_parts.proofs.Digits.{digit-below}
 
 pub cut-off : (levels part place : ℕ) (own : Domain) → place < levels → digit levels part place ≡ 0 → cut_domain levels part place own ≡ kept_off
 cut-off levels part place own l e = cond-true _ _ _ (lt-ltb place levels l) ∙ cond-true _ _ _ (eq-eqb (digit levels part place) 0 e)
