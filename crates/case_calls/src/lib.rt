@@ -5,10 +5,10 @@
 #![tactic(auto)]
 
 pub mod calls;
+pub mod carrying;
 pub mod logs;
 pub mod no_answer;
 pub mod plans;
 pub mod programs;
 
-pub use calls::answer_call;
-pub use no_answer::NoAnswer;
+pub use carrying::carry_call;

@@ -7,14 +7,9 @@
 #![tactic(auto)]
 
 mod carrying;
-mod index;
-mod shelf;
-mod sink;
-mod trying;
-mod world;
 
-use crate::index::try_index;
-use crate::trying::Trials;
+use crate::carrying::Commands;
+use case_trials::{Trials, try_index};
 use std::process::ExitCode;
 use std::rt::{Env, Files};
 use std::{env, io};
@@ -31,7 +26,7 @@ fn main(rt: HostRuntime) -> ExitCode {
 fn try_all<R: AllocGlobal + Env + Files + Print>(rt: &R) -> io::Result<u64> {
     let mut trials = Trials::new(rt.alloc());
     take_names(rt, &mut trials)?;
-    try_index(rt, &mut trials)?;
+    try_index(rt, &Commands, &mut trials)?;
     let tried = trials.tried;
     let otherwise = trials.otherwise;
     if otherwise == 0 {

@@ -1,5 +1,5 @@
 //! Trying the cases of a file: the runs of each in turn, and what came otherwise.
-use crate::carrying::carry_out;
+use crate::carrier::Carrier;
 use crate::index::give_up;
 use case_book::{Book, Case, CaseFile, File, Step, Stop, Trial, Ways, read_cases};
 use std::alloc::Global;
@@ -42,21 +42,23 @@ impl Trials {
 }
 
 /// Tries the cases of a file, and prints a line for each that came as it says, and else what came.
-pub fn try_file<R: AllocGlobal + Print>(
+pub fn try_file<R: AllocGlobal + Print, C: Carrier>(
     rt: &R,
+    carrier: &C,
     trials: &mut Trials,
     name: &str,
     text: &str,
 ) -> io::Result<()> {
     match read_cases(rt.alloc(), text) {
-        Ok(file) => try_read(rt, trials, name, &file),
+        Ok(file) => try_read(rt, carrier, trials, name, &file),
         Err(stop) => give_up(rt, name, stop),
     }
 }
 
 // Tries the cases of a file that was read.
-fn try_read<R: AllocGlobal + Print>(
+fn try_read<R: AllocGlobal + Print, C: Carrier>(
     rt: &R,
+    carrier: &C,
     trials: &mut Trials,
     name: &str,
     file: &CaseFile,
@@ -66,20 +68,21 @@ fn try_read<R: AllocGlobal + Print>(
     }
     for case in file.cases.iter() {
         if trials.want(case) {
-            try_case(rt, trials, name, case)?;
+            try_case(rt, carrier, trials, name, case)?;
         }
     }
     Ok(())
 }
 
 // Tries a case.
-fn try_case<R: AllocGlobal + Print>(
+fn try_case<R: AllocGlobal + Print, C: Carrier>(
     rt: &R,
+    carrier: &C,
     trials: &mut Trials,
     file: &str,
     case: &Case,
 ) -> io::Result<()> {
-    match otherwise(rt.alloc(), case, trials.book.texts.as_slice()) {
+    match otherwise(rt.alloc(), carrier, case, trials.book.texts.as_slice()) {
         Ok(lines) => {
             count_case(trials, lines.is_empty());
             tell(rt, file, case.head.rest, lines.as_str())
@@ -105,17 +108,28 @@ fn tell<R: Print>(rt: &R, file: &str, name: &str, lines: &str) -> io::Result<()>
 }
 
 // A line for each thing that came otherwise than the case says.
-fn otherwise(alloc: Global, case: &Case, texts: &[File]) -> Result<String, Stop> {
+fn otherwise<C: Carrier>(
+    alloc: Global,
+    carrier: &C,
+    case: &Case,
+    texts: &[File],
+) -> Result<String, Stop> {
     let ways = Ways::of(case)?;
     let mut trial = Trial::new(alloc, texts);
     trial.begin(case)?;
     for step in case.steps.iter() {
-        try_step(alloc, ways, step, &mut trial)?;
+        try_step(alloc, carrier, ways, step, &mut trial)?;
     }
     Ok(trial.into_otherwise())
 }
 
-fn try_step(alloc: Global, ways: Ways, step: &Step, trial: &mut Trial) -> Result<(), Stop> {
-    let mut came = carry_out(alloc, ways, step, trial.files.as_slice())?;
+fn try_step<C: Carrier>(
+    alloc: Global,
+    carrier: &C,
+    ways: Ways,
+    step: &Step,
+    trial: &mut Trial,
+) -> Result<(), Stop> {
+    let mut came = carrier.carry_out(alloc, ways, step, trial.files.as_slice())?;
     trial.end(step, &mut came)
 }

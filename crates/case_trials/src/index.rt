@@ -1,4 +1,5 @@
 //! Reading the index, and the files that it lists.
+use crate::carrier::Carrier;
 use crate::trying::{Trials, try_file};
 use case_book::Stop;
 use std::fs;
@@ -10,28 +11,33 @@ const INDEX: &str = "index";
 
 /// Reads what each line of the index names, and tries its cases. Where a file can't be read, or says what no case can say, prints its
 /// name, the line and why, and answers with an error.
-pub fn try_index<R: AllocGlobal + Files + Print>(rt: &R, trials: &mut Trials) -> io::Result<()> {
+pub fn try_index<R: AllocGlobal + Files + Print, C: Carrier>(
+    rt: &R,
+    carrier: &C,
+    trials: &mut Trials,
+) -> io::Result<()> {
     let index = read_text(rt, INDEX)?;
     let mut number: u64 = 0;
     for line in index.as_str().split('\n') {
         number = number.saturating_add(1);
         if !line.is_empty() && !line.starts_with('#') {
-            try_line(rt, trials, number, line)?;
+            try_line(rt, carrier, trials, number, line)?;
         }
     }
     Ok(())
 }
 
 // Reads what a line of the index names.
-fn try_line<R: AllocGlobal + Files + Print>(
+fn try_line<R: AllocGlobal + Files + Print, C: Carrier>(
     rt: &R,
+    carrier: &C,
     trials: &mut Trials,
     number: u64,
     line: &str,
 ) -> io::Result<()> {
     match line.split_once(' ') {
         Some(("text", name)) => declare(rt, trials, name),
-        Some(("cases", name)) => try_cases(rt, trials, name),
+        Some(("cases", name)) => try_cases(rt, carrier, trials, name),
         _ => give_up(rt, INDEX, Stop::Line(number, "neither a text nor cases")),
     }
 }
@@ -48,13 +54,14 @@ fn declare<R: AllocGlobal + Files + Print>(
 }
 
 // Tries the cases of a file.
-fn try_cases<R: AllocGlobal + Files + Print>(
+fn try_cases<R: AllocGlobal + Files + Print, C: Carrier>(
     rt: &R,
+    carrier: &C,
     trials: &mut Trials,
     name: &str,
 ) -> io::Result<()> {
     let text = read_text(rt, name)?;
-    try_file(rt, trials, name, text.as_str())
+    try_file(rt, carrier, trials, name, text.as_str())
 }
 
 // The text of the file. Where it can't be read, a line says so.
