@@ -1,7 +1,7 @@
 -- Lines that several answers have.
 use Rattle.std.specs.Prelude.{ℕ, ℤ, List, ◌++◌, codes, decimal}
 use Rattle.std.specs.Fmt.{signed_decimal}
-use Rattle.proof_log.specs.declared.log.Defect.{Defect}
+use Rattle.log_lines.specs.declared.defect.Defect.{Defect}
 
 -- a line that ends in an amount of money
 abbrev pub amount_line : List ℕ → ℤ → List ℕ

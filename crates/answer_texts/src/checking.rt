@@ -5,7 +5,8 @@ ghost use Rattle.answer_texts.specs.Checking.{claim_words, checked_text, checked
 
 use crate::lines::amount_line;
 use command_replies::Reply;
-use proof_log::{Claim, Defect};
+use log_lines::Defect;
+use proof_log::Claim;
 use std::alloc::{AllocError, Global};
 use valid_log::LogVerdict;
 

@@ -2,7 +2,7 @@
 ghost use Rattle.std.specs.Prelude.{◌≡◌, IfOk};
 ghost use Rattle.answer_texts.specs.Lines.{amount_line, numbered_defect};
 
-use proof_log::Defect;
+use log_lines::Defect;
 use std::alloc::{AllocError, Global};
 
 /// A line that ends in an amount of money.

@@ -11,11 +11,11 @@ use Rattle.plan_text.specs.PlanLines.{plan_lines}
 use Rattle.plan_text.specs.PlanText.{plan_of_text}
 use Rattle.least_horizon.specs.declared.answer.LeastAnswer.{LeastAnswer}
 use Rattle.least_horizon.specs.declared.answer.LeastAnswer.TheVariants.{At, Nowhere, Open}
-use Rattle.least_horizon.specs.PlantAt.{plant_at}
+use Rattle.shorter_plant.specs.PlantAt.{plant_at}
 use Rattle.proof_log.specs.LogNames.{log_name}
 use Rattle.least_horizon.specs.LogNames.{AreAllowed, OthersStayBelow}
 use Rattle.least_horizon.specs.Least.{IsRight, IsLeast, IsStopped, untried}
-use Rattle.least_horizon.proofs.ShorterSound.{shorter_sound}
+use Rattle.shorter_plant.proofs.ShorterSound.{shorter_sound}
 use Rattle.std.specs.Option.{option_map}
 use Rattle.std.specs.FinMap.{get}
 use Rattle.stn_edge.specs.Files.{FileMap}

@@ -12,9 +12,9 @@ use Rattle.plan_text.specs.PlanText.{plan_of_text}
 use Rattle.plan_text.specs.ReadsBack.{IsRemark, IsWritable}
 use Rattle.least_horizon.specs.declared.answer.LeastAnswer.{LeastAnswer}
 use Rattle.least_horizon.specs.declared.answer.LeastAnswer.TheVariants.{At, Nowhere, Open}
-use Rattle.least_horizon.specs.PlantAt.{plant_at}
+use Rattle.shorter_plant.specs.PlantAt.{plant_at}
 use Rattle.least_horizon.specs.Least.{IsRight}
-use Rattle.least_horizon.proofs.ShorterSound.{shorter_sound}
+use Rattle.shorter_plant.proofs.ShorterSound.{shorter_sound}
 use Rattle.horizon_commands.specs.Seeking.{least_text, EarnsMoney, shown_plan}
 use Rattle.answer_texts.specs.Planning.{IsMoney}
 use Rattle.answer_texts.proofs.ReadBack.{AreRemarks, one_remark, both_remarks, decimal-remark, money-remark, two_lines, plain_word, after_word, few-starts, writable, reads-lines, reads-nothing}

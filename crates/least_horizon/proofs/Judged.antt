@@ -9,8 +9,8 @@ use Rattle.proof_log.specs.declared.claim.Claim.TheVariants.{Optimal, Infeasible
 use Rattle.valid_log.specs.declared.verdict.LogVerdict.{LogVerdict}
 use Rattle.valid_log.specs.declared.verdict.LogVerdict.TheVariants as log
 use Rattle.valid_log.specs.Claims.{YesSays}
-use Rattle.proof_log.specs.declared.log.Defect.{Defect}
-use Rattle.least_horizon.specs.PlantAt.{plant_at}
+use Rattle.log_lines.specs.declared.defect.Defect.{Defect}
+use Rattle.shorter_plant.specs.PlantAt.{plant_at}
 use Rattle.proof_log.specs.LogNames.{log_name}
 use Rattle.least_horizon.specs.Stems.{objection, AreClear, IsJudged}
 

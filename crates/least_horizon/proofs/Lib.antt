@@ -1,5 +1,3 @@
-pub mod Longer
-pub mod ShorterSound
 pub mod Steps
 pub mod LogFiles
 pub mod Judged

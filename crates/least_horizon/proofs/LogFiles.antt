@@ -7,7 +7,7 @@ use Rattle.std.proofs.lemmas.List.{append_cancel_left}
 use Rattle.stn_edge.specs.Files.{FileMap, OthersStay}
 use Rattle.stn_model.specs.declared.plant.Plant.{Plant}
 use Rattle.plan_told.specs.Proofs.{HasPlantProof, IsLeftOf, bytes_in}
-use Rattle.least_horizon.specs.PlantAt.{plant_at}
+use Rattle.shorter_plant.specs.PlantAt.{plant_at}
 use Rattle.proof_log.specs.LogNames.{log_name}
 use Rattle.least_horizon.specs.LogNames.{logs_in, OthersStayBelow}
 use Rattle.least_horizon.specs.Least.{AreInfeasible}

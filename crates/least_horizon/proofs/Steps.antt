@@ -10,7 +10,7 @@ use Rattle.stn_model.specs.Points.{boxes}
 use Rattle.stn_model.specs.Sound.{Within}
 use Rattle.least_horizon.specs.declared.answer.LeastAnswer.{LeastAnswer}
 use Rattle.least_horizon.specs.declared.answer.LeastAnswer.TheVariants.{At, Nowhere, Open}
-use Rattle.least_horizon.specs.PlantAt.{plant_at}
+use Rattle.shorter_plant.specs.PlantAt.{plant_at}
 use Rattle.least_horizon.specs.Least.{NoneBelow, IsRight, AreInfeasible, IsSettled, IsSolved, IsLast, IsLeast, settled, reached, untried}
 use Rattle.least_horizon.proofs.Judged.{up_to}
 

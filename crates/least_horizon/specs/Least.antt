@@ -13,7 +13,7 @@ use Rattle.stn_model.specs.Sound.{Within}
 use Rattle.plan_told.specs.Proofs.{HasPlantProof, IsLeftOf}
 use Rattle.least_horizon.specs.declared.answer.LeastAnswer.{LeastAnswer}
 use Rattle.least_horizon.specs.declared.answer.LeastAnswer.TheVariants.{At, Nowhere, Open}
-use Rattle.least_horizon.specs.PlantAt.{plant_at}
+use Rattle.shorter_plant.specs.PlantAt.{plant_at}
 use Rattle.proof_log.specs.LogNames.{log_name}
 use Rattle.least_horizon.specs.LogNames.{logs_in, OthersStayBelow}
 

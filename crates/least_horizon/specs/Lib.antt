@@ -1,4 +1,3 @@
-pub mod PlantAt
 pub mod LogNames
 pub mod Least
 pub mod Stems

@@ -2,13 +2,13 @@
 use Rattle.std.specs.Prelude.{◌≡◌, ◌<◌, ◌≤◌, ℕ, List, Option, Some, None}
 use Rattle.stn_model.specs.declared.plant.Plant.{Plant}
 use Rattle.proof_log.specs.declared.claim.Claim.TheVariants.{Optimal, Infeasible, Between, Below}
-use Rattle.proof_log.specs.declared.log.Defect.{Defect}
+use Rattle.log_lines.specs.declared.defect.Defect.{Defect}
 use Rattle.valid_log.specs.declared.verdict.LogVerdict.{LogVerdict}
 use Rattle.valid_log.specs.declared.verdict.LogVerdict.TheVariants as log
 use Rattle.valid_log.specs.PlantLogs.{IsAnyChecked}
 use Rattle.least_horizon.specs.declared.stem.StemVerdict.{StemVerdict}
 use Rattle.least_horizon.specs.declared.stem.StemVerdict.TheVariants.{Yes, No}
-use Rattle.least_horizon.specs.PlantAt.{plant_at}
+use Rattle.shorter_plant.specs.PlantAt.{plant_at}
 
 -- a valid log claims something else than that no plan is feasible: no line, and kind 19
 abbrev pub other_claim : Defect

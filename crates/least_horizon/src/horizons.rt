@@ -4,14 +4,14 @@ ghost use Rattle.stn_edge.specs.Count.{Rose};
 ghost use Rattle.stn_edge.specs.Files.{OthersStay};
 ghost use Rattle.stn_model.specs.Sound.{Sound, Within};
 ghost use Rattle.plan_told.specs.Proofs.{IsLeftOf};
-ghost use Rattle.least_horizon.specs.PlantAt.{plant_at};
+ghost use Rattle.shorter_plant.specs.PlantAt.{plant_at};
 ghost use Rattle.proof_log.specs.LogNames.{log_name};
 ghost use Rattle.least_horizon.specs.LogNames.{logs_in, AreAllowed, OthersStayBelow};
 ghost use Rattle.least_horizon.specs.Least.{settled, untried, IsLeast, IsSettled, IsStopped};
 
 use crate::answer::LeastAnswer;
-use crate::shorter::plant_at;
 use proof_log::log_name;
+use shorter_plant::plant_at;
 use std::alloc::{AllocError, Global};
 use stn_edge::{Shelf, Stop};
 use stn_model::{Answer, Outcome, Plant};

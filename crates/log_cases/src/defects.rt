@@ -1,7 +1,6 @@
 //! Limits that are words, and what is printed of defects.
 use case_tables::Sheet;
-use log_lines::Limits;
-use proof_log::Defect;
+use log_lines::{Defect, Limits};
 
 /// The limits of the next three words: `ROWS SLOTS DEPTH`.
 pub fn limits_of(sheet: &mut Sheet) -> Limits {

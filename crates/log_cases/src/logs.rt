@@ -2,8 +2,8 @@
 use crate::defects::{limits_of, put_defect};
 use crate::heads::{head, nodes};
 use case_tables::{Sheet, Step};
-use log_lines::Limits;
-use proof_log::{Defect, Log, LogStop, first_defect, put_claim, put_log, put_proof, read_log};
+use log_lines::{Defect, Limits};
+use proof_log::{Log, LogStop, first_defect, put_claim, put_log, put_proof, read_log};
 use std::alloc::{AllocError, Global};
 use stn_edge::FixedShelf;
 

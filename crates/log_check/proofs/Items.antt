@@ -22,7 +22,7 @@ use Rattle.row_relax.specs.declared.pick.RowPick.{RowPick}
 use Rattle.row_relax.specs.declared.rows.Rows.{Rows}
 use Rattle.row_relax.specs.RowProofs.{RowItem}
 use Rattle.proof_log.specs.Log.{line_after}
-use Rattle.proof_log.specs.declared.log.Defect.{Defect}
+use Rattle.log_lines.specs.declared.defect.Defect.{Defect}
 use Rattle.log_check.specs.declared.course.Course.{Course}
 use Rattle.log_check.specs.declared.course.Course.TheVariants.{Going, Faulty}
 use Rattle.valid_log.specs.Meaning.{RowSteps, IsWorth, PointDefect, CapDefect, ItemDefect, HasDefect, HaveNone, IsItemDefect, IsTested}

@@ -31,7 +31,7 @@ use Rattle.proof_log.specs.Behind.{behind}
 use Rattle.log_lines.specs.TextDefect.{log_text_defect}
 use Rattle.proof_log.specs.declared.claim.Claim.{Claim}
 use Rattle.proof_log.specs.declared.claim.Claim.TheVariants.{Optimal, Infeasible, Between, Below}
-use Rattle.proof_log.specs.declared.log.Defect.{Defect}
+use Rattle.log_lines.specs.declared.defect.Defect.{Defect}
 use Rattle.proof_log.specs.ClaimSays.{NoneAbove}
 use Rattle.row_relax.specs.RowProofs.{RowItem, RowTree}
 use Rattle.proof_log.specs.Log.{line_after}

@@ -13,7 +13,7 @@ ghost use Rattle.log_check.specs.laws.Rooms.{IsRoomsOf};
 use crate::course::Course;
 use crate::points::found_defect;
 use crate::rooms::RowRooms;
-use proof_log::Defect;
+use log_lines::Defect;
 use proof_tree::{Expected, Item, Relaxation, Took, Walk};
 use row_kit::{Area, Program};
 use row_relax::Rows;

@@ -1,5 +1,5 @@
 //! Where a check stands.
-use proof_log::Defect;
+use log_lines::Defect;
 use proof_tree::Capped;
 
 /// Where a check stands after the items that it has taken.

@@ -1,3 +1,1 @@
-pub mod TankLines
-pub mod TankAnswers
 pub mod CheckReplanLemmas

@@ -5,6 +5,7 @@
 #![tactic(auto)]
 
 mod ahead;
+mod defect;
 mod form;
 pub mod grammar;
 pub mod kinds;
@@ -18,6 +19,7 @@ mod read;
 pub mod reader;
 mod step;
 
+pub use defect::Defect;
 pub use grammar::{Grammar, Limits, Place};
 pub use line::Line;
 pub use print::put_line;

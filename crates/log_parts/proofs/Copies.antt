@@ -15,7 +15,7 @@ use Rattle.log_lines.specs.Line.{IsLine}
 use Rattle.log_lines.specs.Reader.{IsAhead}
 use Rattle.log_lines.specs.TextDefect.{log_text_defect}
 use Rattle.proof_log.specs.declared.claim.Claim.{Claim}
-use Rattle.proof_log.specs.declared.log.Defect.{Defect}
+use Rattle.log_lines.specs.declared.defect.Defect.{Defect}
 use Rattle.proof_log.specs.declared.log_reader.LogReader.{LogReader}
 use Rattle.proof_log.specs.declared.log_reader.LogPart.TheVariants.{Item as ItemPart, Claim as ClaimPart, End as EndPart, Bad as BadPart}
 use Rattle.proof_log.specs.declared.writer.LogWriter.{LogWriter}

@@ -15,7 +15,7 @@ use Rattle.row_set.specs.PlantProgram.{plant_rows, slot_domain}
 use Rattle.log_lines.specs.declared.grammar.Limits.{Limits}
 use Rattle.proof_log.specs.declared.claim.Claim.{Claim}
 use Rattle.proof_log.specs.declared.claim.Claim.TheVariants.{Infeasible}
-use Rattle.proof_log.specs.declared.log.Defect.{Defect}
+use Rattle.log_lines.specs.declared.defect.Defect.{Defect}
 use Rattle.proof_log.specs.LogNames.{log_name}
 use Rattle.proof_log.proofs.SaidOfOthers.{says_of_others}
 use Rattle.sum_slots.specs.declared.sum.Sum.{Sum}
@@ -31,7 +31,7 @@ use Rattle.valid_log.specs.AnyVersion.{front_bytes, front_sums}
 use Rattle.valid_log.specs.PlantLogs.{IsAnyPartChecked}
 use Rattle.valid_log.proofs.LogFronts.{limits_same}
 use Rattle.valid_log.specs.Claims.{SaysOf}
-use Rattle.log_parts.specs.declared.checking.Checked.TheVariants.{Bad}
+use Rattle.log_parts.specs.declared.checked.Checked.TheVariants.{Bad}
 use Rattle.log_parts.specs.declared.fronts.Declared.{Declared}
 use Rattle.log_parts.specs.declared.fronts.Declared.TheVariants as declared
 use Rattle.log_parts.specs.declared.fronts.PartCheck.{PartCheck}

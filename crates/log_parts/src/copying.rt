@@ -6,8 +6,8 @@ ghost use Rattle.row_relax.specs.RowProofs.{RowItem};
 ghost use Rattle.log_parts.specs.laws.Copying.{name_of, HasItems, IsBegun, HasCopied, HasBrokenOff};
 
 use crate::joins::JoinStop;
-use log_lines::Limits;
-use proof_log::{Defect, LogPart, LogReader, LogWriter};
+use log_lines::{Defect, Limits};
+use proof_log::{LogPart, LogReader, LogWriter};
 use proof_tree::{Item, NodeTaker, TakeStop};
 use row_relax::Rows;
 use std::alloc::Global;

@@ -6,7 +6,8 @@ ghost use Rattle.sum_lines.specs.Head.{begins_on};
 ghost use Rattle.log_parts.specs.OtherSums.{IsOtherSums};
 ghost use Rattle.log_parts.specs.laws.Checked.{IsCompared, IsDeclaredBy};
 
-use proof_log::{Claim, Defect};
+use log_lines::Defect;
+use proof_log::Claim;
 use row_kit::{Entry, List};
 use std::alloc::Global;
 use sum_lines::Front;
@@ -15,26 +16,26 @@ use sum_slots::Sum;
 // The kind of the defect that a log declares other sums than the first part's.
 const OTHER_SUMS: u8 = 22;
 
-// What the front of a log declares.
+/// What the front of a log declares.
 #[derive(Drop)]
 pub enum Declared {
-    // These sums; none where there is no head.
+    /// These sums; none where there is no head.
     Sums(List<Sum>),
-    // The first defect of the head.
+    /// The first defect of the head.
     Bad(Defect),
 }
 
-// What the check of the log of a part against sums comes to.
+/// What the check of the log of a part against sums comes to.
 #[derive(Drop)]
 pub enum PartCheck {
-    // The log is valid with this claim, declares the sums, and its head has so many bytes; none where there is no head.
+    /// The log is valid with this claim, declares the sums, and its head has so many bytes; none where there is no head.
     Valid { head: u64, claim: Claim },
-    // The defect for which it is refused.
+    /// The defect for which it is refused.
     Bad(Defect),
 }
 
-// The sums that a front declares, or its defect.
-pub(crate) fn sums_of(alloc: Global, front: Front) -> Declared
+/// The sums that a front declares, or its defect.
+pub fn sums_of(alloc: Global, front: Front) -> Declared
     ensures { IsDeclaredBy front result }
 {
     match front {
@@ -44,8 +45,8 @@ pub(crate) fn sums_of(alloc: Global, front: Front) -> Declared
     }
 }
 
-// A log with this front, to which a check said yes with this claim, against sums.
-pub(crate) fn compared(sums: &[Sum], front: &Front, claim: Claim) -> PartCheck
+/// A log with this front, to which a check said yes with this claim, against sums.
+pub fn compared(sums: &[Sum], front: &Front, claim: Claim) -> PartCheck
     requires { (limits : Limits) × KeepsLimits limits front.now }
     ensures { IsCompared sums.now front.now claim result }
 {

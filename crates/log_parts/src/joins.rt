@@ -1,20 +1,9 @@
-//! Joining the logs of all parts of a plant.
-ghost use Rattle.std.specs.Prelude.{◌≡◌, ◌≢◌, ◌≤◌, ◌<◌, ◌^◌, ℕ, Err, IsTrue, IfOk, OnErr, length};
-ghost use Rattle.stn_edge.specs.Count.{Rose};
-ghost use Rattle.stn_edge.specs.Files.{OthersStay};
-ghost use Rattle.stn_model.specs.Sound.{Sound};
-ghost use Rattle.time_grid.specs.Slots.{slots};
-ghost use Rattle.proof_log.specs.LogNames.{log_name};
-ghost use Rattle.log_parts.specs.PartLogs.{IsJoiningIn, JoinSays, IsNo, LeavesJoin, AllAreValid};
-
-use crate::checking::{Checked, check_parts};
-use crate::joining::joined;
-use crate::writing::write_joined;
+//! What joining the logs of all parts comes to, and why it may stop.
 use log_check::CheckStop;
-use proof_log::{Claim, Defect};
-use std::alloc::{AllocError, Global};
-use stn_edge::{Shelf, Stop};
-use stn_model::Plant;
+use log_lines::Defect;
+use proof_log::Claim;
+use std::alloc::AllocError;
+use stn_edge::Stop;
 
 /// What joining the logs of all parts comes to.
 #[derive(Drop)]
@@ -71,62 +60,5 @@ impl From<AllocError> for JoinStop {
 
     fn from(_error: AllocError) -> JoinStop {
         JoinStop::Memory
-    }
-}
-
-/// Checks the logs of all parts, of any version, in their order, and joins them: LOG becomes the log of the tree of splits in
-/// which the parts' trees stand, with the joined claim. It is of version 3 where the parts declare sums, the same ones in the
-/// same order, and else of version 2. Each log is read once to be checked, its head once before, and a second time while LOG is
-/// written. At the first log that is not valid or declares other sums than that of part 0 it stops, and no file has changed.
-/// After an error LOG is as before, or holds a first part of the joined log. Over a store that does not tell its files the second
-/// reading may differ from the first, and the first defect that it meets is then the answer: kind 20 at line 1 of part 0 where
-/// the sums do not suit the joined claim, and no file has changed.
-pub fn join<F: Shelf>(
-    alloc: Global,
-    plant: &Plant,
-    levels: u32,
-    files: &mut F,
-    stem: &str,
-    name: &str,
-) -> Result<Joined, JoinStop>
-    requires sound { Sound plant.now }
-    requires least { 1 ≤ levels }
-    requires most { levels ≤ 8 }
-    requires slots { levels ≤ length (slots plant.now) }
-    requires may_read { (part : ℕ) → part < 2 ^ levels
-        → IsTrue (F.may_read files.old (log_name stem.now part)) }
-    requires may_write { IsTrue (F.may_write files.old name.now) }
-    requires apart { (part : ℕ) → part < 2 ^ levels → name.now ≢ log_name stem.now part }
-    ensures joined { IfOk result
-        (IsJoiningIn plant.now levels stem.now name.now (F.files files.old) (F.files files.new)) }
-
-    // What the joined claim says holds of all plans, whether the files are told or not.
-    ensures says { IfOk result (JoinSays plant.now) }
-    ensures kept { IfOk result (λ said. IsNo said → F.files files.new ≡ F.files files.old) }
-    ensures err { OnErr result (LeavesJoin plant.now levels stem.now name.now
-        (F.files files.old) (F.files files.new)) }
-    ensures others { OthersStay name.now (F.files files.old) (F.files files.new) }
-    ensures read_fault { result ≡ Err JoinStop.ReadFault
-        → Rose (F.read_faults files.old) (F.read_faults files.new) }
-    ensures write_fault { result ≡ Err JoinStop.WriteFault
-        → Rose (F.write_faults files.old) (F.write_faults files.new) }
-    ensures written { result ≡ Err JoinStop.WriteFault
-        → AllAreValid plant.now levels stem.now (F.files files.old) }
-    ensures readable { F.may_read files.new ≡ F.may_read files.old }
-    ensures writable { F.may_write files.new ≡ F.may_write files.old }
-    ensures reads { F.read_faults files.old ≤ F.read_faults files.new }
-    ensures writes { F.write_faults files.old ≤ F.write_faults files.new }
-{
-    match check_parts(alloc, plant, levels, files, stem)? {
-        Checked::All {
-            sums,
-            heads,
-            claims,
-        } => {
-            let claim = joined(claims);
-            let (own, counts) = (sums.as_slice(), heads.as_slice());
-            write_joined(alloc, plant, levels, own, counts, files, stem, name, claim)
-        }
-        Checked::Bad { part, defect } => Ok(Joined::No { part, defect }),
     }
 }

@@ -1,10 +1,10 @@
-//! The logs of a plant's parts, joined to one log of the plant.
+//! The logs of a plant's parts, and the log that is joined of them.
 //!
-//! `joined` makes of the claims of all parts one claim of the plant, and `join` checks the logs of all parts and makes one log of
-//! the plant of them.
+//! `joined` makes of the claims of all parts one claim of the plant, `compared` finds where the sums of one part's log differ from
+//! those of the first, and `write_joined` writes the joined log. `joined_parts` checks the logs before.
 #![tactic(auto)]
 
-mod checking;
+mod checked;
 mod completing;
 mod copying;
 mod fronts;
@@ -12,5 +12,8 @@ mod joining;
 mod joins;
 mod writing;
 
+pub use checked::Checked;
+pub use fronts::{Declared, PartCheck, compared, sums_of};
 pub use joining::joined;
-pub use joins::{JoinStop, Joined, join};
+pub use joins::{JoinStop, Joined};
+pub use writing::write_joined;

@@ -33,8 +33,8 @@ use crate::completing::larger_claim;
 use crate::copying::{copy_log, put_item};
 use crate::joins::{JoinStop, Joined};
 use dual_bound::Cert;
-use log_lines::{Limits, Line, put_line};
-use proof_log::{Claim, Defect, LogWriter, log_name};
+use log_lines::{Defect, Limits, Line, put_line};
+use proof_log::{Claim, LogWriter, log_name};
 use proof_tree::Item;
 use row_kit::{List, Program};
 use row_relax::{RowPick, Rows};
@@ -342,7 +342,7 @@ fn write_log<F: Shelf>(
 }
 
 // Writes the joined log with these sums and this claim, where no log of a part shows a defect now.
-pub(crate) fn write_joined<F: Shelf>(
+pub fn write_joined<F: Shelf>(
     alloc: Global,
     plant: &Plant,
     levels: u32,

@@ -24,7 +24,8 @@ ghost use Rattle.part_commands.specs.JoiningParts.{
 use answer_texts::{claim_line, has_slots, numbered_defect, refused_levels};
 use command_replies::{Reply, Stopped, plant_in};
 use command_words::Levels;
-use log_parts::{JoinStop, Joined, join};
+use joined_parts::join;
+use log_parts::{JoinStop, Joined};
 use std::alloc::{AllocError, Global};
 use stn_edge::Shelf;
 use stn_model::Plant;

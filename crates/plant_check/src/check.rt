@@ -11,8 +11,8 @@ ghost use Rattle.valid_log.specs.AnyVersion.{IsAnyVerdict, IsHeadVerdict, IsShow
 use crate::given::{given_verdict, in_file};
 use crate::unshown::first_unshown;
 use log_check::{CheckStop, check_behind, check_rows};
-use log_lines::Limits;
-use proof_log::{Defect, first_defect};
+use log_lines::{Defect, Limits};
+use proof_log::first_defect;
 use row_kit::{Domain, Program};
 use row_relax::Rows;
 use std::alloc::Global;

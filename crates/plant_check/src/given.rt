@@ -3,7 +3,8 @@ ghost use Rattle.std.specs.Prelude.{◌≡◌, ◌≢◌, ◌≤◌, Err, IfOk, 
 ghost use Rattle.valid_log.specs.AnyVersion.{given_claim, given_verdict, in_file};
 
 use log_check::CheckStop;
-use proof_log::{Claim, Defect};
+use log_lines::Defect;
+use proof_log::Claim;
 use row_kit::List;
 use std::alloc::{AllocError, Global};
 use valid_log::LogVerdict;

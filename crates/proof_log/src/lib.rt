@@ -34,7 +34,7 @@ pub use laws::{
     clean_texts_are_logs, logs_are_accepted, logs_have_no_defect, logs_have_one_text,
     logs_may_be_written,
 };
-pub use log::{Defect, Log};
+pub use log::Log;
 pub use log_reader::{LogPart, LogReader};
 pub use naming::log_name;
 pub use nodes::put_proof;

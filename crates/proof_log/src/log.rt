@@ -1,4 +1,4 @@
-//! A log, and what may be wrong with one.
+//! A log.
 use crate::claim::Claim;
 use row_relax::RowProof;
 
@@ -8,11 +8,4 @@ pub struct Log {
     pub version: u8,
     pub tree: RowProof,
     pub claim: Claim,
-}
-
-/// What is wrong with a log: the number of a line, counted from 1, and a kind.
-#[derive(Clone, Copy, PartialEq, Eq, Debug)]
-pub struct Defect {
-    pub line: u64,
-    pub kind: u8,
 }

@@ -12,9 +12,8 @@ ghost use Rattle.proof_log.specs.Step.{IsPartOf, IsStepped, HasStepped};
 
 use crate::claim::Claim;
 use crate::gatherer::{Gathered, Gatherer};
-use crate::log::Defect;
 use log_lines::kinds::{GRAMMAR, TRAILING, TRUNCATED};
-use log_lines::{Limits, LineEnd, LineReader, read_line};
+use log_lines::{Defect, Limits, LineEnd, LineReader, read_line};
 use proof_tree::Item;
 use row_relax::Rows;
 use std::alloc::{AllocError, Global};

@@ -12,9 +12,9 @@ ghost use Rattle.proof_log.specs.LogReading.{IsPartAfter, IsRead};
 ghost use Rattle.proof_log.specs.Reached.{HasReached};
 
 use crate::claim::Claim;
-use crate::log::{Defect, Log};
+use crate::log::Log;
 use crate::log_reader::{LogPart, LogReader};
-use log_lines::Limits;
+use log_lines::{Defect, Limits};
 use proof_tree::{Built, Item, TreeBuilder};
 use row_relax::Rows;
 use std::alloc::{AllocError, Global};

@@ -6,9 +6,8 @@ ghost use Rattle.stn_edge.specs.Files.{file_of};
 ghost use Rattle.log_lines.specs.TextDefect.{log_text_defect};
 ghost use Rattle.proof_log.specs.Behind.{behind};
 
-use crate::log::Defect;
 use crate::log_reader::{LogPart, LogReader};
-use log_lines::Limits;
+use log_lines::{Defect, Limits};
 use std::alloc::Global;
 use stn_edge::{Shelf, Stop};
 

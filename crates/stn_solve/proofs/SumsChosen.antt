@@ -1,18 +1,14 @@
--- What sums that are chosen for a part keep, and how many points the part has.
-use Rattle.std.proofs.Common.{ℕ, zero, suc, ◌+◌, ◌*◌, ◌^◌, ◌<◌, ◌≤◌, List, [], ◌∷◌, length, take, drop, Option, Some, None, ℤ, subst, ⊎_elim, arith}
+-- What sums that are chosen for a part keep.
+use Rattle.std.proofs.Common.{ℕ, ◌+◌, ◌*◌, ◌^◌, ◌<◌, ◌≤◌, List, [], ◌∷◌, length, Option, Some, None, ℤ, subst, ⊎_elim}
 use Rattle.std.specs.Prelude.{MatchOption}
 use Rattle.std.specs.List.{All}
-use Rattle.std.proofs.Math.Nat.{mul-le-mul_left, mul-le-mul_right}
 use Rattle.std.proofs.lemmas.Bool.{cases_lt}
 use Rattle.std.proofs.lemmas.List.{get_or_past}
-use Rattle.std.proofs.lemmas.List.Elements.{All-head, All-tail, All-weaker}
+use Rattle.std.proofs.lemmas.List.Elements.{All-weaker}
 use Rattle.row_kit.specs.declared.domain.Domain.{Domain}
 use Rattle.row_kit.specs.declared.program.Program.{Program}
 use Rattle.row_kit.specs.declared.row.Entry.{Entry}
 use Rattle.row_kit.specs.declared.row.Row.{Row}
-use Rattle.row_kit.specs.Domain.{IsOpen, count_of}
-use Rattle.row_kit.specs.Points.{points_of}
-use Rattle.row_kit.proofs.PointCounts.{points-open}
 use Rattle.row_kit.specs.Row.{no_row}
 use Rattle.sum_slots.specs.declared.sum.Sum.{Sum}
 use Rattle.sum_slots.specs.Shown.{IsShown, most_by_row, most_count, opposites}
@@ -52,22 +48,3 @@ may-head program ranges sums declared shown slots rows few = record {
   few_bytes = few;
   shown = shown;
 }
-
--- to take domains away that have values leaves no more points
-points-take : (m : ℕ) (ds : List Domain) → All IsOpen ds → points_of (take m ds) ≤ points_of ds
-points-take zero ds all = points-open ds all
-points-take (suc m) [] all = omega arith
-points-take (suc m) (d ∷ ds) all = mul-le-mul_left (count_of d) (points-take m ds (All-tail IsOpen d ds all))
-
-pub points-part : (n m : ℕ) (ds : List Domain) → All IsOpen ds → points_of (take m (drop n ds)) ≤ points_of ds
-points-part zero m ds all = points-take m ds all
-points-part (suc n) m [] all = points-take m [] all
-points-part (suc n) m (d ∷ ds) all =
-    let some : 1 * points_of ds ≤ count_of d * points_of ds = mul-le-mul_right (points_of ds) (All-head IsOpen d ds all) in
-    omega (arith, points-part n m ds (All-tail IsOpen d ds all), some)
-
--- a domain more: a number that is at most the product leaves the later points below all
-pub points-step : (count next most : ℕ) (d : Domain) (later : List Domain) → next ≤ count * count_of d → count * (count_of d * points_of later) ≤ most → next * points_of later ≤ most
-points-step count next most d later le below =
-    let times : next * points_of later ≤ (count * count_of d) * points_of later = mul-le-mul_right (points_of later) le in
-    grind (arith, times, below)

@@ -5,7 +5,7 @@ ghost use Rattle.branch_tree.specs.Searched.{IsExact};
 ghost use Rattle.proof_log.specs.Writer.{Keeps, writing};
 ghost use Rattle.stn_solve.specs.laws.Logging.{IsLogged, LeavesBegun, stored};
 
-use best_first::{search_advised, search_hinted};
+use advised_search::{search_advised, search_hinted};
 use branch_tree::Ended;
 use proof_log::LogWriter;
 use proof_tree::TakeStop;

@@ -9,12 +9,12 @@ ghost use Rattle.plan_told.specs.Proofs.{HasProof, IsLeft, bytes_in};
 
 use crate::plain::{plan_plain, solve_plain_to};
 use crate::summed::{plan_summed, solve_summed_to};
-use crate::summing::has_many;
 use row_kit::Program;
 use row_relax::Rows;
 use std::alloc::{AllocError, Global};
 use stn_edge::{Shelf, Stop};
 use stn_model::{Outcome, Plant};
+use sum_choice::has_many;
 
 /// Plans over a part of a plant's choices, with at most so many boxes. Where its slots from the number `levels` on have more than
 /// 50,000 points, it is searched with sums: so are then all parts that are told apart by as many first slots, with the same sums.

@@ -5,7 +5,7 @@ ghost use Rattle.branch_tree.specs.Searched.{ended_of};
 ghost use Rattle.plan_told.specs.Ended.{IsSearchOf, IsSearched};
 
 use crate::item_dropper::ItemDropper;
-use best_first::{build_advised, build_hinted, search_advised, search_hinted};
+use advised_search::{build_advised, build_hinted, search_advised, search_hinted};
 use branch_tree::{Ended, Searched};
 use row_relax::Rows;
 use std::alloc::{AllocError, Global};

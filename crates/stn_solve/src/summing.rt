@@ -1,12 +1,11 @@
 //! The program of a part of a plant's choices with sums, over which a large part is searched.
-ghost use Rattle.std.specs.Prelude.{◌≡◌, ◌≤◌, ◌<◌, ◌*◌, IfOk, IsTrue};
+ghost use Rattle.std.specs.Prelude.{IfOk};
 ghost use Rattle.stn_model.specs.Sound.{Sound};
-ghost use Rattle.row_kit.specs.Points.{points_of};
 ghost use Rattle.row_set.specs.Parts.{IsPartOf};
 ghost use Rattle.stn_solve.specs.laws.Summing.{IsSummed};
 
 use plan_told::least_found;
-use row_kit::{Domain, Found, List, Program};
+use row_kit::{Found, List, Program};
 use row_relax::Rows;
 use row_set::plant_root;
 use std::alloc::{AllocError, Global};
@@ -14,9 +13,6 @@ use stn_model::Plant;
 use sum_choice::choose_sums;
 use sum_lines::put_head;
 use sum_slots::{Sum, with_sums};
-
-// Where more points are left, sums are declared.
-const MOST_POINTS: u64 = 50_000;
 
 /// A part of a plant's choices with sums, as a search finds it.
 #[derive(Drop)]
@@ -52,35 +48,4 @@ pub fn with_chosen(alloc: Global, plant: &Plant, part: Program) -> Result<Summed
         given,
         least,
     })
-}
-
-// Whether the slots from the number `levels` on have more than 50,000 points. Parts of a plant that are told apart by as many first
-// slots all have, or none.
-pub fn has_many(part: &Program, levels: u32) -> bool
-    ensures { IsTrue result → 50000 < points_of part.now.root }
-{
-    let root = part.root.as_slice();
-    let levels = levels as usize;
-    if levels > root.len() {
-        return false;
-    }
-    count_points(&root[levels..]) > MOST_POINTS
-}
-
-// The number of points of domains, or the greatest number of 64 bits.
-fn count_points(domains: &[Domain]) -> u64
-    ensures { result ≤ points_of domains.now }
-{
-    let mut count = 1u64;
-    for domain in domains {
-        count = times(count, domain.count());
-    }
-    count
-}
-
-// The product of two numbers, or the greatest number of 64 bits.
-fn times(count: u64, more: u32) -> u64
-    ensures { result ≤ count * more }
-{
-    count.saturating_mul(u64::from(more))
 }

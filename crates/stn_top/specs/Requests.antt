@@ -19,7 +19,7 @@ use Rattle.answer_texts.specs.Simulation.{Simulated}
 use Rattle.plan_commands.specs.Upgrading.{Upgraded}
 use Rattle.log_commands.specs.Checking.{Checked}
 use Rattle.log_commands.specs.CheckingReplan.{ReplanChecked}
-use Rattle.log_commands.specs.Estimating.{Estimated}
+use Rattle.tank_commands.specs.Estimating.{Estimated}
 use Rattle.planning_commands.specs.Solving.{HoldsLog, Solved}
 use Rattle.planning_commands.specs.Replanning.{CanReplan, HoldsReplan, Replanned}
 use Rattle.planning_commands.specs.PartSolving.{HoldsPart, PartSolved}

@@ -15,12 +15,13 @@ use command_replies::{Reply, Stopped};
 use command_words::{Command, command_of};
 use demo_commands::show;
 use horizon_commands::{audit_file, seek_file, trace_file};
-use log_commands::{check_file, check_replan_file, estimate_file};
+use log_commands::{check_file, check_replan_file};
 use part_commands::{join_file, parts_file};
 use plan_commands::{simulate_file, upgrade_file};
 use planning_commands::{log_file, log_replan_file, replan_file, solve_file, solve_part_file};
 use std::alloc::Global;
 use stn_edge::{Shelf, Sink, Stop};
+use tank_commands::estimate_file;
 
 /// Does what the words after the program's name say, and answers with the exit status.
 ///

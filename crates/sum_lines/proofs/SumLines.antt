@@ -5,7 +5,7 @@ use Rattle.std.proofs.Math.Seq.{drop-append_seam}
 use Rattle.std.proofs.lemmas.Bool.Decides.{nat_tests}
 use Rattle.std.proofs.lemmas.List.Elements.{All-append, All-cons}
 use Rattle.log_lines.specs.declared.grammar.Limits.{Limits}
-use Rattle.proof_log.specs.declared.log.Defect.{Defect}
+use Rattle.log_lines.specs.declared.defect.Defect.{Defect}
 use Rattle.row_kit.specs.declared.row.Entry.{Entry}
 use Rattle.stn_edge.specs.Files.{FileMap, file_of}
 use Rattle.sum_slots.specs.declared.sum.Sum.{Sum}

@@ -3,7 +3,7 @@ ghost use Rattle.std.specs.Prelude.{◌≡◌};
 ghost use Rattle.stn_edge.specs.declared.stop.Stop.TheVariants.{Memory as StopMemory};
 ghost use Rattle.sum_lines.specs.declared.halt.Halt.TheVariants.{Stopped as HaltStopped};
 
-use proof_log::Defect;
+use log_lines::Defect;
 use std::alloc::AllocError;
 use stn_edge::Stop;
 

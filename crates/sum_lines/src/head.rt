@@ -1,5 +1,5 @@
 //! Heads of logs, and what stands at the front of one.
-use proof_log::Defect;
+use log_lines::Defect;
 use row_kit::List;
 use sum_slots::Sum;
 

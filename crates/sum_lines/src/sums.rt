@@ -1,6 +1,6 @@
 //! The head of a log, sum by sum.
 ghost use Rattle.std.specs.Prelude.{◌≡◌, ◌<◌, ◌≤◌, ◌-◌, ◌^◌, ◌++◌, [], List as Items, None, Ok, Err, IsTrue, IfOk, IfSome};
-ghost use Rattle.proof_log.specs.declared.log.Defect.{Defect};
+ghost use Rattle.log_lines.specs.declared.defect.Defect.{Defect};
 ghost use Rattle.stn_edge.specs.Count.{Rose};
 ghost use Rattle.stn_edge.specs.Files.{file_of};
 ghost use Rattle.stn_edge.specs.declared.stop.Stop.TheVariants.{Failed};
@@ -15,8 +15,7 @@ use crate::head::{Front, Head};
 use crate::opening::{Opened, open_sum};
 use crate::terms::read_terms;
 use crate::walk::Walk;
-use log_lines::Limits;
-use proof_log::Defect;
+use log_lines::{Defect, Limits};
 use row_kit::List;
 use std::alloc::Global;
 use stn_edge::{Shelf, Stop};

@@ -1,7 +1,7 @@
 //! The terms of a sum, line by line.
 ghost use Rattle.std.specs.Prelude.{◌≡◌, ◌≤◌, ◌∷◌, [], ◌++◌, List as Items, Err, IsTrue, IfErr, IfOk, length, map};
 ghost use Rattle.log_lines.specs.Grammar.{follows};
-ghost use Rattle.proof_log.specs.declared.log.Defect.{Defect};
+ghost use Rattle.log_lines.specs.declared.defect.Defect.{Defect};
 ghost use Rattle.stn_edge.specs.Count.{Rose};
 ghost use Rattle.stn_edge.specs.declared.stop.Stop.TheVariants.{Failed};
 ghost use Rattle.sum_lines.specs.Head.{AreTerms, term_line};
@@ -12,8 +12,8 @@ ghost use Rattle.sum_lines.specs.laws.Walk.{HasBadTerm, HasBadTerms, HasPassed, 
 use crate::halt::Halt;
 use crate::line::HeadLine;
 use crate::walk::{Seen, Walk};
+use log_lines::Defect;
 use log_lines::kinds::{GRAMMAR, SLOT_NUMBER, TRUNCATED};
-use proof_log::Defect;
 use row_kit::{Entry, List};
 use std::alloc::Global;
 use stn_edge::Shelf;

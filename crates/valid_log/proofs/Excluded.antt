@@ -10,7 +10,7 @@ use Rattle.row_relax.specs.Steps.{row_steps}
 use Rattle.row_relax.specs.View.{view_of}
 use Rattle.log_lines.specs.TextDefect.{log_text_defect}
 use Rattle.proof_log.specs.declared.claim.Claim.{Claim}
-use Rattle.proof_log.specs.declared.log.Defect.{Defect}
+use Rattle.log_lines.specs.declared.defect.Defect.{Defect}
 use Rattle.row_relax.specs.RowProofs.{RowItem, RowTree}
 use Rattle.proof_log.specs.Log.{log_text}
 use Rattle.proof_log.specs.OneText.{SameLog}

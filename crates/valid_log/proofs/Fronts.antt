@@ -8,7 +8,7 @@ use Rattle.std.proofs.lemmas.Bool.Decides.{nat_tests}
 use Rattle.std.proofs.lemmas.List.Elements.{All-head, All-tail}
 use Rattle.log_lines.specs.declared.grammar.Limits.{Limits}
 use Rattle.log_lines.specs.Grammar.{follows}
-use Rattle.proof_log.specs.declared.log.Defect.{Defect}
+use Rattle.log_lines.specs.declared.defect.Defect.{Defect}
 use Rattle.row_kit.specs.Row.{is_nothing}
 use Rattle.row_kit.specs.declared.row.Entry.{Entry}
 use Rattle.row_kit.proofs.Ascending.{few_entries}

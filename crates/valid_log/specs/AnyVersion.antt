@@ -10,7 +10,7 @@ use Rattle.log_lines.specs.declared.grammar.Limits.{Limits}
 use Rattle.log_lines.specs.TextDefect.{log_text_defect}
 use Rattle.proof_log.specs.declared.claim.Claim.{Claim}
 use Rattle.proof_log.specs.declared.claim.Claim.TheVariants.{Optimal, Infeasible, Between, Below}
-use Rattle.proof_log.specs.declared.log.Defect.{Defect}
+use Rattle.log_lines.specs.declared.defect.Defect.{Defect}
 use Rattle.proof_log.specs.Behind.{behind}
 use Rattle.sum_lines.specs.declared.head.Head.{Head}
 use Rattle.sum_lines.specs.declared.head.Front.{Front}

@@ -13,7 +13,7 @@ use Rattle.proof_tree.specs.Walk.{Outcome, going, ended, undefined, misplaced, a
 use Rattle.row_relax.specs.declared.pick.RowPick.{RowPick}
 use Rattle.proof_log.specs.declared.claim.Claim.{Claim}
 use Rattle.proof_log.specs.declared.claim.Claim.TheVariants.{Optimal, Infeasible, Between, Below}
-use Rattle.proof_log.specs.declared.log.Defect.{Defect}
+use Rattle.log_lines.specs.declared.defect.Defect.{Defect}
 use Rattle.proof_log.specs.ClaimSays.{HasWorth, ClaimSays}
 use Rattle.row_relax.specs.RowProofs.{RowItem}
 use Rattle.proof_log.specs.Log.{line_after}

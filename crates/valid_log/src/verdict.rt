@@ -1,5 +1,6 @@
 //! What a check of a log answers.
-use proof_log::{Claim, Defect};
+use log_lines::Defect;
+use proof_log::Claim;
 
 /// Whether a log is valid.
 #[derive(Drop)]

@@ -1,7 +1,7 @@
 //! A log without a head, read of its bytes and checked.
 ghost use Rattle.std.specs.Prelude.{◌≡◌, Err, IfOk};
 ghost use Rattle.proof_tree.specs.Tree.{tree_of};
-ghost use Rattle.proof_log.specs.declared.log.Defect.{Defect};
+ghost use Rattle.log_lines.specs.declared.defect.Defect.{Defect};
 ghost use Rattle.proof_log.specs.LogReading.{IsRead};
 ghost use Rattle.valid_log.specs.declared.verdict.LogVerdict.TheVariants.{No};
 ghost use Rattle.valid_log.specs.Verdict.{IsVerdict, limits_of};

@@ -1,5 +1,6 @@
 //! An old log, valid or not.
-use proof_log::{Claim, Defect};
+use log_lines::Defect;
+use proof_log::Claim;
 use row_kit::List;
 use row_relax::RowProof;
 use sum_slots::Sum;

@@ -3,7 +3,7 @@ ghost use Rattle.std.specs.Prelude.{◌≡◌, [], Err, IfOk};
 ghost use Rattle.stn_model.specs.Sound.{Sound};
 ghost use Rattle.proof_tree.specs.Tree.{tree_of};
 ghost use Rattle.sum_slots.specs.Shown.{AreRanges};
-ghost use Rattle.proof_log.specs.declared.log.Defect.{Defect};
+ghost use Rattle.log_lines.specs.declared.defect.Defect.{Defect};
 ghost use Rattle.valid_log.specs.declared.verdict.LogVerdict.TheVariants.{No};
 ghost use Rattle.valid_log.specs.Verdict.{IsVerdict};
 ghost use Rattle.valid_log.specs.AnyVersion.{IsAnyVerdict};

@@ -8,7 +8,7 @@ use Rattle.sum_slots.specs.declared.sum.Sum.{Sum}
 use Rattle.log_lines.specs.declared.grammar.Limits.{Limits}
 use Rattle.proof_log.specs.declared.claim.Claim.{Claim}
 use Rattle.proof_log.specs.declared.claim.Claim.TheVariants.{Infeasible}
-use Rattle.proof_log.specs.declared.log.Defect.{Defect}
+use Rattle.log_lines.specs.declared.defect.Defect.{Defect}
 use Rattle.sum_lines.specs.declared.head.Front.{Front}
 use Rattle.sum_lines.specs.declared.head.Front.TheVariants as front
 use Rattle.sum_lines.specs.Front.{IsFront}
@@ -17,8 +17,8 @@ use Rattle.valid_log.specs.declared.verdict.LogVerdict.TheVariants as verdict
 use Rattle.valid_log.specs.Verdict.{limits_of}
 use Rattle.valid_log.specs.AnyVersion.{front_bytes, front_sums}
 use Rattle.valid_log.specs.PlantLogs.{IsAnyPartChecked}
-use Rattle.log_parts.specs.declared.checking.Checked.{Checked}
-use Rattle.log_parts.specs.declared.checking.Checked.TheVariants.{All, Bad}
+use Rattle.log_parts.specs.declared.checked.Checked.{Checked}
+use Rattle.log_parts.specs.declared.checked.Checked.TheVariants.{All, Bad}
 use Rattle.log_parts.specs.declared.fronts.Declared.{Declared}
 use Rattle.log_parts.specs.declared.fronts.Declared.TheVariants as declared
 use Rattle.log_parts.specs.declared.fronts.PartCheck.{PartCheck}

@@ -4,7 +4,7 @@ use Rattle.std.specs.Prelude.{◌≡◌, ◌≢◌, ⊤, ◌⊎◌, ◌+◌, ◌
 use Rattle.log_lines.specs.Grammar.{follows}
 use Rattle.log_lines.specs.Reader.{IsAhead, Reading}
 use Rattle.log_lines.specs.declared.grammar.Limits.{Limits}
-use Rattle.proof_log.specs.declared.log.Defect.{Defect}
+use Rattle.log_lines.specs.declared.defect.Defect.{Defect}
 use Rattle.row_kit.specs.Row.{is_nothing}
 use Rattle.row_kit.specs.declared.row.Entry.{Entry}
 use Rattle.stn_edge.specs.Files.{FileMap, file_of}

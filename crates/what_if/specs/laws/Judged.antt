@@ -5,7 +5,7 @@ use Rattle.row_kit.specs.declared.program.Program.{Program}
 use Rattle.proof_tree.specs.Tree.{tree_of}
 use Rattle.row_relax.specs.RowProofs.{RowTree}
 use Rattle.proof_log.specs.declared.claim.Claim.{Claim}
-use Rattle.proof_log.specs.declared.log.Defect.{Defect}
+use Rattle.log_lines.specs.declared.defect.Defect.{Defect}
 use Rattle.proof_log.specs.declared.read.LogStop.{LogStop}
 use Rattle.proof_log.specs.declared.read.LogStop.TheVariants.{Defect as StopDefect}
 use Rattle.log_lines.specs.TextDefect.{log_text_defect}

@@ -1,7 +1,7 @@
 -- What solving leaves of the plant that was made is what it leaves of the plant within the horizon.
 use Rattle.std.proofs.Common.{◌∙◌}
 use Rattle.plan_told.specs.Proofs.{IsLeftOf}
-use Rattle.least_horizon.specs.PlantAt.{plant_at}
+use Rattle.shorter_plant.specs.PlantAt.{plant_at}
 use Rattle.proof_log.specs.LogNames.{log_name}
 use Rattle.least_horizon.proofs.LogFiles.{after_err, left_moved}
 use Rattle.least_horizon.proofs.horizons.log_at.Goals as goal

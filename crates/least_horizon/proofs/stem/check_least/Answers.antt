@@ -1,7 +1,7 @@
 -- Nothing speaks against one more log, and after the last no plan is feasible within any of the horizons.
 use Rattle.std.proofs.Common.{arith}
 use Rattle.stn_model.specs.Best.{NoPlan}
-use Rattle.least_horizon.specs.PlantAt.{plant_at}
+use Rattle.shorter_plant.specs.PlantAt.{plant_at}
 use Rattle.least_horizon.proofs.Judged.{up_to, one_more_clear}
 use Rattle.least_horizon.proofs.stem.check_least.Goals as goal
 

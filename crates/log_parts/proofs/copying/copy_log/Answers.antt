@@ -3,7 +3,7 @@ use Rattle.std.proofs.Common.{◌∙◌, Option, None, Some, refl, sym, ap, subs
 use Rattle.std.specs.FinMap.{get}
 use Rattle.std.specs.Option.{option_map}
 use Rattle.stn_edge.specs.Files.{FileMap, OthersStay}
-use Rattle.proof_log.specs.declared.log.Defect.{Defect}
+use Rattle.log_lines.specs.declared.defect.Defect.{Defect}
 use Rattle.proof_log.specs.LogReading.{IsPartAfter}
 use Rattle.log_parts.specs.laws.Copying.{name_of, HasCopied, HasItems}
 use Rattle.log_parts.proofs.Copies.{HasReadOn, same_file, err_of, none_broken, on_broken, item_broken, copied_end, copied_bad, item_copied, claim_read, read_on}

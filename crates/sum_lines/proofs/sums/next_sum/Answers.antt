@@ -1,5 +1,5 @@
 use Rattle.std.proofs.Common.{◌≡◌, [], ◌∷◌, ◌++◌, ap, sym, subst, Err, IfSome, Option}
-use Rattle.proof_log.specs.declared.log.Defect.{Defect}
+use Rattle.log_lines.specs.declared.defect.Defect.{Defect}
 use Rattle.stn_edge.specs.Files.{FileMap, file_of}
 use Rattle.sum_lines.specs.Front.{IsBadAt}
 use Rattle.sum_lines.specs.Head.{opening_line}

@@ -1,5 +1,5 @@
 use Rattle.std.proofs.Common.{◌≡◌, subst}
-use Rattle.proof_log.specs.declared.log.Defect.{Defect}
+use Rattle.log_lines.specs.declared.defect.Defect.{Defect}
 use Rattle.sum_lines.specs.laws.Walk.{HasBadTerm}
 use Rattle.sum_lines.proofs.TermLines.{term_bad}
 use Rattle.sum_lines.proofs.terms.next_term.Goals as goal

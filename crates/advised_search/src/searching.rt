@@ -1,0 +1,115 @@
+//! Searches with the advisers, which are made and let go of in each call.
+ghost use Rattle.std.specs.Prelude.{◌≡◌, ◌≢◌, ◌≤◌, IfOk, OnOk, OnErr, IsErrOf, false, true};
+ghost use Rattle.proof_tree.specs.Taker.{Rose};
+ghost use Rattle.proof_tree.specs.Tree.{tree_of};
+ghost use Rattle.branch_tree.specs.Searched.{IsExact, IsSearch, IsSearchedTo, IsBrokenOff, ended_of};
+
+use best_first::Advisers;
+use branch_tree::{Ended, Guided, Searched, search, search_guided, search_guided_to, search_to};
+use plan_hints::PlanHinter;
+use proof_tree::{NodeTaker, TakeStop};
+use row_relax::Rows;
+use std::alloc::{AllocError, Global};
+
+/// Searches the root with the advice of both advisers, as `branch_tree::search_guided_to` does. The guide may leave boxes open
+/// though budget is left: the answer also says whether the count is exact, so that the budget was spent, or nothing is left open.
+pub fn search_advised<O, T: NodeTaker<Rows, O>>(
+    alloc: Global,
+    rows: &Rows,
+    given: u32,
+    budget: u32,
+    taker: &mut T,
+    out: &mut O,
+) -> Result<Guided, TakeStop>
+    requires budget { (1 ≤ budget) × (budget ≤ 100000) }
+    requires ready { T.ready taker.old out.old }
+    ensures ready { OnOk result (T.ready taker.new out.new) }
+    ensures ok { IfOk result (λ guided. IsSearchedTo T.took rows.now.program given budget
+        guided.ended taker.old out.old taker.new out.new) }
+    ensures exact { IfOk result
+        (λ guided. guided.exact ≡ true → IsExact rows.now.program budget guided.ended) }
+    ensures inexact { IfOk result
+        (λ guided. guided.exact ≡ false
+        → (guided.ended.left_open ≡ true) × (guided.ended.spent ≢ budget)) }
+    ensures err { OnErr result (IsBrokenOff T.took T.broke rows.now.program taker.old out.old
+        taker.new out.new) }
+    ensures later { T.faults out.old ≤ T.faults out.new }
+    ensures failed { IsErrOf result TakeStop.Failed → Rose (T.faults out.old) (T.faults out.new) }
+{
+    let Advisers {
+        mut guide,
+        mut hinter,
+    } = Advisers::new(alloc, &rows.program, given, budget)?;
+    search_guided_to(
+        alloc,
+        rows,
+        given,
+        budget,
+        &mut hinter,
+        &mut guide,
+        taker,
+        out,
+    )
+}
+
+/// Searches the root without a guide, as `branch_tree::search_to` does, and looks for plans on the way.
+pub fn search_hinted<O, T: NodeTaker<Rows, O>>(
+    alloc: Global,
+    rows: &Rows,
+    given: u32,
+    budget: u32,
+    taker: &mut T,
+    out: &mut O,
+) -> Result<Ended, TakeStop>
+    requires budget { (1 ≤ budget) × (budget ≤ 100000) }
+    requires ready { T.ready taker.old out.old }
+    ensures ready { OnOk result (T.ready taker.new out.new) }
+    ensures ok { IfOk result (λ ended. IsSearchedTo T.took rows.now.program given budget ended
+        taker.old out.old taker.new out.new) }
+    ensures exact { IfOk result (IsExact rows.now.program budget) }
+    ensures err { OnErr result (IsBrokenOff T.took T.broke rows.now.program taker.old out.old
+        taker.new out.new) }
+    ensures later { T.faults out.old ≤ T.faults out.new }
+    ensures failed { IsErrOf result TakeStop.Failed → Rose (T.faults out.old) (T.faults out.new) }
+{
+    let mut hinter = PlanHinter::new(alloc, &rows.program, given)?;
+    search_to(alloc, rows, given, budget, &mut hinter, taker, out)
+}
+
+/// As `search_advised`, and builds the proof. The answer also says whether the count is exact.
+pub fn build_advised(
+    alloc: Global,
+    rows: &Rows,
+    given: u32,
+    budget: u32,
+) -> Result<(Searched, bool), AllocError>
+    requires { (1 ≤ budget) × (budget ≤ 100000) }
+    ensures ok { IfOk result (λ found. IsSearch rows.now.program given budget
+        (tree_of found.0.tree) (ended_of found.0)) }
+    ensures exact { IfOk result
+        (λ found. found.1 ≡ true → IsExact rows.now.program budget (ended_of found.0)) }
+    ensures inexact { IfOk result
+        (λ found. found.1 ≡ false → (found.0.left_open ≡ true) × (found.0.spent ≢ budget)) }
+{
+    let Advisers {
+        mut guide,
+        mut hinter,
+    } = Advisers::new(alloc, &rows.program, given, budget)?;
+    search_guided(alloc, rows, given, budget, &mut hinter, &mut guide)
+}
+
+/// As `search_hinted`, and builds the proof.
+pub fn build_hinted(
+    alloc: Global,
+    rows: &Rows,
+    given: u32,
+    budget: u32,
+) -> Result<Searched, AllocError>
+    requires { (1 ≤ budget) × (budget ≤ 100000) }
+    ensures ok { IfOk result (λ searched. IsSearch rows.now.program given budget
+        (tree_of searched.tree) (ended_of searched)) }
+    ensures exact { IfOk result (λ searched. IsExact rows.now.program budget (ended_of searched)) }
+{
+    let mut hinter = PlanHinter::new(alloc, &rows.program, given)?;
+    search(alloc, rows, given, budget, &mut hinter)
+}

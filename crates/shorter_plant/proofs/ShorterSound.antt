@@ -1,0 +1,176 @@
+-- The plant within a shorter horizon is sound.
+use Rattle.std.proofs.Common.{◌≡◌, ◌≢◌, ℕ, ◌+◌, ◌<◌, ◌≤◌, Bool, ltb, leb, List, [], length, map, filter, get_or, refl, inl, inr, arith, All, AllPairs}
+use Rattle.std.proofs.lemmas.Bool.{leb-true, ltb-true}
+use Rattle.std.proofs.lemmas.List.{length-map, length-take-le, get_or-map, take_all}
+use Rattle.std.proofs.lemmas.List.Elements.{All-map, All-filter, All-take, filter_passes}
+use Rattle.std.proofs.lemmas.List.Sums.{length-filter, count_by-le-length}
+use Rattle.stn_model.specs.declared.plant.Plant.{Plant}
+use Rattle.stn_model.specs.declared.plant.State.{State}
+use Rattle.stn_model.specs.declared.plant.Utility.{Utility}
+use Rattle.stn_model.specs.declared.plant.Task.{Task}
+use Rattle.stn_model.specs.declared.plant.Input.{Input}
+use Rattle.stn_model.specs.declared.plant.Output.{Output}
+use Rattle.stn_model.specs.declared.plant.Draw.{Draw}
+use Rattle.stn_model.specs.declared.plant.Run.{Run}
+use Rattle.stn_model.specs.declared.plant.Gap.{Gap}
+use Rattle.stn_model.specs.declared.plant.Receipt.{Receipt}
+use Rattle.stn_model.specs.declared.plant.Delivery.{Delivery}
+use Rattle.stn_model.specs.declared.plant.Outage.{Outage}
+use Rattle.stn_model.specs.Plant.{duration_of}
+use Rattle.stn_model.specs.Sound.{Within, Sound, SoundState, SoundUtility, SoundInput, SoundOutput, SoundDraw, SoundTask, SoundRun, SoundGap, SoundReceipt, SoundDelivery, SoundOutage, SoundCounts, SoundNames}
+use Rattle.shorter_plant.specs.PlantAt.{plant_at, state_until, utility_until, receipts_until, delivered_at, outage_until, outages_until}
+use Rattle.shorter_plant.proofs.Longer.{fewer_slots, fewer_pairs}
+
+-- what follows of each item holds of all
+All-each : {X : Type 0} (P Q : X → Type 0) (xs : List X) → ((x : X) → P x → Q x) → All P xs → All Q xs
+All-each P Q xs follows all = λ k d within. follows (get_or xs k d) (all k d within)
+
+AllPairs-map : {X : Type 0} (R : X → X → Type 0) (f : X → X) (xs : List X) → ((a b : X) → R a b → R (f a) (f b)) → AllPairs R xs → AllPairs R (map f xs)
+AllPairs-map R f xs keeps all = λ i j d less within.
+    let second : j < length xs = omega (arith, length-map xs f) in
+    let first : i < length xs = omega arith in
+    rw (get_or-map f xs i d d first, get_or-map f xs j d d second) (keeps (get_or xs i d) (get_or xs j d) (all i j d less second))
+
+length-filter-le : {X : Type 0} (p : X → Bool) (xs : List X) → length (filter p xs) ≤ length xs
+length-filter-le p xs = omega (arith, length-filter p xs, count_by-le-length p xs)
+
+state_sound : (periods horizon : ℕ) (state : State) → horizon ≤ periods → SoundState periods state → SoundState horizon (state_until horizon state)
+state_sound periods horizon state less sound = record {
+  name = sound.name;
+  initial = sound.initial;
+  limits = elim sound.limits [
+    | inl e ↦ inl (rw e (take_all (horizon + 1) [] (omega arith)))
+    | inr e ↦ inr (let long = length-take-le (horizon + 1) state.limits (omega arith) in omega arith)
+  ];
+  limit = All-take (λ limit. limit ≤ 1000000000) (horizon + 1) state.limits sound.limit;
+  price = sound.price;
+  holding = sound.holding;
+}
+
+utility_sound : (periods horizon : ℕ) (utility : Utility) → horizon ≤ periods → SoundUtility periods utility → SoundUtility horizon (utility_until horizon utility)
+utility_sound periods horizon utility less sound = record {
+  name = sound.name;
+  limits = let long = sound.limits in length-take-le horizon utility.limits (omega arith);
+  limit = All-take (λ limit. limit ≤ 1000000000) horizon utility.limits sound.limit;
+  rate = sound.rate;
+}
+
+-- a plant with as many states and utilities
+pub record AreAlike (a b : Plant) : Type 0 where
+  pub states : length a.states ≡ length b.states
+  pub utilities : length a.utilities ≡ length b.utilities
+  pub units : a.units ≡ b.units
+  pub tasks : a.tasks ≡ b.tasks
+
+alike : (plant : Plant) (horizon : ℕ) → AreAlike (plant_at plant horizon) plant
+unfolding plant_at
+alike plant horizon = record { states = length-map plant.states (state_until horizon); utilities = length-map plant.utilities (utility_until horizon); units = refl; tasks = refl }
+
+input_sound : (a b : Plant) (quantum : ℕ) (input : Input) → AreAlike a b → SoundInput b quantum input → SoundInput a quantum input
+input_sound a b quantum input same sound = record { state = omega (arith, same.states, sound.state); part = sound.part }
+
+output_sound : (a b : Plant) (quantum : ℕ) (output : Output) → AreAlike a b → SoundOutput b quantum output → SoundOutput a quantum output
+output_sound a b quantum output same sound = record { state = omega (arith, same.states, sound.state); part = sound.part; delay = sound.delay }
+
+draw_sound : (a b : Plant) (duration : ℕ) (draw : Draw) → AreAlike a b → SoundDraw b duration draw → SoundDraw a duration draw
+draw_sound a b duration draw same sound = record {
+  utility = omega (arith, same.utilities, sound.utility);
+  fixed = sound.fixed;
+  each = sound.each;
+  fixed_small = sound.fixed_small;
+  each_small = sound.each_small;
+}
+
+task_sound : (a b : Plant) (task : Task) → AreAlike a b → SoundTask b task → SoundTask a task
+task_sound a b task same sound = record {
+  name = sound.name;
+  quantum = sound.quantum;
+  inputs = sound.inputs;
+  outputs = sound.outputs;
+  draws = sound.draws;
+  input = All-each (SoundInput b task.quantum) (SoundInput a task.quantum) task.inputs (λ input. input_sound a b task.quantum input same) sound.input;
+  output = All-each (SoundOutput b task.quantum) (SoundOutput a task.quantum) task.outputs (λ output. output_sound a b task.quantum output same) sound.output;
+  draw = All-each (SoundDraw b (duration_of task)) (SoundDraw a (duration_of task)) task.draws (λ draw. draw_sound a b (duration_of task) draw same) sound.draw;
+  taken = sound.taken;
+  given = sound.given;
+}
+
+run_sound : (a b : Plant) (run : Run) → AreAlike a b → SoundRun b run → SoundRun a run
+run_sound a b run same sound = record { task = rw same.tasks sound.task; unit = rw same.units sound.unit; least = sound.least; range = sound.range; most = sound.most; cost = sound.cost }
+
+gap_sound : (a b : Plant) (gap : Gap) → AreAlike a b → SoundGap b gap → SoundGap a gap
+gap_sound a b gap same sound = record { unit = rw same.units sound.unit; from = rw same.tasks sound.from; to = rw same.tasks sound.to; periods = sound.periods; cost = sound.cost }
+
+receipts_sound : (plant : Plant) (horizon : ℕ) (receipts : List Receipt) → All (SoundReceipt plant) receipts → All (SoundReceipt (plant_at plant horizon)) (receipts_until horizon receipts)
+unfolding plant_at
+receipts_sound plant horizon receipts sound = λ k d within.
+    let same = alike plant horizon in
+    let kept = All-filter (λ (receipt : Receipt). leb receipt.time horizon) (SoundReceipt plant) receipts sound k d within in
+    let early = leb-true _ _ (filter_passes (λ (receipt : Receipt). leb receipt.time horizon) receipts k d within) in
+    record { state = omega (arith, same.states, kept.state); time = early; amount = kept.amount }
+
+delivery_sound : (plant : Plant) (horizon : ℕ) (delivery : Delivery) → SoundDelivery plant delivery → SoundDelivery (plant_at plant horizon) (delivered_at horizon delivery)
+unfolding plant_at
+delivery_sound plant horizon delivery sound = record { state = omega (arith, length-map plant.states (state_until horizon), sound.state); time = omega arith; amount = sound.amount; payment = sound.payment }
+
+outage_sound : (plant : Plant) (horizon : ℕ) (outage : Outage) → outage.from < horizon → SoundOutage plant outage → SoundOutage (plant_at plant horizon) (outage_until horizon outage)
+unfolding plant_at
+outage_sound plant horizon outage early sound = record { unit = sound.unit; some = omega (arith, sound.some); to = omega arith }
+
+outages_sound : (plant : Plant) (horizon : ℕ) (outages : List Outage) → All (SoundOutage plant) outages → All (SoundOutage (plant_at plant horizon)) (outages_until horizon outages)
+outages_sound plant horizon outages sound =
+    let kept = filter (λ (outage : Outage). ltb outage.from horizon) outages in
+    All-map (SoundOutage (plant_at plant horizon)) (outage_until horizon) kept (λ k d within.
+    outage_sound plant horizon (get_or kept k d)
+    (ltb-true _ _ (filter_passes (λ (outage : Outage). ltb outage.from horizon) outages k d within))
+    (All-filter (λ (outage : Outage). ltb outage.from horizon) (SoundOutage plant) outages sound k d within))
+
+counts_sound : (plant : Plant) (horizon : ℕ) → Sound plant → Within 1 plant.periods horizon → SoundCounts (plant_at plant horizon)
+unfolding plant_at
+counts_sound plant horizon sound within =
+    let counts = sound.counts in
+    let early = filter (λ (outage : Outage). ltb outage.from horizon) plant.outages in
+    record {
+      periods = (within.0, omega (arith, within.1, counts.periods.1));
+      states = omega (arith, length-map plant.states (state_until horizon), counts.states);
+      utilities = omega (arith, length-map plant.utilities (utility_until horizon), counts.utilities);
+      units = counts.units;
+      tasks = counts.tasks;
+      runs = counts.runs;
+      gaps = counts.gaps;
+      receipts = omega (arith, length-filter-le (λ (receipt : Receipt). leb receipt.time horizon) plant.receipts, counts.receipts);
+      deliveries = omega (arith, length-map plant.deliveries (delivered_at horizon), counts.deliveries);
+      outages = omega (arith, length-map early (outage_until horizon), length-filter-le (λ (outage : Outage). ltb outage.from horizon) plant.outages, counts.outages);
+      slots = omega (arith, fewer_slots plant horizon sound within.1, counts.slots);
+      gap_pairs = omega (arith, fewer_pairs plant horizon sound within.1, counts.gap_pairs);
+    }
+
+names_sound : (plant : Plant) (horizon : ℕ) → SoundNames plant → SoundNames (plant_at plant horizon)
+unfolding plant_at
+names_sound plant horizon names = record {
+  states = AllPairs-map (λ (a b : State). a.name ≢ b.name) (state_until horizon) plant.states (λ a b differ. differ) names.states;
+  utilities = AllPairs-map (λ (a b : Utility). a.name ≢ b.name) (utility_until horizon) plant.utilities (λ a b differ. differ) names.utilities;
+  units = names.units;
+  tasks = names.tasks;
+  runs = names.runs;
+}
+
+-- the plant within a shorter horizon is sound
+pub shorter_sound : (plant : Plant) (horizon : ℕ) → Sound plant → Within 1 plant.periods horizon → Sound (plant_at plant horizon)
+unfolding plant_at
+shorter_sound plant horizon sound within =
+    let short = plant_at plant horizon in
+    let same = alike plant horizon in
+    record {
+      counts = counts_sound plant horizon sound within;
+      names = names_sound plant horizon sound.names;
+      states = All-map (SoundState horizon) (state_until horizon) plant.states (All-each (SoundState plant.periods) (λ state. SoundState horizon (state_until horizon state)) plant.states (λ state. state_sound plant.periods horizon state within.1) sound.states);
+      utilities = All-map (SoundUtility horizon) (utility_until horizon) plant.utilities (All-each (SoundUtility plant.periods) (λ utility. SoundUtility horizon (utility_until horizon utility)) plant.utilities (λ utility. utility_sound plant.periods horizon utility within.1) sound.utilities);
+      units = sound.units;
+      tasks = All-each (SoundTask plant) (SoundTask short) plant.tasks (λ task. task_sound short plant task same) sound.tasks;
+      runs = All-each (SoundRun plant) (SoundRun short) plant.runs (λ run. run_sound short plant run same) sound.runs;
+      gaps = All-each (SoundGap plant) (SoundGap short) plant.gaps (λ gap. gap_sound short plant gap same) sound.gaps;
+      receipts = receipts_sound plant horizon plant.receipts sound.receipts;
+      deliveries = All-map (SoundDelivery short) (delivered_at horizon) plant.deliveries (All-each (SoundDelivery plant) (λ delivery. SoundDelivery short (delivered_at horizon delivery)) plant.deliveries (λ delivery. delivery_sound plant horizon delivery) sound.deliveries);
+      outages = outages_sound plant horizon plant.outages sound.outages;
+    }

@@ -1,0 +1,39 @@
+//! Whether a part of a plant is searched with sums.
+ghost use Rattle.std.specs.Prelude.{◌≤◌, ◌<◌, ◌*◌, IsTrue};
+ghost use Rattle.row_kit.specs.Points.{points_of};
+
+use row_kit::{Domain, Program};
+
+// Where more points are left, sums are declared.
+const MOST_POINTS: u64 = 50_000;
+
+/// Whether the slots from the number `levels` on have more than 50,000 points. Parts of a plant that are told apart by as many first
+/// slots all have, or none.
+pub fn has_many(part: &Program, levels: u32) -> bool
+    ensures { IsTrue result → 50000 < points_of part.now.root }
+{
+    let root = part.root.as_slice();
+    let levels = levels as usize;
+    if levels > root.len() {
+        return false;
+    }
+    count_points(&root[levels..]) > MOST_POINTS
+}
+
+// The number of points of domains, or the greatest number of 64 bits.
+fn count_points(domains: &[Domain]) -> u64
+    ensures { result ≤ points_of domains.now }
+{
+    let mut count = 1u64;
+    for domain in domains {
+        count = times(count, domain.count());
+    }
+    count
+}
+
+// The product of two numbers, or the greatest number of 64 bits.
+fn times(count: u64, more: u32) -> u64
+    ensures { result ≤ count * more }
+{
+    count.saturating_mul(u64::from(more))
+}

@@ -1,0 +1,2 @@
+pub mod TankLines
+pub mod TankAnswers
