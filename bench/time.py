@@ -100,6 +100,16 @@ def founds(size, worth, started):
     return "stn-log 2\n" + group + split + first + second + "claim below 1000000000000\nend\n"
 
 
+def points(slots, both):
+    """A log that ends in as many points as there are ways to start one quantum or none in each of the last slots, of which both
+    are looked at; in the others nothing is started."""
+    body = "node\npoint\n"
+    for slot in range(slots - 1, -1, -1):
+        one = f"node\nsplit {slot} 1 1 0\n{body}node\ndual 1 0\n" if slot >= slots - both else "node\ndual 1 0\n"
+        body = f"node\nsplit {slot} 0 1 0\n{body}{one}"
+    return "stn-log 2\n" + body + "claim below 1000000000000\nend\n"
+
+
 def earned(folder, plant, start):
     """What a plan of one start, or of none, earns over a plant."""
     path = os.path.join(folder, "one.plan")
@@ -133,10 +143,10 @@ def main():
     for name, budget in [("tiny", 31), ("paint", 20000), ("juice", 40000), ("soap", 11000)]:
         runs.append(["solve", os.path.join(top, "examples", name + ".toml"), str(budget)])
     with tempfile.TemporaryDirectory() as folder:
-        names = ("largest.toml", "full.plan", "late.plan", "entries.toml", "no.log", "cuts.log")
-        plant, full, late, entries, no_log, cut_log = (os.path.join(folder, n) for n in names)
-        texts = [largest(), plan(512), plan(2048), most_entries(), "no log\n", cuts(64 << 20)]
-        for path, content in zip((plant, full, late, entries, no_log, cut_log), texts):
+        names = ("largest.toml", "full.plan", "late.plan", "entries.toml", "no.log", "cuts.log", "points.log")
+        plant, full, late, entries, no_log, cut_log, point_log = (os.path.join(folder, n) for n in names)
+        texts = [largest(), plan(512), plan(2048), most_entries(), "no log\n", cuts(64 << 20), points(512, 14)]
+        for path, content in zip((plant, full, late, entries, no_log, cut_log, point_log), texts):
             with open(path, "w") as out:
                 out.write(content)
         runs += [["simulate", plant, full], ["simulate", plant, late]]
@@ -145,6 +155,7 @@ def main():
         tiny, five = (os.path.join(top, "examples", name + ".toml") for name in ("tiny", "five"))
         nothing = [(tiny, 10_000_000), (tiny, 100_000_000), (five, 10_000_000), (plant, 10_000_000), (entries, 10_000_000)]
         turned = [(tiny, 10_000_000, "0 U make 1\n"), (plant, 1_000_000, "0 u0 t0 1\n"), (entries, 1_000_000, "0 u0 t0 1\n")]
+        runs += [["check", plant, point_log], ["check", entries, point_log]]
         runs += found_runs(folder, [(plant, size, "") for plant, size in nothing] + turned)
         runs += [["solve", p, "1000"] for p in sys.argv[1:]]
         print(f"{'seconds':>8} {'of cpu':>8} {'MiB':>7} status  words: first line")

@@ -18,7 +18,8 @@ pub fn fall_to(gains: &Gains, area: &Area, row: &Row, own: u64, factor: u64) -> 
     requires along { IsAlong gains.now.lines (present area.now) row.now own }
     requires most { AreMost (present area.now) gains.now.lines gains.now.most }
     requires factor { factor ≤ 2 ^ 40 }
-    ensures value { let part = part_along gains.now.lines (present area.now) row.now own in result ≡ part own -ℤ part factor }
+    ensures value { let part = part_along gains.now.lines (present area.now) row.now own in result
+        ≡ part own -ℤ part factor }
     ensures small { unsigned_abs result ≤ 2 ^ 118 }
 {
     let mut sum = scaled_limit(row, own) - scaled_limit(row, factor);
@@ -52,7 +53,8 @@ pub fn with_other(line: &Line, entry: &Entry, own: u64, factor: u64) -> Line
     requires per { unsigned_abs entry.now.per ≤ 10000000 }
     requires own { own ≤ 2 ^ 40 }
     requires factor { factor ≤ 2 ^ 40 }
-    ensures value { (v : ℕ) → line_at result v ≡ (line_at line.now v +ℤ (pos own *ℤ counted entry.now v)) -ℤ (pos factor *ℤ counted entry.now v) }
+    ensures value { (v : ℕ) → line_at result v ≡ (line_at line.now v
+        +ℤ (pos own *ℤ counted entry.now v)) -ℤ (pos factor *ℤ counted entry.now v) }
     ensures within { (most : ℕ) → IsWithin most line.now → IsWithin (most + 2 ^ 72) result }
 {
     line.with_entry(entry, own)

@@ -34,8 +34,11 @@ pub fn climb(
     requires total { IsSome (total_at program.now (present area.now) start.now) }
     ensures total { IfOk result (λ cert. IsSome (total_at program.now (present area.now) cert)) }
     ensures scale { IfOk result (λ cert. cert.scale ≡ start.now.scale) }
-    ensures never { IfOk result (λ cert. 1 ≤ start.now.scale → IsNoWorse program.now (present area.now) start.now cert) }
-    ensures helped { IfOk result (λ cert. 1 ≤ start.now.scale → (row : ℕ) → Helps program.now (present area.now) start.now row → IsBetter program.now (present area.now) start.now cert) }
+    ensures never { IfOk result (λ cert. 1 ≤ start.now.scale → IsNoWorse program.now
+        (present area.now) start.now cert) }
+    ensures helped { IfOk result (λ cert. 1 ≤ start.now.scale → (row : ℕ)
+        → Helps program.now (present area.now) start.now row → IsBetter program.now
+        (present area.now) start.now cert) }
 {
     let best = ascend(alloc, program, area, start)?;
     if start.scale == 0 {
@@ -70,7 +73,8 @@ fn certificate(
     requires full { IsFull (length program.now.rows) factors.now }
     ensures scale { IfOk result (λ cert. cert.scale ≡ start.now.scale) }
     ensures defined { IfOk result (λ cert. IsSome (total_at program.now (present area.now) cert)) }
-    ensures total { IfOk result (λ cert. total_of program.now (present area.now) cert ≡ total_of program.now (present area.now) (cert_of start.now.scale factors.now)) }
+    ensures total { IfOk result (λ cert. total_of program.now (present area.now) cert
+        ≡ total_of program.now (present area.now) (cert_of start.now.scale factors.now)) }
 {
     let mults = gathered(alloc, factors)?;
     Ok(Cert {
@@ -87,7 +91,8 @@ fn eased(alloc: Global, program: &Program, area: &Area, start: &Cert) -> Result<
     ensures scale { IfOk result (λ cert. cert.scale ≡ start.now.scale) }
     ensures defined { IfOk result (λ cert. IsSome (total_at program.now (present area.now) cert)) }
     ensures never { IfOk result (IsNoWorse program.now (present area.now) start.now) }
-    ensures helped { IfOk result (λ cert. (row : ℕ) → Helps program.now (present area.now) start.now row → IsBetter program.now (present area.now) start.now cert) }
+    ensures helped { IfOk result (λ cert. (row : ℕ) → Helps program.now (present area.now) start.now
+        row → IsBetter program.now (present area.now) start.now cert) }
 {
     let mut held = hold(alloc, program, area, start)?;
     pass(program, area, start.scale, 1, None, &mut held);

@@ -26,7 +26,8 @@ pub fn gains_under(program: &Program, area: &Area, cert: &Cert) -> Gains
     requires usable { IsUsable (length program.now.rows) cert.now }
     requires open_ { All IsOpen (present area.now) }
     ensures length { length result.lines ≡ 512 }
-    ensures value { (slot v : ℕ) → slot < 512 → line_at (slot_line result.lines slot) v ≡ gain program.now cert.now slot v }
+    ensures value { (slot v : ℕ) → slot < 512 → line_at (slot_line result.lines slot) v
+        ≡ gain program.now cert.now slot v }
     ensures most { AreMost (present area.now) result.lines result.most }
 {
     let lines = gain_lines(program, cert);
@@ -56,7 +57,9 @@ pub fn move_gains(gains: &mut Gains, area: &Area, row: &Row, own: u64, factor: u
     requires most { AreMost (present area.now) gains.old.lines gains.old.most }
     requires factor { factor ≤ 2 ^ 40 }
     ensures slots { length gains.new.lines ≡ 512 }
-    ensures value { (slot v : ℕ) → slot < 512 → line_at (slot_line gains.new.lines slot) v ≡ (line_at (slot_line gains.old.lines slot) v +ℤ (pos own *ℤ entry_at row.now.entries slot v)) -ℤ (pos factor *ℤ entry_at row.now.entries slot v) }
+    ensures value { (slot v : ℕ) → slot < 512 → line_at (slot_line gains.new.lines slot) v
+        ≡ (line_at (slot_line gains.old.lines slot) v +ℤ (pos own *ℤ entry_at row.now.entries slot
+        v)) -ℤ (pos factor *ℤ entry_at row.now.entries slot v) }
     ensures most { AreMost (present area.now) gains.new.lines gains.new.most }
 {
     for entry in row.entries.as_slice() {

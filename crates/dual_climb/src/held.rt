@@ -34,12 +34,17 @@ pub fn improve(
     requires some { 1 ≤ least_fall }
     requires fall { least_fall ≤ 2 ^ 20 }
     requires number { number < length program.now.rows }
-    requires held { IsHeld program.now (present area.now) scale held.old.mults.items held.old.gains.lines held.old.gains.most held.old.total }
-    ensures held { IsHeld program.now (present area.now) scale held.new.mults.items held.new.gains.lines held.new.gains.most held.new.total }
+    requires held { IsHeld program.now (present area.now) scale held.old.mults.items
+        held.old.gains.lines held.old.gains.most held.old.total }
+    ensures held { IsHeld program.now (present area.now) scale held.new.mults.items
+        held.new.gains.lines held.new.gains.most held.new.total }
     ensures fell { IsTrue result → (held.new.total +ℤ pos least_fall) ≤ℤ held.old.total }
-    ensures changes { IsLoweredBy least_fall program.now (present area.now) scale held.old.mults.items held.new.mults.items }
-    ensures same { result ≡ false → (held.new.mults.items ≡ held.old.mults.items) × (held.new.total ≡ held.old.total) }
-    ensures best { result ≡ false → BestBy least_fall program.now (present area.now) (cert_of scale held.old.mults.items) number }
+    ensures changes { IsLoweredBy least_fall program.now (present area.now) scale
+        held.old.mults.items held.new.mults.items }
+    ensures same { result ≡ false → (held.new.mults.items ≡ held.old.mults.items)
+        × (held.new.total ≡ held.old.total) }
+    ensures best { result ≡ false → BestBy least_fall program.now (present area.now)
+        (cert_of scale held.old.mults.items) number }
 {
     let row = &program.rows.as_slice()[number];
     let own = held.mults[number].factor;

@@ -16,7 +16,8 @@ pub fn is_near(gains: &Gains, area: &Area, row: &Row, own: u64, least_fall: u32)
     requires along { IsAlong gains.now.lines (present area.now) row.now own }
     requires most { AreMost (present area.now) gains.now.lines gains.now.most }
     requires some { 1 ≤ least_fall }
-    ensures { let part = part_along gains.now.lines (present area.now) row.now own in IsTrue result → (f : ℕ) → f ≤ 2 ^ 40 → (part own -ℤ pos least_fall) <ℤ part f }
+    ensures { let part = part_along gains.now.lines (present area.now) row.now own in IsTrue result
+        → (f : ℕ) → f ≤ 2 ^ 40 → (part own -ℤ pos least_fall) <ℤ part f }
 {
     is_near_above(gains, area, row, own, least_fall)
         && is_near_below(gains, area, row, own, least_fall)
@@ -27,7 +28,8 @@ fn is_near_above(gains: &Gains, area: &Area, row: &Row, own: u64, least_fall: u3
     requires along { IsAlong gains.now.lines (present area.now) row.now own }
     requires most { AreMost (present area.now) gains.now.lines gains.now.most }
     requires some { 1 ≤ least_fall }
-    ensures { let part = part_along gains.now.lines (present area.now) row.now own in IsTrue result → (f : ℕ) → own ≤ f → f ≤ 2 ^ 40 → (part own -ℤ pos least_fall) <ℤ part f }
+    ensures { let part = part_along gains.now.lines (present area.now) row.now own in IsTrue result
+        → (f : ℕ) → own ≤ f → f ≤ 2 ^ 40 → (part own -ℤ pos least_fall) <ℤ part f }
 {
     if own >= MOST_FACTOR {
         return true;
@@ -42,7 +44,8 @@ fn is_near_below(gains: &Gains, area: &Area, row: &Row, own: u64, least_fall: u3
     requires along { IsAlong gains.now.lines (present area.now) row.now own }
     requires most { AreMost (present area.now) gains.now.lines gains.now.most }
     requires some { 1 ≤ least_fall }
-    ensures { let part = part_along gains.now.lines (present area.now) row.now own in IsTrue result → (f : ℕ) → f ≤ own → (part own -ℤ pos least_fall) <ℤ part f }
+    ensures { let part = part_along gains.now.lines (present area.now) row.now own in IsTrue result
+        → (f : ℕ) → f ≤ own → (part own -ℤ pos least_fall) <ℤ part f }
 {
     if own == 0 {
         return true;
@@ -72,7 +75,8 @@ pub fn least(gains: &Gains, area: &Area, row: &Row, own: u64) -> u64
     requires along { IsAlong gains.now.lines (present area.now) row.now own }
     requires most { AreMost (present area.now) gains.now.lines gains.now.most }
     ensures range { result ≤ 2 ^ 40 }
-    ensures least { let part = part_along gains.now.lines (present area.now) row.now own in (f : ℕ) → f ≤ 2 ^ 40 → part result ≤ℤ part f }
+    ensures least { let part = part_along gains.now.lines (present area.now) row.now own in (f : ℕ)
+        → f ≤ 2 ^ 40 → part result ≤ℤ part f }
 {
     if rises_after(gains, area, row, own) {
         between(gains, area, row, own, 0, own)
@@ -85,8 +89,10 @@ pub fn least(gains: &Gains, area: &Area, row: &Row, own: u64) -> u64
 fn rises_after(gains: &Gains, area: &Area, row: &Row, own: u64) -> bool
     requires along { IsAlong gains.now.lines (present area.now) row.now own }
     requires most { AreMost (present area.now) gains.now.lines gains.now.most }
-    ensures yes { let part = part_along gains.now.lines (present area.now) row.now own in IsTrue result → own < 2 ^ 40 → part own ≤ℤ part (own + 1) }
-    ensures no_ { let part = part_along gains.now.lines (present area.now) row.now own in result ≡ false → (own < 2 ^ 40) × (part (own + 1) ≤ℤ part own) }
+    ensures yes { let part = part_along gains.now.lines (present area.now) row.now own
+        in IsTrue result → own < 2 ^ 40 → part own ≤ℤ part (own + 1) }
+    ensures no_ { let part = part_along gains.now.lines (present area.now) row.now own in result
+        ≡ false → (own < 2 ^ 40) × (part (own + 1) ≤ℤ part own) }
 {
     own >= MOST_FACTOR || fall_to(gains, area, row, own, own + 1) <= 0
 }
@@ -98,10 +104,13 @@ fn between(gains: &Gains, area: &Area, row: &Row, own: u64, low: u64, high: u64)
     requires most { AreMost (present area.now) gains.now.lines gains.now.most }
     requires ordered { low ≤ high }
     requires range { high ≤ 2 ^ 40 }
-    requires falls { let part = part_along gains.now.lines (present area.now) row.now own in 0 < low → part low ≤ℤ part (low - 1) }
-    requires rises { let part = part_along gains.now.lines (present area.now) row.now own in high < 2 ^ 40 → part high ≤ℤ part (high + 1) }
+    requires falls { let part = part_along gains.now.lines (present area.now) row.now own in 0 < low
+        → part low ≤ℤ part (low - 1) }
+    requires rises { let part = part_along gains.now.lines (present area.now) row.now own in high
+        < 2 ^ 40 → part high ≤ℤ part (high + 1) }
     ensures range { result ≤ 2 ^ 40 }
-    ensures least { let part = part_along gains.now.lines (present area.now) row.now own in (f : ℕ) → f ≤ 2 ^ 40 → part result ≤ℤ part f }
+    ensures least { let part = part_along gains.now.lines (present area.now) row.now own in (f : ℕ)
+        → f ≤ 2 ^ 40 → part result ≤ℤ part f }
 {
     let mut low = low;
     let mut high = high;
@@ -150,7 +159,8 @@ fn rises(gains: &Gains, area: &Area, row: &Row, own: u64, factor: u64) -> bool
     requires along { IsAlong gains.now.lines (present area.now) row.now own }
     requires most { AreMost (present area.now) gains.now.lines gains.now.most }
     requires factor { factor < 2 ^ 40 }
-    ensures { let part = part_along gains.now.lines (present area.now) row.now own in IsTrue result ↔ (part factor ≤ℤ part (factor + 1)) }
+    ensures { let part = part_along gains.now.lines (present area.now) row.now own in IsTrue result
+        ↔ (part factor ≤ℤ part (factor + 1)) }
 {
     fall_to(gains, area, row, own, factor + 1) <= fall_to(gains, area, row, own, factor)
 }

@@ -38,11 +38,13 @@ pub fn polish(
     requires scale { 1 ≤ cert.old.scale }
     requires total { IsSome (total_at program.now (present area.now) cert.old) }
     ensures scale { cert.new.scale ≡ cert.old.scale }
-    ensures total { NeverRises (total_at program.now (present area.now) cert.old) (total_at program.now (present area.now) cert.new) }
+    ensures total { NeverRises (total_at program.now (present area.now) cert.old)
+        (total_at program.now (present area.now) cert.new) }
     ensures changes { IsPolished program.now (present area.now) cert.old cert.new }
     ensures kept { IsKeptOrLower program.now (present area.now) cert.old cert.new }
     ensures err { OnErr result (cert.new ≡ cert.old) }
-    ensures best { IfOk result (λ _. RowBest program.now (present area.now) cert.new ⊎ IsReached stop (cert_cap program.now (present area.now) cert.new)) }
+    ensures best { IfOk result (λ _. RowBest program.now (present area.now) cert.new
+        ⊎ IsReached stop (cert_cap program.now (present area.now) cert.new)) }
 {
     let mut held = hold(alloc, program, area, cert)?;
     if descend(program, area, cert.scale, stop, &mut held) {
@@ -57,8 +59,10 @@ pub fn hold(alloc: Global, program: &Program, area: &Area, cert: &Cert) -> Resul
     requires scale { 1 ≤ cert.now.scale }
     requires total { IsSome (total_at program.now (present area.now) cert.now) }
     ensures area { CanMove program.now (present area.now) cert.now.scale }
-    ensures held { IfOk result (λ held. IsHeld program.now (present area.now) cert.now.scale held.mults.items held.gains.lines held.gains.most held.total) }
-    ensures total { IfOk result (λ held. total_at program.now (present area.now) cert.now ≡ Some held.total) }
+    ensures held { IfOk result (λ held. IsHeld program.now (present area.now) cert.now.scale
+        held.mults.items held.gains.lines held.gains.most held.total) }
+    ensures total { IfOk result (λ held. total_at program.now (present area.now) cert.now
+        ≡ Some held.total) }
     ensures same { IfOk result (λ held. HaveSameSums held.mults.items cert.now.mults) }
 {
     let _ = area.slot_count();
@@ -76,13 +80,17 @@ pub fn hold(alloc: Global, program: &Program, area: &Area, cert: &Cert) -> Resul
 fn descend(program: &Program, area: &Area, scale: u32, stop: Option<i128>, held: &mut Held) -> bool
     requires area { CanMove program.now (present area.now) scale }
     requires scale { 1 ≤ scale }
-    requires held { IsHeld program.now (present area.now) scale held.old.mults.items held.old.gains.lines held.old.gains.most held.old.total }
-    ensures held { IsHeld program.now (present area.now) scale held.new.mults.items held.new.gains.lines held.new.gains.most held.new.total }
+    requires held { IsHeld program.now (present area.now) scale held.old.mults.items
+        held.old.gains.lines held.old.gains.most held.old.total }
+    ensures held { IsHeld program.now (present area.now) scale held.new.mults.items
+        held.new.gains.lines held.new.gains.most held.new.total }
     ensures never { held.new.total ≤ℤ held.old.total }
     ensures fell { IsTrue result → (held.new.total +ℤ pos scale) ≤ℤ held.old.total }
     ensures same { result ≡ false → held.new.mults.items ≡ held.old.mults.items }
-    ensures changes { IsLoweredBy scale program.now (present area.now) scale held.old.mults.items held.new.mults.items }
-    ensures best { RowBest program.now (present area.now) (cert_of scale held.new.mults.items) ⊎ IsReached stop (scaled_cap scale (Some held.new.total)) }
+    ensures changes { IsLoweredBy scale program.now (present area.now) scale held.old.mults.items
+        held.new.mults.items }
+    ensures best { RowBest program.now (present area.now) (cert_of scale held.new.mults.items)
+        ⊎ IsReached stop (scaled_cap scale (Some held.new.total)) }
 {
     let mut changed = false;
     while pass(program, area, scale, scale, stop, held) {
@@ -105,12 +113,17 @@ pub fn pass(
     requires scale { 1 ≤ scale }
     requires some { 1 ≤ least_fall }
     requires fall { least_fall ≤ 2 ^ 20 }
-    requires held { IsHeld program.now (present area.now) scale held.old.mults.items held.old.gains.lines held.old.gains.most held.old.total }
-    ensures held { IsHeld program.now (present area.now) scale held.new.mults.items held.new.gains.lines held.new.gains.most held.new.total }
+    requires held { IsHeld program.now (present area.now) scale held.old.mults.items
+        held.old.gains.lines held.old.gains.most held.old.total }
+    ensures held { IsHeld program.now (present area.now) scale held.new.mults.items
+        held.new.gains.lines held.new.gains.most held.new.total }
     ensures never { held.new.total ≤ℤ held.old.total }
     ensures fell { IsTrue result → (held.new.total +ℤ pos least_fall) ≤ℤ held.old.total }
-    ensures changes { IsLoweredBy least_fall program.now (present area.now) scale held.old.mults.items held.new.mults.items }
-    ensures best { result ≡ false → RowBestBy least_fall program.now (present area.now) (cert_of scale held.new.mults.items) ⊎ IsReached stop (scaled_cap scale (Some held.new.total)) }
+    ensures changes { IsLoweredBy least_fall program.now (present area.now) scale
+        held.old.mults.items held.new.mults.items }
+    ensures best { result ≡ false → RowBestBy least_fall program.now (present area.now)
+        (cert_of scale held.new.mults.items) ⊎ IsReached stop
+        (scaled_cap scale (Some held.new.total)) }
     ensures same { result ≡ false → held.new.mults.items ≡ held.old.mults.items }
 {
     let mut changed = false;
@@ -137,12 +150,18 @@ fn step(
     requires some { 1 ≤ least_fall }
     requires fall { least_fall ≤ 2 ^ 20 }
     requires number { number < length program.now.rows }
-    requires held { IsHeld program.now (present area.now) scale held.old.mults.items held.old.gains.lines held.old.gains.most held.old.total }
-    ensures held { IsHeld program.now (present area.now) scale held.new.mults.items held.new.gains.lines held.new.gains.most held.new.total }
+    requires held { IsHeld program.now (present area.now) scale held.old.mults.items
+        held.old.gains.lines held.old.gains.most held.old.total }
+    ensures held { IsHeld program.now (present area.now) scale held.new.mults.items
+        held.new.gains.lines held.new.gains.most held.new.total }
     ensures fell { IsTrue result → (held.new.total +ℤ pos least_fall) ≤ℤ held.old.total }
-    ensures changes { IsLoweredBy least_fall program.now (present area.now) scale held.old.mults.items held.new.mults.items }
-    ensures same { result ≡ false → (held.new.mults.items ≡ held.old.mults.items) × (held.new.total ≡ held.old.total) }
-    ensures best { result ≡ false → BestBy least_fall program.now (present area.now) (cert_of scale held.old.mults.items) number ⊎ IsReached stop (scaled_cap scale (Some held.old.total)) }
+    ensures changes { IsLoweredBy least_fall program.now (present area.now) scale
+        held.old.mults.items held.new.mults.items }
+    ensures same { result ≡ false → (held.new.mults.items ≡ held.old.mults.items)
+        × (held.new.total ≡ held.old.total) }
+    ensures best { result ≡ false → BestBy least_fall program.now (present area.now)
+        (cert_of scale held.old.mults.items) number ⊎ IsReached stop
+        (scaled_cap scale (Some held.old.total)) }
 {
     if is_reached(&held.total, scale, stop) {
         return false;

@@ -23,7 +23,8 @@ impl Fraction {
         ensures value { result ≡ fraction_in text.now }
 
         // The text is what is written of the fraction, and of no fraction where there is none.
-        ensures written { MatchOption result ((f : Fraction) → IsProper f → text.now ≢ fraction_text f) (λ f. IsProper f × (text.now ≡ fraction_text f)) }
+        ensures written { MatchOption result ((f : Fraction) → IsProper f
+            → text.now ≢ fraction_text f) (λ f. IsProper f × (text.now ≡ fraction_text f)) }
     {
         read_fraction(text)
     }
@@ -31,8 +32,10 @@ impl Fraction {
     /// This part of the quantum, `quantum * over / under`; None exactly where that is no whole number.
     pub fn times(self, quantum: u32) -> Option<u64>
         requires { 0 < self.under }
-        ensures value { result ≡ (if is_whole quantum self then Some (amount_in quantum self) else None) }
-        ensures exact { MatchOption result ((amount : ℕ) → amount * self.under ≢ quantum * self.over) (λ amount. amount * self.under ≡ quantum * self.over) }
+        ensures value { result ≡ (if is_whole quantum self then Some (amount_in quantum self) else
+            None) }
+        ensures exact { MatchOption result ((amount : ℕ) → amount * self.under ≢ quantum *
+            self.over) (λ amount. amount * self.under ≡ quantum * self.over) }
     {
         let whole = u64::from(quantum) * u64::from(self.over);
         let under = u64::from(self.under);
@@ -48,7 +51,8 @@ impl Fraction {
     pub fn of(amount: u32, quantum: u32) -> Option<Fraction>
         requires some { 1 ≤ amount }
         requires most { amount ≤ quantum }
-        ensures { MatchOption result ((over under : ℕ) → 0 < under → over * quantum ≡ under * amount → 10000 < under) (λ f. IsProper f × IsLeast amount quantum f) }
+        ensures { MatchOption result ((over under : ℕ) → 0 < under → over * quantum ≡ under * amount
+            → 10000 < under) (λ f. IsProper f × IsLeast amount quantum f) }
     {
         let divisor = divisor_of(amount, quantum);
         let under = quantum / divisor;

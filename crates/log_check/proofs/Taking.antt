@@ -19,7 +19,7 @@ use Rattle.log_check.specs.declared.course.Course.TheVariants.{Going}
 use Rattle.valid_log.specs.declared.verdict.LogVerdict.{LogVerdict}
 use Rattle.log_check.specs.Course.{StandsAt, IsReady, MayTake, IsEndVerdict}
 use Rattle.valid_log.specs.Verdict.{IsVerdict, YesHolds, limits_of}
-use Rattle.log_check.specs.laws.Rooms.{IsRoomsOf}
+use Rattle.row_rooms.specs.Rooms.{IsRoomsOf}
 use Rattle.log_check.proofs.Judging.{end_verdict, end_holds, not_going}
 use Rattle.log_check.proofs.There.{may_take}
 

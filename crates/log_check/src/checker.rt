@@ -1,22 +1,22 @@
 //! The check of a proof's items, one at a time.
-ghost use Rattle.std.specs.Prelude.{map, ◌≡◌, ℕ, List as Items, [], ◌∷◌, ◌++◌, MatchOption, None, IfOk, OnOk};
+ghost use Rattle.std.specs.Prelude.{map, ◌≡◌, ℕ, List as Items, [], ◌∷◌, ◌++◌, MatchOption, None, IfOk, OnOk, IsTrue};
 ghost use Rattle.proof_tree.specs.Views.{View, present};
 ghost use Rattle.row_relax.specs.Steps.{row_steps};
 ghost use Rattle.row_relax.specs.View.{Fits, view_of};
-ghost use Rattle.proof_tree.specs.Walk.{Stands};
+ghost use Rattle.proof_tree.specs.Walk.{IsAnswer, Stands, may_come, stage_of, step};
 ghost use Rattle.row_relax.specs.RowProofs.{RowItem};
 ghost use Rattle.proof_log.specs.Log.{line_after};
 ghost use Rattle.valid_log.specs.Meaning.{ItemDefect, IsTested};
 ghost use Rattle.log_check.specs.Course.{StandsAt, IsReady, MayTake, end_kind, course_of};
-ghost use Rattle.log_check.specs.laws.Rooms.{IsRoomsOf};
+ghost use Rattle.row_rooms.specs.Rooms.{IsRoomsOf};
 
 use crate::course::Course;
 use crate::points::found_defect;
-use crate::rooms::RowRooms;
 use log_lines::Defect;
 use proof_tree::{Expected, Item, Relaxation, Took, Walk};
 use row_kit::{Area, Program};
 use row_relax::Rows;
+use row_rooms::RowRooms;
 use std::alloc::{AllocError, Global};
 
 /// Takes the items of a proof and keeps the first meaning defect.
@@ -155,8 +155,30 @@ impl Checker {
             self.course = Course::Faulty(Defect { line, kind });
             return Ok(());
         }
-        let took = self.walk.take(rows, &mut self.area, item)?;
+        let took = self.walk_on(rows, item)?;
         self.course = course_of(took, line, end_kind(item));
         Ok(())
+    }
+
+    // Has the walk take an item. What the only point of an area is worth is found from the point that was tested before.
+    fn walk_on(&mut self, rows: &Rows, item: &Item<Rows>) -> Result<Took, AllocError>
+        requires fits { Fits rows.now.program (present (map view_of self.old.area)) }
+        requires stands { Stands (row_steps rows.now.program) self.old.walk
+            (map view_of self.old.area) }
+        requires comes { IsTrue (may_come self.old.walk.expected item.now) }
+        requires rooms { IsRoomsOf rows.now.program self.old.rooms }
+        ensures fits { Fits rows.now.program (present (map view_of self.new.area)) }
+        ensures stands { Stands (row_steps rows.now.program) self.new.walk
+            (map view_of self.new.area) }
+        ensures rooms { IsRoomsOf rows.now.program self.new.rooms }
+        ensures step { IfOk result (λ took. IsAnswer took self.new.walk (map view_of self.new.area)
+            (step (row_steps rows.now.program) (stage_of self.old.walk (map view_of self.old.area))
+            item.now)) }
+    {
+        if let Item::Point = item {
+            let cap = self.rooms.settle(&rows.program, &self.area);
+            return Ok(self.walk.take_point(rows, &mut self.area, cap));
+        }
+        self.walk.take(rows, &mut self.area, item)
     }
 }

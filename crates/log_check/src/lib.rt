@@ -13,7 +13,6 @@ mod claims;
 mod course;
 mod log;
 mod points;
-mod rooms;
 mod stop;
 
 pub use bytes::check_bytes;

@@ -2,9 +2,9 @@
 ghost use Rattle.std.specs.Prelude.{◌≡◌, ◌↔◌, ℕ, MatchOption, IsTrue};
 ghost use Rattle.row_kit.specs.Point.{IsLawful};
 ghost use Rattle.valid_log.specs.Meaning.{PointDefect, IsWorth};
-ghost use Rattle.log_check.specs.laws.Rooms.{IsRoomsOf};
+ghost use Rattle.row_rooms.specs.Rooms.{IsRoomsOf};
 
-use crate::rooms::RowRooms;
+use row_rooms::RowRooms;
 use row_kit::{Program, is_lawful, worth};
 
 /// What is wrong with a point and the worth that it is said to have: it is not lawful, or its worth is another. It costs the slots,

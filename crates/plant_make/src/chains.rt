@@ -32,7 +32,9 @@ pub fn repeated<T: Copy + Drop>(alloc: Global, item: T, many: u32) -> Result<Lis
 /// The feed of a chain.
 fn feed(alloc: Global, seed: u32, chain: u32) -> Result<State, AllocError>
     requires { chain < 8 }
-    ensures { IfOk result (λ state. state ≡ record { name = letter_name 70 chain; initial = 100 + 10 * of_chain seed chain 0 11; limits = []; price = pos (1 + of_chain seed chain 1 3); holding = pos 0 }) }
+    ensures { IfOk result
+        (λ state. state ≡ record { name = letter_name 70 chain; initial = 100 + 10 * of_chain seed
+        chain 0 11; limits = []; price = pos (1 + of_chain seed chain 1 3); holding = pos 0 }) }
 {
     let name = letter_name(alloc, b'F', chain)?;
     Ok(State {
@@ -47,7 +49,10 @@ fn feed(alloc: Global, seed: u32, chain: u32) -> Result<State, AllocError>
 /// The intermediate of a chain.
 fn between(alloc: Global, seed: u32, chain: u32) -> Result<State, AllocError>
     requires { chain < 8 }
-    ensures { IfOk result (λ state. state ≡ record { name = letter_name 73 chain; initial = 0; limits = replicate 13 (20 + 10 * of_chain seed chain 2 5); price = pos 0; holding = pos (of_chain seed chain 3 2) }) }
+    ensures { IfOk result
+        (λ state. state ≡ record { name = letter_name 73 chain; initial = 0; limits = replicate 13
+        (20 + 10 * of_chain seed chain 2 5); price = pos 0; holding = pos (of_chain seed chain 3 2)
+        }) }
 {
     let limit = 20 + 10 * u64::from(of_chain(seed, chain, 2, 5));
     let limits = repeated(alloc, limit, 13)?;
@@ -64,7 +69,9 @@ fn between(alloc: Global, seed: u32, chain: u32) -> Result<State, AllocError>
 /// The product of a chain.
 fn product(alloc: Global, seed: u32, chain: u32) -> Result<State, AllocError>
     requires { chain < 8 }
-    ensures { IfOk result (λ state. state ≡ record { name = letter_name 80 chain; initial = 0; limits = []; price = pos (10 + of_chain seed chain 4 11); holding = pos 0 }) }
+    ensures { IfOk result
+        (λ state. state ≡ record { name = letter_name 80 chain; initial = 0; limits = [];
+        price = pos (10 + of_chain seed chain 4 11); holding = pos 0 }) }
 {
     let name = letter_name(alloc, b'P', chain)?;
     Ok(State {
@@ -108,7 +115,8 @@ fn bare_task(alloc: Global) -> Task
 
 /// A draw of one unit of steam for each batch and quantum, in each of so many periods.
 fn draw(alloc: Global, long: u32) -> Result<Draw, AllocError>
-    ensures { IfOk result (λ draw. draw ≡ record { utility = 0; fixed = replicate long 1; each = replicate long 1 }) }
+    ensures { IfOk result
+        (λ draw. draw ≡ record { utility = 0; fixed = replicate long 1; each = replicate long 1 }) }
 {
     let fixed = repeated(alloc, 1, long)?;
     let each = repeated(alloc, 1, long)?;

@@ -31,7 +31,8 @@ pub fn put_name(
     name: &[u8],
 ) -> Result<(), AllocError>
     requires { IsTrue (is_name name.now) }
-    ensures { OnOk result (table_view table.new ≡ with_entry (table_view table.old) (key, Some (string name.now))) }
+    ensures { OnOk result (table_view table.new ≡ with_entry (table_view table.old)
+        (key, Some (string name.now))) }
 {
     let value = name_value(alloc, name)?;
     put(alloc, table, key, value)
@@ -46,7 +47,8 @@ pub fn put_state(
 ) -> Result<(), AllocError>
     requires sound { Sound plant.now }
     requires there { state < length plant.now.states }
-    ensures { OnOk result (table_view table.new ≡ with_entry (table_view table.old) (KeyName.State, Some (state_name plant.now state))) }
+    ensures { OnOk result (table_view table.new ≡ with_entry (table_view table.old)
+        (KeyName.State, Some (state_name plant.now state))) }
 {
     let name = plant.states.get(state as usize).name.as_slice();
     put_name(alloc, table, KeyName::State, name)
@@ -61,7 +63,8 @@ pub fn put_utility(
 ) -> Result<(), AllocError>
     requires sound { Sound plant.now }
     requires there { utility < length plant.now.utilities }
-    ensures { OnOk result (table_view table.new ≡ with_entry (table_view table.old) (KeyName.Utility, Some (utility_name plant.now utility))) }
+    ensures { OnOk result (table_view table.new ≡ with_entry (table_view table.old)
+        (KeyName.Utility, Some (utility_name plant.now utility))) }
 {
     let name = plant.utilities.get(utility as usize).name.as_slice();
     put_name(alloc, table, KeyName::Utility, name)
@@ -76,7 +79,8 @@ pub fn put_unit(
 ) -> Result<(), AllocError>
     requires sound { Sound plant.now }
     requires there { unit < length plant.now.units }
-    ensures { OnOk result (table_view table.new ≡ with_entry (table_view table.old) (KeyName.StnUnit, Some (unit_name plant.now unit))) }
+    ensures { OnOk result (table_view table.new ≡ with_entry (table_view table.old)
+        (KeyName.StnUnit, Some (unit_name plant.now unit))) }
 {
     let name = plant.units.get(unit as usize).name.as_slice();
     put_name(alloc, table, KeyName::StnUnit, name)
@@ -92,7 +96,8 @@ pub fn put_task(
 ) -> Result<(), AllocError>
     requires sound { Sound plant.now }
     requires there { task < length plant.now.tasks }
-    ensures { OnOk result (table_view table.new ≡ with_entry (table_view table.old) (key, Some (task_name plant.now task))) }
+    ensures { OnOk result (table_view table.new ≡ with_entry (table_view table.old)
+        (key, Some (task_name plant.now task))) }
 {
     let name = plant.tasks.get(task as usize).name.as_slice();
     put_name(alloc, table, key, name)

@@ -21,7 +21,8 @@ use toml::ser::Error;
 #[tactic(auto, unfolding(crate::specs::Printed::plant_entries))]
 fn put_plant_keys(alloc: Global, plant: &Plant, table: &mut Table) -> Result<(), AllocError>
     requires { Sound plant.now }
-    ensures { OnOk result (table_view table.new ≡ fold with_entry (table_view table.old) (plant_entries plant.now)) }
+    ensures { OnOk result (table_view table.new ≡ fold with_entry (table_view table.old)
+        (plant_entries plant.now)) }
 {
     put(alloc, table, KeyName::Version, short_value(2))?;
     put(alloc, table, KeyName::Periods, short_value(plant.periods))?;
@@ -51,7 +52,8 @@ fn document(alloc: Global, plant: &Plant) -> Result<Table, AllocError>
 // The text of a plant's document. The document has no date, so want of memory is the only error.
 fn text_of(alloc: Global, plant: &Plant) -> Result<String, AllocError>
     requires { Sound plant.now }
-    ensures { IfOk result (λ text. parse_document (string_bytes text) ≡ Some (table_of (plant_entries plant.now))) }
+    ensures { IfOk result (λ text. parse_document (string_bytes text)
+        ≡ Some (table_of (plant_entries plant.now))) }
 {
     let table = document(alloc, plant)?;
     match toml::table_to_string(alloc, &table) {

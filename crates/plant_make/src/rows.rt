@@ -30,7 +30,8 @@ pub trait Row {
     ) -> Result<(), AllocError>
         requires sound { Sound plant.now }
         requires fits { fits plant.now quantum self.now }
-        ensures { OnOk result (table_view table.new ≡ fold with_entry (table_view table.old) (entries plant.now quantum self.now)) };
+        ensures { OnOk result (table_view table.new ≡ fold with_entry (table_view table.old)
+            (entries plant.now quantum self.now)) };
 }
 
 /// The table of a record.
@@ -59,7 +60,8 @@ fn rows<R: Row>(
 ) -> Result<Vec<Value>, AllocError>
     requires sound { Sound plant.now }
     requires fits { All (R.fits plant.now quantum) records.now }
-    ensures { IfOk result (λ values. map view values.items ≡ map (λ row. made_of (R.entries plant.now quantum row)) records.now) }
+    ensures { IfOk result (λ values. map view values.items ≡ map
+        (λ row. made_of (R.entries plant.now quantum row)) records.now) }
 {
     let mut values = Vec::new(alloc);
     for row in records {
@@ -79,7 +81,8 @@ pub fn put_rows<R: Row>(
 ) -> Result<(), AllocError>
     requires sound { Sound plant.now }
     requires fits { All (R.fits plant.now quantum) records.now }
-    ensures { OnOk result (table_view table.new ≡ with_entry (table_view table.old) (name, some_items (map (λ row. made_of (R.entries plant.now quantum row)) records.now))) }
+    ensures { OnOk result (table_view table.new ≡ with_entry (table_view table.old)
+        (name, some_items (map (λ row. made_of (R.entries plant.now quantum row)) records.now))) }
 {
     let values = rows(alloc, plant, quantum, records.as_slice())?;
     put_items(alloc, table, name, values)

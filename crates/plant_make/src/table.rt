@@ -10,7 +10,8 @@ use toml::{Table, Value};
 
 /// Puts a key with its value into a table.
 pub fn put(alloc: Global, table: &mut Table, name: KeyName, value: Value) -> Result<(), AllocError>
-    ensures { OnOk result (table_view table.new ≡ with_member (key_word name) (view value) (table_view table.old)) }
+    ensures { OnOk result (table_view table.new ≡ with_member (key_word name) (view value)
+        (table_view table.old)) }
 {
     let word = String::from_str(alloc, name.word())?;
     table.insert(word, value)?;
@@ -24,7 +25,8 @@ pub fn put_some(
     name: KeyName,
     value: Option<Value>,
 ) -> Result<(), AllocError>
-    ensures { OnOk result (table_view table.new ≡ with_entry (table_view table.old) (name, option_map view value)) }
+    ensures { OnOk result (table_view table.new ≡ with_entry (table_view table.old)
+        (name, option_map view value)) }
 {
     match value {
         Some(value) => put(alloc, table, name, value),
@@ -39,7 +41,8 @@ pub fn put_items(
     name: KeyName,
     items: Vec<Value>,
 ) -> Result<(), AllocError>
-    ensures { OnOk result (table_view table.new ≡ with_entry (table_view table.old) (name, some_items (map view items.items))) }
+    ensures { OnOk result (table_view table.new ≡ with_entry (table_view table.old)
+        (name, some_items (map view items.items))) }
 {
     if items.is_empty() {
         Ok(())

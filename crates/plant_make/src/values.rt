@@ -99,7 +99,10 @@ fn several_value(alloc: Global, limits: &[u64]) -> Result<Option<Value>, AllocEr
 /// Puts limits: one number where they are all the same, else their list; nothing where there are none.
 pub fn put_limits(alloc: Global, table: &mut Table, limits: &[u64]) -> Result<(), AllocError>
     requires { All (λ n. n ≤ 1000000000) limits.now }
-    ensures { OnOk result (table_view table.new ≡ with_entry (with_entry (table_view table.old) (KeyName.Limit, option_map number (lone limits.now))) (KeyName.Limits, option_map numbers (several limits.now))) }
+    ensures { OnOk result
+        (table_view table.new ≡ with_entry (with_entry (table_view table.old)
+        (KeyName.Limit, option_map number (lone limits.now)))
+        (KeyName.Limits, option_map numbers (several limits.now))) }
 {
     put_some(alloc, table, KeyName::Limit, lone_value(limits))?;
     let several = several_value(alloc, limits)?;

@@ -104,7 +104,8 @@ fn context_of(
     periods: u32,
 ) -> Result<Context, AllocError>
     requires version { second ≡ is_second (table_view document.now) }
-    requires horizon { periods ≡ at_key count_of 0 (table_view document.now) (needed KeyName.Periods) }
+    requires horizon { periods ≡ at_key count_of 0 (table_view document.now)
+        (needed KeyName.Periods) }
     ensures { IfOk result (λ c. scope_of c ≡ scope_in (table_view document.now)) }
 {
     let states = names(alloc, document, KeyName::State, MAX_STATES)?;
@@ -125,7 +126,8 @@ fn context_of(
 fn check_keys(document: &Table, second: bool) -> Result<(), PlantStop>
     requires { second ≡ is_second (table_view document.now) }
     ensures ok { OnOk result (first_fault (unknown_tests (table_view document.now)) ≡ None) }
-    ensures err { IfErr result (λ e. Stops e (first_fault (unknown_tests (table_view document.now)))) }
+    ensures err { IfErr result
+        (λ e. Stops e (first_fault (unknown_tests (table_view document.now)))) }
 {
     let keys = [
         key!(needed Version),
@@ -161,7 +163,8 @@ fn version_number(second: bool) -> u32
 /// The horizon of a document, after its version.
 #[tactic(auto, using(crate::proofs::Faults::faults_append))]
 fn horizon(document: &Table, second: bool) -> Result<u32, PlantStop>
-    ensures { Gives result (fields_tests top_place (table_view document.now) (size_fields second)) (at_key count_of 0 (table_view document.now) (needed KeyName.Periods)) }
+    ensures { Gives result (fields_tests top_place (table_view document.now) (size_fields second))
+        (at_key count_of 0 (table_view document.now) (needed KeyName.Periods)) }
 {
     let place = TOP;
     let version = version_number(second);
@@ -201,10 +204,18 @@ fn array<R: Row>(
 ) -> Result<(), PlantStop>
     requires few { most ≤ 4096 }
     requires horizon { context.now.periods ≤ 336 }
-    ensures passes { OnOk result (first_fault (field_tests top_place (table_view document.now) (record { key = key; kind = kind.tables most (rows_tests (R.tests (scope_of context.now) owner) (R.made (scope_of context.now) owner) []) })) ≡ None) }
-    ensures is { OnOk result (into.new ≡ map (R.made (scope_of context.now) owner) (at_key items_of [] (table_view document.now) key)) }
+    ensures passes { OnOk result
+        (first_fault (field_tests top_place (table_view document.now)
+        (record { key = key; kind = kind.tables most (rows_tests
+        (R.tests (scope_of context.now) owner) (R.made (scope_of context.now) owner) []) }))
+        ≡ None) }
+    ensures is { OnOk result (into.new ≡ map (R.made (scope_of context.now) owner)
+        (at_key items_of [] (table_view document.now) key)) }
     ensures few { OnOk result (length into.new ≤ most) }
-    ensures err { IfErr result (λ e. Stops e (first_fault (field_tests top_place (table_view document.now) (record { key = key; kind = kind.tables most (rows_tests (R.tests (scope_of context.now) owner) (R.made (scope_of context.now) owner) []) })))) }
+    ensures err { IfErr result
+        (λ e. Stops e (first_fault (field_tests top_place (table_view document.now)
+        (record { key = key; kind = kind.tables most (rows_tests
+        (R.tests (scope_of context.now) owner) (R.made (scope_of context.now) owner) []) })))) }
 {
     *into = rows(alloc, document, TOP, key, most, context, owner)?;
     Ok(())
@@ -220,10 +231,15 @@ fn arrays(
 ) -> Result<(), PlantStop>
     requires horizon { context.now.periods ≤ 336 }
     requires periods { plant.old.periods ≡ context.now.periods }
-    ensures passes { OnOk result (first_fault (fields_tests top_place (table_view document.now) (array_fields (scope_of context.now))) ≡ None) }
-    ensures is { OnOk result (plant.new ≡ plant_with (scope_of context.now) (table_view document.now)) }
+    ensures passes { OnOk result
+        (first_fault (fields_tests top_place (table_view document.now)
+        (array_fields (scope_of context.now))) ≡ None) }
+    ensures is { OnOk result (plant.new ≡ plant_with (scope_of context.now)
+        (table_view document.now)) }
     ensures few { OnOk result (length plant.new.runs ≤ 64) }
-    ensures err { IfErr result (λ e. Stops e (first_fault (fields_tests top_place (table_view document.now) (array_fields (scope_of context.now))))) }
+    ensures err { IfErr result
+        (λ e. Stops e (first_fault (fields_tests top_place (table_view document.now)
+        (array_fields (scope_of context.now))))) }
 {
     let owner = NO_OWNER;
     read_arrays! { alloc, document, context, owner, plant;
@@ -270,7 +286,9 @@ fn check_sizes(plant: &Plant) -> Result<(), PlantStop>
 #[tactic(auto, using(crate::proofs::Faults::faults_append))]
 fn plant_against(alloc: Global, document: &Table, context: &Context) -> Result<Plant, PlantStop>
     requires { context.now.periods ≤ 336 }
-    ensures { Gives result (fields_tests top_place (table_view document.now) (array_fields (scope_of context.now)) ++ size_tests (plant_with (scope_of context.now) (table_view document.now))) (plant_with (scope_of context.now) (table_view document.now)) }
+    ensures { Gives result (fields_tests top_place (table_view document.now)
+        (array_fields (scope_of context.now)) ++ size_tests (plant_with (scope_of context.now)
+        (table_view document.now))) (plant_with (scope_of context.now) (table_view document.now)) }
 {
     let mut plant = bare_plant(alloc, context.periods);
     arrays(alloc, document, context, &mut plant)?;
@@ -281,7 +299,8 @@ fn plant_against(alloc: Global, document: &Table, context: &Context) -> Result<P
 /// The plant of a document, or its first fault.
 #[tactic(auto, using(crate::proofs::Faults::faults_append), unfolding(crate::specs::Document::document_tests, crate::specs::Document::plant_in))]
 pub fn read_document(alloc: Global, document: &Table) -> Result<Plant, PlantStop>
-    ensures { Gives result (document_tests (table_view document.now)) (plant_in (table_view document.now)) }
+    ensures { Gives result (document_tests (table_view document.now))
+        (plant_in (table_view document.now)) }
 {
     let second = is_second(document);
     check_keys(document, second)?;

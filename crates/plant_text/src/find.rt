@@ -18,7 +18,8 @@ pub struct Key {
 }
 
 pub fn lookup(table: &Table, name: KeyName) -> Option<&Value>
-    ensures { option_map (λ v. view v.now) result ≡ get_member (key_word name) (table_view table.now) }
+    ensures { option_map (λ v. view v.now) result ≡ get_member (key_word name)
+        (table_view table.now) }
 {
     table.get(name.word())
 }
@@ -88,9 +89,11 @@ pub fn find(table: &Table, key: Key) -> Option<&Value>
 
 /// What a table holds at a key, which is a fault where the key is required and absent.
 pub fn present(table: &Table, place: Place, key: Key) -> Result<Option<&Value>, PlantStop>
-    ensures ok { IfOk result (λ found. option_map (λ v. view v.now) found ≡ held (table_view table.now) key) }
+    ensures ok { IfOk result (λ found. option_map (λ v. view v.now) found
+        ≡ held (table_view table.now) key) }
     ensures some { IfOk result (λ found. IfNone found (key.required ≡ false)) }
-    ensures err { IfErr result (λ e. (e ≡ PlantStop.Fault (fault 5 place key.name)) × (key.required ≡ true) × (held (table_view table.now) key ≡ None)) }
+    ensures err { IfErr result (λ e. (e ≡ PlantStop.Fault (fault 5 place key.name))
+        × (key.required ≡ true) × (held (table_view table.now) key ≡ None)) }
 {
     match find(table, key) {
         Some(value) => Ok(Some(value)),
@@ -150,8 +153,10 @@ pub fn unknown(table: &Table, keys: &[Key]) -> bool
 /// An item as a table without unknown keys.
 #[tactic(auto, unfolding(crate::specs::Fields::head_tests, crate::specs::Tests::first_fault))]
 pub fn table_of<'a>(value: &'a Value, place: Place, keys: &[Key]) -> Result<&'a Table, PlantStop>
-    ensures ok { IfOk result (λ t. (first_fault (head_tests place keys.now (view value.now)) ≡ None) × (table_view t.now ≡ members_of (view value.now))) }
-    ensures err { IfErr result (λ e. Stops e (first_fault (head_tests place keys.now (view value.now)))) }
+    ensures ok { IfOk result (λ t. (first_fault (head_tests place keys.now (view value.now)) ≡ None)
+        × (table_view t.now ≡ members_of (view value.now))) }
+    ensures err { IfErr result
+        (λ e. Stops e (first_fault (head_tests place keys.now (view value.now)))) }
 {
     let table = match value.as_table() {
         Some(table) => table,

@@ -29,7 +29,8 @@ pub trait Row: Drop + Sized {
     ) -> Result<Self, PlantStop>
         requires few { length earlier.now < 4096 }
         requires horizon { context.now.periods ≤ 336 }
-        ensures { Gives result (tests (scope_of context.now) owner earlier.now (view value.now)) (made (scope_of context.now) owner (view value.now)) };
+        ensures { Gives result (tests (scope_of context.now) owner earlier.now (view value.now))
+            (made (scope_of context.now) owner (view value.now)) };
 }
 
 /// Reads the items of an array in their order.
@@ -41,7 +42,9 @@ pub fn read_rows<R: Row>(
 ) -> Result<List<R>, PlantStop>
     requires few { length items.now ≤ 4096 }
     requires horizon { context.now.periods ≤ 336 }
-    ensures gives { Gives result (rows_tests (R.tests (scope_of context.now) owner) (R.made (scope_of context.now) owner) [] (map view items.now)) (map (R.made (scope_of context.now) owner) (map view items.now)) }
+    ensures gives { Gives result (rows_tests (R.tests (scope_of context.now) owner)
+        (R.made (scope_of context.now) owner) [] (map view items.now))
+        (map (R.made (scope_of context.now) owner) (map view items.now)) }
     ensures many { IfOk result (λ rows. length rows ≡ length items.now) }
 {
     let mut rows = List::new(alloc);

@@ -93,7 +93,8 @@ fn pairs_at(plant: &Plant, a: &Run, period: u32, b: &Run, row: &[bool], gap: u32
     requires slot { has_slot plant.now a.now period ≡ true }
     requires row { IsRow plant.now b.now row.now }
     requires gap { gap ≡ gap_between plant.now a.now.unit a.now.task b.now.task }
-    ensures count { result ≡ count_below (meets_gap plant.now a.now period b.now) plant.now.periods }
+    ensures count { result ≡ count_below (meets_gap plant.now a.now period b.now)
+        plant.now.periods }
     ensures small { result ≤ 336 }
 {
     let to = end(plant, &least_start(a, period));

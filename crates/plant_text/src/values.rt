@@ -42,7 +42,8 @@ fn count_in(
     low: u32,
     high: u32,
 ) -> Result<u32, PlantStop>
-    ensures { Gives result (count_tests place name low high (view value.now)) (count_of (view value.now)) }
+    ensures { Gives result (count_tests place name low high (view value.now))
+        (count_of (view value.now)) }
 {
     let number = match value.as_integer() {
         Some(number) => number,
@@ -63,7 +64,9 @@ pub fn count_if_there(
     low: u32,
     high: u32,
 ) -> Result<Option<u32>, PlantStop>
-    ensures { Gives result (field_tests place (table_view table.now) (record { key = key; kind = kind.count low high })) (option_map count_of (held (table_view table.now) key)) }
+    ensures { Gives result (field_tests place (table_view table.now)
+        (record { key = key; kind = kind.count low high })) (option_map count_of
+        (held (table_view table.now) key)) }
 {
     match present(table, place, key)? {
         None => Ok(None),
@@ -81,7 +84,9 @@ pub fn count(
     high: u32,
     default: u32,
 ) -> Result<u32, PlantStop>
-    ensures { Gives result (field_tests place (table_view table.now) (record { key = key; kind = kind.count low high })) (at_key count_of default (table_view table.now) key) }
+    ensures { Gives result (field_tests place (table_view table.now)
+        (record { key = key; kind = kind.count low high })) (at_key count_of default
+        (table_view table.now) key) }
 {
     match present(table, place, key)? {
         None => Ok(default),
@@ -91,7 +96,8 @@ pub fn count(
 
 #[tactic(auto, unfolding(crate::specs::Fields::kind_tests, crate::specs::Tests::first_fault))]
 fn money_in(value: &Value, place: Place, name: KeyName, most: u32) -> Result<i64, PlantStop>
-    ensures { Gives result (kind_tests place name (kind.money most) (view value.now)) (integer_of (view value.now)) }
+    ensures { Gives result (kind_tests place name (kind.money most) (view value.now))
+        (integer_of (view value.now)) }
 {
     let number = match value.as_integer() {
         Some(number) => number,
@@ -107,7 +113,9 @@ fn money_in(value: &Value, place: Place, name: KeyName, most: u32) -> Result<i64
 /// The amount of money at a key, of at most `most` in absolute value, or 0.
 #[tactic(auto, unfolding(crate::specs::Fields::value_tests, crate::specs::Tests::first_fault))]
 pub fn money(table: &Table, place: Place, key: Key, most: u32) -> Result<i64, PlantStop>
-    ensures { Gives result (field_tests place (table_view table.now) (record { key = key; kind = kind.money most })) (at_key integer_of (pos 0) (table_view table.now) key) }
+    ensures { Gives result (field_tests place (table_view table.now)
+        (record { key = key; kind = kind.money most })) (at_key integer_of (pos 0)
+        (table_view table.now) key) }
 {
     match present(table, place, key)? {
         None => Ok(0),
@@ -133,7 +141,8 @@ fn name_in(
     names: &Numbers,
     number: usize,
 ) -> Result<Name, PlantStop>
-    ensures { Gives result (kind_tests place name (kind.declares (places_in names.now) number) (view value.now)) (text_of (view value.now)) }
+    ensures { Gives result (kind_tests place name (kind.declares (places_in names.now) number)
+        (view value.now)) (text_of (view value.now)) }
 {
     let text = match value.as_str() {
         Some(text) => text,
@@ -158,7 +167,9 @@ pub fn name(
     names: &Numbers,
     number: usize,
 ) -> Result<Name, PlantStop>
-    ensures { Gives result (field_tests place (table_view table.now) (record { key = key; kind = kind.declares (places_in names.now) number })) (at_key text_of [] (table_view table.now) key) }
+    ensures { Gives result (field_tests place (table_view table.now)
+        (record { key = key; kind = kind.declares (places_in names.now) number }))
+        (at_key text_of [] (table_view table.now) key) }
 {
     match present(table, place, key)? {
         None => Ok(List::new(alloc)),
@@ -173,7 +184,8 @@ fn reference_in(
     name: KeyName,
     names: &Numbers,
 ) -> Result<u32, PlantStop>
-    ensures { Gives result (kind_tests place name (kind.refers (places_in names.now)) (view value.now)) (place_of (places_in names.now) (view value.now)) }
+    ensures { Gives result (kind_tests place name (kind.refers (places_in names.now))
+        (view value.now)) (place_of (places_in names.now) (view value.now)) }
 {
     let text = match value.as_str() {
         Some(text) => text,
@@ -188,7 +200,9 @@ fn reference_in(
 /// The number of the name that a key refers to.
 #[tactic(auto, unfolding(crate::specs::Fields::value_tests, crate::specs::Tests::first_fault))]
 pub fn reference(table: &Table, place: Place, key: Key, names: &Numbers) -> Result<u32, PlantStop>
-    ensures { Gives result (field_tests place (table_view table.now) (record { key = key; kind = kind.refers (places_in names.now) })) (at_key (place_of (places_in names.now)) 0 (table_view table.now) key) }
+    ensures { Gives result (field_tests place (table_view table.now)
+        (record { key = key; kind = kind.refers (places_in names.now) }))
+        (at_key (place_of (places_in names.now)) 0 (table_view table.now) key) }
 {
     match present(table, place, key)? {
         None => Ok(0),
@@ -198,7 +212,8 @@ pub fn reference(table: &Table, place: Place, key: Key, names: &Numbers) -> Resu
 
 #[tactic(auto, unfolding(crate::specs::Fields::kind_tests, crate::specs::Tests::first_fault))]
 fn part_in(value: &Value, place: Place, name: KeyName) -> Result<Fraction, PlantStop>
-    ensures { Gives result (kind_tests place name kind.part (view value.now)) (part_of (view value.now)) }
+    ensures { Gives result (kind_tests place name kind.part (view value.now))
+        (part_of (view value.now)) }
 {
     let text = match value.as_str() {
         Some(text) => text,
@@ -213,7 +228,9 @@ fn part_in(value: &Value, place: Place, name: KeyName) -> Result<Fraction, Plant
 /// The part of a quantum at a key.
 #[tactic(auto, unfolding(crate::specs::Fields::value_tests, crate::specs::Tests::first_fault))]
 pub fn part(table: &Table, place: Place, key: Key) -> Result<Fraction, PlantStop>
-    ensures { Gives result (field_tests place (table_view table.now) (record { key = key; kind = kind.part })) (at_key part_of whole_part (table_view table.now) key) }
+    ensures { Gives result (field_tests place (table_view table.now)
+        (record { key = key; kind = kind.part })) (at_key part_of whole_part (table_view table.now)
+        key) }
 {
     match present(table, place, key)? {
         None => Ok(Fraction { over: 1, under: 1 }),
@@ -239,7 +256,8 @@ fn read_numbers(
     most: u32,
     items: &[Value],
 ) -> Result<List<u32>, PlantStop>
-    ensures { Gives result (rows_tests (λ earlier x. count_tests place name 0 most x) count_of [] (map view items.now)) (map count_of (map view items.now)) }
+    ensures { Gives result (rows_tests (λ earlier x. count_tests place name 0 most x) count_of []
+        (map view items.now)) (map count_of (map view items.now)) }
 {
     let mut numbers = List::new(alloc);
     for item in items {
@@ -265,7 +283,9 @@ fn numbers_in(
     name: KeyName,
     several: Several,
 ) -> Result<List<u32>, PlantStop>
-    ensures { Gives result (kind_tests place name (kind.numbers several.forbidden several.many several.most) (view value.now)) (numbers_of (view value.now)) }
+    ensures { Gives result
+        (kind_tests place name (kind.numbers several.forbidden several.many several.most)
+        (view value.now)) (numbers_of (view value.now)) }
 {
     let items = match items_of(value) {
         Some(items) => items,
@@ -289,7 +309,9 @@ pub fn numbers(
     key: Key,
     several: Several,
 ) -> Result<Option<List<u32>>, PlantStop>
-    ensures { Gives result (field_tests place (table_view table.now) (record { key = key; kind = kind.numbers several.forbidden several.many several.most })) (option_map numbers_of (held (table_view table.now) key)) }
+    ensures { Gives result (field_tests place (table_view table.now)
+        (record { key = key; kind = kind.numbers several.forbidden several.many several.most }))
+        (option_map numbers_of (held (table_view table.now) key)) }
 {
     match present(table, place, key)? {
         None => Ok(None),
@@ -310,7 +332,11 @@ pub fn rows_in<R: Row>(
 ) -> Result<List<R>, PlantStop>
     requires few { most ≤ 4096 }
     requires horizon { context.now.periods ≤ 336 }
-    ensures gives { Gives result (kind_tests place name (kind.tables most (rows_tests (R.tests (scope_of context.now) owner) (R.made (scope_of context.now) owner) [])) (view value.now)) (map (R.made (scope_of context.now) owner) (items_of (view value.now))) }
+    ensures gives { Gives result
+        (kind_tests place name
+        (kind.tables most (rows_tests (R.tests (scope_of context.now) owner)
+        (R.made (scope_of context.now) owner) [])) (view value.now))
+        (map (R.made (scope_of context.now) owner) (items_of (view value.now))) }
     ensures few { IfOk result (λ rows. length rows ≤ most) }
 {
     let items = match items_of(value) {
@@ -336,7 +362,11 @@ pub fn rows<R: Row>(
 ) -> Result<List<R>, PlantStop>
     requires few { most ≤ 4096 }
     requires horizon { context.now.periods ≤ 336 }
-    ensures gives { Gives result (field_tests place (table_view table.now) (record { key = key; kind = kind.tables most (rows_tests (R.tests (scope_of context.now) owner) (R.made (scope_of context.now) owner) []) })) (map (R.made (scope_of context.now) owner) (at_key items_of [] (table_view table.now) key)) }
+    ensures gives { Gives result (field_tests place (table_view table.now)
+        (record { key = key; kind = kind.tables most (rows_tests
+        (R.tests (scope_of context.now) owner) (R.made (scope_of context.now) owner) []) }))
+        (map (R.made (scope_of context.now) owner) (at_key items_of [] (table_view table.now)
+        key)) }
     ensures few { IfOk result (λ rows. length rows ≤ most) }
 {
     match present(table, place, key)? {

@@ -71,7 +71,8 @@ pub struct TreeBuilder<R: Relaxation> {
 impl<R: Relaxation> TreeBuilder<R> {
     /// A builder that has taken nothing. It takes no memory.
     pub fn new(alloc: Global) -> TreeBuilder<R>
-        ensures { HasBuilt {R = R} {A = R.Area} {U = R.Trim} {C = R.Cert} {P = R.Pick} {F = R.Found} [] result }
+        ensures { HasBuilt {R = R} {A = R.Area} {U = R.Trim} {C = R.Cert} {P = R.Pick} {F = R.Found}
+            [] result }
     {
         TreeBuilder {
             alloc,
@@ -98,7 +99,8 @@ impl<R: Relaxation> TreeBuilder<R> {
     /// Takes the next item of the proof. After the last one the answer is the whole proof, and after any
     /// other a builder that takes the next. After want of memory what was built is gone.
     pub fn take(self, item: Item<R>) -> Result<Built<R>, AllocError>
-        requires { (items : Items (Item R R.Area R.Trim R.Cert R.Pick R.Found)) × HasBuilt items self × MayComeAfter items item }
+        requires { (items : Items (Item R R.Area R.Trim R.Cert R.Pick R.Found))
+            × HasBuilt items self × MayComeAfter items item }
         ensures { IfOk result (λ built. (items : Items (Item R R.Area R.Trim R.Cert R.Pick R.Found))
             → HasBuilt items self → MayComeAfter items item → IsBuilt (items ++ item ∷ []) built) }
     {
@@ -139,7 +141,8 @@ fn take_inside<R: Relaxation>(
     item: Item<R>,
 ) -> Result<Built<R>, AllocError>
     requires { MayComeAfter (splits_items splits ++ begun_items node) item }
-    ensures { IfOk result (λ built. IsBuilt ((splits_items splits ++ begun_items node) ++ item ∷ []) built) }
+    ensures { IfOk result (λ built. IsBuilt ((splits_items splits ++ begun_items node) ++ item ∷ [])
+        built) }
 {
     match item {
         Item::Node => unreachable!(),
@@ -172,7 +175,8 @@ fn begin_part<R: Relaxation>(
     splits: Stack<SplitNode<R::Trim, R::Cert, R::Pick, R::Found>>,
     split: SplitNode<R::Trim, R::Cert, R::Pick, R::Found>,
 ) -> Result<Built<R>, AllocError>
-    ensures { IfOk result (λ built. IsBuilt {R = R} {A = R.Area} (splits_items (split ∷ splits)) built) }
+    ensures { IfOk result (λ built. IsBuilt {R = R} {A = R.Area} (splits_items (split ∷ splits))
+        built) }
 {
     let mut splits = splits;
     splits.push(split)?;
@@ -190,7 +194,8 @@ fn close<R: Relaxation>(
     splits: Stack<SplitNode<R::Trim, R::Cert, R::Pick, R::Found>>,
     proof: Proof<R::Trim, R::Cert, R::Pick, R::Found>,
 ) -> Result<Built<R>, AllocError>
-    ensures { IfOk result (λ built. IsBuilt {R = R} {A = R.Area} (splits_items splits ++ proof_items proof) built) }
+    ensures { IfOk result (λ built. IsBuilt {R = R} {A = R.Area}
+        (splits_items splits ++ proof_items proof) built) }
 {
     let mut splits = splits;
     let mut right = proof;

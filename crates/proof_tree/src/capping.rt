@@ -13,7 +13,8 @@ fn cut_all<R: Relaxation>(r: &R, area: &mut R::Area, cuts: &[R::Trim]) -> bool
     requires { R.fits r.now (present (R.views area.old)) }
     ensures fits { R.fits r.now (present (R.views area.new)) }
     ensures cuts { MatchBool result
-        (after_cuts (R.steps r.now) (present (R.views area.old)) cuts.now ≡ Some (present (R.views area.new)))
+        (after_cuts (R.steps r.now) (present (R.views area.old)) cuts.now
+        ≡ Some (present (R.views area.new)))
         (after_cuts (R.steps r.now) (present (R.views area.old)) cuts.now ≡ None) }
     ensures keeps { KeepsViews (R.views area.old) (R.views area.new) }
 {
@@ -46,8 +47,10 @@ pub fn cap_of<R: Relaxation>(
     proof: &Proof<R::Trim, R::Cert, R::Pick, R::Found>,
 ) -> Capped
     requires { R.fits r.now (present (R.views area.old)) }
-    ensures cap { result ≡ tree_cap (R.steps r.now) (present (R.views area.old)) (tree_of proof.now) }
-    ensures bounds { Bounds (R.is_point r.now (present (R.views area.old))) (R.is_lawful r.now) (R.worth r.now) result }
+    ensures cap { result ≡ tree_cap (R.steps r.now) (present (R.views area.old))
+        (tree_of proof.now) }
+    ensures bounds { Bounds (R.is_point r.now (present (R.views area.old))) (R.is_lawful r.now)
+        (R.worth r.now) result }
     ensures same { R.views area.new ≡ R.views area.old }
 {
     let mark = r.mark(area);
@@ -69,7 +72,8 @@ fn cap_end<R: Relaxation>(
 ) -> Capped
     requires { R.fits r.now (present (R.views area.old)) }
     ensures fits { R.fits r.now (present (R.views area.new)) }
-    ensures cap { result ≡ tree_cap (R.steps r.now) (present (R.views area.old)) (tree_at [] None end.now) }
+    ensures cap { result ≡ tree_cap (R.steps r.now) (present (R.views area.old))
+        (tree_at [] None end.now) }
     ensures keeps { KeepsViews (R.views area.old) (R.views area.new) }
 {
     match end {

@@ -33,7 +33,8 @@ impl<T> Stack<T> {
 
     /// Takes the topmost item off, if there is one.
     pub fn take_top(&mut self) -> Option<T>
-        ensures { MatchOption result ((self.old ≡ []) × (self.new ≡ [])) (λ top. self.old ≡ top ∷ self.new) }
+        ensures { MatchOption result ((self.old ≡ []) × (self.new ≡ []))
+            (λ top. self.old ≡ top ∷ self.new) }
     {
         self.items.pop()
     }

@@ -47,10 +47,12 @@ pub trait NodeTaker<R: Relaxation, O> {
     fn put(&mut self, out: &mut O, item: &Item<R>) -> Result<(), TakeStop>
         requires { ready self.old out.old }
         ensures ready { OnOk result (ready self.new out.new) }
-        ensures took { OnOk result ((taker : Self) (outside : O) (items : List (Item R R.Area R.Trim R.Cert R.Pick R.Found))
+        ensures took { OnOk result ((taker : Self) (outside : O)
+            (items : List (Item R R.Area R.Trim R.Cert R.Pick R.Found))
             → took taker outside items self.old out.old
             → took taker outside (items ++ item.now ∷ []) self.new out.new) }
-        ensures broke { OnErr result ((taker : Self) (outside : O) (items : List (Item R R.Area R.Trim R.Cert R.Pick R.Found))
+        ensures broke { OnErr result ((taker : Self) (outside : O)
+            (items : List (Item R R.Area R.Trim R.Cert R.Pick R.Found))
             → took taker outside items self.old out.old
             → broke taker outside (items ++ item.now ∷ []) self.new out.new) }
         ensures later { faults out.old ≤ faults out.new }

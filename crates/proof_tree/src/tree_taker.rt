@@ -32,7 +32,8 @@ pub struct TreeTaker<R: Relaxation, K: ItemCopier<R> + Drop> {
 impl<R: Relaxation, K: ItemCopier<R> + Drop> TreeTaker<R, K> {
     /// A taker that has taken nothing. It takes no memory.
     pub fn new(alloc: Global, copier: K) -> TreeTaker<R, K>
-        ensures { HoldsItems {R = R} {A = R.Area} {U = R.Trim} {C = R.Cert} {P = R.Pick} {F = R.Found} [] result }
+        ensures { HoldsItems {R = R} {A = R.Area} {U = R.Trim} {C = R.Cert} {P = R.Pick}
+            {F = R.Found} [] result }
     {
         TreeTaker {
             alloc,
@@ -43,7 +44,8 @@ impl<R: Relaxation, K: ItemCopier<R> + Drop> TreeTaker<R, K> {
 
     /// The proof whose items were taken: one with the tree of which they are the items, where there is one.
     pub fn proof(self) -> Option<Proof<R::Trim, R::Cert, R::Pick, R::Found>>
-        ensures { (tree : Tree R.Trim R.Cert R.Pick R.Found) → HoldsItems {R = R} {A = R.Area} (tree_items tree) self
+        ensures { (tree : Tree R.Trim R.Cert R.Pick R.Found) → HoldsItems {R = R} {A = R.Area}
+            (tree_items tree) self
             → IsSomeAnd result (λ proof. tree_of proof ≡ tree) }
     {
         let TreeTaker {

@@ -2,6 +2,7 @@
 ghost use Rattle.std.specs.Prelude.{List as Items, ◌++◌, ◌<◌, ◌≡◌, [], ◌∷◌, length, drop, map, IsTrue, IfOk, OnOk, OnErr};
 ghost use Rattle.proof_tree.specs.Items.{tree_items, depth};
 ghost use Rattle.proof_tree.specs.declared.item.Item.{Item};
+ghost use Rattle.proof_tree.specs.declared.item.Item.TheVariants.{Point};
 ghost use Rattle.proof_tree.specs.Tree.{Tree, tree_cap};
 ghost use Rattle.proof_tree.specs.Views.{View, present, view_at};
 ghost use Rattle.proof_tree.specs.Walk.{may_come, stage_of, opened, first_mark, StandBelow, Stands, IsAnswer, GoesBack, going_to, step, taken, part_ended, close, walked, start, outcome_of, open_count, ComesNext, Tells};
@@ -100,7 +101,8 @@ impl<R: Relaxation> Walk<R> {
         ensures so_far { (tree : Tree R.Trim R.Cert R.Pick R.Found) (view : View)
             (before : Items (Item R R.Area R.Trim R.Cert R.Pick R.Found)) (later : _)
             → tree_items tree ≡ before ++ later
-            → Tells (walked (R.steps r.now) (start view) before) later (tree_cap (R.steps r.now) view tree) }
+            → Tells (walked (R.steps r.now) (start view) before) later
+            (tree_cap (R.steps r.now) view tree) }
         ensures depth { (tree : Tree R.Trim R.Cert R.Pick R.Found) (view : View)
             (before : Items (Item R R.Area R.Trim R.Cert R.Pick R.Found)) (later : _)
             → tree_items tree ≡ before ++ later
@@ -133,7 +135,8 @@ impl<R: Relaxation> Walk<R> {
         ensures stands { Stands (R.steps r.now) self.new (R.views area.new) }
         ensures step { IfOk result (λ took. IsAnswer took self.new (R.views area.new)
             (step (R.steps r.now) (stage_of self.old (R.views area.old)) item.now)) }
-        ensures first { OnOk result (self.new.first ≡ Some (first_mark self.old (R.views area.old))) }
+        ensures first { OnOk result
+            (self.new.first ≡ Some (first_mark self.old (R.views area.old))) }
         ensures back { IfOk result (λ took. GoesBack took (first_mark self.old (R.views area.old))
             (R.views area.old) (R.views area.new)) }
         ensures err { OnErr result ((self.new ≡ self.old) × (R.views area.new ≡ R.views area.old)) }
@@ -147,6 +150,32 @@ impl<R: Relaxation> Walk<R> {
         Ok(took)
     }
 
+    /// Takes the end `Point` as `take` does, where it is known what the area's only point is worth.
+    pub fn take_point(&mut self, r: &R, area: &mut R::Area, cap: Capped) -> Took
+        requires fits { R.fits r.now (present (R.views area.old)) }
+        requires comes { IsTrue (may_come {R = R} {A = R.Area} {U = R.Trim} {C = R.Cert}
+            {P = R.Pick} {F = R.Found}
+            self.old.expected Point) }
+        requires stands { Stands (R.steps r.now) self.old (R.views area.old) }
+        requires cap { cap ≡ (R.steps r.now).settle (present (R.views area.old)) }
+        ensures fits { R.fits r.now (present (R.views area.new)) }
+        ensures stands { Stands (R.steps r.now) self.new (R.views area.new) }
+        ensures step { IsAnswer result self.new (R.views area.new)
+            (step {R = R} {A = R.Area} {F = R.Found} (R.steps r.now)
+            (stage_of self.old (R.views area.old)) Point) }
+        ensures first { self.new.first ≡ Some (first_mark self.old (R.views area.old)) }
+        ensures back { GoesBack result (first_mark self.old (R.views area.old)) (R.views area.old)
+            (R.views area.new) }
+    {
+        let first = match self.first {
+            Some(mark) => mark,
+            None => r.mark(area),
+        };
+        let took = self.end_part(r, area, first, cap);
+        self.first = Some(first);
+        took
+    }
+
     // Takes an item in a walk whose first area has the mark `first`.
     fn take_from(
         &mut self,
@@ -156,10 +185,13 @@ impl<R: Relaxation> Walk<R> {
         item: &Item<R>,
     ) -> Result<Took, AllocError>
         requires fits { R.fits r.now (present (R.views area.old)) }
-        requires stands { StandBelow (R.steps r.now) (R.views area.old) (length (R.views area.old)) first self.old.splits }
+        requires stands { StandBelow (R.steps r.now) (R.views area.old) (length (R.views area.old))
+            first self.old.splits }
         ensures fits { R.fits r.now (present (R.views area.new)) }
-        ensures led { IfOk result (λ took. Led (R.steps r.now) first self.old (R.views area.old) took self.new (R.views area.new)
-            (taken (R.steps r.now) (map (opened (R.views area.old)) self.old.splits) (present (R.views area.old)) item.now)) }
+        ensures led { IfOk result (λ took. Led (R.steps r.now) first self.old (R.views area.old)
+            took self.new (R.views area.new)
+            (taken (R.steps r.now) (map (opened (R.views area.old)) self.old.splits)
+            (present (R.views area.old)) item.now)) }
         ensures err { OnErr result ((self.new ≡ self.old) × (R.views area.new ≡ R.views area.old)) }
     {
         match item {
@@ -195,9 +227,11 @@ impl<R: Relaxation> Walk<R> {
     // Makes a cut.
     fn narrow(&mut self, r: &R, area: &mut R::Area, first: u32, cut: &R::Trim) -> Took
         requires fits { R.fits r.now (present (R.views area.old)) }
-        requires stands { StandBelow (R.steps r.now) (R.views area.old) (length (R.views area.old)) first self.old.splits }
+        requires stands { StandBelow (R.steps r.now) (R.views area.old) (length (R.views area.old))
+            first self.old.splits }
         ensures fits { R.fits r.now (present (R.views area.new)) }
-        ensures led { Led (R.steps r.now) first self.old (R.views area.old) result self.new (R.views area.new)
+        ensures led { Led (R.steps r.now) first self.old (R.views area.old) result self.new
+            (R.views area.new)
             (going_to Expected.Inside (map (opened (R.views area.old)) self.old.splits)
             ((R.steps r.now).cut (present (R.views area.old)) cut.now)) }
     {
@@ -219,9 +253,11 @@ impl<R: Relaxation> Walk<R> {
         pick: &R::Pick,
     ) -> Result<Took, AllocError>
         requires fits { R.fits r.now (present (R.views area.old)) }
-        requires stands { StandBelow (R.steps r.now) (R.views area.old) (length (R.views area.old)) first self.old.splits }
+        requires stands { StandBelow (R.steps r.now) (R.views area.old) (length (R.views area.old))
+            first self.old.splits }
         ensures fits { R.fits r.now (present (R.views area.new)) }
-        ensures led { IfOk result (λ took. Led (R.steps r.now) first self.old (R.views area.old) took self.new (R.views area.new)
+        ensures led { IfOk result (λ took. Led (R.steps r.now) first self.old (R.views area.old)
+            took self.new (R.views area.new)
             (going_to Expected.Node
             (record { view = present (R.views area.old); pick = pick.now; left = None }
             ∷ map (opened (R.views area.old)) self.old.splits)
@@ -247,9 +283,11 @@ impl<R: Relaxation> Walk<R> {
     // Ends a part with its cap, or with `Bad` where it has none.
     fn end_part(&mut self, r: &R, area: &mut R::Area, first: u32, cap: Capped) -> Took
         requires fits { R.fits r.now (present (R.views area.old)) }
-        requires stands { StandBelow (R.steps r.now) (R.views area.old) (length (R.views area.old)) first self.old.splits }
+        requires stands { StandBelow (R.steps r.now) (R.views area.old) (length (R.views area.old))
+            first self.old.splits }
         ensures fits { R.fits r.now (present (R.views area.new)) }
-        ensures led { Led (R.steps r.now) first self.old (R.views area.old) result self.new (R.views area.new)
+        ensures led { Led (R.steps r.now) first self.old (R.views area.old) result self.new
+            (R.views area.new)
             (part_ended (R.steps r.now) (map (opened (R.views area.old)) self.old.splits) cap) }
     {
         if let Capped::Bad = cap {
@@ -263,9 +301,11 @@ impl<R: Relaxation> Walk<R> {
     // next one.
     fn close(&mut self, r: &R, area: &mut R::Area, first: u32, cap: Capped) -> Took
         requires fits { R.fits r.now (present (R.views area.old)) }
-        requires stands { StandBelow (R.steps r.now) (R.views area.old) (length (R.views area.old)) first self.old.splits }
+        requires stands { StandBelow (R.steps r.now) (R.views area.old) (length (R.views area.old))
+            first self.old.splits }
         ensures fits { R.fits r.now (present (R.views area.new)) }
-        ensures led { Led (R.steps r.now) first self.old (R.views area.old) result self.new (R.views area.new)
+        ensures led { Led (R.steps r.now) first self.old (R.views area.old) result self.new
+            (R.views area.new)
             (close (R.steps r.now) (map (opened (R.views area.old)) self.old.splits) cap) }
     {
         let mut cap = cap;
@@ -303,12 +343,15 @@ impl<R: Relaxation> Walk<R> {
         cap: Capped,
     ) -> Took
         requires fits { R.fits r.now (present (R.views area.old)) }
-        requires stands { StandBelow (R.steps r.now) (R.views area.old) (length (R.views area.old)) first self.old.splits }
+        requires stands { StandBelow (R.steps r.now) (R.views area.old) (length (R.views area.old))
+            first self.old.splits }
         requires innermost { self.old.splits ≡ split ∷ drop 1 self.old.splits }
         ensures fits { R.fits r.now (present (R.views area.new)) }
-        ensures led { Led (R.steps r.now) first self.old (R.views area.old) result self.new (R.views area.new)
+        ensures led { Led (R.steps r.now) first self.old (R.views area.old) result self.new
+            (R.views area.new)
             (going_to Expected.Node
-            (record { view = view_at (R.views area.old) split.mark; pick = split.pick; left = Some cap }
+            (record { view = view_at (R.views area.old) split.mark; pick = split.pick; left = Some
+            cap }
             ∷ map (opened (R.views area.old)) (drop 1 self.old.splits))
             ((R.steps r.now).right (view_at (R.views area.old) split.mark) split.pick)) }
     {

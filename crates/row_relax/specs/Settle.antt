@@ -37,9 +37,10 @@ abbrev pub is_lawful : Program → List ℕ → Bool
 is_lawful program point =
     are_held program.root point && list_all (λ row. int_le (entries_sum row.entries point) row.limit) program.rows
 
+-- the worth of a point, where it is lawful
+abbrev pub cap_at : Program → List ℕ → Capped
+cap_at program point = if is_lawful program point then AtMost (worth_of program point) else NoPoint
+
 -- the worth of the only point, where it is lawful; nothing, where there is no only point
 unfoldable pub settled : Program → List Domain → Capped
-settled program domains =
-    if are_single domains
-    then (if is_lawful program (only_point domains) then AtMost (worth_of program (only_point domains)) else NoPoint)
-    else Bad
+settled program domains = if are_single domains then cap_at program (only_point domains) else Bad

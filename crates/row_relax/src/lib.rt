@@ -9,3 +9,4 @@ mod settling;
 
 pub use pick::RowPick;
 pub use rows::{RowProof, Rows};
+pub use settling::{cap_at, values_of};

@@ -46,7 +46,8 @@ impl FixedShelf {
 
     /// Puts the bytes in the place of the file. After want of memory nothing has changed.
     pub fn put_file(&mut self, name: &str, bytes: &[u8]) -> Result<(), AllocError>
-        ensures ok { OnOk result (self.new ≡ record self.old { files = map.insert self.old.files name.now bytes.now }) }
+        ensures ok { OnOk result
+            (self.new ≡ record self.old { files = map.insert self.old.files name.now bytes.now }) }
         ensures err { OnErr result (self.new ≡ self.old) }
     {
         self.files.put(name, bytes)
@@ -81,8 +82,10 @@ impl Shelf for FixedShelf {
 
     fn read_at(&mut self, name: &str, place: u64, into: &mut [u8]) -> Result<usize, Failed>
         ensures never { IsOk result }
-        ensures count { IfOk result (λ n. n ≡ min (min (length into.old) self.old.most) (length (file_of self.old.files name.now) - place)) }
-        ensures piece { IfOk result (λ n. IsPiece (file_of self.old.files name.now) place into.new n) }
+        ensures count { IfOk result (λ n. n ≡ min (min (length into.old) self.old.most)
+            (length (file_of self.old.files name.now) - place)) }
+        ensures piece { IfOk result (λ n. IsPiece (file_of self.old.files name.now) place into.new
+            n) }
         ensures small { length (file_of self.old.files name.now) < 2 ^ 64 }
         ensures same { self.new ≡ self.old }
     {
@@ -92,7 +95,8 @@ impl Shelf for FixedShelf {
 
     #[tactic(auto, unfolding(crate::specs::Files::cleared))]
     fn clear(&mut self, name: &str) -> Result<(), Stop>
-        ensures ok { OnOk result (self.new ≡ record self.old { files = cleared name.now self.old.files }) }
+        ensures ok { OnOk result
+            (self.new ≡ record self.old { files = cleared name.now self.old.files }) }
         ensures err { OnErr result (self.new ≡ self.old) }
         ensures never { result ≢ Err Stop.Failed }
     {
@@ -101,7 +105,8 @@ impl Shelf for FixedShelf {
     }
 
     fn append(&mut self, name: &str, bytes: &[u8]) -> Result<(), Stop>
-        ensures ok { OnOk result (self.new ≡ record self.old { files = appended name.now bytes.now self.old.files }) }
+        ensures ok { OnOk result
+            (self.new ≡ record self.old { files = appended name.now bytes.now self.old.files }) }
         ensures err { OnErr result (self.new ≡ self.old) }
         ensures never { result ≢ Err Stop.Failed }
     {

@@ -54,7 +54,8 @@ impl MemShelf {
     /// Puts the bytes in the place of the file. It is no call that is counted, and none that fails
     /// but for want of memory, after which nothing has changed.
     pub fn put_file(&mut self, name: &str, bytes: &[u8]) -> Result<(), AllocError>
-        ensures ok { OnOk result (self.new ≡ record self.old { files = map.insert self.old.files name.now bytes.now }) }
+        ensures ok { OnOk result
+            (self.new ≡ record self.old { files = map.insert self.old.files name.now bytes.now }) }
         ensures err { OnErr result (self.new ≡ self.old) }
     {
         self.files.put(name, bytes)
@@ -70,7 +71,8 @@ impl MemShelf {
     /// That call, counted from 1, is to fail: an `append` after that many bytes, a `clear` and a
     /// `read_at` before they do anything. After want of memory nothing has changed.
     pub fn fail_call(&mut self, call: u64, bytes: u64) -> Result<(), AllocError>
-        ensures ok { OnOk result (self.new ≡ record self.old { calls = with_failure self.old.calls call bytes }) }
+        ensures ok { OnOk result
+            (self.new ≡ record self.old { calls = with_failure self.old.calls call bytes }) }
         ensures err { OnErr result (self.new ≡ self.old) }
     {
         self.calls.fail_call(call, bytes)
@@ -90,8 +92,10 @@ impl Shelf for MemShelf {
 
     fn read_at(&mut self, name: &str, place: u64, into: &mut [u8]) -> Result<usize, Failed>
         ensures fails { is_err result ≡ read_fails self.old name.now }
-        ensures count { IfOk result (λ n. n ≡ min (length into.old) (length (file_of self.old.files name.now) - place)) }
-        ensures piece { IfOk result (λ n. IsPiece (file_of self.old.files name.now) place into.new n) }
+        ensures count { IfOk result (λ n. n ≡ min (length into.old)
+            (length (file_of self.old.files name.now) - place)) }
+        ensures piece { IfOk result (λ n. IsPiece (file_of self.old.files name.now) place into.new
+            n) }
         ensures small { length (file_of self.old.files name.now) < 2 ^ 64 }
         ensures after { self.new ≡ after_read self.old name.now }
         ensures later { self.old.read_faults ≤ self.new.read_faults }
@@ -109,7 +113,8 @@ impl Shelf for MemShelf {
     #[tactic(auto, unfolding(crate::specs::Files::cleared))]
     fn clear(&mut self, name: &str) -> Result<(), Stop>
         ensures fails { (result ≡ Err Stop.Failed) ↔ IsSome (due self.old.calls) }
-        ensures ok { OnOk result (self.new ≡ after_write self.old (cleared name.now self.old.files)) }
+        ensures ok { OnOk result (self.new ≡ after_write self.old
+            (cleared name.now self.old.files)) }
         ensures err { OnErr result (self.new ≡ after_write self.old self.old.files) }
         ensures later { self.old.write_faults ≤ self.new.write_faults }
     {
@@ -124,9 +129,11 @@ impl Shelf for MemShelf {
     fn append(&mut self, name: &str, bytes: &[u8]) -> Result<(), Stop>
         ensures fails { IsSome (due self.old.calls) → IsErr result }
         ensures failed { result ≡ Err Stop.Failed → IsSome (due self.old.calls) }
-        ensures ok { OnOk result (self.new ≡ after_write self.old (appended name.now bytes.now self.old.files)) }
+        ensures ok { OnOk result (self.new ≡ after_write self.old
+            (appended name.now bytes.now self.old.files)) }
         ensures err { result ≡ Err Stop.Failed → IfSome (due self.old.calls)
-            (λ count. self.new ≡ after_write self.old (appended name.now (take count bytes.now) self.old.files)) }
+            (λ count. self.new ≡ after_write self.old (appended name.now (take count bytes.now)
+            self.old.files)) }
         ensures memory { result ≡ Err Stop.Memory → self.new ≡ after_write self.old self.old.files }
         ensures later { self.old.write_faults ≤ self.new.write_faults }
     {

@@ -55,7 +55,8 @@ impl MemSink {
     /// That call, counted from 1, is to fail after that many bytes. After want of memory nothing has
     /// changed.
     pub fn fail_call(&mut self, call: u64, bytes: u64) -> Result<(), AllocError>
-        ensures ok { OnOk result (self.new ≡ record self.old { calls = with_failure self.old.calls call bytes }) }
+        ensures ok { OnOk result
+            (self.new ≡ record self.old { calls = with_failure self.old.calls call bytes }) }
         ensures err { OnErr result (self.new ≡ self.old) }
     {
         self.calls.fail_call(call, bytes)
@@ -70,9 +71,11 @@ impl Sink for MemSink {
     fn put(&mut self, bytes: &[u8]) -> Result<(), Stop>
         ensures fails { IsSome (due self.old.calls) → IsErr result }
         ensures failed { result ≡ Err Stop.Failed → IsSome (due self.old.calls) }
-        ensures ok { OnOk result (self.new ≡ after_put self.old (extended bytes.now self.old.text)) }
+        ensures ok { OnOk result (self.new ≡ after_put self.old
+            (extended bytes.now self.old.text)) }
         ensures err { result ≡ Err Stop.Failed → IfSome (due self.old.calls)
-            (λ count. self.new ≡ after_put self.old (extended (take count bytes.now) self.old.text)) }
+            (λ count. self.new ≡ after_put self.old (extended (take count bytes.now)
+            self.old.text)) }
         ensures memory { result ≡ Err Stop.Memory → self.new ≡ after_put self.old self.old.text }
         ensures later { self.old.faults ≤ self.new.faults }
     {

@@ -23,7 +23,8 @@ pub fn read_all<F: Shelf>(
 ) -> Result<Vec<u8>, ReadStop>
     requires limited { limit ≤ 2 ^ 32 }
     requires allowed { IsTrue (F.may_read files.old name.now) }
-    ensures whole { IfOk result (λ v. IfSome (F.files files.old) (λ m. v.items ≡ file_of m name.now)) }
+    ensures whole { IfOk result (λ v. IfSome (F.files files.old)
+        (λ m. v.items ≡ file_of m name.now)) }
     ensures within { IfOk result (λ v. vec_len v ≤ limit) }
     ensures too_long { result ≡ Err ReadStop.TooLong
         → IfSome (F.files files.old) (λ m. limit < length (file_of m name.now)) }

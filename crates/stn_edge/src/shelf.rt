@@ -50,16 +50,20 @@ pub trait Shelf {
         ensures writable { may_write self.new ≡ may_write self.old }
         ensures later { write_faults self.old ≤ write_faults self.new }
         ensures no_read { read_faults self.new ≡ read_faults self.old }
-        ensures cause { result ≡ Err Stop.Failed → Rose (write_faults self.old) (write_faults self.new) };
+        ensures cause { result ≡ Err Stop.Failed → Rose (write_faults self.old)
+            (write_faults self.new) };
 
     /// Puts the bytes to the end of the file. After an error only a first part of them may be there.
     fn append(&mut self, name: &str, bytes: &[u8]) -> Result<(), Stop>
         requires { IsTrue (may_write self.old name.now) }
-        ensures ok { OnOk result (files self.new ≡ option_map (appended name.now bytes.now) (files self.old)) }
-        ensures err { OnErr result (MayAppend name.now bytes.now (files self.old) (files self.new)) }
+        ensures ok { OnOk result (files self.new ≡ option_map (appended name.now bytes.now)
+            (files self.old)) }
+        ensures err { OnErr result (MayAppend name.now bytes.now (files self.old)
+            (files self.new)) }
         ensures readable { may_read self.new ≡ may_read self.old }
         ensures writable { may_write self.new ≡ may_write self.old }
         ensures later { write_faults self.old ≤ write_faults self.new }
         ensures no_read { read_faults self.new ≡ read_faults self.old }
-        ensures cause { result ≡ Err Stop.Failed → Rose (write_faults self.old) (write_faults self.new) };
+        ensures cause { result ≡ Err Stop.Failed → Rose (write_faults self.old)
+            (write_faults self.new) };
 }

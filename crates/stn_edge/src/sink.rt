@@ -15,9 +15,11 @@ pub trait Sink {
 
     /// Puts the bytes after those that are there. After an error only a first part of them may be there.
     fn put(&mut self, bytes: &[u8]) -> Result<(), Stop>
-        ensures ok { OnOk result (written self.new ≡ option_map (extended bytes.now) (written self.old)) }
+        ensures ok { OnOk result (written self.new ≡ option_map (extended bytes.now)
+            (written self.old)) }
         ensures err { OnErr result ((count : ℕ)
-            × (written self.new ≡ option_map (extended (take count bytes.now)) (written self.old))) }
+            × (written self.new ≡ option_map (extended (take count bytes.now))
+            (written self.old))) }
         ensures later { faults self.old ≤ faults self.new }
         ensures cause { result ≡ Err Stop.Failed → Rose (faults self.old) (faults self.new) };
 }

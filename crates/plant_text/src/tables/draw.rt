@@ -23,7 +23,9 @@ fn numbers_or_none(
     key: Key,
     several: Several,
 ) -> Result<List<u32>, PlantStop>
-    ensures { Gives result (field_tests place (table_view table.now) (record { key = key; kind = kind.numbers several.forbidden several.many several.most })) (at_key numbers_of [] (table_view table.now) key) }
+    ensures { Gives result (field_tests place (table_view table.now)
+        (record { key = key; kind = kind.numbers several.forbidden several.many several.most }))
+        (at_key numbers_of [] (table_view table.now) key) }
 {
     match numbers(alloc, table, place, key, several)? {
         Some(list) => Ok(list),

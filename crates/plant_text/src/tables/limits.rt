@@ -59,7 +59,9 @@ pub fn limits(
     several: Several,
     limit: Option<u32>,
 ) -> Result<List<u64>, PlantStop>
-    ensures { Gives result (field_tests place (table_view table.now) (record { key = key; kind = kind.numbers several.forbidden several.many several.most })) (limits_in limit (option_map numbers_of (held (table_view table.now) key)) several.many) }
+    ensures { Gives result (field_tests place (table_view table.now)
+        (record { key = key; kind = kind.numbers several.forbidden several.many several.most }))
+        (limits_in limit (option_map numbers_of (held (table_view table.now) key)) several.many) }
 {
     let list = numbers(alloc, table, place, key, several)?;
     Ok(limits_of(alloc, limit, list, several.many)?)

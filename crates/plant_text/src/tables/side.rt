@@ -64,7 +64,10 @@ impl Row for SidePart {
 #[tactic(auto, unfolding(crate::specs::Tests::first_fault))]
 fn share(owner: Owner, quantum: u32, inner: u32, side: &SidePart) -> Result<Output, PlantStop>
     requires { 0 < side.now.part.under }
-    ensures { Gives result ((not (is_whole quantum side.now.part), fault 13 (record { table = owner.table; item = owner.item; inner = inner }) KeyName.Part) ∷ []) (output_of quantum side.now) }
+    ensures { Gives result
+        ((not (is_whole quantum side.now.part), fault 13 (record
+        { table = owner.table; item = owner.item; inner = inner }) KeyName.Part) ∷ [])
+        (output_of quantum side.now) }
 {
     let place = Place {
         table: owner.table,
@@ -89,7 +92,8 @@ fn whole_shares(
 ) -> Result<List<Output>, PlantStop>
     requires few { length sides.now ≤ 8 }
     requires proper { All (λ side. IsProper side.part) sides.now }
-    ensures { Gives result (rows_tests (whole_tests owner quantum) (output_of quantum) [] sides.now) (map (output_of quantum) sides.now) }
+    ensures { Gives result (rows_tests (whole_tests owner quantum) (output_of quantum) [] sides.now)
+        (map (output_of quantum) sides.now) }
 {
     let mut outputs = List::new(alloc);
     for side in sides {
@@ -115,7 +119,8 @@ fn shares(
 ) -> Result<List<Output>, PlantStop>
     requires few { length sides.now ≤ 8 }
     requires proper { All (λ side. IsProper side.part) sides.now }
-    ensures { Gives result (share_tests owner quantum sides.now) (map (output_of quantum) sides.now) }
+    ensures { Gives result (share_tests owner quantum sides.now)
+        (map (output_of quantum) sides.now) }
 {
     let place = Place {
         table: owner.table,
@@ -139,7 +144,10 @@ fn sides_in(
     quantum: u32,
 ) -> Result<List<Output>, PlantStop>
     requires { context.now.periods ≤ 336 }
-    ensures { Gives result (kind_tests place name (kind.tables 8 (sides_tests (scope_of context.now) owner quantum)) (view value.now)) (outputs_in (scope_of context.now) (is_output owner.table) quantum (items_of (view value.now))) }
+    ensures { Gives result
+        (kind_tests place name (kind.tables 8 (sides_tests (scope_of context.now) owner quantum))
+        (view value.now)) (outputs_in (scope_of context.now) (is_output owner.table) quantum
+        (items_of (view value.now))) }
 {
     let sides: List<SidePart> = rows_in(alloc, value, place, name, MAX_SIDE, context, owner)?;
     shares(alloc, owner, quantum, sides.as_slice())
@@ -157,7 +165,10 @@ pub fn sides(
     quantum: u32,
 ) -> Result<List<Output>, PlantStop>
     requires { context.now.periods ≤ 336 }
-    ensures { Gives result (field_tests place (table_view table.now) (record { key = key; kind = kind.tables 8 (sides_tests (scope_of context.now) owner quantum) })) (outputs_in (scope_of context.now) (is_output owner.table) quantum (at_key items_of [] (table_view table.now) key)) }
+    ensures { Gives result (field_tests place (table_view table.now)
+        (record { key = key; kind = kind.tables 8 (sides_tests (scope_of context.now) owner quantum)
+        })) (outputs_in (scope_of context.now) (is_output owner.table) quantum
+        (at_key items_of [] (table_view table.now) key)) }
 {
     match present(table, place, key)? {
         None => Ok(List::new(alloc)),
