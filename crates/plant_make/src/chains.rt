@@ -33,8 +33,13 @@ pub fn repeated<T: Copy + Drop>(alloc: Global, item: T, many: u32) -> Result<Lis
 fn feed(alloc: Global, seed: u32, chain: u32) -> Result<State, AllocError>
     requires { chain < 8 }
     ensures { IfOk result
-        (λ state. state ≡ record { name = letter_name 70 chain; initial = 100 + 10 * of_chain seed
-        chain 0 11; limits = []; price = pos (1 + of_chain seed chain 1 3); holding = pos 0 }) }
+        (λ state. state ≡ record {
+          name = letter_name 70 chain;
+          initial = 100 + 10 * of_chain seed chain 0 11;
+          limits = [];
+          price = pos (1 + of_chain seed chain 1 3);
+          holding = pos 0;
+        }) }
 {
     let name = letter_name(alloc, b'F', chain)?;
     Ok(State {
@@ -50,8 +55,12 @@ fn feed(alloc: Global, seed: u32, chain: u32) -> Result<State, AllocError>
 fn between(alloc: Global, seed: u32, chain: u32) -> Result<State, AllocError>
     requires { chain < 8 }
     ensures { IfOk result
-        (λ state. state ≡ record { name = letter_name 73 chain; initial = 0; limits = replicate 13
-        (20 + 10 * of_chain seed chain 2 5); price = pos 0; holding = pos (of_chain seed chain 3 2)
+        (λ state. state ≡ record {
+          name = letter_name 73 chain;
+          initial = 0;
+          limits = replicate 13 (20 + 10 * of_chain seed chain 2 5);
+          price = pos 0;
+          holding = pos (of_chain seed chain 3 2);
         }) }
 {
     let limit = 20 + 10 * u64::from(of_chain(seed, chain, 2, 5));
@@ -70,8 +79,13 @@ fn between(alloc: Global, seed: u32, chain: u32) -> Result<State, AllocError>
 fn product(alloc: Global, seed: u32, chain: u32) -> Result<State, AllocError>
     requires { chain < 8 }
     ensures { IfOk result
-        (λ state. state ≡ record { name = letter_name 80 chain; initial = 0; limits = [];
-        price = pos (10 + of_chain seed chain 4 11); holding = pos 0 }) }
+        (λ state. state ≡ record {
+          name = letter_name 80 chain;
+          initial = 0;
+          limits = [];
+          price = pos (10 + of_chain seed chain 4 11);
+          holding = pos 0;
+        }) }
 {
     let name = letter_name(alloc, b'P', chain)?;
     Ok(State {

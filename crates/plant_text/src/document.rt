@@ -206,16 +206,22 @@ fn array<R: Row>(
     requires horizon { context.now.periods ≤ 336 }
     ensures passes { OnOk result
         (first_fault (field_tests top_place (table_view document.now)
-        (record { key = key; kind = kind.tables most (rows_tests
-        (R.tests (scope_of context.now) owner) (R.made (scope_of context.now) owner) []) }))
+        (record {
+          key = key;
+          kind = kind.tables most
+              (rows_tests (R.tests (scope_of context.now) owner) (R.made (scope_of context.now) owner) []);
+        }))
         ≡ None) }
     ensures is { OnOk result (into.new ≡ map (R.made (scope_of context.now) owner)
         (at_key items_of [] (table_view document.now) key)) }
     ensures few { OnOk result (length into.new ≤ most) }
     ensures err { IfErr result
         (λ e. Stops e (first_fault (field_tests top_place (table_view document.now)
-        (record { key = key; kind = kind.tables most (rows_tests
-        (R.tests (scope_of context.now) owner) (R.made (scope_of context.now) owner) []) })))) }
+        (record {
+          key = key;
+          kind = kind.tables most
+              (rows_tests (R.tests (scope_of context.now) owner) (R.made (scope_of context.now) owner) []);
+        })))) }
 {
     *into = rows(alloc, document, TOP, key, most, context, owner)?;
     Ok(())

@@ -363,8 +363,11 @@ pub fn rows<R: Row>(
     requires few { most ≤ 4096 }
     requires horizon { context.now.periods ≤ 336 }
     ensures gives { Gives result (field_tests place (table_view table.now)
-        (record { key = key; kind = kind.tables most (rows_tests
-        (R.tests (scope_of context.now) owner) (R.made (scope_of context.now) owner) []) }))
+        (record {
+          key = key;
+          kind = kind.tables most
+              (rows_tests (R.tests (scope_of context.now) owner) (R.made (scope_of context.now) owner) []);
+        }))
         (map (R.made (scope_of context.now) owner) (at_key items_of [] (table_view table.now)
         key)) }
     ensures few { IfOk result (λ rows. length rows ≤ most) }

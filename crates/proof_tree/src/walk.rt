@@ -350,8 +350,11 @@ impl<R: Relaxation> Walk<R> {
         ensures led { Led (R.steps r.now) first self.old (R.views area.old) result self.new
             (R.views area.new)
             (going_to Expected.Node
-            (record { view = view_at (R.views area.old) split.mark; pick = split.pick; left = Some
-            cap }
+            (record {
+              view = view_at (R.views area.old) split.mark;
+              pick = split.pick;
+              left = Some cap;
+            }
             ∷ map (opened (R.views area.old)) (drop 1 self.old.splits))
             ((R.steps r.now).right (view_at (R.views area.old) split.mark) split.pick)) }
     {

@@ -65,8 +65,10 @@ impl Row for SidePart {
 fn share(owner: Owner, quantum: u32, inner: u32, side: &SidePart) -> Result<Output, PlantStop>
     requires { 0 < side.now.part.under }
     ensures { Gives result
-        ((not (is_whole quantum side.now.part), fault 13 (record
-        { table = owner.table; item = owner.item; inner = inner }) KeyName.Part) ∷ [])
+        ((
+          not (is_whole quantum side.now.part),
+          fault 13 (record { table = owner.table; item = owner.item; inner = inner }) KeyName.Part,
+        ) ∷ [])
         (output_of quantum side.now) }
 {
     let place = Place {
@@ -166,7 +168,9 @@ pub fn sides(
 ) -> Result<List<Output>, PlantStop>
     requires { context.now.periods ≤ 336 }
     ensures { Gives result (field_tests place (table_view table.now)
-        (record { key = key; kind = kind.tables 8 (sides_tests (scope_of context.now) owner quantum)
+        (record {
+          key = key;
+          kind = kind.tables 8 (sides_tests (scope_of context.now) owner quantum);
         })) (outputs_in (scope_of context.now) (is_output owner.table) quantum
         (at_key items_of [] (table_view table.now) key)) }
 {
