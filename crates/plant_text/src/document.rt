@@ -209,7 +209,8 @@ fn array<R: Row>(
         (record {
           key = key;
           kind = kind.tables most
-              (rows_tests (R.tests (scope_of context.now) owner) (R.made (scope_of context.now) owner) []);
+              (rows_tests (R.tests (scope_of context.now) owner)
+              (R.made (scope_of context.now) owner) []);
         }))
         ≡ None) }
     ensures is { OnOk result (into.new ≡ map (R.made (scope_of context.now) owner)
@@ -220,7 +221,8 @@ fn array<R: Row>(
         (record {
           key = key;
           kind = kind.tables most
-              (rows_tests (R.tests (scope_of context.now) owner) (R.made (scope_of context.now) owner) []);
+              (rows_tests (R.tests (scope_of context.now) owner)
+              (R.made (scope_of context.now) owner) []);
         })))) }
 {
     *into = rows(alloc, document, TOP, key, most, context, owner)?;

@@ -366,7 +366,8 @@ pub fn rows<R: Row>(
         (record {
           key = key;
           kind = kind.tables most
-              (rows_tests (R.tests (scope_of context.now) owner) (R.made (scope_of context.now) owner) []);
+              (rows_tests (R.tests (scope_of context.now) owner)
+              (R.made (scope_of context.now) owner) []);
         }))
         (map (R.made (scope_of context.now) owner) (at_key items_of [] (table_view table.now)
         key)) }
