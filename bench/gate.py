@@ -2,9 +2,10 @@
 """What the gate costs: runs `rt ci` and sums the processor seconds of every check, by crate and by kind of work.
 
     python3 bench/gate.py            # runs the gate at the top, prints its last line and the table
-    python3 bench/gate.py --markdown # the table as docs/gate.md has it
+    python3 bench/gate.py --markdown # the table as Markdown
     python3 bench/gate.py NAME..     # the same for these crates and those below them
-    python3 bench/gate.py --ledger   # no run: what each crate took the last time that it was done from nothing; also --markdown
+    python3 bench/gate.py --ledger   # no run: what each crate took the last time that it was done from nothing
+    python3 bench/gate.py --ledger --markdown  # the same, its table as docs/gate.md has it
     python3 bench/gate.py --beside PID FILE  # watches the checks below a process until it ends; FILE has lines `SECONDS CRATE`,
                                              # FILE.parts lines `CRATE KIND SECONDS CHECKS`
     python3 bench/gate.py --keep FILE.parts  # puts these parts, of a run that passed, into the ledger
@@ -95,6 +96,18 @@ def table(taken, markdown):
     sums = [sum(s for (_, kind), s in taken.items() if kind == it) for it in KINDS]
     lines.append(form.format("all", *sums, edits_of("*"), sum(sums)).replace("`", ""))
     return lines
+
+
+def page_table(taken):
+    """The lines of the table of docs/gate.md: three crates a row, with the seconds of proof and tests and those of edits."""
+    names = sorted({crate for crate, _ in taken}, key=lambda it: -taken.get((it, "proof"), 0.0) - taken.get((it, "tests"), 0.0))
+    cells = []
+    for name in names:
+        proofs = taken.get((name, "proof"), 0.0) + taken.get((name, "tests"), 0.0)
+        cells.append(f"`{name}` | {proofs:.0f} | {taken.get((name, 'edits'), 0.0):.0f}")
+    cells += [" | | "] * (-len(cells) % 3)
+    rows = (" | ".join(cells[at : at + 3]) for at in range(0, len(cells), 3))
+    return ["| " + " | ".join(["crate | proofs | edits"] * 3) + " |", "|---" * 9 + "|", *(f"| {row} |" for row in rows)]
 
 
 def edits_of(name):
@@ -198,7 +211,7 @@ def say_ledger(markdown):
     wanted = [(crate, kind) for crate in crates for kind in KINDS if kind == "proof" or kind == "edits" and edits_of(crate)]
     tests = [part for part in known if part[1] == "tests" and part[0] in crates]
     taken = {part: known[part][0] for part in wanted + tests if part in known}
-    print("\n".join(table(taken, markdown)))
+    print("\n".join(page_table(taken) if markdown else table(taken, False)))
     say_chain(taken)
     runs = {}
     for part in taken:
@@ -211,10 +224,13 @@ def say_ledger(markdown):
 
 
 def say_chain(taken):
-    """Prints the longest chain and the sum of all."""
+    """Prints the longest chain, the slowest crate and the sums by kind and of all."""
     seconds, names = longest_chain(taken)
     print(f"\nthe longest chain, {seconds / 60:.1f} minutes of proofs: {', '.join(names)}")
-    print(f"all: {sum(taken.values()) / 60:.1f} minutes of processor time")
+    slowest = max(taken, key=lambda it: taken[it] if it[1] == "proof" else 0.0, default=("none", ""))
+    print(f"the slowest crate, {taken.get(slowest, 0.0) / 60:.1f} minutes: {slowest[0]}")
+    sums = {kind: sum(used for (_, it), used in taken.items() if it == kind) / 60 for kind in KINDS}
+    print(f"all: {sum(sums.values()):.1f} minutes of processor time, {', '.join(f'{kind} {used:.1f}' for kind, used in sums.items())}")
 
 
 def main():

@@ -5,6 +5,7 @@ ghost use Rattle.proof_tree.specs.Tree.{tree_of};
 ghost use Rattle.branch_tree.specs.Searched.{IsExact, IsSearch, IsSearchedTo, IsBrokenOff, ended_of};
 
 use best_first::Advisers;
+use box_advice::{Guide, Hinter};
 use branch_tree::{Ended, Guided, Searched, search, search_guided, search_guided_to, search_to};
 use plan_hints::PlanHinter;
 use proof_tree::{NodeTaker, TakeStop};
@@ -36,10 +37,36 @@ pub fn search_advised<O, T: NodeTaker<Rows, O>>(
     ensures later { T.faults out.old ≤ T.faults out.new }
     ensures failed { IsErrOf result TakeStop.Failed → Rose (T.faults out.old) (T.faults out.new) }
 {
-    let Advisers {
-        mut guide,
-        mut hinter,
-    } = Advisers::new(alloc, &rows.program, given, budget)?;
+    let Advisers { guide, hinter } = Advisers::new(alloc, &rows.program, given, budget)?;
+    guided_to(alloc, rows, given, budget, hinter, guide, taker, out)
+}
+
+// Searches with advisers that are let go of here, of whatever types they are.
+fn guided_to<H: Hinter + Drop, G: Guide + Drop, O, T: NodeTaker<Rows, O>>(
+    alloc: Global,
+    rows: &Rows,
+    given: u32,
+    budget: u32,
+    mut hinter: H,
+    mut guide: G,
+    taker: &mut T,
+    out: &mut O,
+) -> Result<Guided, TakeStop>
+    requires budget { (1 ≤ budget) × (budget ≤ 100000) }
+    requires ready { T.ready taker.old out.old }
+    ensures ready { OnOk result (T.ready taker.new out.new) }
+    ensures ok { IfOk result (λ guided. IsSearchedTo T.took rows.now.program given budget
+        guided.ended taker.old out.old taker.new out.new) }
+    ensures exact { IfOk result
+        (λ guided. guided.exact ≡ true → IsExact rows.now.program budget guided.ended) }
+    ensures inexact { IfOk result
+        (λ guided. guided.exact ≡ false
+        → (guided.ended.left_open ≡ true) × (guided.ended.spent ≢ budget)) }
+    ensures err { OnErr result (IsBrokenOff T.took T.broke rows.now.program taker.old out.old
+        taker.new out.new) }
+    ensures later { T.faults out.old ≤ T.faults out.new }
+    ensures failed { IsErrOf result TakeStop.Failed → Rose (T.faults out.old) (T.faults out.new) }
+{
     search_guided_to(
         alloc,
         rows,
@@ -72,7 +99,31 @@ pub fn search_hinted<O, T: NodeTaker<Rows, O>>(
     ensures later { T.faults out.old ≤ T.faults out.new }
     ensures failed { IsErrOf result TakeStop.Failed → Rose (T.faults out.old) (T.faults out.new) }
 {
-    let mut hinter = PlanHinter::new(alloc, &rows.program, given)?;
+    let hinter = PlanHinter::new(alloc, &rows.program, given)?;
+    hinted_to(alloc, rows, given, budget, hinter, taker, out)
+}
+
+// Searches with a hinter that is let go of here.
+fn hinted_to<H: Hinter + Drop, O, T: NodeTaker<Rows, O>>(
+    alloc: Global,
+    rows: &Rows,
+    given: u32,
+    budget: u32,
+    mut hinter: H,
+    taker: &mut T,
+    out: &mut O,
+) -> Result<Ended, TakeStop>
+    requires budget { (1 ≤ budget) × (budget ≤ 100000) }
+    requires ready { T.ready taker.old out.old }
+    ensures ready { OnOk result (T.ready taker.new out.new) }
+    ensures ok { IfOk result (λ ended. IsSearchedTo T.took rows.now.program given budget ended
+        taker.old out.old taker.new out.new) }
+    ensures exact { IfOk result (IsExact rows.now.program budget) }
+    ensures err { OnErr result (IsBrokenOff T.took T.broke rows.now.program taker.old out.old
+        taker.new out.new) }
+    ensures later { T.faults out.old ≤ T.faults out.new }
+    ensures failed { IsErrOf result TakeStop.Failed → Rose (T.faults out.old) (T.faults out.new) }
+{
     search_to(alloc, rows, given, budget, &mut hinter, taker, out)
 }
 
@@ -91,10 +142,27 @@ pub fn build_advised(
     ensures inexact { IfOk result
         (λ found. found.1 ≡ false → (found.0.left_open ≡ true) × (found.0.spent ≢ budget)) }
 {
-    let Advisers {
-        mut guide,
-        mut hinter,
-    } = Advisers::new(alloc, &rows.program, given, budget)?;
+    let Advisers { guide, hinter } = Advisers::new(alloc, &rows.program, given, budget)?;
+    guided(alloc, rows, given, budget, hinter, guide)
+}
+
+// Searches with advisers that are let go of here, and builds the proof.
+fn guided<H: Hinter + Drop, G: Guide + Drop>(
+    alloc: Global,
+    rows: &Rows,
+    given: u32,
+    budget: u32,
+    mut hinter: H,
+    mut guide: G,
+) -> Result<(Searched, bool), AllocError>
+    requires { (1 ≤ budget) × (budget ≤ 100000) }
+    ensures ok { IfOk result (λ found. IsSearch rows.now.program given budget
+        (tree_of found.0.tree) (ended_of found.0)) }
+    ensures exact { IfOk result
+        (λ found. found.1 ≡ true → IsExact rows.now.program budget (ended_of found.0)) }
+    ensures inexact { IfOk result
+        (λ found. found.1 ≡ false → (found.0.left_open ≡ true) × (found.0.spent ≢ budget)) }
+{
     search_guided(alloc, rows, given, budget, &mut hinter, &mut guide)
 }
 
@@ -110,6 +178,22 @@ pub fn build_hinted(
         (tree_of searched.tree) (ended_of searched)) }
     ensures exact { IfOk result (λ searched. IsExact rows.now.program budget (ended_of searched)) }
 {
-    let mut hinter = PlanHinter::new(alloc, &rows.program, given)?;
+    let hinter = PlanHinter::new(alloc, &rows.program, given)?;
+    hinted(alloc, rows, given, budget, hinter)
+}
+
+// Searches with a hinter that is let go of here, and builds the proof.
+fn hinted<H: Hinter + Drop>(
+    alloc: Global,
+    rows: &Rows,
+    given: u32,
+    budget: u32,
+    mut hinter: H,
+) -> Result<Searched, AllocError>
+    requires { (1 ≤ budget) × (budget ≤ 100000) }
+    ensures ok { IfOk result (λ searched. IsSearch rows.now.program given budget
+        (tree_of searched.tree) (ended_of searched)) }
+    ensures exact { IfOk result (λ searched. IsExact rows.now.program budget (ended_of searched)) }
+{
     search(alloc, rows, given, budget, &mut hinter)
 }
