@@ -1,16 +1,12 @@
 -- The answer on a log that has come to its end.
-use Rattle.std.proofs.Common.{◌≡◌, ◌≢◌, inl, inr, ℕ, ℤ, ◌≤ℤ◌, List, Option, Some, None, IfSome, refl, ap, sym, ◌∙◌, subst, arith}
-use Rattle.std.specs.Prelude.{◌<ℤ◌}
+use Rattle.std.proofs.Common.{◌≡◌, ◌≢◌, inl, inr, ℕ, List, Option, Some, None, IfSome, refl, ap, sym, ◌∙◌, subst}
 use Rattle.std.specs.List.{All}
-use Rattle.std.proofs.lemmas.Int.{ints}
 use Rattle.row_kit.specs.declared.area.Area.{Area}
 use Rattle.row_kit.specs.declared.found.Found.{Found}
-use Rattle.row_kit.specs.declared.domain.Domain.{Domain}
 use Rattle.row_kit.specs.declared.program.Program.{Program}
-use Rattle.row_kit.specs.Point.{IsLawful, LiesIn, worth_of}
+use Rattle.row_kit.specs.Point.{IsLawful, worth_of}
 use Rattle.proof_tree.specs.declared.capped.Capped.{Capped}
-use Rattle.proof_tree.specs.declared.capped.Capped.TheVariants.{AtMost, NoPoint, Bad}
-use Rattle.proof_tree.specs.Cap.{Bounds}
+use Rattle.proof_tree.specs.declared.capped.Capped.TheVariants.{Bad}
 use Rattle.proof_tree.specs.Views.{View}
 use Rattle.proof_tree.specs.Form.{AreWhole}
 use Rattle.proof_tree.specs.Items.{tree_items}
@@ -23,50 +19,28 @@ use Rattle.row_relax.specs.declared.pick.RowPick.{RowPick}
 use Rattle.row_kit.specs.Domain.{IsNormal}
 use Rattle.row_relax.specs.declared.rows.Rows.{Rows}
 use Rattle.row_relax.specs.laws.Laws.{rows_sound}
-use Rattle.row_relax.specs.laws.Shown.{domains_of-view_of, fits_of}
+use Rattle.row_relax.specs.laws.Shown.{fits_of}
 use Rattle.row_relax.specs.Steps.{row_steps}
 use Rattle.row_relax.specs.View.{Fits, IsIn, view_of}
 use Rattle.stn_edge.specs.Files.{FileMap, file_of}
 use Rattle.proof_log.specs.Behind.{behind}
 use Rattle.log_lines.specs.TextDefect.{log_text_defect}
 use Rattle.proof_log.specs.declared.claim.Claim.{Claim}
-use Rattle.proof_log.specs.declared.claim.Claim.TheVariants.{Optimal, Infeasible, Between, Below}
 use Rattle.log_lines.specs.declared.defect.Defect.{Defect}
-use Rattle.proof_log.specs.ClaimSays.{NoneAbove}
 use Rattle.row_relax.specs.RowProofs.{RowItem, RowTree}
 use Rattle.proof_log.specs.Log.{line_after}
 use Rattle.proof_log.specs.LogReading.{IsClean}
+use Rattle.plan_images.proofs.Imaging.{itself-relaxes}
+use Rattle.plan_images.proofs.Losing.{root-lies}
+use Rattle.plan_images.proofs.Telling.{borne, bounds-cap}
 use Rattle.log_check.specs.declared.course.Course.{Course}
 use Rattle.log_check.specs.declared.course.Course.TheVariants.{Going, Ended, Faulty}
 use Rattle.valid_log.specs.declared.verdict.LogVerdict.{LogVerdict}
 use Rattle.valid_log.specs.declared.verdict.LogVerdict.TheVariants.{Yes, No}
 use Rattle.valid_log.proofs.FoundSound.{claim_sound}
 use Rattle.log_check.specs.Course.{RowWalk, StandsAt, IsEndVerdict}
-use Rattle.valid_log.specs.Meaning.{RowSteps, Holds, ClaimDefect, IsSoundClaim, IsAbove, AllowsPoint, IsProved}
+use Rattle.valid_log.specs.Meaning.{RowSteps, Holds, ClaimDefect, IsSoundClaim, IsProved}
 use Rattle.valid_log.specs.Verdict.{IsLog, IsMeaningVerdict, IsVerdictGiven, IsVerdict, YesHolds, limits_of}
-
-root_point : (program : Program) (p : List ℕ) → IsLawful program p → IsIn (view_of program.root) p
-root_point program p lawful = subst (λ (ds : List Domain). LiesIn ds p) (sym (domains_of-view_of program.root)) lawful.lies
-
-not_above : (a b c : ℤ) → (¬ (b <ℤ a)) → c ≤ℤ a → c ≤ℤ b
-not_above a b c not le = grind (arith, ints, not, le)
-
--- a cap of the root that is not above a number bounds the worth of every lawful point by it
-none_above : (program : Program) (proof_cap : Capped) (most : ℤ) → proof_cap ≢ Bad → Bounds (IsIn (view_of program.root)) (IsLawful program) (worth_of program) proof_cap → ¬ IsAbove proof_cap most → NoneAbove (IsLawful program) (worth_of program) most
-none_above program (AtMost n) most real bound not = λ p lawful. not_above n most (worth_of program p) not (bound p (root_point program p lawful) lawful)
-none_above program NoPoint most real bound not = λ p lawful. absurd (bound p (root_point program p lawful) lawful)
-none_above program Bad most real bound not = absurd (real refl)
-
-none_lawful : (program : Program) (proof_cap : Capped) → proof_cap ≢ Bad → Bounds (IsIn (view_of program.root)) (IsLawful program) (worth_of program) proof_cap → ¬ AllowsPoint proof_cap → (p : List ℕ) → ¬ IsLawful program p
-none_lawful program (AtMost n) real bound not p lawful = not tt
-none_lawful program NoPoint real bound not p lawful = bound p (root_point program p lawful) lawful
-none_lawful program Bad real bound not p lawful = real refl
-
-claim_holds : (program : Program) (proof_cap : Capped) (claim : Claim) → proof_cap ≢ Bad → Bounds (IsIn (view_of program.root)) (IsLawful program) (worth_of program) proof_cap → IsSoundClaim program proof_cap claim → Holds program claim
-claim_holds program proof_cap (Optimal profit point) real bound sound = (sound.0, none_above program proof_cap profit real bound sound.1)
-claim_holds program proof_cap Infeasible real bound sound = none_lawful program proof_cap real bound sound
-claim_holds program proof_cap (Between profit most point) real bound sound = (sound.0, none_above program proof_cap most real bound sound.1)
-claim_holds program proof_cap (Below most) real bound sound = none_above program proof_cap most real bound sound
 
 -- a text without a defect is that of a log over the program's slots
 log_of : (program : Program) (depth : ℕ) (bytes : List ℕ) (version : ℕ) (tree : RowTree) (claim : Claim) → IsClean (limits_of program depth) bytes version (tree_items tree) claim → IsLog program bytes tree claim
@@ -89,8 +63,9 @@ ended_real s v items proof_cap led is =
 -- what a sound claim of a proof says holds of all points
 pub proved_holds : (program : Program) (items : List RowItem) (proof_cap : Capped) (claim : Claim) → All IsNormal program.root → IsProved (row_steps program) program (view_of program.root) items proof_cap → IsSoundClaim program proof_cap claim → Holds program claim
 proved_holds program items proof_cap claim normal' proved sound =
-    claim_holds program proof_cap claim (ended_real (row_steps program) (view_of program.root) items proof_cap proved.led)
-    (walked-bounds Rows Area Found (row_steps program) (Fits program) IsIn (IsLawful program) (worth_of program) (rows_sound program) (view_of program.root) items proof_cap (fits_of program program.root refl normal') proved.led) sound
+    borne (IsLawful program) (worth_of program) (λ point. point) proof_cap claim (ended_real (row_steps program) (view_of program.root) items proof_cap proved.led)
+    (bounds-cap (IsLawful program) (worth_of program) program (IsIn (view_of program.root)) proof_cap (itself-relaxes program) (root-lies program)
+    (walked-bounds Rows Area Found (row_steps program) (Fits program) IsIn (IsLawful program) (worth_of program) (rows_sound program) (view_of program.root) items proof_cap (fits_of program program.root refl normal') proved.led)) sound
 
 -- the answer on a log that has come to its end is right of its text, which has no text defect
 meant_of : (program : Program) (depth : ℕ) (bytes : List ℕ) (version : ℕ) (tree : RowTree) (claim : Claim) (course : Course) (walk : RowWalk) (views : List View) (began : ℕ) (verdict : LogVerdict)

@@ -1,24 +1,18 @@
 -- Bytes are the text of one log alone, of any version.
 use Rattle.std.proofs.Common.{◌≡◌, ℕ, List, length, refl, sym, ap, ◌∙◌, subst}
-use Rattle.row_kit.specs.declared.domain.Domain.{Domain}
-use Rattle.row_kit.specs.declared.program.Program.{Program}
 use Rattle.sum_slots.specs.declared.sum.Sum.{Sum}
 use Rattle.sum_slots.specs.Larger.{IsWithSums}
 use Rattle.log_lines.specs.declared.grammar.Limits.{Limits}
-use Rattle.proof_log.specs.declared.claim.Claim.{Claim}
 use Rattle.proof_log.specs.Behind.{behind}
-use Rattle.proof_log.specs.OneText.{SameLog}
-use Rattle.row_relax.specs.RowProofs.{RowTree}
 use Rattle.sum_lines.specs.declared.head.Front.{Front}
 use Rattle.sum_lines.specs.declared.head.Front.TheVariants.{Plain, Headed, Bad}
 use Rattle.sum_lines.specs.Front.{IsFront}
-use Rattle.valid_log.specs.AnyVersion.{IsAnyLog, front_bytes, front_sums, given_claim, limits_with}
-use Rattle.valid_log.specs.AnyVersion.{IsOneLog}
+use Rattle.valid_log.specs.AnyVersion.{front_bytes, front_sums, given_claim, limits_with}
 use Rattle.valid_log.specs.Law.{AnyLogsHaveOneText}
 use Rattle.valid_log.specs.Verdict.{IsLog}
 use Rattle.valid_log.proofs.Alike.{alike, log_alike}
 use Rattle.valid_log.proofs.Excluded.{same_text}
-use Rattle.valid_log.proofs.Fronts.{bad_first, head_first, head_sound, heads_same}
+use Rattle.valid_log.proofs.Fronts.{head_first, head_sound, heads_same}
 
 -- bytes have one front; one without a head and one with a bad head declare the same
 one_front : (limits : Limits) (bytes : List ℕ) (f g : Front) → IsFront limits bytes f → IsFront limits bytes g → (front_sums f ≡ front_sums g) × (front_bytes f ≡ front_bytes g)

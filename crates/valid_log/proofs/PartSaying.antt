@@ -3,13 +3,12 @@ use Rattle.std.specs.Prelude.{Result, Ok, Err, IfOk}
 use Rattle.stn_model.specs.declared.plant.Plant.{Plant}
 use Rattle.stn_model.specs.Sound.{Sound}
 use Rattle.stn_model.specs.Profit.{profit}
-use Rattle.time_grid.specs.PlanPoint.{plan_point}
 use Rattle.row_kit.specs.declared.program.Program.{Program}
-use Rattle.row_kit.specs.Point.{IsLawful, worth_of}
 use Rattle.row_set.specs.Parts.{IsPartOf, IsAdmitted, plan_of_values}
-use Rattle.row_set.proofs.PartPoints.{admitted-lawful, admitted-worth, values-admitted}
+use Rattle.row_set.proofs.PartPoints.{values-admitted}
 use Rattle.proof_log.specs.declared.claim.Claim.{Claim}
-use Rattle.proof_log.proofs.SaidOfOthers.{says_of_others}
+use Rattle.plan_images.proofs.Plans.{part-relaxes}
+use Rattle.plan_images.proofs.Telling.{told}
 use Rattle.valid_log.specs.declared.verdict.LogVerdict.{LogVerdict}
 use Rattle.valid_log.specs.declared.verdict.LogVerdict.TheVariants.{Yes, No}
 use Rattle.valid_log.specs.Meaning.{Holds}
@@ -19,10 +18,7 @@ use Rattle.valid_log.specs.Claims.{SaysOf, YesSaysOf}
 -- a claim that holds of all points of a part holds of all plans that it admits
 part_says : (plant : Plant) (part : Program) (claim : Claim) → Sound plant → IsPartOf plant part → Holds part claim → SaysOf plant (IsAdmitted plant part) claim
 part_says plant part claim sound is holds =
-    says_of_others (IsLawful part) (worth_of part) (λ point. point) (IsAdmitted plant part) (profit plant) (plan_of_values plant)
-    (λ point lawful. values-admitted plant part point sound is lawful)
-    (λ plan admitted. (plan_point plant plan, (admitted-lawful plant part plan is admitted, admitted-worth plant part plan is admitted)))
-    claim holds
+    told (IsAdmitted plant part) (profit plant) part (plan_of_values plant) claim (part-relaxes plant part is) (λ point lawful. values-admitted plant part point sound is lawful) holds
 
 -- a yes that holds of all points of a part holds of all plans that it admits
 part_yes_says : (plant : Plant) (part : Program) (verdict : LogVerdict) → Sound plant → IsPartOf plant part → YesHolds part verdict → YesSaysOf plant part verdict

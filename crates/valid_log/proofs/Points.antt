@@ -21,10 +21,9 @@ use Rattle.row_kit.specs.declared.program.Program.{Program}
 use Rattle.row_kit.specs.Point.{IsLawful, worth_of}
 use Rattle.row_set.specs.PlantProgram.{IsProgramOf}
 use Rattle.time_grid.specs.Slots.{slots}
-use Rattle.time_grid.specs.PlanPoint.{HasPoint, plan_point, point_starts}
+use Rattle.time_grid.specs.PlanPoint.{HasPoint, point_starts}
 use Rattle.time_grid.proofs.OnePlan.{starts-permutation}
 use Rattle.time_grid.proofs.Reordered.{Feasible-permutation, profit-permutation}
-use Rattle.proof_log.proofs.SaidOfOthers.{Stands}
 use Rattle.row_set.specs.Parts.{plan_of_values}
 
 -- what the plan of a lawful point is
@@ -44,12 +43,6 @@ lawful-plan plant program point sound means lawful =
       feasible = Feasible-permutation plant plan (point_starts plant (slots plant) point) same found.1.0;
       earns = sym (profit-permutation plant plan (point_starts plant (slots plant) point) same) ∙ sym (means.worth plan has) ∙ ap (worth_of program) found.1.1;
     }
-
--- each feasible plan has the worth of a lawful point
-pub feasible-point : (plant : Plant) (program : Program) → IsProgramOf plant program → Stands (IsLawful program) (worth_of program) (Feasible plant) (profit plant)
-feasible-point plant program means plan feasible =
-    let is = (means.feasible plan).0 feasible in
-    (plan_point plant plan, (is.1, means.worth plan is.0))
 
 -- a start that fits in a slot has a size of the slot's run
 choice-fits : (plant : Plant) (slot : ℕ × ℕ) (value : ℕ) → Sound plant → IsSlotOf plant slot → Fits plant (start_in plant slot value) → ((run_at plant slot.0).min ≤ value) × (value ≤ (run_at plant slot.0).max)

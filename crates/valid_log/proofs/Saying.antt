@@ -6,24 +6,23 @@ use Rattle.stn_model.specs.Sound.{Sound}
 use Rattle.stn_model.specs.Feasible.{Feasible}
 use Rattle.stn_model.specs.Profit.{profit}
 use Rattle.row_kit.specs.declared.program.Program.{Program}
-use Rattle.row_kit.specs.Point.{IsLawful, worth_of}
 use Rattle.row_set.specs.PlantProgram.{IsMadeOf, IsProgramOf}
 use Rattle.proof_log.specs.declared.claim.Claim.{Claim}
-use Rattle.proof_log.proofs.SaidOfOthers.{says_of_others}
+use Rattle.plan_images.proofs.Plans.{plant-relaxes}
+use Rattle.plan_images.proofs.Telling.{told}
 use Rattle.valid_log.specs.declared.verdict.LogVerdict.{LogVerdict}
 use Rattle.valid_log.specs.declared.verdict.LogVerdict.TheVariants.{Yes, No}
 use Rattle.valid_log.specs.Meaning.{Holds}
 use Rattle.valid_log.specs.Verdict.{YesHolds}
 use Rattle.row_set.specs.Parts.{plan_of_values}
 use Rattle.valid_log.specs.Claims.{Says, YesSays, IsOfPlant}
-use Rattle.valid_log.proofs.Points.{lawful-plan, feasible-lawful, feasible-point}
+use Rattle.valid_log.proofs.Points.{lawful-plan, feasible-lawful}
 
 -- a claim that holds of all points holds of all plans
 pub says : (plant : Plant) (program : Program) (claim : Claim) → Sound plant → IsProgramOf plant program → Holds program claim → Says plant claim
 says plant program claim sound means holds =
-    says_of_others (IsLawful program) (worth_of program) (λ point. point) (Feasible plant) (profit plant) (plan_of_values plant)
-    (λ point lawful. let plan = lawful-plan plant program point sound means lawful in (plan.feasible, plan.earns))
-    (feasible-point plant program means) claim holds
+    told (Feasible plant) (profit plant) program (plan_of_values plant) claim (plant-relaxes plant program means)
+    (λ point lawful. let plan = lawful-plan plant program point sound means lawful in (plan.feasible, plan.earns)) holds
 
 -- the program of a plant says of points what the plant says of plans
 pub of_plant : (plant : Plant) (program : Program) → Sound plant → IsMadeOf plant program → IsProgramOf plant program → IsOfPlant plant program

@@ -1,11 +1,11 @@
 -- What a log says, and the meaning defects of its proof and of its claim.
-use Rattle.std.specs.Prelude.{◌≡◌, ◌≢◌, ◌⊎◌, ℕ, ℤ, ◌<ℤ◌, true, false, ⊤, List, [], ◌∷◌, ◌++◌}
+use Rattle.std.specs.Prelude.{◌≡◌, ◌≢◌, ◌⊎◌, ℕ, ℤ, true, false, ⊤, List, [], ◌∷◌, ◌++◌}
 use Rattle.row_kit.specs.declared.program.Program.{Program}
 use Rattle.row_kit.specs.Point.{IsLawful, worth_of}
 use Rattle.range_prop.specs.declared.row_cut.RowCut.{RowCut}
 use Rattle.dual_bound.specs.declared.cert.Cert.{Cert}
 use Rattle.proof_tree.specs.declared.capped.Capped.{Capped}
-use Rattle.proof_tree.specs.declared.capped.Capped.TheVariants.{AtMost, NoPoint, Bad}
+use Rattle.proof_tree.specs.declared.capped.Capped.TheVariants.{Bad}
 use Rattle.proof_tree.specs.declared.item.Item.TheVariants.{Node, Cut, Found, Empty, Dual, Point, Pending, Split}
 use Rattle.proof_tree.specs.Relaxation.{Steps}
 use Rattle.proof_tree.specs.Views.{View}
@@ -17,6 +17,8 @@ use Rattle.log_lines.specs.declared.defect.Defect.{Defect}
 use Rattle.proof_log.specs.ClaimSays.{HasWorth, ClaimSays}
 use Rattle.row_relax.specs.RowProofs.{RowItem}
 use Rattle.proof_log.specs.Log.{line_after}
+pub use Rattle.plan_images.specs.Caps.{AllowsPoint, IsAbove}
+use Rattle.plan_images.specs.Told.{IsBorne}
 
 -- what the calls of rows answer
 abbrev pub RowSteps : Type 0
@@ -85,18 +87,6 @@ pub record IsItemDefect (s : RowSteps) (program : Program) (root : View) (items 
   pub first : HaveNone s program (start root) before
   pub has : HasDefect s program (walked s (start root) before) item defect.kind
 
--- a cap allows more than a number
-abbrev pub IsAbove : Capped → ℤ → Type 0
-IsAbove (AtMost most) n = n <ℤ most
-IsAbove NoPoint n = ⊥
-IsAbove Bad n = ⊥
-
--- a cap allows some point
-abbrev pub AllowsPoint : Capped → Type 0
-AllowsPoint (AtMost most) = ⊤
-AllowsPoint NoPoint = ⊥
-AllowsPoint Bad = ⊥
-
 -- what is wrong with a point, its worth and the most that any point is said to be worth, where a proof has this cap: 13 and 14 as with a found point, 15 where nothing is wrong with it and the cap is above the most
 abbrev pub CappedDefect : Program → Capped → ℤ → ℤ → List ℕ → ℕ → Type 0
 CappedDefect program proof_cap value most point kind =
@@ -125,9 +115,6 @@ pub record IsClaimDefect (s : RowSteps) (program : Program) (root : View) (items
 abbrev pub IsMeaningDefect : RowSteps → Program → View → List RowItem → Claim → Defect → Type 0
 IsMeaningDefect s program root items claim defect = IsItemDefect s program root items defect ⊎ IsClaimDefect s program root items claim defect
 
--- nothing is wrong with a claim of a proof that has this cap
+-- nothing is wrong with a claim of a proof that has this cap: the cap bears it out
 abbrev pub IsSoundClaim : Program → Capped → Claim → Type 0
-IsSoundClaim program proof_cap (Optimal profit point) = IsWorth program profit point × (¬ IsAbove proof_cap profit)
-IsSoundClaim program proof_cap Infeasible = ¬ AllowsPoint proof_cap
-IsSoundClaim program proof_cap (Between profit most point) = IsWorth program profit point × (¬ IsAbove proof_cap most)
-IsSoundClaim program proof_cap (Below most) = ¬ IsAbove proof_cap most
+IsSoundClaim program proof_cap claim = IsBorne (IsLawful program) (worth_of program) (λ point. point) proof_cap claim

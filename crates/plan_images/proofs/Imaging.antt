@@ -1,0 +1,97 @@
+-- Images, and what makes them.
+use Rattle.std.proofs.Common.{ℕ, List, sym, ap, ap₂, ◌∙◌, subst, arith, ℤ, pos, ◌+ℤ◌, ◌-ℤ◌, ◌≤ℤ◌}
+use Rattle.std.specs.List.{All}
+use Rattle.std.proofs.lemmas.Int.{ints}
+use Rattle.std.proofs.lemmas.List.Elements.{All-append}
+use Rattle.row_kit.specs.declared.domain.Domain.{Domain}
+use Rattle.row_kit.specs.declared.program.Program.{Program}
+use Rattle.row_kit.specs.declared.row.Entry.{Entry}
+use Rattle.row_kit.specs.declared.row.Row.{Row}
+use Rattle.row_kit.specs.Change.{changeovers}
+use Rattle.row_kit.specs.Point.{IsLawful, LiesIn, value_of, worth_of}
+use Rattle.row_kit.specs.Row.{IsKept, entries_sum}
+use Rattle.sum_slots.specs.declared.sum.Sum.{Sum}
+use Rattle.sum_slots.specs.Larger.{completed, given_of}
+use Rattle.sum_slots.specs.Law.{IsSameWithSums}
+use Rattle.sum_slots.proofs.Sameness.{law}
+use Rattle.plan_images.specs.Extensions.{Extends, IsWithRows}
+use Rattle.plan_images.specs.Images.{IsImage, IsRelaxation}
+use Rattle.plan_images.specs.Law.{SumsExtend}
+use Rattle.plan_images.specs.Told.{ReadsAs}
+
+less_costs : (value : ℤ) (n : ℕ) (earned : ℤ) → earned ≤ℤ (value -ℤ pos n) → earned ≤ℤ value
+less_costs value n earned le = omega (arith, ints, le)
+
+-- a lawful point is an image of what earns at most its worth
+pub worth-image : (program : Program) (earned : ℤ) (point : List ℕ) → IsLawful program point → earned ≤ℤ worth_of program point → IsImage program (worth_of program) earned point
+worth-image program earned point lawful le = record {
+  lawful = lawful;
+  value = less_costs (value_of program point) (changeovers program.changes program.tags point) earned le;
+  said = le;
+}
+
+-- what extends a relaxation is one
+pub composed : {X : Type 0} (admits : X → Type 0) (earned : X → ℤ) (given larger : Program) (alone larger_alone : List ℕ → ℤ)
+    → IsRelaxation admits earned given alone → Extends given alone larger larger_alone → IsRelaxation admits earned larger larger_alone
+composed admits earned given larger alone larger_alone first second = record {
+  image = λ x. second.image (first.image x);
+  is = λ x admitted. second.is (first.image x) (earned x) (first.is x admitted);
+}
+
+-- a relaxation of some plans is one of fewer
+pub fewer : {X : Type 0} (admits others : X → Type 0) (earned : X → ℤ) (program : Program) (alone : List ℕ → ℤ) → ((x : X) → others x → admits x) → IsRelaxation admits earned program alone → IsRelaxation others earned program alone
+fewer admits others earned program alone among first = record { image = first.image; is = λ x other. first.is x (among x other) }
+
+same_worth : (a : ℤ) → a ≤ℤ a
+same_worth a = omega (arith, ints)
+
+-- a lawful point is an image of what earns its worth
+pub own-image : (program : Program) (point : List ℕ) → IsLawful program point → IsImage program (worth_of program) (worth_of program point) point
+own-image program point lawful = worth-image program (worth_of program point) point lawful (same_worth (worth_of program point))
+
+-- a program is a relaxation of its own lawful points
+pub itself-relaxes : (program : Program) → IsRelaxation (IsLawful program) (worth_of program) program (worth_of program)
+itself-relaxes program = record { image = λ point. point; is = own-image program }
+
+-- ---- rows
+
+-- a relaxation stays one where rows are added that each image keeps
+pub with-rows : {X : Type 0} (admits : X → Type 0) (earned : X → ℤ) (given larger : Program) (alone : List ℕ → ℤ) (more : List Row) (is : IsRelaxation admits earned given alone)
+    → ((x : X) → admits x → All (IsKept (is.image x)) more) → IsWithRows given more larger → IsRelaxation admits earned larger alone
+with-rows admits earned given larger alone more is keep added = record { image = is.image; is = λ x admitted. in_larger (is.image x) (earned x) (is.is x admitted) (keep x admitted) }
+  where
+    in_larger : (point : List ℕ) (amount : ℤ) → IsImage given alone amount point → All (IsKept point) more → IsImage larger alone amount point
+    in_larger point amount image kept = record {
+      lawful = record {
+        lies = subst (λ (ds : List Domain). LiesIn ds point) (sym added.root) image.lawful.lies;
+        keeps = subst (All (IsKept point)) (sym added.rows) (All-append (IsKept point) given.rows more image.lawful.keeps kept);
+      };
+      value = subst (λ (v : ℤ). amount ≤ℤ v) (ap₂ (λ (base : ℤ) (es : List Entry). base +ℤ entries_sum es point) (sym added.base) (sym added.profit)) image.value;
+      said = image.said;
+    }
+
+-- ---- sums
+
+-- a lawful point, completed by the values of sums, is lawful in the program with the sums
+pub completed-lawful : (given larger : Program) (sums : List Sum) (point : List ℕ) → IsSameWithSums given sums larger → IsLawful given point → IsLawful larger (completed sums point)
+completed-lawful given larger sums point same lawful =
+    (same.points (completed sums point)).1 (subst (IsLawful given) (sym (same.given point lawful)) lawful, ap (completed sums) (sym (same.given point lawful)))
+
+-- a program with the same lawful points, completed by the values of sums and each worth the same, extends the one without them
+pub sums-extend : (given larger : Program) (sums : List Sum) → IsSameWithSums given sums larger → Extends given (worth_of given) larger (worth_of larger)
+sums-extend given larger sums same = record {
+  image = completed sums;
+  is = λ point earned image.
+      worth-image larger earned (completed sums point) (completed-lawful given larger sums point same image.lawful)
+      (subst (λ (worth : ℤ). earned ≤ℤ worth) (sym (same.worth point image.lawful)) image.said);
+}
+
+-- a lawful point of the program with the sums, cut back, is lawful without them, and worth the same
+pub sums-read : (given larger : Program) (sums : List Sum) → IsSameWithSums given sums larger → ReadsAs larger (IsLawful given) (worth_of given) (given_of given)
+sums-read given larger sums same point lawful =
+    let is = (same.points point).0 lawful in
+    (is.0, sym (same.worth (given_of given point) is.0) ∙ ap (worth_of larger) (sym is.1))
+
+-- sums that are shown extend a program
+pub shown-extend : SumsExtend
+shown-extend given larger ranges sums wide declared shown enlarged = sums-extend given larger sums (law given larger ranges sums wide declared shown enlarged)

@@ -1,0 +1,5 @@
+pub mod Allowing
+pub mod Imaging
+pub mod Losing
+pub mod Plans
+pub mod Telling

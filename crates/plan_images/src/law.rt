@@ -1,0 +1,24 @@
+//! The law of relaxations.
+ghost use Rattle.plan_images.specs.Law.{CapsAreFloored, ClaimsAreBorne, ClaimsAreTold, ExtensionsCompose, NoneIsLost, PartsRelax, RowsExtend, RowsSettle, SumsExtend, TreesCap};
+
+/// A relaxation of plans is a program in which each of them has a point, its image: lawful, and worth at least what the plan earns.
+/// These are its laws; of points that are no images they say nothing.
+pub fn plans_have_images()
+    // The program of a plant, or of a part of its choices, is a relaxation of the plans that it admits.
+    ensures parts { PartsRelax }
+
+    // Sums extend a program, and so do rows that every image keeps; extensions compose.
+    ensures sums { SumsExtend }
+    ensures rows { RowsExtend }
+    ensures compose { ExtensionsCompose }
+
+    // Cuts and splits lose no image, so the cap of a proof allows what each plan earns, also where plans that earn little are let go.
+    ensures lost { NoneIsLost }
+    ensures settled { RowsSettle }
+    ensures caps { TreesCap }
+    ensures floored { CapsAreFloored }
+
+    // So what a claim says under such a cap holds of all plans, and so does what it says of all points.
+    ensures borne { ClaimsAreBorne }
+    ensures told { ClaimsAreTold }
+{}
