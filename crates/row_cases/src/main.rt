@@ -1,5 +1,5 @@
 //! The cases of small programs of rows: bounds, points, areas, cuts, caps of certificates, steps of the
-//! simplex, and sums.
+//! simplex, sums, and systems of equations.
 #![tactic(auto)]
 
 mod areas;
@@ -10,6 +10,7 @@ mod cuts;
 mod points;
 mod programs;
 mod sums;
+mod systems;
 mod tried;
 
 use case_tables::{Kinds, Sheet, Step, judge};
@@ -31,6 +32,7 @@ impl Kinds for RowKinds {
             "programs" => programs::answer(alloc, steps, sheet),
             "bases" => bases::answer(alloc, false, steps, sheet),
             "sum_bases" => bases::answer(alloc, true, steps, sheet),
+            "systems" => systems::answer(alloc, steps, sheet),
             _ => {
                 sheet.refuse();
                 Ok(())
