@@ -28,6 +28,8 @@ impl Sink for WatchedSink {
 
     ghost faults = { λ s. s.faults };
 
+    ghost puts = { λ s. s.puts };
+
     fn put(&mut self, bytes: &[u8]) -> Result<(), Stop> {
         self.puts = self.puts.saturating_add(1);
         match self.sink.put(bytes) {

@@ -68,6 +68,8 @@ impl Sink for MemSink {
 
     ghost faults = { λ s. s.faults };
 
+    ghost puts = { λ s. s.calls.made };
+
     fn put(&mut self, bytes: &[u8]) -> Result<(), Stop>
         ensures fails { IsSome (due self.old.calls) → IsErr result }
         ensures failed { result ≡ Err Stop.Failed → IsSome (due self.old.calls) }

@@ -1,7 +1,7 @@
 -- What a run answers: its status, and what it puts.
 use Rattle.std.specs.Prelude.{◌≡◌, ◌⊎◌, ℕ, Bool, List, take, codes, Option}
 use Rattle.std.specs.Option.{option_map}
-use Rattle.stn_edge.specs.Count.{Rose}
+use Rattle.stn_edge.specs.Count.{Rose, next_count}
 use Rattle.stn_edge.specs.Text.{extended}
 use Rattle.stn_edge.specs.Files.{FileMap}
 use Rattle.command_words.specs.Words.{Request, Says, Joining, HasNoForm}
@@ -47,6 +47,10 @@ IsCutOff Replies old new = (new ≡ old) ⊎ PartlyAnswered Replies old new
 pub record PutFailed (Replies : ℕ → List ℕ → Type 0) (faults faults_new : ℕ) (old new : Option (List ℕ)) : Type 0 where
   pub rose : Rose faults faults_new
   pub reply : PartlyAnswered Replies old new
+
+-- something was put once, or nothing was
+abbrev pub IsPutOnce : ℕ → ℕ → Type 0
+IsPutOnce puts puts_new = (puts_new ≡ puts) ⊎ (puts_new ≡ next_count puts)
 
 -- the words say a request that got to writing a file, and the count of write faults rose
 abbrev pub LogFailed : List (List ℕ) → Option FileMap → ℕ → ℕ → Type 0

@@ -8,7 +8,7 @@ ghost use Rattle.command_replies.specs.Answers.{IsUnwritten};
 ghost use Rattle.command_replies.specs.Sources.{IfReplied};
 ghost use Rattle.demo_commands.specs.Demo.{Shown};
 ghost use Rattle.stn_top.specs.Requests.{MayRead, MayWrite, WritesApart, OthersKept, IsAnswer, IsLeft, GetsToWriting, IsNoJoining};
-ghost use Rattle.stn_top.specs.Replies.{IsReply, Answered, IsCutOff, MayReadAll, MayWriteAll, LogFailed, PutFailed, SayNoJoining};
+ghost use Rattle.stn_top.specs.Replies.{IsReply, Answered, IsCutOff, MayReadAll, MayWriteAll, LogFailed, PutFailed, SayNoJoining, IsPutOnce};
 ghost use Rattle.stn_top.specs.Done.{IsDone};
 
 use command_replies::{Reply, Stopped};
@@ -93,6 +93,9 @@ pub fn run<F: Shelf, K: Sink>(alloc: Global, words: &[&str], files: &mut F, out:
     ensures reads { F.read_faults files.old ≤ F.read_faults files.new }
     ensures writes { F.write_faults files.old ≤ F.write_faults files.new }
     ensures puts { K.faults out.old ≤ K.faults out.new }
+
+    // Something is put once at most.
+    ensures once { IsPutOnce (K.puts out.old) (K.puts out.new) }
 {
     match command_of(words) {
         Some(command) => answer(alloc, command, files, out),
@@ -130,6 +133,7 @@ fn answer<F: Shelf, K: Sink>(alloc: Global, command: Command, files: &mut F, out
     ensures reads { F.read_faults files.old ≤ F.read_faults files.new }
     ensures writes { F.write_faults files.old ≤ F.write_faults files.new }
     ensures puts { K.faults out.old ≤ K.faults out.new }
+    ensures once { IsPutOnce (K.puts out.old) (K.puts out.new) }
 {
     match reply_to(alloc, command, files) {
         Ok(reply) => put(out, reply.status, reply.text.as_slice()),
@@ -151,6 +155,7 @@ fn put<K: Sink>(out: &mut K, status: u8, text: &[u8]) -> u8
     ensures known { result ≤ 9 }
     ensures no_read { result ≢ 7 }
     ensures later { K.faults out.old ≤ K.faults out.new }
+    ensures once { IsPutOnce (K.puts out.old) (K.puts out.new) }
 {
     match out.put(text) {
         Ok(()) => status,
