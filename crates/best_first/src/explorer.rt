@@ -44,11 +44,18 @@ pub fn explore(
     given: u32,
     budget: u32,
 ) -> Result<Explored, AllocError> {
-    let index = RowIndex::new(alloc, program)?;
     let mut explorer = Explorer::new(alloc, program, given)?;
-    explorer.look_on(program, &index, budget)?;
-    Ok(explorer.ended())
+    match explorer.look_on(program, budget) {
+        Ok(()) => Ok(explorer.ended()),
+        Err(error) => {
+            let_go(explorer);
+            Err(error)
+        }
+    }
 }
+
+// Lets go of a value of whatever type: so no function is proved with all parts of what it lets go.
+fn let_go<T: Drop>(_value: T) {}
 
 impl Explorer {
     // A search in memory before its first box. What is large is made last, so that little is let go where memory is wanting.
@@ -68,7 +75,12 @@ impl Explorer {
     }
 
     // Explores boxes until the tree counts so many, or none is left.
-    fn look_on(
+    fn look_on(&mut self, program: &Program, budget: u32) -> Result<(), AllocError> {
+        let index = RowIndex::new(self.alloc, program)?;
+        self.look_by(program, &index, budget)
+    }
+
+    fn look_by(
         &mut self,
         program: &Program,
         index: &RowIndex,
@@ -87,7 +99,15 @@ impl Explorer {
 
     // What the search has come to.
     fn ended(self) -> Explored {
-        let Explorer { tree, best, .. } = self;
+        let Explorer {
+            tree,
+            guide,
+            hinter,
+            best,
+            ..
+        } = self;
+        let_go(guide);
+        let_go(hinter);
         Explored { tree, best }
     }
 
