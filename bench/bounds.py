@@ -11,7 +11,8 @@ stands on, and builds it: some twenty minutes of processor time on a plain check
 bounds_program in the folder for files of a time, and its path is printed. Where it is not proved, `rt try` builds it with checks
 and without proofs, and the table says so. Times are processor time, the least of five. 'from the root' is the mean of the pivots
 of a bound from the root's basis, of both parts of a split of each slot that the root starts in part, and 'share' is it over the
-root's pivots; 'again' are the pivots of the root itself from there. The trial is built from a copy in which it prints microseconds.
+root's pivots; 'again' are the pivots of the root itself from there. 'part ms' is the mean time of such a bound, 'trial ms' that of
+a trial bound of one side. The trial is built with whole numbers from a copy in which it bounds the cut root ten times and ends.
 """
 import argparse, datetime, os, platform, re, shutil, subprocess, tempfile
 
@@ -69,8 +70,15 @@ def run_tried(crate, plants):
     return [figures(parts.get(os.path.basename(plant), "")) for plant in plants]
 
 
+# What the trial is made to do with each program before all else: bound the cut root, and print the value, seconds and pivots of one bound.
+ROOT = """ { let q: &Prog = Box::leak(Box::new(p.clone())); let mut a = Area::new(q, q.root.clone()); a.cut_all(q);
+    let r: &Rows = Box::leak(Box::new(Rows::new(q, &a, true))); let mut b = bounds::Bounds::new(q, r); let t = cpu();
+    for _ in 0..10 { b.begin(&a, &bounds::Start::default()); b.run(20000, None); }
+    println!("root {:.3} {:.6} {}", real(b.z()) / 2f64.powi(r.osh), (cpu() - t) / 10.0, b.n2.pivots / 10); if cpu() >= 0.0 { continue; } }"""
+
+
 def trial(folder, names):
-    """The trial's root bound of each plant: value, seconds and pivots."""
+    """The trial's root bound of each plant, in whole numbers: value, seconds and pivots."""
     room = tempfile.mkdtemp(prefix="trial-")
     source = shutil.copytree(folder, os.path.join(room, "source"))
     main_file = os.path.join(source, "src", "main.rs")
@@ -78,17 +86,22 @@ def trial(folder, names):
         text = it.read()
     os.chmod(main_file, 0o644)
     with open(main_file, "w") as it:
-        it.write(text.replace("lp {:.3} {:.3}s piv", "lp {:.3} {:.6}s piv"))
-    subprocess.run([os.path.join(source, "build.sh"), room], check=True, capture_output=True)
+        it.write(text.replace("let mut p = read(&path);", "let mut p = read(&path);" + ROOT, 1))
+    subprocess.run([os.path.join(source, "build.sh"), room, "--cfg", "fix"], check=True, capture_output=True)
     found = {}
     for name in names:
         for _ in range(TIMES):
-            text = subprocess.run([os.path.join(room, "trial"), name, "--caps"], cwd=room, capture_output=True, text=True).stdout
-            seen = re.search(r"lp (-?[\d.]+) ([\d.]+)s piv (\d+)", text)
+            text = subprocess.run([os.path.join(room, "trial"), name], cwd=room, capture_output=True, text=True).stdout
+            seen = re.search(r"root (-?[\d.]+) ([\d.]+) (\d+)", text)
             if seen and (name not in found or float(seen[2]) < found[name][1]):
                 found[name] = (float(seen[1]), float(seen[2]), int(seen[3]))
     shutil.rmtree(room)
     return found
+
+
+def each(got, time, count):
+    """The mean time in milliseconds."""
+    return f"{got.get(time, 0) / 1e3 / got[count]:.3f}" if got.get(count) else "-"
 
 
 def line(name, got, other):
@@ -96,7 +109,8 @@ def line(name, got, other):
     mean = got["part-pivots"] / got["parts"] if got.get("parts") else 0.0
     share = mean / got["root-pivots"] if got.get("root-pivots") else 0.0
     cells = [name, got.get("slots", "-"), got.get("rows", "-"), got.get("root-cap", "-"), f"{got.get('root-time', 0) / 1e6:.4f}"]
-    cells += [got.get("root-pivots", "-"), got.get("again-pivots", "-"), got.get("parts", "-"), f"{mean:.1f}", f"{share:.2f}", f"{got.get('polish-time', 0) / 1e3:.2f}"]
+    cells += [got.get("root-pivots", "-"), got.get("again-pivots", "-"), got.get("parts", "-"), f"{mean:.1f}", f"{share:.2f}"]
+    cells += [each(got, "part-time", "parts"), each(got, "trial-time", "trials"), f"{got.get('polish-time', 0) / 1e3:.2f}"]
     cells += [f"{other[0]:.2f}", f"{other[1]:.4f}", other[2]] if other else []
     return "| " + " | ".join(str(it) for it in cells) + " |"
 
@@ -116,7 +130,7 @@ def main():
     program = given.built or (None if given.unproved else build(crate, plants[0]))
     how = f"built by LLVM after its proof: {program}" if program else "built with checks, without proofs"
     print(f"{datetime.date.today()}, {platform.machine()}, {os.cpu_count()} processors, load {os.getloadavg()[0]:.0f}; {how}\n", flush=True)
-    head = ["plant", "slots", "rows", "root cap", "seconds", "pivots", "again", "parts", "from the root", "share", "polish ms"]
+    head = ["plant", "slots", "rows", "root cap", "seconds", "pivots", "again", "parts", "from the root", "share", "part ms", "trial ms", "polish ms"]
     head += ["trial's cap", "seconds", "pivots"] if others else []
     print("| " + " | ".join(head) + " |\n" + "|---" * len(head) + "|", flush=True)
     for name, got in zip(names, run_built(program, plants) if program else run_tried(crate, plants)):

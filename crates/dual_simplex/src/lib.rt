@@ -5,12 +5,13 @@
 #![tactic(auto)]
 
 mod mults;
+mod prices;
 mod rounding;
 mod solving;
 mod splitting;
 mod workspace;
 
-pub use simplex_rows::{Amount, Basis};
-pub use simplex_steps::{DEAREST, Prices, Side, Trial};
+pub use chain_simplex::{Amount, Basis};
+pub use prices::{DEAREST, Prices, Side, Trial};
 pub use solving::solve_dual;
 pub use workspace::{Outcome, Workspace};

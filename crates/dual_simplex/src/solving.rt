@@ -6,11 +6,11 @@ ghost use Rattle.row_kit.specs.Domain.{IsOpen};
 ghost use Rattle.dual_simplex.specs.Solved.{HasTotal, IsNoWorseThanPlain, IsPlainOrBetter, IsBelow};
 
 use crate::workspace::{Outcome, Workspace};
+use chain_simplex::Basis;
 use dual_bound::{Cert, cap};
 use proof_tree::Capped;
 use row_kit::{Area, List, Program};
-use simplex_rows::Basis;
-use simplex_steps::numbered;
+use sparse_basis::numbered;
 use std::alloc::{AllocError, Global};
 
 // The most steps: each makes at most one pivot.
@@ -19,8 +19,8 @@ const MOST_PIVOTS: u32 = 2_000;
 // The powers of two by which a ray is tried.
 const RAY_POWERS: [i32; 4] = [8, 14, 20, 26];
 
-/// A certificate by a dual simplex of at most 2,000 pivots, which ends early where a number would leave its range. Its cap is
-/// below that of scale 1 without multipliers, or there is shown to be no point; where the simplex finds nothing better, it is
+/// A certificate by a dual simplex of at most 2,000 pivots, which ends early where there is no more room. Its cap is below
+/// that of scale 1 without multipliers, or there is shown to be no point; where the simplex finds nothing better, it is
 /// scale 1 without multipliers.
 pub fn solve_dual(alloc: Global, program: &Program, area: &Area) -> Result<Cert, AllocError>
     requires slots { length (present area.now) ≡ length program.now.root }

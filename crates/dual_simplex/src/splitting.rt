@@ -1,87 +1,81 @@
-//! How far a slot, or what a sum counts, has come, and the ends that a split leaves to it.
-use row_kit::{Domain, Entry};
-use simplex_rows::{
-    Sides, base_amount, high_variable, least_above, low_variable, most_at, take_entry,
-};
-use simplex_steps::{Dictionary, Ends, Line, ONE, OutOfRange, Side, over, raised, take_variable};
+//! What a split says as a row, and the ends that it leaves to it.
+use crate::prices::Side;
+use row_chains::{Chains, least_above, most_at, sides_of, terms_of};
+use row_kit::{Domain, Entry, Program};
+use sparse_basis::of_whole;
 
-/// Writes how far a slot has come: how far it is started where its domain holds 0, else how far it is from the least to the
-/// greatest of its values.
-pub fn write_stand(
-    dictionary: &Dictionary,
-    slot: u32,
-    domain: &Domain,
-    stand: &mut Line,
-) -> Result<(), OutOfRange> {
-    stand.blank(dictionary.columns.len());
-    if domain.zero {
-        take_variable(dictionary, stand, low_variable(slot), -ONE)?;
-    }
-    take_variable(dictionary, stand, high_variable(slot), -ONE)
+/// What a split bounds: what entries count, times a power of two, which is at most one end or at least the other one. The entries are
+/// those of a sum, or the one of a slot.
+#[derive(Clone, Copy)]
+pub struct Split {
+    own: [Entry; 1],
+    sum: Option<u32>,
+    pub shift: i32,
+    pub at_most: i64,
+    pub above: i64,
 }
 
-/// The ends that a split leaves to how far a slot with this domain has come.
-pub fn ends_of(domain: &Domain, max: u8) -> Result<Ends, OutOfRange> {
-    Ok(Ends {
-        at_most: end_of(domain, max, Side::AtMost)?,
-        above: end_of(domain, max, Side::Above)?,
-    })
-}
-
-/// The ends that a split leaves to what a sum counts, divided by a power of two.
-pub fn sum_ends(sides: &Sides, down: u32, max: u8) -> Result<Ends, OutOfRange> {
-    let exponent = 30i32.saturating_sub_unsigned(down);
-    Ok(Ends {
-        at_most: raised(&most_at(sides, max), exponent)?,
-        above: raised(&least_above(sides, max), exponent)?,
-    })
-}
-
-/// Writes what a sum counts, divided by a power of two.
-pub fn write_sum(
-    dictionary: &Dictionary,
-    terms: &[Entry],
-    down: u32,
-    domains: &[Domain],
-    stand: &mut Line,
-) -> Result<(), OutOfRange> {
-    let exponent = 30i32.saturating_sub_unsigned(down);
-    let mut base = 0i128;
-    for term in terms {
-        if let Some(domain) = domains.get(term.slot as usize) {
-            base = base.saturating_add(base_amount(term, domain));
+impl Split {
+    /// The split of a slot with this domain, or of the sum of a slot, after a value.
+    pub fn new(program: &Program, chains: &Chains, slot: u32, domain: &Domain, max: u8) -> Split {
+        match sides_of(program, chains.given, slot) {
+            None if domain.zero => Split::of_start(slot),
+            None => Split::of_quanta(slot, domain, max),
+            Some(sides) => {
+                let shift = chains.shift_at(chains.place_of(sides.row));
+                Split {
+                    own: [entry(slot, 0, 0)],
+                    sum: Some(sides.row),
+                    shift,
+                    at_most: of_whole(&most_at(&sides, max), shift),
+                    above: of_whole(&least_above(&sides, max), shift),
+                }
+            }
         }
     }
-    stand.blank(dictionary.columns.len());
-    stand.constant = raised(&base, exponent)?;
-    stand.value = stand.constant;
-    for term in terms {
-        if let Some(domain) = domains.get(term.slot as usize) {
-            let own = opposite(term);
-            take_entry(dictionary, stand, &own, domain, exponent)?;
+
+    // The split of whether a slot is started.
+    fn of_start(slot: u32) -> Split {
+        Split {
+            own: [entry(slot, 1, 0)],
+            sum: None,
+            shift: 0,
+            at_most: 0,
+            above: of_whole(&1, 0),
         }
     }
-    Ok(())
-}
 
-// The opposite of a term.
-fn opposite(term: &Entry) -> Entry {
-    Entry {
-        slot: term.slot,
-        fixed: 0i64.saturating_sub(term.fixed),
-        per: 0i64.saturating_sub(term.per),
+    // The split of a slot's quanta, scaled to near 1 over its domain.
+    fn of_quanta(slot: u32, domain: &Domain, max: u8) -> Split {
+        let bits = domain.hi.saturating_sub(domain.lo).max(1).ilog2();
+        let shift = 0i32.saturating_sub_unsigned(bits);
+        Split {
+            own: [entry(slot, 0, 1)],
+            sum: None,
+            shift,
+            at_most: of_whole(&i128::from(max), shift),
+            above: of_whole(&i128::from(max).saturating_add(1), shift),
+        }
+    }
+
+    /// The entries that it counts.
+    pub fn terms<'a>(&'a self, program: &'a Program) -> &'a [Entry] {
+        match self.sum {
+            None => self.own.as_slice(),
+            Some(row) => terms_of(program, row),
+        }
+    }
+
+    /// The end of a side.
+    pub fn end(&self, side: Side) -> i64 {
+        match side {
+            Side::AtMost => self.at_most,
+            Side::Above => self.above,
+        }
     }
 }
 
-// The end of the values up to a split's, or of the first above them.
-fn end_of(domain: &Domain, max: u8, side: Side) -> Result<i64, OutOfRange> {
-    let next = match side {
-        Side::AtMost => 0,
-        Side::Above => 1,
-    };
-    if domain.zero {
-        return Ok(next * ONE);
-    }
-    let from = i64::from(domain.lo);
-    over(i64::from(max) + next - from, i64::from(domain.hi) - from)
+// An entry of a slot.
+fn entry(slot: u32, fixed: i64, per: i64) -> Entry {
+    Entry { slot, fixed, per }
 }

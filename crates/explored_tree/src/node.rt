@@ -1,7 +1,7 @@
 //! A box of the tree that is explored.
+use chain_simplex::Basis;
 use dual_bound::Cert;
 use row_kit::Domain;
-use simplex_rows::Basis;
 
 /// The number of no node.
 pub const NONE: u32 = u32::MAX;

@@ -4,10 +4,10 @@ ghost use Rattle.row_kit.specs.Area.{present};
 
 use crate::caps::{exceeds, number_of};
 use crate::node::{NONE, Node};
+use chain_simplex::Basis;
 use dual_bound::{Cert, cap};
 use row_kit::{Area, Domain, Program};
-use simplex_rows::Basis;
-use simplex_steps::numbered;
+use sparse_basis::numbered;
 use std::alloc::{AllocError, Global};
 use std::collections::BinaryHeap;
 
@@ -19,6 +19,7 @@ pub struct Tree {
     pub nodes: Vec<Node>,
     open: BinaryHeap<(i128, u32, u32)>,
     slots: u64,
+    basis: u64,
     held: u64,
 }
 
@@ -28,20 +29,23 @@ const MOST_HELD: u64 = 2_147_483_648;
 // The bytes of a box without its lists, with room for the list of boxes to grow.
 const BOX_BYTES: u64 = 512;
 
-// The bytes of a domain, of where a bound has ended for each slot, and of a multiplier.
+// The bytes of a domain, of where a bound has ended for each slot, beside one for each row, and of a multiplier.
 const DOMAIN_BYTES: u64 = 3;
 
-const BASIS_BYTES: u64 = 24;
+const BASIS_BYTES: u64 = 26;
 
 const MULT_BYTES: u64 = 16;
 
 impl Tree {
     /// A tree whose root is still to be explored.
     pub fn new(alloc: Global, program: &Program) -> Result<Tree, AllocError> {
+        let slots = program.root.len() as u64;
+        let rows = program.rows.len() as u64;
         let mut tree = Tree {
             nodes: Vec::new(alloc),
             open: BinaryHeap::new(alloc),
-            slots: program.root.len() as u64,
+            slots,
+            basis: BASIS_BYTES.saturating_mul(slots).saturating_add(rows),
             held: 0,
         };
         let domains = Vec::from_slice(alloc, program.root.as_slice())?;
@@ -65,9 +69,9 @@ impl Tree {
         self.held = self.held.saturating_add(bytes.saturating_mul(items));
     }
 
-    // Counts so many bytes less for each slot.
+    // Counts so many bytes less.
     fn release(&mut self, bytes: u64) {
-        self.held = self.held.saturating_sub(bytes.saturating_mul(self.slots));
+        self.held = self.held.saturating_sub(bytes);
     }
 
     /// Puts an area as a part of a box that is split.
@@ -112,7 +116,7 @@ impl Tree {
             node.max = max;
             node.basis = Some(basis);
             node.parts = parts;
-            self.hold(BASIS_BYTES, self.slots);
+            self.hold(self.basis, 1);
         }
     }
 
@@ -141,7 +145,7 @@ impl Tree {
         let node = &mut self.nodes[place];
         node.explored = true;
         let domains = std::mem::replace(&mut node.domains, Vec::new(alloc));
-        self.release(DOMAIN_BYTES);
+        self.release(DOMAIN_BYTES.saturating_mul(self.slots));
         domains
     }
 
@@ -160,7 +164,7 @@ impl Tree {
             }
             if self.has_explored_parts(parent) {
                 self.nodes[parent].basis = None;
-                self.release(BASIS_BYTES);
+                self.release(self.basis);
             }
         }
         Ok(basis)

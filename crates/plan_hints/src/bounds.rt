@@ -77,8 +77,8 @@ impl Bounds {
     }
 
     /// Keeps the basis of the last bound as the start's.
-    pub fn save_start(&mut self, program: &Program) {
-        self.workspace.save(program, &mut self.start);
+    pub fn save_start(&mut self) {
+        self.workspace.save(&mut self.start);
     }
 }
 

@@ -125,7 +125,7 @@ impl Looker {
             self.finder.dive(program, Dive::GreatestBack);
         }
         if self.finder.bound(program, None) {
-            self.finder.bounds.save_start(program);
+            self.finder.bounds.save_start();
             copy(
                 self.seen.as_mut_slice(),
                 self.finder.bounds.amounts.as_slice(),

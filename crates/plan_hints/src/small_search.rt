@@ -78,7 +78,7 @@ impl Finder {
         self.dive_at(program, boxes);
         match self.pick(program, picking) {
             None => false,
-            Some((slot, max)) => self.split(program, slot, max),
+            Some((slot, max)) => self.split(slot, max),
         }
     }
 
@@ -100,14 +100,12 @@ impl Finder {
     }
 
     // Splits a slot, and enters the greater part; false where the way is too long.
-    fn split(&mut self, program: &Program, slot: u32, max: u8) -> bool {
+    fn split(&mut self, slot: u32, max: u8) -> bool {
         let depth = self.lists.frames.len();
         if depth >= self.bounds.bases.len() {
             return false;
         }
-        self.bounds
-            .workspace
-            .save(program, &mut self.bounds.bases[depth]);
+        self.bounds.workspace.save(&mut self.bounds.bases[depth]);
         let mark = self.field.mark();
         put_last(&mut self.lists.frames, Frame { slot, max, mark });
         self.field.keep_above(&self.tables, slot, max);

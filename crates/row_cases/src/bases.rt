@@ -65,7 +65,7 @@ fn answer_over<'a>(
             match step.verb {
                 "most" | "above" => narrow(&mut area, step.verb, sheet),
                 "bound" => bound(program, &area, &basis, &mut workspace, sheet),
-                "save" => workspace.save(program, &mut basis),
+                "save" => workspace.save(&mut basis),
                 "round" => round(alloc, &area, &workspace, sheet)?,
                 _ => ask(program, &mut workspace, step.verb, sheet),
             }
@@ -91,8 +91,8 @@ fn bound(
 // sum of a slot.
 fn ask(program: &Program, workspace: &mut Workspace, verb: &str, sheet: &mut Sheet) {
     match verb {
-        "go_on" => put_outcome(workspace.go_on(program, 2_000), sheet),
-        "worth" => sheet.show_line(workspace.worth()),
+        "go_on" => put_outcome(workspace.go_on(2_000), sheet),
+        "worth" => sheet.show_line(Some(workspace.worth())),
         "pivots" => sheet.show_line(Some(workspace.pivots())),
         "sum" => {
             let slot = sheet.number();

@@ -73,7 +73,7 @@ fn go_round(
         return Ok(Round::Over(bounded));
     }
     let left = MOST_STEPS.saturating_sub(workspace.pivots());
-    Ok(Round::GoesOn(workspace.go_on(program, left)))
+    Ok(Round::GoesOn(workspace.go_on(left)))
 }
 
 // The certificate of where a bound has ended.

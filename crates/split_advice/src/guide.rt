@@ -55,7 +55,7 @@ impl PlanGuide {
         let pick = if bounded.closes {
             None
         } else {
-            self.workspace.save(program, basis);
+            self.workspace.save(basis);
             self.picker.pick(&mut self.workspace, program, area)
         };
         Ok(advice_of(bounded.cert, pick))
@@ -63,7 +63,7 @@ impl PlanGuide {
 
     // The slot to split in a box that stays open below so many splits.
     fn pick_at(&mut self, program: &Program, area: &Area, depth: u32) -> Option<Candidate> {
-        self.path.keep(depth, &self.workspace, program);
+        self.path.keep(depth, &self.workspace);
         self.picker.pick(&mut self.workspace, program, area)
     }
 }

@@ -42,10 +42,10 @@ impl Path {
     }
 
     /// Notes where the bound of a box has ended that stands below so many splits.
-    pub fn keep(&mut self, depth: u32, workspace: &Workspace, program: &Program) {
+    pub fn keep(&mut self, depth: u32, workspace: &Workspace) {
         let place = depth as usize;
         if place < self.bases.len() {
-            workspace.save(program, &mut self.bases[place]);
+            workspace.save(&mut self.bases[place]);
         }
     }
 

@@ -3,4 +3,4 @@ use Rattle.dual_simplex.proofs.Totals.{fit_some}
 use Rattle.dual_simplex.proofs.workspace.Workspace.certificate.Goals as goal
 
 pub returns-clause-total : goal.returns-clause-total
-returns-clause-total c = fit_some c.args.program.now 16384 c.in_ok-mults.mults (lit≤ tt) c.in_ok-mults.ensures.few c.in_ok-mults.ensures.fit
+returns-clause-total c = fit_some c.args.program.now 262144 c.in_ok-mults.mults (lit≤ tt) c.in_ok-mults.ensures.few c.in_ok-mults.ensures.fit

@@ -1,0 +1,39 @@
+//! A bounded dual simplex over rows in chains, in fixed point.
+//!
+//! Each slot has two variables, each row one that says what it has left. The rows that bind and the variables that lie between
+//! their ends are the kernel, which is kept factored; the values of all variables are kept up to date.
+#![tactic(auto)]
+
+mod amounts;
+mod appending;
+mod basis;
+mod beginning;
+mod columns;
+mod entering;
+mod etas;
+mod extra;
+mod factoring;
+mod features;
+mod fresh;
+mod kept;
+mod kernel;
+mod leaving;
+mod moving;
+mod multipliers;
+mod parts;
+mod progress;
+mod rates;
+mod rows_left;
+mod running;
+mod simplex;
+mod stepping;
+mod trial;
+mod variables;
+mod work;
+
+pub use amounts::Amount;
+pub use basis::Basis;
+pub use progress::{End, Stuck};
+pub use rates::Rates;
+pub use simplex::Simplex;
+pub use trial::Restriction;

@@ -1,0 +1,185 @@
+//! The parts of a row of the kernel.
+use crate::columns::Columns;
+use crate::extra::Extra;
+use crate::features::Features;
+use crate::kernel::Kernel;
+use crate::variables::{State, Variables};
+use crate::work::{Work, blank};
+use row_chains::Chains;
+use sparse_basis::{NOISE, ONE, at, magnitude, put};
+
+/// Writes what the multipliers of the rows of the kernel come to for each feature. Those up to `noise` count as 0.
+pub fn write_sums(
+    chains: &Chains,
+    kernel: &Kernel,
+    extra: &Extra,
+    multipliers: &[i64],
+    noise: i64,
+    sums: &mut Features,
+) {
+    for place in 0..kernel.count() {
+        let multiplier = at(multipliers, place);
+        if magnitude(multiplier) > noise {
+            if kernel.row(place) == chains.count() {
+                sums.add_parts(extra.parts.as_slice(), multiplier);
+            } else {
+                let (from, to) = kernel.span(chains, place);
+                sums.add_parts(chains.by_row.between(from, to), multiplier);
+            }
+        }
+    }
+}
+
+/// Writes the parts of the row of a basic variable, by its place.
+pub fn write_row(
+    chains: &Chains,
+    kernel: &Kernel,
+    extra: &Extra,
+    columns: &Columns,
+    own: &Variables,
+    work: &mut Work,
+    place: u32,
+) {
+    put(work.multipliers.as_mut_slice(), place, ONE);
+    write_parts(chains, kernel, extra, columns, own, work);
+}
+
+// Writes the parts of the row that the multipliers of basic variables make.
+fn write_parts(
+    chains: &Chains,
+    kernel: &Kernel,
+    extra: &Extra,
+    columns: &Columns,
+    own: &Variables,
+    work: &mut Work,
+) {
+    kernel.solve_back(work.multipliers.as_mut_slice());
+    let multipliers = work.multipliers.as_slice();
+    write_sums(chains, kernel, extra, multipliers, NOISE, &mut work.sums);
+    kernel.write_raw(multipliers, &mut work.raw);
+    blank(work.multipliers.as_mut_slice());
+    list_parts(kernel, columns, own, work);
+}
+
+/// Lists the parts that sums and multipliers come to, of the variables that stand at their ends; the sums are 0 afterwards.
+pub fn list_parts(kernel: &Kernel, columns: &Columns, own: &Variables, work: &mut Work) {
+    work.clear_parts();
+    for place in 0..work.sums.listed().len() {
+        let feature = listed_at(&work.sums, place);
+        if work.sums.unmark(feature) {
+            list_part(columns, own, work, feature & !1);
+            list_part(columns, own, work, feature | 1);
+        }
+    }
+    work.sums.clear();
+    list_rows(kernel, own, work);
+}
+
+// The feature at a place of the list of sums.
+#[inline(always)]
+fn listed_at(sums: &Features, place: usize) -> u32 {
+    match sums.listed().get(place) {
+        None => 0,
+        Some(feature) => *feature,
+    }
+}
+
+// Lists the part of a variable of a slot.
+#[inline(always)]
+fn list_part(columns: &Columns, own: &Variables, work: &mut Work, variable: u32) {
+    if own.is_at_end(variable) {
+        let part = columns.part(variable, &work.sums);
+        if magnitude(part) > NOISE {
+            work.put_part(variable, part);
+        }
+    }
+}
+
+// Lists the parts of the variables of rows.
+fn list_rows(kernel: &Kernel, own: &Variables, work: &mut Work) {
+    for place in 0..kernel.count() {
+        let part = at(work.raw.as_slice(), place);
+        if magnitude(part) > NOISE {
+            let variable = own.of_row(kernel.row(place));
+            if own.state(variable) != State::Basic {
+                work.put_part(variable, part);
+            }
+        }
+    }
+}
+
+/// Adds so many units of a variable to a column by rows of the kernel.
+pub fn scatter(
+    chains: &Chains,
+    kernel: &Kernel,
+    extra: &Extra,
+    columns: &Columns,
+    own: &Variables,
+    variable: u32,
+    by: i64,
+    column: &mut [i64],
+) {
+    if variable >= own.rows_from {
+        scatter_slack(kernel, variable.saturating_sub(own.rows_from), by, column);
+        return;
+    }
+    let units = columns.column(variable);
+    if units.started != 0 {
+        scatter_feature(chains, kernel, extra, variable & !1, by, column);
+    }
+    if units.quanta != 0 {
+        let by = sparse_basis::scaled(by, units.quanta);
+        scatter_feature(chains, kernel, extra, variable | 1, by, column);
+    }
+}
+
+// Adds so much of what a row has left.
+fn scatter_slack(kernel: &Kernel, row: u32, by: i64, column: &mut [i64]) {
+    let place = kernel.place(row);
+    let less = 0i64.saturating_sub(by);
+    crate::kernel::add(column, place, by);
+    let after = sparse_basis::place_at(kernel.after.as_slice(), place);
+    crate::kernel::add(column, after, less);
+    for joined in kernel.factored..kernel.count() {
+        if kernel.before(joined) == place {
+            crate::kernel::add(column, joined, less);
+        }
+    }
+}
+
+// Adds so much of a feature.
+fn scatter_feature(
+    chains: &Chains,
+    kernel: &Kernel,
+    extra: &Extra,
+    feature: u32,
+    by: i64,
+    column: &mut [i64],
+) {
+    let parts = chains.by_feature.list(feature);
+    for part in parts {
+        let next = sparse_basis::place_at(kernel.next.as_slice(), part.place);
+        crate::kernel::add(column, next, sparse_basis::times(part.value, by));
+    }
+    for joined in kernel.factored..kernel.count() {
+        let change = if kernel.row(joined) == chains.count() {
+            sparse_basis::times(extra.at(feature), by)
+        } else {
+            let (from, to) = kernel.span(chains, joined);
+            sum_between(parts, from, to, by)
+        };
+        crate::kernel::add(column, joined, change);
+    }
+}
+
+// What parts at places from one on up to another come to, times a number.
+#[inline(always)]
+fn sum_between(parts: &[sparse_basis::Part], from: u32, to: u32, by: i64) -> i64 {
+    let mut sum = 0i64;
+    for part in parts {
+        if from <= part.place && part.place < to {
+            sum = sum.saturating_add(sparse_basis::times(part.value, by));
+        }
+    }
+    sum
+}
