@@ -47,7 +47,7 @@ use Rattle.proof_log.specs.Behind.{behind}
 use Rattle.proof_log.specs.OneText.{IsOver}
 use Rattle.proof_log.proofs.GrammarWalk.{at, closed}
 use Rattle.log_lines.specs.declared.grammar.Place.TheVariants.{Node as AtNode}
-use Rattle.proof_log.proofs.SaidOfOthers.{says_of_others}
+use Rattle.plan_images.proofs.Telling.{same-plans}
 use Rattle.valid_log.specs.declared.verdict.LogVerdict.TheVariants as verdict
 use Rattle.valid_log.specs.Verdict.{IsLog, IsSoundLog, IsVerdict, IsVerdictGiven, limits_of}
 use Rattle.valid_log.proofs.FoundSound.{IsFine, IsFinePoint, items-fine, items_sound, real_outcome}
@@ -55,6 +55,7 @@ use Rattle.valid_log.specs.Claims.{SaysOf}
 use Rattle.valid_log.specs.AnyVersion.{IsAnyVerdict, given_claim}
 use Rattle.valid_log.specs.PlantLogs.{IsAnyChecked}
 use Rattle.valid_log.specs.SumTexts.{MayHead, any_text, larger_claim}
+use Rattle.valid_log.proofs.Holding.{larger-none}
 use Rattle.valid_log.proofs.LogFronts.{headed-verdict, plain-verdict}
 use Rattle.valid_log.proofs.PlantRanges.{part-ranges, plant-ranges}
 use Rattle.valid_log.proofs.Saying.{of_plant}
@@ -70,7 +71,7 @@ use Rattle.log_parts.proofs.JoinedClaims.{joined-says}
 use Rattle.log_parts.proofs.JoinedSound.{HasNoDefect, IsNotAbove, AllowsNone, IsCappedBy, greater-real, greater-not_above, greater-allows_none, plan-fine, capped-fine, no_cap-none, best-place, with-sound}
 use Rattle.log_parts.proofs.JoinedTexts.{IsWrittenItem, IsWrittenClaim, IsWrittenLog, IsWrittenPlan, over-lead, part-lead, log-written, node-written, split-written, plan-written, cap-written, with-written, log-over, text-clean}
 use Rattle.plant_parts.proofs.Meaning.{part-exact, plant-slots}
-use Rattle.log_parts.proofs.LargerClaims.{claim-at, fine-pointed, given-larger, joined-larger, joined-pointed, larger-none, own-larger}
+use Rattle.log_parts.proofs.LargerClaims.{claim-at, fine-pointed, given-larger, joined-larger, joined-pointed, own-larger}
 use Rattle.log_parts.proofs.PartCaps.{IsPart, cap-same, lawful-part}
 use Rattle.log_parts.proofs.PartSums.{larger-whole, none-enlarged, part-larger, root-larger, shown-same}
 use Rattle.log_parts.proofs.PartTrees.{IsPartTree}
@@ -282,10 +283,7 @@ text-any whole ranges (sum ∷ sums) tree claim may over wide added given =
 part-says : (plant : Plant) (levels number : ℕ) (bytes : List ℕ) (sums : List Sum) (tree : RowTree) (claim : Claim) → Sound plant → levels ≤ length (slots plant) → IsPartLog plant levels number bytes sums tree claim → SaysOf plant (IsOfPart plant levels number) claim
 part-says plant levels number bytes sums tree claim sound within log =
     let exact = λ (plan : List Start). part-exact plant levels number log.program plan sound within log.of_part.root in
-    says_of_others (IsAdmitted plant log.program) (profit plant) (plan_of_values plant) (IsOfPart plant levels number) (profit plant) (plan_of_values plant)
-    (λ point admitted. ((exact (plan_of_values plant point)).0 admitted, refl))
-    (λ plan is. (plan, ((exact plan).1 is, refl)))
-    claim log.right.holds
+    same-plans (IsAdmitted plant log.program) (IsOfPart plant levels number) (profit plant) (plan_of_values plant) claim (λ plan. (exact plan).0) (λ plan. (exact plan).1) log.right.holds
 
 -- the logs of all parts, whose sums can be declared
 pub record AllTrees (plant : Plant) (levels : ℕ) (logs : ℕ → List ℕ) (sums : List Sum) (heads : List ℕ) (trees : List RowTree) (claims : List Claim) : Type 0 where

@@ -1,5 +1,5 @@
 -- Claims whose points are completed by the values of sums.
-use Rattle.std.proofs.Common.{◌≡◌, ℕ, ℤ, ◌<◌, Bool, true, false, Option, Some, None, List, [], ◌∷◌, length, map, get_or, refl, sym, ap, ◌∙◌, subst, arith, inl, append-nil}
+use Rattle.std.proofs.Common.{◌≡◌, ℕ, ℤ, ◌<◌, Bool, true, false, Option, Some, None, List, ◌∷◌, length, map, get_or, refl, sym, ap, ◌∙◌, subst, arith, inl}
 use Rattle.std.specs.Prelude.{◌≤ℤ◌, int_lt, if◌then◌else◌, IfSome}
 use Rattle.std.specs.Option.{option_map}
 use Rattle.std.proofs.lemmas.List.{get_or-map, length-map, map-append}
@@ -139,13 +139,6 @@ given-larger program larger sums (Optimal profit point) same lawful = ap (Optima
 given-larger program larger sums Infeasible same lawful = refl
 given-larger program larger sums (Between profit most point) same lawful = ap (Between profit most) (sym (same.given point lawful))
 given-larger program larger sums (Below most) same lawful = refl
-
--- without sums a claim stays
-pub larger-none : (claim : Claim) → larger_claim [] claim ≡ claim
-larger-none (Optimal profit point) = ap (Optimal profit) (append-nil point)
-larger-none Infeasible = refl
-larger-none (Between profit most point) = ap (Between profit most) (append-nil point)
-larger-none (Below most) = refl
 
 plan-with : (plan : Option ClaimedPlan) (cap : Option ℤ) → plan_of (claim_with plan cap) ≡ plan
 plan-with (Some plan) (Some cap) =

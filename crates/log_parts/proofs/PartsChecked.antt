@@ -17,7 +17,7 @@ use Rattle.proof_log.specs.declared.claim.Claim.{Claim}
 use Rattle.proof_log.specs.declared.claim.Claim.TheVariants.{Infeasible}
 use Rattle.log_lines.specs.declared.defect.Defect.{Defect}
 use Rattle.proof_log.specs.LogNames.{log_name}
-use Rattle.proof_log.proofs.SaidOfOthers.{says_of_others}
+use Rattle.plan_images.proofs.Telling.{same-plans}
 use Rattle.sum_slots.specs.declared.sum.Sum.{Sum}
 use Rattle.sum_lines.specs.declared.head.Front.{Front}
 use Rattle.sum_lines.specs.declared.head.Front.TheVariants as front
@@ -82,10 +82,7 @@ pub part_said : (plant : Plant) (levels part : ℕ) (program : Program) (sums : 
     → SaysOf plant (IsAdmitted plant program) claim → IsCompared sums own claim said → PartSays plant levels part said
 part_said plant levels part program sums own claim (check.Valid head other) exact says is =
     subst (SaysOf plant (IsOfPart plant levels part)) (sym is.1)
-    (says_of_others (IsAdmitted plant program) (profit plant) (plan_of_values plant) (IsOfPart plant levels part) (profit plant) (plan_of_values plant)
-    (λ point admitted. ((exact (plan_of_values plant point)).0 admitted, refl))
-    (λ plan is. (plan, ((exact plan).1 is, refl)))
-    claim says)
+    (same-plans (IsAdmitted plant program) (IsOfPart plant levels part) (profit plant) (plan_of_values plant) claim (λ plan. (exact plan).0) (λ plan. (exact plan).1) says)
 part_said plant levels part program sums own claim (check.Bad defect) exact says is = tt
 
 -- a front with a defect is the verdict's
