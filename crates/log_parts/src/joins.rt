@@ -1,4 +1,6 @@
 //! What joining the logs of all parts comes to, and why it may stop.
+ghost use Rattle.std.specs.Prelude.{◌≡◌};
+
 use log_check::CheckStop;
 use log_lines::Defect;
 use proof_log::Claim;
