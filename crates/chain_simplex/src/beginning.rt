@@ -35,22 +35,20 @@ impl Simplex {
         }
     }
 
-    // Writes what the area leaves to each row, and the most that it may have left. All their variables are basic.
+    // Writes what the area leaves to each row, and the most that it may have left at the root. All their variables
+    // are basic.
     fn put_row_limits(&mut self, chains: &Chains, program: &Program, domains: &[Domain]) {
         for row in 0..chains.count() {
-            let limit = row_limit(program, domains, chains.given, chains.row_at(row));
-            let shift = chains.shift_at(row);
-            let scaled = if limit.is_live {
-                of_whole(&limit.limit, shift).min(TOP - 1)
-            } else {
-                TOP
+            let scaled = match row_limit(program, domains, chains.given, chains.row_at(row)) {
+                None => TOP,
+                Some(limit) => of_whole(&limit, chains.shift_at(row)).min(TOP - 1),
             };
             let variable = self.own.of_row(row);
             put(self.limits.as_mut_slice(), row, scaled);
             put(
                 self.own.bounds.as_mut_slice(),
                 variable,
-                of_whole(&limit.most_left, shift),
+                chains.most_left_at(row),
             );
             self.own.set_state(variable, State::Basic);
         }

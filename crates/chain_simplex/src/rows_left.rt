@@ -87,6 +87,7 @@ fn run_chain(
     step: i64,
     weighing: Option<Weighing>,
 ) {
+    let rows = own.rows_from as usize;
     let mut sum = 0i64;
     let mut effect = Effect {
         change: 0,
@@ -100,12 +101,26 @@ fn run_chain(
                 sum = sum.saturating_add(change);
                 effect = effect_of(sum, step, weighing);
             }
-            if effect.change != 0 {
-                let variable = own.of_row(numbered(row));
-                own.add_value(variable, effect.change);
-                own.raise_weight(variable, effect.weight);
-            }
+            let place = rows.saturating_add(row);
+            move_row(own.values.as_mut_slice(), place, effect.change);
+            raise(own.weights.as_mut_slice(), place, effect.weight);
         }
+    }
+}
+
+// Adds to the number at a place.
+#[inline(always)]
+fn move_row(values: &mut [i64], place: usize, change: i64) {
+    if place < values.len() {
+        values[place] = values[place].saturating_add(change);
+    }
+}
+
+// Makes the number at a place at least this.
+#[inline(always)]
+fn raise(weights: &mut [i64], place: usize, weight: i64) {
+    if weight > 0 && place < weights.len() && weights[place] < weight {
+        weights[place] = weight;
     }
 }
 

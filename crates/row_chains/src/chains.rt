@@ -1,10 +1,11 @@
 //! The rows of a program in chains.
 use crate::differences::{given_entries, next_change, steps, walk_between};
+use crate::limits::most_left;
 use crate::ordering::{Order, order_of};
 use crate::scales::{first, greatest_bits};
 use crate::tables::Table;
 use row_kit::{Domain, Entry, Program, Row};
-use sparse_basis::{NONE, numbered, of_whole, place_at, put_place};
+use sparse_basis::{NONE, at, numbered, of_whole, place_at, put, put_place};
 use std::alloc::{AllocError, Global};
 
 /// The rows of a program as differences. A chain is rows that stand one after another; each but the first is told by how it differs
@@ -26,6 +27,8 @@ pub struct Chains {
     /// For each place the power of two that its entries are divided by: one for a chain, so that its greatest entry comes to 1 to 2
     /// over the root.
     pub downs: Vec<u32>,
+    /// For each place the most that its row may have left at the root, divided likewise.
+    pub most_left: Vec<i64>,
     /// The power of two that profits are raised by: the greatest comes to 128 to 256.
     pub up: i32,
     /// For each place how it differs from the one before, by feature.
@@ -43,6 +46,8 @@ impl Chains {
         let order = order_of(alloc, program, given)?;
         let end = ends_of(alloc, order.first.as_slice())?;
         let downs = downs_of(alloc, rows, root, &order, given)?;
+        let whole = program.root.as_slice();
+        let most_left = lefts_of(alloc, rows, whole, &order, downs.as_slice())?;
         let by_row = differences_of(alloc, rows, &order, downs.as_slice(), given)?;
         let by_feature = by_row.turned(alloc, root.len().saturating_mul(2))?;
         let places = places_of(alloc, order.rows.as_slice(), rows.len())?;
@@ -55,6 +60,7 @@ impl Chains {
             first,
             end,
             downs,
+            most_left,
             up: 7 - bits as i32,
             by_row,
             by_feature,
@@ -84,6 +90,11 @@ impl Chains {
     /// The end of the chain of a place.
     pub fn end_at(&self, place: u32) -> u32 {
         place_at(self.end.as_slice(), place)
+    }
+
+    /// The most that the row of a place may have left at the root.
+    pub fn most_left_at(&self, place: u32) -> i64 {
+        at(self.most_left.as_slice(), place)
     }
 
     /// The power of two that the entries of a place are divided by, turned to its opposite; 0 where there is no such place.
@@ -141,6 +152,26 @@ fn downs_of(
         put_place(greatest.as_mut_slice(), numbered(place), own);
     }
     Ok(greatest)
+}
+
+// The most that the row of each place may have left over domains.
+fn lefts_of(
+    alloc: Global,
+    rows: &[Row],
+    domains: &[Domain],
+    order: &Order,
+    downs: &[u32],
+) -> Result<Vec<i64>, AllocError> {
+    let mut lefts = vec![in alloc; 0i64; order.rows.len()]?;
+    for place in 0..order.rows.len() {
+        let place = numbered(place);
+        if let Some(row) = rows.get(place_at(order.rows.as_slice(), place) as usize) {
+            let shift = 0i32.saturating_sub_unsigned(place_at(downs, place));
+            let left = of_whole(&most_left(row, domains), shift);
+            put(lefts.as_mut_slice(), place, left);
+        }
+    }
+    Ok(lefts)
 }
 
 // The entries of the row of a place.

@@ -13,7 +13,7 @@ mod sums;
 mod tables;
 
 pub use chains::Chains;
-pub use limits::{RowLimit, base_worth, row_limit};
+pub use limits::{base_worth, row_limit};
 pub use scales::{counted, first};
 pub use sums::{Sides, are_two_free, is_idle, least_above, most_at, sides_of, terms_of};
 pub use tables::Table;

@@ -3,52 +3,40 @@ use crate::scales::counted;
 use crate::sums::is_idle;
 use row_kit::{Domain, Entry, Program, Row};
 
-/// What an area leaves to a row: its limit less what the slots of sums count at their best, and what it has left at most. A row of
-/// a sum that has its whole range is not live.
-#[derive(Clone, Copy)]
-pub struct RowLimit {
-    pub is_live: bool,
-    pub limit: i128,
-    pub most_left: i128,
-}
-
-/// What domains leave to a row. Slots from `given` on are those of sums.
-pub fn row_limit(program: &Program, domains: &[Domain], given: u32, row: u32) -> RowLimit {
-    match program.rows.as_slice().get(row as usize) {
-        None => RowLimit {
-            is_live: false,
-            limit: 0,
-            most_left: 0,
-        },
-        Some(own) => {
-            let (all, sums) = least_sums(own, domains, given);
-            RowLimit {
-                is_live: !is_idle(program, domains, given, row),
-                limit: own.limit.saturating_sub(sums),
-                most_left: own.limit.saturating_sub(all).max(0),
-            }
+/// What domains leave to a row: its limit less what the slots of sums count at their best, of which the slots from `given` on are;
+/// None where it is one of a sum that has its whole range, or there is no such row.
+pub fn row_limit(program: &Program, domains: &[Domain], given: u32, row: u32) -> Option<i128> {
+    let own = program.rows.as_slice().get(row as usize)?;
+    if is_idle(program, domains, given, row) {
+        return None;
+    }
+    match own.entries.as_slice().last() {
+        Some(entry) if entry.slot >= given => {
+            Some(own.limit.saturating_sub(least_at(entry, domains)))
         }
+        _ => Some(own.limit),
     }
 }
 
-// The least that the entries of a row count, and the least that those of the slots of sums do.
-fn least_sums(row: &Row, domains: &[Domain], given: u32) -> (i128, i128) {
-    let mut all = 0i128;
-    let mut sums = 0i128;
+/// The most that a row may have left over domains.
+pub fn most_left(row: &Row, domains: &[Domain]) -> i128 {
+    let mut least = 0i128;
     for entry in row.entries.as_slice() {
-        if let Some(domain) = domains.get(entry.slot as usize) {
-            let least = least_amount(entry, domain);
-            all = all.saturating_add(least);
-            if entry.slot >= given {
-                sums = sums.saturating_add(least);
-            }
-        }
+        least = least.saturating_add(least_at(entry, domains));
     }
-    (all, sums)
+    row.limit.saturating_sub(least).max(0)
 }
 
-/// The least that an entry counts over a domain.
-pub fn least_amount(entry: &Entry, domain: &Domain) -> i128 {
+// The least that an entry counts over the domain of its slot.
+fn least_at(entry: &Entry, domains: &[Domain]) -> i128 {
+    match domains.get(entry.slot as usize) {
+        None => 0,
+        Some(domain) => least_amount(entry, domain),
+    }
+}
+
+// The least that an entry counts over a domain.
+fn least_amount(entry: &Entry, domain: &Domain) -> i128 {
     if domain.lo > domain.hi {
         return 0;
     }
