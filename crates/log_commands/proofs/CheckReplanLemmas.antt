@@ -1,5 +1,5 @@
 -- Checking a replanning: answers over the plans that keep the first starts of a plan.
-use Rattle.std.proofs.Common.{◌≡◌, ℕ, List, Option, Some, None, Ok, Err, inr, refl}
+use Rattle.std.proofs.Common.{ℕ, List, Option, Some, None, Ok, Err, inr}
 use Rattle.std.specs.Prelude.{IfSome, IfOk, Result}
 use Rattle.stn_model.specs.declared.plant.Plant.{Plant}
 use Rattle.stn_model.specs.declared.start.Start.{Start}
@@ -7,7 +7,7 @@ use Rattle.stn_model.specs.Profit.{profit}
 use Rattle.row_kit.specs.declared.program.Program.{Program}
 use Rattle.row_set.specs.Parts.{IsAdmitted, plan_of_values}
 use Rattle.proof_log.specs.declared.claim.Claim.{Claim}
-use Rattle.proof_log.proofs.SaidOfOthers.{says_of_others}
+use Rattle.plan_images.proofs.Telling.{same-plans}
 use Rattle.valid_log.specs.declared.verdict.LogVerdict.{LogVerdict}
 use Rattle.valid_log.specs.declared.verdict.LogVerdict.TheVariants.{Yes, No}
 use Rattle.valid_log.specs.Verdict.{IfYes}
@@ -24,7 +24,7 @@ module _ (plant : Plant) (A B : List Start → Type 0) (to : (plan : List Start)
   -- what a claim says of the plans of one kind it says of those of the other, where these are the same
   claim-among : (claim : Claim) → SaysOf plant A claim → SaysOf plant B claim
   claim-among claim says =
-      says_of_others A (profit plant) (plan_of_values plant) B (profit plant) (plan_of_values plant) (λ point is. (to (plan_of_values plant point) is, refl)) (λ plan is. (plan, (back plan is, refl))) claim says
+      same-plans A B (profit plant) (plan_of_values plant) claim to back says
 
   -- and that of a yes
   yes-among : (verdict : LogVerdict) → IfYes (SaysOf plant A) verdict → IfYes (SaysOf plant B) verdict

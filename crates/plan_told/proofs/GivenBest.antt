@@ -1,14 +1,13 @@
 -- The best point of a search over a program with sums, as of the given program.
-use Rattle.std.proofs.Common.{◌≡◌, ◌≢◌, ℕ, Bool, true, false, cond, List, length, take, Option, Some, None, ◌≤ℤ◌, ◌<ℤ◌, refl, sym, ap, ◌∙◌, subst, arith}
+use Rattle.std.proofs.Common.{◌≡◌, ◌≢◌, Bool, true, false, cond, List, length, Option, Some, None, ◌≤ℤ◌, ◌<ℤ◌, refl, sym, ◌∙◌, subst, arith}
 use Rattle.std.specs.Prelude.{IfSome}
 use Rattle.std.specs.Option.{IsSomeAnd, option_map}
 use Rattle.std.proofs.lemmas.Int.{ints}
 use Rattle.row_kit.specs.declared.found.Found.{Found}
 use Rattle.row_kit.specs.declared.program.Program.{Program}
-use Rattle.row_kit.specs.Point.{IsLawful, LiesIn, worth_of}
+use Rattle.row_kit.specs.Point.{IsLawful, worth_of}
 use Rattle.row_relax.specs.Settle.{is_lawful, only_point}
 use Rattle.row_relax.specs.laws.Lawful.{lawful_true, true_lawful}
-use Rattle.proof_tree.specs.Cap.{Bounds}
 use Rattle.proof_tree.specs.declared.capped.Capped.{Capped}
 use Rattle.proof_tree.specs.declared.capped.Capped.TheVariants.{AtMost, NoPoint, Bad}
 use Rattle.branch_tree.specs.Justified.{IsGroup}
@@ -16,8 +15,8 @@ use Rattle.branch_tree.specs.Searched.{IsSettled}
 use Rattle.branch_tree.specs.laws.Ends.{is_over}
 use Rattle.branch_tree.proofs.Best.{better-first, better-keeps, better-second}
 use Rattle.sum_slots.specs.declared.sum.Sum.{Sum}
-use Rattle.sum_slots.specs.Larger.{completed}
 use Rattle.sum_slots.specs.Law.{IsSameWithSums}
+use Rattle.plan_images.proofs.Imaging.{sums-read}
 use Rattle.plan_told.specs.Given.{cut_found, given_best, least_found, worth_found}
 use Rattle.plan_told.proofs.Least.{with_worth}
 
@@ -45,8 +44,8 @@ module _ (part larger : Program) (sums : List Sum) (same : IsSameWithSums part s
   -- a lawful point of the larger program, cut back, is lawful and worth the same
   cut_group : (found : Found) → IsGroup larger found → IsGroup part (cut_found (length part.root) found)
   cut_group found group =
-      let is = (same.points found.point).0 group.lawful in
-      record { lawful = is.0; worth = group.worth ∙ ap (worth_of larger) is.1 ∙ same.worth (take (length part.root) found.point) is.0 }
+      let own = sums-read part larger sums same found.point group.lawful in
+      record { lawful = own.0; worth = group.worth ∙ sym own.1 }
 
   -- the same of the best found point
   cut_groups : (best : Option Found) → IfSome best (IsGroup larger) → IfSome (option_map (cut_found (length part.root)) best) (IsGroup part)
@@ -56,19 +55,6 @@ module _ (part larger : Program) (sums : List Sum) (same : IsSameWithSums part s
   -- the best point is lawful, and stands with its worth
   pub given-group : (best : Option Found) → IfSome best (IsGroup larger) → IfSome (best_given part best) (IsGroup part)
   given-group best group = better-keeps (IsGroup part) (option_map (cut_found (length part.root)) best) (least_found part) (cut_groups best group) (least_group part)
-
-  -- a lawful point of the part, completed, is lawful over the larger program, and worth the same
-  pub completed-lawful : (point : List ℕ) → IsLawful part point → IsLawful larger (completed sums point)
-  completed-lawful point lawful =
-      (same.points (completed sums point)).1 (subst (IsLawful part) (sym (same.given point lawful)) lawful, ap (completed sums) (sym (same.given point lawful)))
-
-  -- what bounds the larger program bounds the part
-  pub given-bounds : (cap : Capped) → Bounds (LiesIn larger.root) (IsLawful larger) (worth_of larger) cap → Bounds (LiesIn part.root) (IsLawful part) (worth_of part) cap
-  given-bounds (AtMost n) bounds = λ point lies lawful.
-      let whole = completed-lawful point lawful in
-      subst (λ z. z ≤ℤ n) (same.worth point lawful) (bounds (completed sums point) whole.lies whole)
-  given-bounds NoPoint bounds = λ point lies lawful. let whole = completed-lawful point lawful in bounds (completed sums point) whole.lies whole
-  given-bounds Bad bounds = tt
 
 -- the best point is worth as much as the least, where that is lawful
 pub given-least : (part : Program) (best : Option Found) → IsLawful part (only_point part.root) → IsSomeAnd (best_given part best) (λ found. worth_of part (only_point part.root) ≤ℤ found.value)

@@ -1,3 +1,4 @@
+pub mod Answering
 pub mod CapShort
 pub mod CleanText
 pub mod Completing

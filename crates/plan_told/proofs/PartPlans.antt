@@ -1,5 +1,6 @@
 -- What the points of a part of a plant's choices say of its plans.
-use Rattle.std.proofs.Common.{◌≡◌, ℕ, suc, List, [], ◌∷◌, length, map, refl, sym, ap, ◌∙◌, subst}
+use Rattle.std.proofs.Common.{◌≡◌, ℕ, suc, List, [], ◌∷◌, length, map, Option, Some, None, refl, sym, ap, ◌∙◌, subst}
+use Rattle.std.specs.Prelude.{IfSome}
 use Rattle.std.specs.List.{AllZip}
 use Rattle.std.proofs.lemmas.List.{length-map}
 use Rattle.stn_model.specs.declared.plant.Plant.{Plant}
@@ -11,6 +12,7 @@ use Rattle.time_grid.specs.Slots.{slots}
 use Rattle.time_grid.specs.PlanPoint.{IsPlanOf, plan_point}
 use Rattle.time_grid.proofs.PointPlan.{starts-of_point}
 use Rattle.row_kit.specs.declared.domain.Domain.{Domain}
+use Rattle.row_kit.specs.declared.found.Found.{Found}
 use Rattle.row_kit.specs.declared.program.Program.{Program}
 use Rattle.row_kit.specs.Point.{IsLawful, LiesIn, worth_of}
 use Rattle.row_relax.specs.Settle.{only_point}
@@ -18,6 +20,7 @@ use Rattle.row_set.specs.Parts.{IsAdmitted, IsPartOf, IsWithin, plan_of_values}
 use Rattle.row_set.specs.PlantProgram.{slot_domain}
 use Rattle.row_set.proofs.PartPoints.{admitted-worth, lawful-whole, lies-within}
 use Rattle.row_set.proofs.Roots.{point-of_root}
+use Rattle.branch_tree.specs.Justified.{IsGroup}
 use Rattle.branch_tree.proofs.Trees.{least_lies}
 use Rattle.plan_told.specs.Outcomes.{least_plan}
 
@@ -41,6 +44,11 @@ module _ (plant : Plant) (part : Program) (sound : Sound plant) (is : IsPartOf p
   -- a lawful point has a value for each slot
   pub lawful-places : (point : List ℕ) → IsLawful part point → length point ≡ length (slots plant)
   lawful-places point lawful = lawful.lies.same_length ∙ root_slots
+
+  -- and so has a found point that is one, where there is one
+  pub group-places : (best : Option Found) → IfSome best (IsGroup part) → IfSome best (λ found. length found.point ≡ length (slots plant))
+  group-places None group = tt
+  group-places (Some found) group = lawful-places found.point group.lawful
 
   -- the plan of a lawful point is admitted, has the point, and earns its worth
   pub lawful-plan : (point : List ℕ) (plan : List Start) → IsLawful part point → IsPlanOf plant point plan → IsPointPlan plant part point plan

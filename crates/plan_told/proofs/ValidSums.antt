@@ -3,9 +3,11 @@ use Rattle.std.proofs.Common.{◌≡◌, ℕ, ◌≤◌, List, length, map, refl
 use Rattle.std.specs.List.{sum_by}
 use Rattle.std.proofs.lemmas.List.Sums.{sum_by-append}
 use Rattle.stn_model.specs.declared.plant.Plant.{Plant}
+use Rattle.stn_model.specs.Profit.{profit}
 use Rattle.row_kit.specs.declared.domain.Domain.{Domain}
 use Rattle.row_kit.specs.declared.program.Program.{Program}
-use Rattle.row_set.specs.Parts.{IsPartOf}
+use Rattle.row_kit.specs.Point.{worth_of}
+use Rattle.row_set.specs.Parts.{IsAdmitted, IsPartOf}
 use Rattle.row_set.specs.PlantProgram.{plant_root}
 use Rattle.row_relax.specs.RowProofs.{RowTree}
 use Rattle.proof_tree.specs.Items.{tree_items}
@@ -21,6 +23,9 @@ use Rattle.sum_slots.specs.declared.sum.Sum.{Sum}
 use Rattle.sum_slots.specs.Larger.{IsWithSums, sum_domain}
 use Rattle.sum_slots.specs.Law.{IsSameWithSums}
 use Rattle.sum_slots.proofs.Sameness.{law}
+use Rattle.plan_images.specs.Images.{Relaxes}
+use Rattle.plan_images.proofs.Imaging.{completed-lawful, composed, sums-extend}
+use Rattle.plan_images.proofs.Plans.{part-relaxes}
 use Rattle.valid_log.specs.AnyVersion.{given_claim}
 use Rattle.valid_log.specs.PlantLogs.{IsPlantVerdict}
 use Rattle.valid_log.specs.SumTexts.{MayHead, larger_claim, sums_text}
@@ -28,7 +33,6 @@ use Rattle.valid_log.proofs.LogFronts.{headed-verdict}
 use Rattle.valid_log.proofs.PlantRanges.{part-ranges}
 use Rattle.plan_told.specs.Proofs.{depth_over}
 use Rattle.valid_log.proofs.Deeper.{yes-deeper}
-use Rattle.plan_told.proofs.GivenBest.{completed-lawful}
 use Rattle.plan_told.proofs.SmallClaim.{IsSmallClaim}
 use Rattle.plan_told.proofs.ValidLog.{valid-search}
 
@@ -40,9 +44,9 @@ depth_less program larger ranges sums enlarged =
 module _ (part larger : Program) (sums : List Sum) (same : IsSameWithSums part sums larger) where
   -- a claim that a cap bears out over the part is so over the larger program, with its point completed
   sound_larger : (cap : Capped) (claim : Claim) → IsSoundClaim part cap claim → IsSoundClaim larger cap (larger_claim sums claim)
-  sound_larger cap (Optimal profit point) sound = ((completed-lawful part larger sums same point sound.0.0, same.worth point sound.0.0 ∙ sound.0.1), sound.1)
+  sound_larger cap (Optimal profit point) sound = ((completed-lawful part larger sums point same sound.0.0, same.worth point sound.0.0 ∙ sound.0.1), sound.1)
   sound_larger cap Infeasible sound = sound
-  sound_larger cap (Between profit most point) sound = ((completed-lawful part larger sums same point sound.0.0, same.worth point sound.0.0 ∙ sound.0.1), sound.1)
+  sound_larger cap (Between profit most point) sound = ((completed-lawful part larger sums point same sound.0.0, same.worth point sound.0.0 ∙ sound.0.1), sound.1)
   sound_larger cap (Below most) sound = sound
 
   -- that claim cut back is the given one
@@ -62,6 +66,11 @@ small_larger sums (Below most) small = small
 -- the larger program has the same lawful points, each completed and worth the same
 pub same-given : (plant : Plant) (part larger : Program) (sums : List Sum) → IsPartOf plant part → MayHead part (plant_root plant) sums → IsWithSums part (plant_root plant) sums larger → IsSameWithSums part sums larger
 same-given plant part larger sums is may enlarged = law part larger (plant_root plant) sums (part-ranges plant part is) may.kept.declared may.shown enlarged
+
+-- so it is a relaxation of the plans of the part
+pub sums-relax : (plant : Plant) (part larger : Program) (sums : List Sum) → IsPartOf plant part → MayHead part (plant_root plant) sums → IsWithSums part (plant_root plant) sums larger → Relaxes (IsAdmitted plant part) (profit plant) larger
+sums-relax plant part larger sums is may enlarged =
+    composed (IsAdmitted plant part) (profit plant) part larger (worth_of part) (worth_of larger) (part-relaxes plant part is) (sums-extend part larger sums (same-given plant part larger sums is may enlarged))
 
 -- the text of the proof of a search over the larger program, with a claim over the part that its cap bears out, is a valid log
 pub valid-sums : {given : ℕ} (plant : Plant) (part larger : Program) (sums : List Sum) (budget : ℕ) (tree : RowTree) (ended : Ended) (claim : Claim) → IsPartOf plant part → MayHead part (plant_root plant) sums

@@ -1,5 +1,5 @@
 -- The proof of an outcome, and the log that holds it.
-use Rattle.std.specs.Prelude.{◌≡◌, ◌⊎◌, ℕ, ◌-◌, ⊤, List, ◌++◌, length, Option, Some, None, IfSome}
+use Rattle.std.specs.Prelude.{◌≡◌, ◌⊎◌, ℕ, ◌-◌, ⊤, List, [], ◌++◌, length, Option, Some, None, IfSome}
 use Rattle.std.specs.List.{sum_by}
 use Rattle.std.specs.Option.{option_map}
 use Rattle.stn_edge.specs.Files.{FileMap, file_of}
@@ -25,7 +25,6 @@ use Rattle.proof_log.specs.declared.claim.Claim.{Claim}
 use Rattle.proof_log.specs.declared.claim.Claim.TheVariants as claim
 use Rattle.proof_log.specs.Log.{log_text}
 use Rattle.valid_log.specs.declared.verdict.LogVerdict.TheVariants.{Yes}
-use Rattle.valid_log.specs.Verdict.{IsVerdict}
 use Rattle.sum_slots.specs.declared.sum.Sum.{Sum}
 use Rattle.sum_slots.specs.Larger.{IsWithSums}
 use Rattle.valid_log.specs.PlantLogs.{IsPlantVerdict}
@@ -37,14 +36,6 @@ claim_of plant (answer.Optimal plan earned) = claim.Optimal earned (plan_point p
 claim_of plant answer.Infeasible = claim.Infeasible
 claim_of plant (answer.BudgetSpent None earned cap) = claim.Below cap
 claim_of plant (answer.BudgetSpent (Some plan) earned cap) = claim.Between earned cap (plan_point plant plan)
-
--- the text of the log of a proof, with the claim of an answer
-abbrev pub proof_text : Plant → Answer → RowTree → List ℕ
-proof_text plant answer tree = log_text 2 (tree_items tree) (claim_of plant answer)
-
--- the text of the log of a proof over a program with sums, with the claim of an answer, whose point the values of the sums follow
-abbrev pub sums_proof_text : Plant → Answer → List Sum → RowTree → List ℕ
-sums_proof_text plant answer sums tree = sums_text sums tree (larger_claim sums (claim_of plant answer))
 
 -- how many splits may be open in a log over a root: 4,608, less one for each slot that lacks 0 or holds 0 alone
 abbrev pub depth_over : List Domain → ℕ
@@ -62,77 +53,62 @@ IsCapOf (answer.Optimal plan earned) capped = ⊤
 IsCapOf answer.Infeasible capped = ⊤
 IsCapOf (answer.BudgetSpent plan earned cap) capped = capped ≡ AtMost cap
 
--- A proof of an outcome: no box was split without cause, as many boxes are counted as the outcome says, and
--- its text with the claim of the answer is a valid log. Where the budget was spent, CAP is the proof's cap,
--- and a box with a point is open.
-pub record IsProofOf (plant : Plant) (part : Program) (outcome : Outcome) (tree : RowTree) : Type 0 where
-  pub boxes : counted tree ≡ outcome.boxes
-  -- every slot is the plant's own, none a sum's
-  pub justified : IsJustified part (length part.root) tree
-  pub valid : IsVerdict part (depth_over part.root) (proof_text plant outcome.answer tree) (Yes (claim_of plant outcome.answer))
-  pub cap : IsCapOf outcome.answer (tree_cap (row_steps part) (view_of part.root) tree)
-  pub left_open : IfSpent outcome.answer (HasOpenBox part (view_of part.root) tree)
+-- The text is that of a log of a part, of this proof and this claim over this program: of version 2 over the part's own, or of version 3
+-- over that with the sums which it declares.
+abbrev pub IsLogText : Plant → Program → List Sum → Program → RowTree → Claim → List ℕ → Type 0
+IsLogText plant part sums larger tree own text =
+    ((sums ≡ []) × (larger ≡ part) × (text ≡ log_text 2 (tree_items tree) own)) ⊎ (IsWithSums part (plant_root plant) sums larger × (text ≡ sums_text sums tree own))
 
--- A proof of an outcome over the part's program with sums: no box was split without cause, as many boxes are counted as the
--- outcome says, and its text with the claim of the answer is a valid log. Where the budget was spent, CAP is the proof's cap, and
--- a box with a point is open.
-pub record IsSumsProofOf (plant : Plant) (part : Program) (sums : List Sum) (outcome : Outcome) (tree : RowTree) : Type 0 where
-  pub larger : Program
-  pub enlarged : IsWithSums part (plant_root plant) sums larger
+-- A proof of an outcome over the part's program with sums, or without: no box was split without cause, as many boxes are counted as the
+-- outcome says, and its text with the claim of the answer is a valid log. Where the budget was spent, CAP is the proof's cap, and a
+-- box with a point is open.
+pub record IsProofOver (plant : Plant) (part : Program) (sums : List Sum) (larger : Program) (outcome : Outcome) (tree : RowTree) (text : List ℕ) : Type 0 where
   pub boxes : counted tree ≡ outcome.boxes
   -- the slots of the part are the plant's own, all later ones a sum's
   pub justified : IsJustified larger (length part.root) tree
-  pub valid : IsPlantVerdict plant part (depth_over part.root) (sums_proof_text plant outcome.answer sums tree) (Yes (claim_of plant outcome.answer))
+  pub is : IsLogText plant part sums larger tree (larger_claim sums (claim_of plant outcome.answer)) text
+  pub valid : IsPlantVerdict plant part (depth_over part.root) text (Yes (claim_of plant outcome.answer))
   pub cap : IsCapOf outcome.answer (tree_cap (row_steps larger) (view_of larger.root) tree)
   pub left_open : IfSpent outcome.answer (HasOpenBox larger (view_of larger.root) tree)
 
--- the text is that of the log of a proof of the outcome over the part's own program
-pub record IsPlainProofText (plant : Plant) (part : Program) (outcome : Outcome) (text : List ℕ) : Type 0 where
-  pub tree : RowTree
-  pub proof : IsProofOf plant part outcome tree
-  pub is : text ≡ proof_text plant outcome.answer tree
+-- the text of the log of a proof, with the claim of an answer
+abbrev pub proof_text : Plant → Answer → RowTree → List ℕ
+proof_text plant answer tree = log_text 2 (tree_items tree) (claim_of plant answer)
 
--- the text is that of the log of a proof of the outcome over the part's program with sums
-pub record IsSumsProofText (plant : Plant) (part : Program) (outcome : Outcome) (text : List ℕ) : Type 0 where
-  pub sums : List Sum
-  pub tree : RowTree
-  pub proof : IsSumsProofOf plant part sums outcome tree
-  pub is : text ≡ sums_proof_text plant outcome.answer sums tree
+-- the text of the log of a proof over a program with sums, with the claim of an answer, whose point the values of the sums follow
+abbrev pub sums_proof_text : Plant → Answer → List Sum → RowTree → List ℕ
+sums_proof_text plant answer sums tree = sums_text sums tree (larger_claim sums (claim_of plant answer))
 
--- There is a proof of the outcome, over the part's own program or over that with sums, and the text of its log is valid for the claim
--- of the answer. Where bytes are told, they are this text.
+-- a proof of an outcome over the part's own program
+abbrev pub IsProofOf : Plant → Program → Outcome → RowTree → Type 0
+IsProofOf plant part outcome tree = IsProofOver plant part [] part outcome tree (proof_text plant outcome.answer tree)
+
+-- a proof of an outcome over the part's program with sums
+abbrev pub IsSumsProofOf : Plant → Program → List Sum → Outcome → RowTree → Type 0
+IsSumsProofOf plant part sums outcome tree = (larger : Program) × IsProofOver plant part sums larger outcome tree (sums_proof_text plant outcome.answer sums tree)
+
+-- there is a proof of the outcome, over the part's own program or over that with sums; where bytes are told, they are the text of its log
 pub record HasProof (plant : Plant) (part : Program) (log : Option (List ℕ)) (outcome : Outcome) : Type 0 where
+  pub sums : List Sum
+  pub larger : Program
+  pub tree : RowTree
   pub text : List ℕ
-  pub proof : IsPlainProofText plant part outcome text ⊎ IsSumsProofText plant part outcome text
-  pub valid : IsPlantVerdict plant part (depth_over part.root) text (Yes (claim_of plant outcome.answer))
+  pub proof : IsProofOver plant part sums larger outcome tree text
   pub told : IfSome log (λ bytes. bytes ≡ text)
 
 -- the bytes of the file of this name, where files are told
 abbrev pub bytes_in : List ℕ → Option FileMap → Option (List ℕ)
 bytes_in name files = option_map (λ m. file_of m name) files
 
--- bytes are a first part of the text of a log of version 2, whose found points are lawful and stand with their worth
-pub record IsLogBegun (part : Program) (bytes : List ℕ) : Type 0 where
-  pub tree : RowTree
-  pub claim : Claim
-  pub writable : IsWritable part tree
-  pub rest : List ℕ
-  pub text : bytes ++ rest ≡ log_text 2 (tree_items tree) claim
-
--- the same of a log of version 3, over the part's program with the sums that its head declares; they may be a first part of the head
-pub record IsSumsLogBegun (plant : Plant) (part : Program) (bytes : List ℕ) : Type 0 where
+-- bytes are a first part of the text of a log of either version, whose found points are lawful and stand with their worth
+pub record IsSomeLogBegun (plant : Plant) (part : Program) (bytes : List ℕ) : Type 0 where
   pub sums : List Sum
   pub larger : Program
-  pub enlarged : IsWithSums part (plant_root plant) sums larger
   pub tree : RowTree
-  pub claim : Claim
-  pub writable : IsWritable larger tree
+  pub own : Claim
   pub rest : List ℕ
-  pub text : bytes ++ rest ≡ sums_text sums tree claim
-
--- bytes are a first part of the text of a log of either version
-abbrev pub IsSomeLogBegun : Plant → Program → List ℕ → Type 0
-IsSomeLogBegun plant part bytes = IsLogBegun part bytes ⊎ IsSumsLogBegun plant part bytes
+  pub is : IsLogText plant part sums larger tree own (bytes ++ rest)
+  pub writable : IsWritable larger tree
 
 -- what an attempt leaves that did not end: the files are as they were, or the file of this name is a log that was begun
 abbrev pub IsLeft : Plant → Program → List ℕ → Option FileMap → Option FileMap → Type 0

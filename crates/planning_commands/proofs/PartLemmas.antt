@@ -57,7 +57,7 @@ has-part-proof : (plant : Plant) (levels part : ℕ) (program : Program) (log : 
 has-part-proof plant levels part program log outcome enough root has = record {
   has = has;
   shallow = plant-deeper plant program (depth_over program.root) (4608 - levels) has.text (claim_of plant outcome.answer)
-      (rw root (shallow-part plant levels part enough)) has.valid;
+      (rw root (shallow-part plant levels part enough)) has.proof.valid;
 }
 
 -- ---- the answer

@@ -92,7 +92,7 @@ plain-text items claim = sym (lines_text-append (Header 2 ∷ []) (flat_map item
 -- a log with the header that was begun is one of version 2
 plain_begun : (plant : Plant) (part : Program) (bytes : List ℕ) → IsBegun part (lines_text (Header 2 ∷ [])) bytes → IsSomeLogBegun plant part bytes
 plain_begun plant part bytes begun =
-    inl (record { tree = begun.tree; claim = begun.claim; writable = begun.writable; rest = begun.rest; text = begun.text ∙ plain-text (tree_items begun.tree) begun.claim })
+    record { sums = []; larger = part; tree = begun.tree; own = begun.claim; rest = begun.rest; is = inl (refl, refl, begun.text ∙ plain-text (tree_items begun.tree) begun.claim); writable = begun.writable }
 
 -- so it is what an attempt leaves that did not end
 pub plain-told : (plant : Plant) (part : Program) (head name : List ℕ) (files : Option FileMap) → head ≡ lines_text (Header 2 ∷ []) → IfSome (bytes_in name files) (IsBegun part head) → IfSome (bytes_in name files) (IsSomeLogBegun plant part)
@@ -106,7 +106,7 @@ plain-left plant part head name old new is (inr begun) = inr (plain-told plant p
 -- a log with a head of sums that was begun is one of version 3
 sums_begun : (plant : Plant) (part larger : Program) (sums : List Sum) (bytes : List ℕ) → IsWithSums part (plant_root plant) sums larger → IsBegun larger (head_text sums) bytes → IsSomeLogBegun plant part bytes
 sums_begun plant part larger sums bytes enlarged begun =
-    inr (record { sums = sums; larger = larger; enlarged = enlarged; tree = begun.tree; claim = begun.claim; writable = begun.writable; rest = begun.rest; text = begun.text })
+    record { sums = sums; larger = larger; tree = begun.tree; own = begun.claim; rest = begun.rest; is = inr (enlarged, begun.text); writable = begun.writable }
 
 pub sums-told : (plant : Plant) (part larger : Program) (sums : List Sum) (head name : List ℕ) (files : Option FileMap) → IsWithSums part (plant_root plant) sums larger → head ≡ head_text sums
     → IfSome (bytes_in name files) (IsBegun larger head) → IfSome (bytes_in name files) (IsSomeLogBegun plant part)
