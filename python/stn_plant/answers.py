@@ -146,6 +146,12 @@ def cell(text):
     return None if text == "" else text if text[0].isalpha() else int(text)
 
 
+def numbered(lines):
+    """The slots and the rows of the lines of `slots`, each as the words behind its number; numbers as whole numbers."""
+    words = [it.split(" ") for it in lines]
+    return tuple([places(it[2:]) for it in words if it[0] == kind] for kind in ("slot", "row"))
+
+
 @dataclass
 class Report:
     """The answer of `report`.

@@ -8,10 +8,11 @@ from dataclasses import dataclass, field
 from pathlib import Path
 
 from . import slices, toml_text
-from .answers import Claim, Least, Picture, Report, Solution, Standing, Tank, Violation, rows
+from .answers import Claim, Least, Picture, Report, Solution, Standing, Tank, Violation, numbered, rows
 from .asking import Question, logs_of
 from .errors import StnError
 from .files import Log, look_for_room, write_whole
+from .plan import Plan
 
 
 @dataclass
@@ -242,6 +243,16 @@ class Plant:
         """Checks a proof log: a Log, a file or bytes, whoever wrote it."""
         with Question(self, timeout) as question:
             return claim(question, "check", "plant.toml", question.log(log))
+
+    def plan_of_log(self, log, timeout=None):
+        """The plan that a valid log claims: no batches where its claim has none. A log that is not valid is an InvalidLog."""
+        with Question(self, timeout) as question:
+            return Plan.of(question.ask("plan", "plant.toml", question.log(log)).out, self)
+
+    def slots(self, timeout=None):
+        """The slots and the rows that logs of the plant number, from 0: two lists of the words of their lines behind the number."""
+        with Question(self, timeout) as question:
+            return numbered(question.ask("slots", "plant.toml").lines())
 
     def check_replan(self, plan, period, log, timeout=None):
         """Checks the log of planning on from the starts of a plan before a period."""

@@ -5,7 +5,7 @@ from pathlib import Path
 
 from stn_plant import (Batch, BrokenPlan, Draw, Gap, Input, InvalidLog, Log, NotInstalled, Outage, Plan, Plant, Refused, Run,
                        State, StnError, Task, Unit, Utility)
-from stn_plant.answers import Claim, Report, Solution, Violation, rows
+from stn_plant.answers import Claim, Report, Solution, Violation, numbered, rows
 from tests.here import EXAMPLES, has, needs_program
 
 TINY = [(0, "U", "make", 3), (1, "U", "make", 3)]
@@ -38,6 +38,10 @@ class Texts(unittest.TestCase):
         self.assertEqual(Violation.of("unfit 2 size".split(" ")), Violation("unfit", [2, "size"]))
         self.assertEqual(Violation.of("gap 1 3 by 2".split(" ")), Violation("gap", [1, 3], 2))
         self.assertEqual(Violation.of("stock-low feed 0 by 4".split(" ")), Violation("stock-low", ["feed", 0], 4))
+
+    def test_slots(self):
+        text = "slots 1\nslot 0 U make 0 1 3\nrows 2\nrow 0 busy U 0\nrow 1 gap U 0 1\n"
+        self.assertEqual(numbered(text.splitlines()), ([["U", "make", 0, 1, 3]], [["busy", "U", 0], ["gap", "U", 0, 1]]))
 
     def test_a_table(self):
         text = "state,time,stock,limit,receipt,delivery\noil,0,-4,,0,0\noil,1,6,9,10,0\n"
@@ -94,7 +98,13 @@ class Asking(unittest.TestCase):
 
     def test_logs_of_the_examples(self):
         self.assertEqual(self.tiny.check(EXAMPLES / "tiny.log").profit, 60)
-        self.assertEqual(Plant.read(EXAMPLES / "odd.toml").check(str(EXAMPLES / "odd.log")).profit, 34)
+        odd = Plant.read(EXAMPLES / "odd.toml")
+        self.assertEqual(odd.check(str(EXAMPLES / "odd.log")).profit, 34)
+        self.assertEqual(odd.plan_of_log(str(EXAMPLES / "odd.log")), Plan([(0, "U", "make", 3)]))
+        with self.assertRaises(InvalidLog):
+            self.tiny.plan_of_log(answer.log.read()[:-1])
+        slots, rows_ = odd.slots()
+        self.assertEqual((slots[1], rows_[3]), (["U", "make", 1, 3, 3], ["low", "feed", 1]))
 
     def test_a_spent_budget_and_no_plan(self):
         self.assertEqual(Plant.read(EXAMPLES / "odd.toml").solve(boxes=1).status, "budget-spent")

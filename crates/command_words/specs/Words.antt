@@ -16,7 +16,9 @@ pub data Request : Type 0 where
   Logging : (plant : List ℕ) (budget : ℕ) (log : List ℕ) → Request
   Simulating : (usage : PlanUse) (plant plan : List ℕ) → Request
   Checking : (plant log : List ℕ) → Request
+  Telling : (plant log : List ℕ) → Request
   Upgrading : (plant : List ℕ) → Request
+  Numbering : (plant : List ℕ) → Request
   Showing : (seed : ℕ) → Request
   Replanning : (plant plan : List ℕ) (period budget : ℕ) → Request
   ReplanLogging : (plant plan : List ℕ) (period budget : ℕ) (log : List ℕ) → Request
@@ -116,6 +118,8 @@ Says words (Logging plant budget log) =
     (word : List ℕ) × ((words ≡ codes "solve" ∷ plant ∷ word ∷ log ∷ []) × (plant ≢ []) × (log ≢ []) × (log ≢ plant) × IsBudget word budget)
 Says words (Simulating usage plant plan) = (words ≡ use_word usage ∷ plant ∷ plan ∷ last_words usage) × (plant ≢ []) × (plan ≢ [])
 Says words (Checking plant log) = (words ≡ codes "check" ∷ plant ∷ log ∷ []) × (plant ≢ []) × (log ≢ [])
+Says words (Telling plant log) = (words ≡ codes "plan" ∷ plant ∷ log ∷ []) × (plant ≢ []) × (log ≢ [])
+Says words (Numbering plant) = (words ≡ codes "slots" ∷ plant ∷ []) × (plant ≢ [])
 Says words (Upgrading plant) = (words ≡ codes "upgrade" ∷ plant ∷ []) × (plant ≢ [])
 Says words (Showing seed) = (word : List ℕ) × ((words ≡ codes "demo" ∷ word ∷ []) × IsSeed word seed)
 Says words (Replanning plant plan period budget) =
@@ -144,6 +148,11 @@ Says words (Joining plant levels stem log) =
 abbrev pub HasNoForm : List (List ℕ) → Type 0
 HasNoForm words = (request : Request) → ¬ Says words request
 
+-- the words say no request to list what a log or a plant holds
+pub record NoListing (words : List (List ℕ)) : Type 0 where
+  pub telling : (plant log : List ℕ) → ¬ Says words (Telling plant log)
+  pub numbering : (plant : List ℕ) → ¬ Says words (Numbering plant)
+
 -- the words say no request that tries one horizon after another
 pub record NoHorizons (words : List (List ℕ)) : Type 0 where
   pub seeking : (plant : List ℕ) (budget : ℕ) → ¬ Says words (Seeking plant budget)
@@ -162,6 +171,8 @@ meaning (variants.Solve plant budget) = Solving plant.now budget.boxes
 meaning (variants.Log plant budget log) = Logging plant.now budget.boxes log.now
 meaning (variants.Simulate usage plant plan) = Simulating usage plant.now plan.now
 meaning (variants.Check plant log) = Checking plant.now log.now
+meaning (variants.Plan plant log) = Telling plant.now log.now
+meaning (variants.Slots plant) = Numbering plant.now
 meaning (variants.Upgrade plant) = Upgrading plant.now
 meaning (variants.Demo seed) = Showing seed
 meaning (variants.Replan plant plan period budget) = Replanning plant.now plan.now period.number budget.boxes

@@ -5,6 +5,7 @@ ghost use Rattle.command_words.specs.Words.{Says, HasNoForm, IsBudget, IsPeriod,
 
 use crate::budget::{Budget, MAX_BUDGET};
 use crate::levels::{Levels, Part};
+use crate::listing_words::listing_form;
 use crate::part_words::part_form;
 use crate::period::Period;
 use crate::steps::{MAX_STEP, MAX_STEPS, Steps};
@@ -53,6 +54,15 @@ pub enum Command<'a> {
     Check {
         plant: &'a str,
         log: &'a str,
+    },
+    /// `plan PLANT LOG`: print the plan that a proof log claims.
+    Plan {
+        plant: &'a str,
+        log: &'a str,
+    },
+    /// `slots PLANT`: print the slots and the rows of the plant's program by number.
+    Slots {
+        plant: &'a str,
     },
     /// `upgrade PLANT`: print the plant as a file of version 2.
     Upgrade {
@@ -156,6 +166,9 @@ pub fn command_of<'a>(words: &[&'a str]) -> Option<Command<'a>>
         return Some(command);
     }
     if let Some(command) = check_of(words) {
+        return Some(command);
+    }
+    if let Some(command) = listing_form(words) {
         return Some(command);
     }
     if let Some(command) = upgrade_of(words) {

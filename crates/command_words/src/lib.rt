@@ -7,6 +7,7 @@
 pub mod budget;
 pub mod command;
 pub mod levels;
+mod listing_words;
 mod part_words;
 pub mod period;
 pub mod steps;

@@ -6,7 +6,7 @@ use Rattle.std.specs.FinMap.{get}
 use Rattle.std.proofs.lemmas.Fmt.{decimal_injective}
 use Rattle.stn_edge.specs.Files.{FileMap, OthersStay}
 use Rattle.least_horizon.specs.LogNames.{OthersStayBelow}
-use Rattle.command_words.specs.Words.{Request, Solving, Logging, Simulating, Checking, Upgrading, Showing, Replanning, ReplanLogging, CheckingReplan, Estimating, Seeking, Tracing, Auditing, Parting, PartSolving, Joining, Says}
+use Rattle.command_words.specs.Words.{Request, Solving, Logging, Simulating, Checking, Telling, Numbering, Upgrading, Showing, Replanning, ReplanLogging, CheckingReplan, Estimating, Seeking, Tracing, Auditing, Parting, PartSolving, Joining, Says}
 use Rattle.stn_top.specs.Requests.{IsLeft, OthersKept}
 use Rattle.command_words.specs.Words.{IsLevels, IsPart}
 use Rattle.horizon_commands.proofs.Horizons.{each_log}
@@ -25,7 +25,9 @@ left_same (Solving plant budget) old new same = same
 left_same (Logging plant budget log) old new same = inl same
 left_same (Simulating usage plant plan) old new same = same
 left_same (Checking plant log) old new same = same
+left_same (Telling plant log) old new same = same
 left_same (Upgrading plant) old new same = same
+left_same (Numbering plant) old new same = same
 left_same (Showing seed) old new same = same
 left_same (Replanning plant plan period budget) old new same = same
 left_same (ReplanLogging plant plan period budget log) old new same = inl same
@@ -79,7 +81,9 @@ leaves_log : (words : List (List ℕ)) (plant : List ℕ) (budget : ℕ) (log : 
 leaves_log words plant budget log (Solving plant2 budget2) old new says also is = (let same = ap length (sym says.1.0 ∙ also.1.0) in absurd (omega (arith, same)))
 leaves_log words plant budget log (Simulating usage plant2 plan2) old new says also is = absurd (no_use words usage plant2 plan2 also.0 (let long = ap length says.1.0 in omega (arith, long)) (λ t. let first = ap first_byte says.1.0 in omega (arith, t, first)))
 leaves_log words plant budget log (Checking plant2 log2) old new says also is = (let same = ap length (sym says.1.0 ∙ also.0) in absurd (omega (arith, same)))
+leaves_log words plant budget log (Telling plant2 log2) old new says also is = (let same = ap length (sym says.1.0 ∙ also.0) in absurd (omega (arith, same)))
 leaves_log words plant budget log (Upgrading plant2) old new says also is = (let same = ap length (sym says.1.0 ∙ also.0) in absurd (omega (arith, same)))
+leaves_log words plant budget log (Numbering plant2) old new says also is = (let same = ap length (sym says.1.0 ∙ also.0) in absurd (omega (arith, same)))
 leaves_log words plant budget log (Showing seed) old new says also is = (let same = ap length (sym says.1.0 ∙ also.1.0) in absurd (omega (arith, same)))
 leaves_log words plant budget log (Replanning plant2 plan2 period2 budget2) old new says also is = (let same = ap length (sym says.1.0 ∙ also.1.1.0) in absurd (omega (arith, same)))
 leaves_log words plant budget log (ReplanLogging plant2 plan2 period2 budget2 log2) old new says also is = (let same = ap length (sym says.1.0 ∙ also.1.1.0) in absurd (omega (arith, same)))
@@ -107,7 +111,9 @@ leaves_replan words plant plan period budget log (Solving plant2 budget2) old ne
 leaves_replan words plant plan period budget log (Logging plant2 budget2 log2) old new says also is = (let same = ap length (sym says.1.1.0 ∙ also.1.0) in absurd (omega (arith, same)))
 leaves_replan words plant plan period budget log (Simulating usage plant2 plan2) old new says also is = absurd (no_use words usage plant2 plan2 also.0 (let long = ap length says.1.1.0 in omega (arith, long)) (λ t. let first = ap first_byte says.1.1.0 in omega (arith, t, first)))
 leaves_replan words plant plan period budget log (Checking plant2 log2) old new says also is = (let same = ap length (sym says.1.1.0 ∙ also.0) in absurd (omega (arith, same)))
+leaves_replan words plant plan period budget log (Telling plant2 log2) old new says also is = (let same = ap length (sym says.1.1.0 ∙ also.0) in absurd (omega (arith, same)))
 leaves_replan words plant plan period budget log (Upgrading plant2) old new says also is = (let same = ap length (sym says.1.1.0 ∙ also.0) in absurd (omega (arith, same)))
+leaves_replan words plant plan period budget log (Numbering plant2) old new says also is = (let same = ap length (sym says.1.1.0 ∙ also.0) in absurd (omega (arith, same)))
 leaves_replan words plant plan period budget log (Showing seed) old new says also is = (let same = ap length (sym says.1.1.0 ∙ also.1.0) in absurd (omega (arith, same)))
 leaves_replan words plant plan period budget log (Replanning plant2 plan2 period2 budget2) old new says also is = (let same = ap length (sym says.1.1.0 ∙ also.1.1.0) in absurd (omega (arith, same)))
 leaves_replan words plant plan period budget log (CheckingReplan plant2 plan2 period2 log2) old new says also is = (let same = ap length (sym says.1.1.0 ∙ also.1.0) in absurd (omega (arith, same)))
@@ -139,7 +145,9 @@ leaves_logs words plant budget stem (Solving plant2 budget2) old new says also i
 leaves_logs words plant budget stem (Logging plant2 budget2 log2) old new says also is = (let same = ap first_byte (sym says.1.0 ∙ also.1.0) in absurd (omega (arith, same)))
 leaves_logs words plant budget stem (Simulating usage plant2 plan2) old new says also is = absurd (no_use words usage plant2 plan2 also.0 (let long = ap length says.1.0 in omega (arith, long)) (λ t. let first = ap first_byte says.1.0 in omega (arith, t, first)))
 leaves_logs words plant budget stem (Checking plant2 log2) old new says also is = (let same = ap length (sym says.1.0 ∙ also.0) in absurd (omega (arith, same)))
+leaves_logs words plant budget stem (Telling plant2 log2) old new says also is = (let same = ap length (sym says.1.0 ∙ also.0) in absurd (omega (arith, same)))
 leaves_logs words plant budget stem (Upgrading plant2) old new says also is = (let same = ap length (sym says.1.0 ∙ also.0) in absurd (omega (arith, same)))
+leaves_logs words plant budget stem (Numbering plant2) old new says also is = (let same = ap length (sym says.1.0 ∙ also.0) in absurd (omega (arith, same)))
 leaves_logs words plant budget stem (Showing seed) old new says also is = (let same = ap length (sym says.1.0 ∙ also.1.0) in absurd (omega (arith, same)))
 leaves_logs words plant budget stem (Replanning plant2 plan2 period2 budget2) old new says also is = (let same = ap length (sym says.1.0 ∙ also.1.1.0) in absurd (omega (arith, same)))
 leaves_logs words plant budget stem (ReplanLogging plant2 plan2 period2 budget2 log2) old new says also is = (let same = ap length (sym says.1.0 ∙ also.1.1.0) in absurd (omega (arith, same)))
@@ -170,7 +178,9 @@ leaves_part words plant levels part budget log (Solving plant2 budget2) old new 
 leaves_part words plant levels part budget log (Logging plant2 budget2 log2) old new says also is = (let same = ap length (sym says.1.1.1.0 ∙ also.1.0) in absurd (omega (arith, same)))
 leaves_part words plant levels part budget log (Simulating usage plant2 plan2) old new says also is = absurd (no_use words usage plant2 plan2 also.0 (let long = ap length says.1.1.1.0 in omega (arith, long)) (λ t. let first = ap first_byte says.1.1.1.0 in omega (arith, t, first)))
 leaves_part words plant levels part budget log (Checking plant2 log2) old new says also is = (let same = ap length (sym says.1.1.1.0 ∙ also.0) in absurd (omega (arith, same)))
+leaves_part words plant levels part budget log (Telling plant2 log2) old new says also is = (let same = ap length (sym says.1.1.1.0 ∙ also.0) in absurd (omega (arith, same)))
 leaves_part words plant levels part budget log (Upgrading plant2) old new says also is = (let same = ap length (sym says.1.1.1.0 ∙ also.0) in absurd (omega (arith, same)))
+leaves_part words plant levels part budget log (Numbering plant2) old new says also is = (let same = ap length (sym says.1.1.1.0 ∙ also.0) in absurd (omega (arith, same)))
 leaves_part words plant levels part budget log (Showing seed) old new says also is = (let same = ap length (sym says.1.1.1.0 ∙ also.1.0) in absurd (omega (arith, same)))
 leaves_part words plant levels part budget log (Replanning plant2 plan2 period2 budget2) old new says also is = (let same = ap length (sym says.1.1.1.0 ∙ also.1.1.0) in absurd (omega (arith, same)))
 leaves_part words plant levels part budget log (ReplanLogging plant2 plan2 period2 budget2 log2) old new says also is = (let same = ap first_byte (sym says.1.1.1.0 ∙ also.1.1.0) in absurd (omega (arith, same)))
@@ -200,7 +210,9 @@ leaves_join words plant levels stem log (Solving plant2 budget2) old new says al
 leaves_join words plant levels stem log (Logging plant2 budget2 log2) old new says also is = (let same = ap length (sym says.1.0 ∙ also.1.0) in absurd (omega (arith, same)))
 leaves_join words plant levels stem log (Simulating usage plant2 plan2) old new says also is = absurd (no_use words usage plant2 plan2 also.0 (let long = ap length says.1.0 in omega (arith, long)) (λ t. let first = ap first_byte says.1.0 in omega (arith, t, first)))
 leaves_join words plant levels stem log (Checking plant2 log2) old new says also is = (let same = ap length (sym says.1.0 ∙ also.0) in absurd (omega (arith, same)))
+leaves_join words plant levels stem log (Telling plant2 log2) old new says also is = (let same = ap length (sym says.1.0 ∙ also.0) in absurd (omega (arith, same)))
 leaves_join words plant levels stem log (Upgrading plant2) old new says also is = (let same = ap length (sym says.1.0 ∙ also.0) in absurd (omega (arith, same)))
+leaves_join words plant levels stem log (Numbering plant2) old new says also is = (let same = ap length (sym says.1.0 ∙ also.0) in absurd (omega (arith, same)))
 leaves_join words plant levels stem log (Showing seed) old new says also is = (let same = ap length (sym says.1.0 ∙ also.1.0) in absurd (omega (arith, same)))
 leaves_join words plant levels stem log (Replanning plant2 plan2 period2 budget2) old new says also is = (let same = ap first_byte (sym says.1.0 ∙ also.1.1.0) in absurd (omega (arith, same)))
 leaves_join words plant levels stem log (ReplanLogging plant2 plan2 period2 budget2 log2) old new says also is = (let same = ap length (sym says.1.0 ∙ also.1.1.0) in absurd (omega (arith, same)))
@@ -228,7 +240,9 @@ leaves words (Solving plant budget) other old new says also is = leaves_same oth
 leaves words (Logging plant budget log) other old new says also is = leaves_log words plant budget log other old new says also is
 leaves words (Simulating usage plant plan) other old new says also is = leaves_same other old new is.left
 leaves words (Checking plant log) other old new says also is = leaves_same other old new is.left
+leaves words (Telling plant log) other old new says also is = leaves_same other old new is.left
 leaves words (Upgrading plant) other old new says also is = leaves_same other old new is.left
+leaves words (Numbering plant) other old new says also is = leaves_same other old new is.left
 leaves words (Showing seed) other old new says also is = leaves_same other old new is.left
 leaves words (Replanning plant plan period budget) other old new says also is = leaves_same other old new is.left
 leaves words (ReplanLogging plant plan period budget log) other old new says also is = leaves_replan words plant plan period budget log other old new says also is

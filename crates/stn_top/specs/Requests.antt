@@ -11,13 +11,15 @@ use Rattle.plan_told.specs.Proofs.{bytes_in}
 use Rattle.least_horizon.specs.LogNames.{logs_in, OthersStayBelow}
 use Rattle.time_grid.specs.Slots.{slots}
 use Rattle.log_parts.specs.PartLogs.{AllAreValid}
-use Rattle.command_words.specs.Words.{Request, IsNoPartLog, Solving, Logging, Simulating, Checking, Upgrading, Showing, Replanning, ReplanLogging, CheckingReplan, Estimating, Seeking, Tracing, Auditing, Parting, PartSolving, Joining}
+use Rattle.command_words.specs.Words.{Request, IsNoPartLog, Solving, Logging, Simulating, Checking, Telling, Numbering, Upgrading, Showing, Replanning, ReplanLogging, CheckingReplan, Estimating, Seeking, Tracing, Auditing, Parting, PartSolving, Joining}
 use Rattle.command_replies.specs.Answers.{IsAnswerOver, content}
 use Rattle.command_replies.specs.Sources.{IsReadOf, OnPlant, OnPlan}
 use Rattle.answer_texts.specs.Levels.{OnLevels}
 use Rattle.answer_texts.specs.Simulation.{Simulated}
 use Rattle.plan_commands.specs.Upgrading.{Upgraded}
 use Rattle.log_commands.specs.Checking.{Checked}
+use Rattle.listing_commands.specs.Showing.{PlanShown}
+use Rattle.listing_commands.specs.Numbering.{Numbered}
 use Rattle.log_commands.specs.CheckingReplan.{ReplanChecked}
 use Rattle.tank_commands.specs.Estimating.{Estimated}
 use Rattle.planning_commands.specs.Solving.{HoldsLog, Solved}
@@ -29,14 +31,16 @@ use Rattle.horizon_commands.specs.Auditing.{Audited}
 use Rattle.part_commands.specs.Parting.{Parted}
 use Rattle.part_commands.specs.JoiningParts.{HoldsJoined, JoinAnswered, part_names}
 
--- the names of the files that a request reads, in the order of its words: the plant, then the plan, or the log to check, or the
+-- the names of the files that a request reads, in the order of its words: the plant, then the plan, or the log to check or to list, or the
 -- logs of the shorter horizons or of the parts
 abbrev pub read_names : Request → List (List ℕ)
 read_names (Solving plant budget) = plant ∷ []
 read_names (Logging plant budget log) = plant ∷ []
 read_names (Simulating usage plant plan) = plant ∷ plan ∷ []
 read_names (Checking plant log) = plant ∷ log ∷ []
+read_names (Telling plant log) = plant ∷ log ∷ []
 read_names (Upgrading plant) = plant ∷ []
+read_names (Numbering plant) = plant ∷ []
 read_names (Showing seed) = []
 read_names (Replanning plant plan period budget) = plant ∷ plan ∷ []
 read_names (ReplanLogging plant plan period budget log) = plant ∷ plan ∷ []
@@ -55,7 +59,9 @@ written_names (Solving plant budget) = []
 written_names (Logging plant budget log) = log ∷ []
 written_names (Simulating usage plant plan) = []
 written_names (Checking plant log) = []
+written_names (Telling plant log) = []
 written_names (Upgrading plant) = []
+written_names (Numbering plant) = []
 written_names (Showing seed) = []
 written_names (Replanning plant plan period budget) = []
 written_names (ReplanLogging plant plan period budget log) = log ∷ []
@@ -89,7 +95,9 @@ AnswersTo old new contents (Logging plant budget log) status text = OnPlant (rea
 AnswersTo old new contents (Simulating usage plant plan) status text =
     OnPlant (reading (content contents 0)) (λ p. OnPlan (plan_of_text p (content contents 1)) (Simulated usage p)) status text
 AnswersTo old new contents (Checking plant log) status text = OnPlant (reading (content contents 0)) (Checked (bytes_in log old)) status text
+AnswersTo old new contents (Telling plant log) status text = OnPlant (reading (content contents 0)) (PlanShown (bytes_in log old)) status text
 AnswersTo old new contents (Upgrading plant) status text = OnPlant (reading (content contents 0)) Upgraded status text
+AnswersTo old new contents (Numbering plant) status text = OnPlant (reading (content contents 0)) Numbered status text
 AnswersTo old new contents (Showing seed) status text = Shown seed status text
 AnswersTo old new contents (Replanning plant plan period budget) status text =
     OnPlant (reading (content contents 0)) (λ p. OnPlan (plan_of_text p (content contents 1)) (λ starts. Replanned budget p period (kept_starts period starts) None (new ≡ old))) status text
@@ -119,7 +127,9 @@ IsLeft (Solving plant budget) old new = new ≡ old
 IsLeft (Logging plant budget log) old new = (new ≡ old) ⊎ HoldsLog old new plant log
 IsLeft (Simulating usage plant plan) old new = new ≡ old
 IsLeft (Checking plant log) old new = new ≡ old
+IsLeft (Telling plant log) old new = new ≡ old
 IsLeft (Upgrading plant) old new = new ≡ old
+IsLeft (Numbering plant) old new = new ≡ old
 IsLeft (Showing seed) old new = new ≡ old
 IsLeft (Replanning plant plan period budget) old new = new ≡ old
 IsLeft (ReplanLogging plant plan period budget log) old new = (new ≡ old) ⊎ HoldsReplan old new plant plan period log
@@ -139,7 +149,9 @@ GetsToWriting files (Solving plant budget) = ⊥
 GetsToWriting files (Logging plant budget log) = (p : Plant) × IsReadOf reading files plant (Ok p)
 GetsToWriting files (Simulating usage plant plan) = ⊥
 GetsToWriting files (Checking plant log) = ⊥
+GetsToWriting files (Telling plant log) = ⊥
 GetsToWriting files (Upgrading plant) = ⊥
+GetsToWriting files (Numbering plant) = ⊥
 GetsToWriting files (Showing seed) = ⊥
 GetsToWriting files (Replanning plant plan period budget) = ⊥
 GetsToWriting files (ReplanLogging plant plan period budget log) = CanReplan files plant plan period

@@ -15,6 +15,7 @@ use command_replies::{Reply, Stopped};
 use command_words::{Command, command_of};
 use demo_commands::show;
 use horizon_commands::{audit_file, seek_file, trace_file};
+use listing_commands::{list_file, show_file};
 use log_commands::{check_file, check_replan_file};
 use part_commands::{join_file, parts_file};
 use plan_commands::{simulate_file, upgrade_file};
@@ -36,6 +37,8 @@ use tank_commands::estimate_file;
 /// | `table PLANT PLAN TABLE` | the same with another table: TABLE is `stocks`, `loads`, `units` or `deliveries` |
 /// | `violations PLANT PLAN` | simulates the plan, and says everything that it breaks, or what it earns |
 /// | `check PLANT LOG` | checks a proof log, and says its claim or its first defect |
+/// | `plan PLANT LOG` | prints the plan that a proof log claims, as a plan file, or the log's first defect |
+/// | `slots PLANT` | prints the slots and the rows of the plant's program by number |
 /// | `upgrade PLANT` | prints the plant as a plant file of version 2 |
 /// | `demo SEED` | makes a plant of the seed, plans it with 500 boxes, and checks the log; no file is touched |
 /// | `replan PLANT PLAN PERIOD BUDGET` | keeps the starts of the plan before the period, and plans what comes after as `solve` does; where one of them does not fit or two meet, says so |
@@ -180,6 +183,8 @@ fn reply_to<F: Shelf>(alloc: Global, command: Command, files: &mut F) -> Result<
         Command::Log { plant, budget, log } => log_file(alloc, files, plant, budget, log),
         Command::Simulate { usage, plant, plan } => simulate_file(alloc, files, usage, plant, plan),
         Command::Check { plant, log } => check_file(alloc, files, plant, log),
+        Command::Plan { plant, log } => show_file(alloc, files, plant, log),
+        Command::Slots { plant } => list_file(alloc, files, plant),
         Command::Upgrade { plant } => upgrade_file(alloc, files, plant),
         Command::Demo { seed } => demonstrate(alloc, seed),
         Command::Replan {

@@ -1,6 +1,6 @@
 -- Each command's work comes to what its call promises.
 use Rattle.std.proofs.Common.{ap, refl}
-use Rattle.command_words.specs.Words.{meaning, Solving, Logging, Simulating, Checking, Upgrading, Replanning, ReplanLogging, CheckingReplan, Estimating, Seeking, Tracing, Auditing, Parting, PartSolving, Joining}
+use Rattle.command_words.specs.Words.{meaning, Solving, Logging, Simulating, Checking, Telling, Numbering, Upgrading, Replanning, ReplanLogging, CheckingReplan, Estimating, Seeking, Tracing, Auditing, Parting, PartSolving, Joining}
 use Rattle.horizon_commands.proofs.Horizons.{logs_allowed, all_logs_allowed}
 use Rattle.part_commands.proofs.JoinLemmas.{parts_allowed}
 use Rattle.stn_top.proofs.FileLemmas.{kept_log, kept_replan, kept_logs, kept_part, kept_joined}
@@ -24,6 +24,18 @@ returns-in-Check-clause-done g c =
     rw c.in-Check.is (only_read (Checking c.in-Check.plant.now c.in-Check.log.now) (g.F.Shelf.files c.args.files.now) (g.F.Shelf.files c.check_file.new.files) (g.F.Shelf.read_faults c.args.files.now) (g.F.Shelf.read_faults c.check_file.new.files)
     (g.F.Shelf.write_faults c.args.files.now) (g.F.Shelf.write_faults c.check_file.new.files) c.check_file.result
     c.check_file.ensures.answer c.check_file.ensures.fault c.check_file.ensures.unwritten c.check_file.ensures.same c.check_file.ensures.later c.check_file.ensures.no_write)
+
+pub returns-in-Plan-clause-done : goal.returns-in-Plan-clause-done
+returns-in-Plan-clause-done g c =
+    rw c.in-Plan.is (only_read (Telling c.in-Plan.plant.now c.in-Plan.log.now) (g.F.Shelf.files c.args.files.now) (g.F.Shelf.files c.show_file.new.files) (g.F.Shelf.read_faults c.args.files.now) (g.F.Shelf.read_faults c.show_file.new.files)
+    (g.F.Shelf.write_faults c.args.files.now) (g.F.Shelf.write_faults c.show_file.new.files) c.show_file.result
+    c.show_file.ensures.answer c.show_file.ensures.fault c.show_file.ensures.unwritten c.show_file.ensures.same c.show_file.ensures.later c.show_file.ensures.no_write)
+
+pub returns-in-Slots-clause-done : goal.returns-in-Slots-clause-done
+returns-in-Slots-clause-done g c =
+    rw c.in-Slots.is (only_read (Numbering c.in-Slots.plant.now) (g.F.Shelf.files c.args.files.now) (g.F.Shelf.files c.list_file.new.files) (g.F.Shelf.read_faults c.args.files.now) (g.F.Shelf.read_faults c.list_file.new.files)
+    (g.F.Shelf.write_faults c.args.files.now) (g.F.Shelf.write_faults c.list_file.new.files) c.list_file.result
+    c.list_file.ensures.answer c.list_file.ensures.fault c.list_file.ensures.unwritten c.list_file.ensures.same c.list_file.ensures.later c.list_file.ensures.no_write)
 
 pub returns-in-Upgrade-clause-done : goal.returns-in-Upgrade-clause-done
 returns-in-Upgrade-clause-done g c =

@@ -1,0 +1,7 @@
+use Rattle.std.proofs.Common.{◌≡◌, ◌++◌, map}
+use Rattle.std.specs.List.{range_with_len}
+use Rattle.row_names.specs.declared.name.RowName.TheVariants.{Load}
+use Rattle.row_names.proofs.tables.push_utility.Given as goal
+
+abbrev pub invariant-loop-period : goal.invariant-loop-period
+invariant-loop-period l = l.names.items ≡ l.initial.names.items ++ map (Load l.utility) (range_with_len 0 l.period)

@@ -1,0 +1,117 @@
+//! The names of the gap rows.
+ghost use Rattle.std.specs.Prelude.{◌≡◌, ◌++◌, ◌<◌, ◌^◌, OnOk, length};
+ghost use Rattle.stn_model.specs.Sound.{Sound};
+ghost use Rattle.time_grid.specs.Slots.{slots, IsGrid, IsSlotOf};
+ghost use Rattle.unit_rows.specs.Busy.{is_on, slot_end};
+ghost use Rattle.unit_rows.specs.Gaps.{gap_after, is_too_soon};
+ghost use Rattle.row_names.specs.RowNames.{gaps_after, gaps_on, gap_names};
+
+use crate::name::RowName;
+use std::alloc::AllocError;
+use stn_model::{Plant, Run, duration, gap_of};
+use time_grid::Grid;
+
+/// Appends the names of the gap rows, by unit, then by the first slot, then by the second.
+#[tactic(auto, unfolding(crate::specs::RowNames::gap_names), using(crate::proofs::Ranges::pieces_next))]
+pub fn push_gaps(names: &mut Vec<RowName>, plant: &Plant, grid: &Grid) -> Result<(), AllocError>
+    requires sound { Sound plant.now }
+    requires grid { IsGrid plant.now grid.now }
+    ensures { OnOk result (names.new.items ≡ names.old.items ++ gap_names plant.now) }
+{
+    for unit in 0..plant.units.len() {
+        push_gaps_on(names, plant, grid, unit as u32)?;
+    }
+    Ok(())
+}
+
+// Appends the names of the gap rows of a unit.
+fn push_gaps_on(
+    names: &mut Vec<RowName>,
+    plant: &Plant,
+    grid: &Grid,
+    unit: u32,
+) -> Result<(), AllocError>
+    requires sound { Sound plant.now }
+    requires grid { IsGrid plant.now grid.now }
+    ensures { OnOk result (names.new.items ≡ names.old.items ++ gaps_on plant.now unit) }
+{
+    for first in 0..grid.slot_count() {
+        if is_on(plant, unit, grid.run_period(first)) {
+            push_gaps_after(names, plant, grid, unit, first)?;
+        }
+    }
+    Ok(())
+}
+
+// Appends the names of the gap rows of a unit whose first slot has this number.
+fn push_gaps_after(
+    names: &mut Vec<RowName>,
+    plant: &Plant,
+    grid: &Grid,
+    unit: u32,
+    first: u32,
+) -> Result<(), AllocError>
+    requires sound { Sound plant.now }
+    requires grid { IsGrid plant.now grid.now }
+    requires there { first < length (slots plant.now) }
+    ensures { OnOk result (names.new.items ≡ names.old.items ++ gaps_after plant.now unit first) }
+{
+    for second in 0..grid.slot_count() {
+        if is_too_soon(plant, grid.run_period(first), grid.run_period(second)) {
+            names.push(RowName::Gap {
+                unit,
+                first,
+                second,
+            })?;
+        }
+    }
+    Ok(())
+}
+
+// Whether a start in the second slot would come after one in the first, on one unit, but too soon for the cleaning.
+fn is_too_soon(plant: &Plant, first: (u32, u32), second: (u32, u32)) -> bool
+    requires sound { Sound plant.now }
+    requires first { IsSlotOf plant.now first }
+    requires second { IsSlotOf plant.now second }
+    ensures { result ≡ is_too_soon plant.now first second }
+{
+    let run = plant.runs.get(first.0 as usize);
+    if !is_on(plant, run.unit, second) {
+        return false;
+    }
+    let ending = slot_end(plant, first);
+    let gap = gap_after(plant, run, plant.runs.get(second.0 as usize));
+    let period = second.1 as u64;
+    ending <= period && period < ending + gap as u64
+}
+
+// How long the unit is cleaned between batches of two runs; 0 where they are not on one unit.
+fn gap_after(plant: &Plant, first: &Run, second: &Run) -> u32
+    ensures { result ≡ gap_after plant.now first.now second.now }
+{
+    if first.unit == second.unit {
+        gap_of(plant, first.unit, first.task, second.task)
+    } else {
+        0
+    }
+}
+
+// Whether the slot is one of the unit.
+fn is_on(plant: &Plant, unit: u32, slot: (u32, u32)) -> bool
+    requires { slot.0 < length plant.now.runs }
+    ensures { result ≡ is_on plant.now unit slot }
+{
+    plant.runs.get(slot.0 as usize).unit == unit
+}
+
+// The time at which a start in the slot ends.
+fn slot_end(plant: &Plant, slot: (u32, u32)) -> u64
+    requires sound { Sound plant.now }
+    requires run { slot.0 < length plant.now.runs }
+    ensures value { result ≡ slot_end plant.now slot }
+    ensures small { result < 2 ^ 33 }
+{
+    let run = plant.runs.get(slot.0 as usize);
+    let task = plant.tasks.get(run.task as usize);
+    slot.1 as u64 + duration(task) as u64
+}
