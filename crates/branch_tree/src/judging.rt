@@ -89,7 +89,9 @@ fn chosen(
     Ok(lower(program, area, cert, Some(climbed)))
 }
 
-// The end of a box with points: its only point, a certificate that leaves nothing above the best worth, or a split.
+// The end of a box with points: its only point, a certificate that leaves nothing above the best worth, or a split. What it
+// holds of a certificate takes some 150 kB of stack, which are to be no part of the frame of each box above one that is judged.
+#[inline(never)]
 pub(crate) fn judge(
     ground: &Ground,
     area: &Area,
