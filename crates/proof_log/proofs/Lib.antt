@@ -13,5 +13,4 @@ pub mod Texts
 pub mod Reading
 pub mod PartsRead
 pub mod Headed
-pub mod SaidOfOthers
 pub mod CleanTexts
