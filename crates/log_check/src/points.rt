@@ -4,8 +4,8 @@ ghost use Rattle.row_kit.specs.Point.{IsLawful};
 ghost use Rattle.valid_log.specs.Meaning.{PointDefect, IsWorth};
 ghost use Rattle.row_rooms.specs.Rooms.{IsRoomsOf};
 
-use row_rooms::RowRooms;
 use row_kit::{Program, is_lawful, worth};
+use row_rooms::RowRooms;
 
 /// What is wrong with a point and the worth that it is said to have: it is not lawful, or its worth is another. It costs the slots,
 /// the entries of the rows, and the worth.

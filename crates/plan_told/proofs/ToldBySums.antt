@@ -99,14 +99,17 @@ module _ (plant : Plant) (part larger : Program) (sums : List Sum) (sound : Soun
   told_given : (told : Told) → IsTold plant (given_end (length part.root) (least_found part) ended) told → IsToldBySums plant part sums budget tree told
   told_given told says =
       let with' = told-with plant part sound is budget (HasOpenBox larger (view_of larger.root) tree) (λ outcome. IsSumsProofOf plant part sums outcome tree) (given_end (length part.root) (least_found part) ended) sums_end
-      (λ said borne small most left. (larger, record {
-        boxes = sym search.spent;
-        justified = search.justified;
-        is = inr (enlarged, refl);
-        valid = valid-sums plant part larger sums budget tree ended (claim_of plant said) is may enlarged search borne small;
-        cap = subst (IsCapOf said) search.cap most;
-        left_open = left;
-      })) told says in
+      (λ said borne small most left. (
+        larger,
+        record {
+          boxes = sym search.spent;
+          justified = search.justified;
+          is = inr (enlarged, refl);
+          valid = valid-sums plant part larger sums budget tree ended (claim_of plant said) is may enlarged search borne small;
+          cap = subst (IsCapOf said) search.cap most;
+          left_open = left;
+        },
+      )) told says in
       record { outcome = with'.outcome; proof = with'.proof; claim = with'.claim; point = with'.point }
 
 -- what is told of a search over a program with sums is right

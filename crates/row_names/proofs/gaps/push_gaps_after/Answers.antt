@@ -25,9 +25,9 @@ loop-second-preserved c =
     let inside : c.args.first < length c.args.grid.now = omega (arith, long, c.requires.there) in
     let within : c.loop-second.second < length c.args.grid.now = omega arith in
     let here : c.run_period.result ≡ slot_at c.args.plant.now c.args.first =
-        c.run_period.ensures ∙ get_or_default c.args.grid.now c.args.first c.run_period.result (0, 0) inside ∙ ap (λ grid. slice_index_or grid c.args.first (0, 0)) c.requires.grid in
+    c.run_period.ensures ∙ get_or_default c.args.grid.now c.args.first c.run_period.result (0, 0) inside ∙ ap (λ grid. slice_index_or grid c.args.first (0, 0)) c.requires.grid in
     let there : c.run_period-in-loop-second.result ≡ slot_at c.args.plant.now c.loop-second.second =
-        c.run_period-in-loop-second.ensures ∙ get_or_default c.args.grid.now c.loop-second.second c.run_period-in-loop-second.result (0, 0) within ∙ ap (λ grid. slice_index_or grid c.loop-second.second (0, 0)) c.requires.grid in
+    c.run_period-in-loop-second.ensures ∙ get_or_default c.args.grid.now c.loop-second.second c.run_period-in-loop-second.result (0, 0) within ∙ ap (λ grid. slice_index_or grid c.loop-second.second (0, 0)) c.requires.grid in
     let test = c.is_too_soon.ensures ∙ ap₂ (λ a b. is_too_soon c.args.plant.now a b) here there in
     elim c.if-is_too_soon.branch [
       | then-is_too_soon+in_ok-push w ↦ rw w.names-is (item_taken (Gap c.args.unit c.args.first) p c.args.names.now.items c.loop-second.names.items w.push.new.self.items c.loop-second.second (sym test ∙ w.if-is_too_soon.true) c.loop-second.invariant w.in_ok-push.ensures.items)

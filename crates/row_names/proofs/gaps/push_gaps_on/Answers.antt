@@ -19,7 +19,7 @@ loop-first-preserved c =
     let p = λ (first : ℕ). is_on c.args.plant.now c.args.unit (slot_at c.args.plant.now first) in
     let within : c.loop-first.first < length c.args.grid.now = omega arith in
     let here : c.run_period.result ≡ slot_at c.args.plant.now c.loop-first.first =
-        c.run_period.ensures ∙ get_or_default c.args.grid.now c.loop-first.first c.run_period.result (0, 0) within ∙ ap (λ grid. slice_index_or grid c.loop-first.first (0, 0)) c.requires.grid in
+    c.run_period.ensures ∙ get_or_default c.args.grid.now c.loop-first.first c.run_period.result (0, 0) within ∙ ap (λ grid. slice_index_or grid c.loop-first.first (0, 0)) c.requires.grid in
     let test = c.is_on.ensures ∙ ap (λ slot. is_on c.args.plant.now c.args.unit slot) here in
     elim c.if-is_on.branch [
       | then-is_on+in_ok-push_gaps_after w ↦ rw w.names-is (piece_taken (gaps_after c.args.plant.now c.args.unit) p c.args.names.now.items c.loop-first.names.items w.push_gaps_after.new.names.items c.loop-first.first (sym test ∙ w.if-is_on.true) c.loop-first.invariant w.in_ok-push_gaps_after.ensures)
