@@ -1,0 +1,6 @@
+pub mod Products
+pub mod Rounds
+pub mod SlotSums
+pub mod Grouped
+pub mod Mixed
+pub mod Held

@@ -1,0 +1,5 @@
+pub mod Rounding
+pub mod Groups
+pub mod Derived
+pub mod Shown
+pub mod Law
