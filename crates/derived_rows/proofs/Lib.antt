@@ -4,3 +4,5 @@ pub mod SlotSums
 pub mod Grouped
 pub mod Mixed
 pub mod Held
+pub mod Bounds
+pub mod LineSums

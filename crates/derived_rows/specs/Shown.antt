@@ -1,13 +1,12 @@
 -- When a derived row is shown.
-use Rattle.std.specs.Prelude.{◌≡◌, ℕ, ◌<◌, ◌≤◌, false, List, length, map, pos, ◌*ℤ◌, ◌≤ℤ◌, unsigned_abs}
+use Rattle.std.specs.Prelude.{ℕ, ◌<◌, ◌≤◌, List, length, pos, ◌*ℤ◌, ◌≤ℤ◌, unsigned_abs}
 use Rattle.std.specs.List.{All}
-use Rattle.std.specs.List.Sorted.{IsStrictlyIncreasing}
 use Rattle.row_kit.specs.declared.domain.Domain.{Domain}
 use Rattle.row_kit.specs.declared.program.Program.{Program}
 use Rattle.row_kit.specs.declared.row.Row.{Row}
 use Rattle.row_kit.specs.Bounds.{AreBounded}
 use Rattle.row_kit.specs.Domain.{Holds, domain_at}
-use Rattle.row_kit.specs.Row.{entry_at, is_nothing}
+use Rattle.row_kit.specs.Row.{entry_at}
 use Rattle.derived_rows.specs.declared.derived.Derived.{Derived}
 use Rattle.derived_rows.specs.declared.derived.Factor.{Factor}
 use Rattle.derived_rows.specs.declared.derived.Group.{Group}
@@ -25,7 +24,7 @@ pub record IsGroup (program : Program) (group : Group) : Type 0 where
   pub members : AreMembers program group.members
   pub small : unsigned_abs group.shift ≤ 1000000000000
 
--- the numbers of a derived row lie in their ranges, and what it names is there: rows and slots in ascending order
+-- the numbers of a derived row lie in their ranges, and what it names is there
 pub record IsDeclared (program : Program) (derived : Derived) : Type 0 where
   pub divisor : (1 ≤ derived.divisor) × (derived.divisor ≤ 1000000000)
   pub rest : derived.rest < derived.divisor
@@ -33,11 +32,9 @@ pub record IsDeclared (program : Program) (derived : Derived) : Type 0 where
   pub down : (1 ≤ derived.down) × (derived.down ≤ 1000000000)
   pub factor_count : (1 ≤ length derived.factors) × (length derived.factors ≤ 64)
   pub factors : All (IsFactor (length program.rows)) derived.factors
-  pub ascending : IsStrictlyIncreasing (map (λ f. f.row) derived.factors)
   pub few_groups : length derived.groups ≤ 512
   pub groups : All (IsGroup program) derived.groups
   pub entries : AreBounded (length program.root) 10000000 derived.entries
-  pub entries_count : All (λ e. is_nothing (e.fixed, e.per) ≡ false) derived.entries
 
 -- A derived row is shown over domains where down times what its entry counts is at most up times T, for every slot, also one without
 -- an entry, and each value of 1 or more that its domain holds, and where its limit is at most 10^12 in absolute value.

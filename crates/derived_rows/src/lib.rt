@@ -4,8 +4,18 @@
 //! the law: no point that keeps the rows it is made of breaks it.
 #![tactic(auto)]
 
+mod declared;
 mod derived;
 mod law;
+mod limits;
+mod line;
+mod lines;
+mod parts;
+mod rounding;
+mod shifts;
+mod shown;
+mod table;
 
 pub use derived::{Derived, Factor, Group, Members};
 pub use law::derived_rows_hold;
+pub use shown::shown_row;
