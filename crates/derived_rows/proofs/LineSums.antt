@@ -1,5 +1,5 @@
 -- Lines: one entry more, and bounds on their parts.
-use Rattle.std.proofs.Common.{◌≡◌, ℕ, zero, suc, ◌+◌, ◌<◌, ◌≤◌, eqb, List, length, get_or, set, drop, replicate, refl, sym, ap, ◌∙◌, ⊎_elim, arith, ℤ, pos, ◌+ℤ◌, ◌*ℤ◌}
+use Rattle.std.proofs.Common.{◌≡◌, ℕ, zero, suc, ◌+◌, ◌<◌, ◌≤◌, eqb, List, length, get_or, set, drop, replicate, refl, sym, ap, ap₂, ◌∙◌, ⊎_elim, arith, ℤ, pos, neg_ℤ, ◌+ℤ◌, ◌-ℤ◌, ◌*ℤ◌}
 use Rattle.std.specs.List.{All}
 use Rattle.std.proofs.lemmas.Bool.{cond-true, cond-false, eq-eqb, ne_eqb, cases_eq, cases_lt}
 use Rattle.std.proofs.lemmas.List.{at_drop_more, get_or-set_same, get_or-set_other, get_or-replicate, get_or_past, length-replicate}
@@ -10,8 +10,11 @@ use Rattle.row_kit.specs.declared.row.Entry.{Entry}
 use Rattle.row_kit.specs.Row.{counted, entry_at, part_at}
 use Rattle.row_kit.proofs.Ascending.{no_entry}
 use Rattle.row_kit.proofs.Values.{part_above, part_at-nothing}
+use Rattle.derived_rows.specs.declared.derived.Derived.{Derived}
 use Rattle.derived_rows.specs.declared.line.Line.{Line}
-use Rattle.derived_rows.specs.Line.{line_at, slot_line, IsWithin}
+use Rattle.derived_rows.specs.declared.parts.Parts.{Parts}
+use Rattle.derived_rows.specs.Derived.{round_of}
+use Rattle.derived_rows.specs.Line.{line_at, parts_term, slot_line, IsBelow, IsNothing, IsWithin}
 use Rattle.derived_rows.proofs.Products.{times_add, times_next}
 
 -- the parts of a line with a factor times an entry besides are the sums of the parts
@@ -73,3 +76,14 @@ bare_at n slot v =
 
 pub bare_within : (n : ℕ) → All (IsWithin 0) (replicate n no_line)
 bare_within n = All-replicate (IsWithin 0) n no_line (record { fixed = omega arith; per = omega arith })
+
+-- where nothing counts of a slot, its entry is below T, which is 0
+pub nothing_below : (derived : Derived) (parts : Parts) → IsNothing parts.sum → IsNothing parts.slack → IsNothing parts.own → (v : ℕ) → IsBelow derived parts v
+nothing_below derived parts sum slack own v =
+    let round = round_of derived in
+    let alone : line_at parts.sum v -ℤ parts.shift ≡ neg_ℤ parts.shift = omega (arith, ints, at_nothing parts.sum sum) in
+    let term : parts_term derived parts v ≡ pos 0 = omega (arith, ints, ap round alone, at_nothing parts.slack slack) in
+    omega (arith, ints, ap (λ (x : ℤ). pos derived.down *ℤ x) (at_nothing parts.own own), *ℤ-zero (pos derived.down), ap (λ (x : ℤ). pos derived.up *ℤ x) term, *ℤ-zero (pos derived.up))
+  where
+    at_nothing : (line : Line) → IsNothing line → line_at line v ≡ pos 0
+    at_nothing line none = ap₂ (λ (x y : ℤ). part_at (x, y) v) none.0 none.1 ∙ part_at-nothing v

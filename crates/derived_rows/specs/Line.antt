@@ -1,5 +1,5 @@
 -- What a slot counts at each value, as a line above 0, and what of a slot a derived row is judged by.
-use Rattle.std.specs.Prelude.{ℕ, ◌*◌, ◌<◌, ◌≤◌, ◌^◌, List, length, ℤ, pos, neg_ℤ, ◌-ℤ◌, ◌*ℤ◌, ◌≤ℤ◌, slice_index_or, unsigned_abs}
+use Rattle.std.specs.Prelude.{◌≡◌, ℕ, ◌*◌, ◌<◌, ◌≤◌, ◌^◌, List, length, ℤ, pos, neg_ℤ, ◌-ℤ◌, ◌*ℤ◌, ◌≤ℤ◌, slice_index_or, unsigned_abs}
 use Rattle.std.specs.List.{All}
 use Rattle.row_kit.specs.declared.row.Entry.{Entry}
 use Rattle.row_kit.specs.declared.row.Row.{Row}
@@ -20,6 +20,10 @@ line_at line value = part_at (line.fixed, line.per) value
 abbrev pub slot_line : List Line → ℕ → Line
 slot_line lines slot = slice_index_or lines slot (record { fixed = pos 0; per = pos 0 })
 
+-- a line that counts nothing at any value
+abbrev pub IsNothing : Line → Type 0
+IsNothing line = (line.fixed ≡ pos 0) × (line.per ≡ pos 0)
+
 -- a factor times either part of an entry stays small
 pub record IsLight (by : ℤ) (entry : Entry) : Type 0 where
   pub fixed : unsigned_abs by * unsigned_abs entry.fixed ≤ 2 ^ 55
@@ -37,9 +41,9 @@ pub record IsSmallFactor (rows : ℕ) (factor : Factor) : Type 0 where
 
 -- the parts of a slot stay small
 pub record AreSmall (parts : Parts) : Type 0 where
-  pub sum : IsWithin (2 ^ 70) parts.sum
-  pub slack : IsWithin (2 ^ 70) parts.slack
-  pub own : IsWithin (2 ^ 70) parts.own
+  pub sum : IsWithin (2 ^ 73) parts.sum
+  pub slack : IsWithin (2 ^ 73) parts.slack
+  pub own : IsWithin (2 ^ 73) parts.own
   pub shift : unsigned_abs parts.shift ≤ 2 ^ 40
 
 -- T of a slot at a value, by its parts

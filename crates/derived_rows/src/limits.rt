@@ -78,7 +78,7 @@ fn whole_limit(program: &Program, derived: &Derived, slacks: &[Factor]) -> i128
     requires slacks { slacks.now ≡ map (slack_factor (round_of derived.now)) derived.now.factors }
     requires small { All (IsSmallFactor (length program.now.rows)) slacks.now }
     ensures value { result ≡ whole_limit program.now.rows derived.now }
-    ensures small { unsigned_abs result ≤ 2 ^ 92 }
+    ensures small { unsigned_abs result ≤ 2 ^ 86 }
 {
     let rows = program.rows.as_slice();
     let left = shifted_limit(rows, derived);
@@ -145,7 +145,7 @@ fn starts_sum(derived: &Derived, groups: &[Group]) -> i128
     requires few { length groups.now ≤ 512 }
     requires small { All (λ group. unsigned_abs group.shift ≤ 1000000000000) groups.now }
     ensures value { result ≡ starts_sum (round_of derived.now) groups.now }
-    ensures small { unsigned_abs result ≤ 2 ^ 90 }
+    ensures small { unsigned_abs result ≤ 2 ^ 50 }
 {
     let mut sum = 0i128;
     for group in groups {
@@ -159,7 +159,7 @@ fn start(derived: &Derived, group: &Group) -> i128
     requires rounding { IsRounding derived.now }
     requires small { unsigned_abs group.now.shift ≤ 1000000000000 }
     ensures value { result ≡ round_of derived.now (neg_ℤ group.now.shift) }
-    ensures small { unsigned_abs result ≤ 2 ^ 81 }
+    ensures small { unsigned_abs result ≤ 2 ^ 41 }
 {
     phi(derived.divisor, derived.rest, 0 - i128::from(group.shift))
 }

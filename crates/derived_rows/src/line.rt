@@ -1,5 +1,5 @@
 //! What a slot counts at its values, as a line.
-ghost use Rattle.std.specs.Prelude.{◌≡◌, ℕ, ◌+◌, ◌*◌, ◌≤◌, ◌<◌, ◌^◌, pos, ◌+ℤ◌, ◌*ℤ◌, unsigned_abs};
+ghost use Rattle.std.specs.Prelude.{◌≡◌, ℕ, ◌+◌, ◌*◌, ◌≤◌, ◌<◌, ◌^◌, pos, ◌+ℤ◌, ◌*ℤ◌, ◌↔◌, IsTrue, unsigned_abs};
 ghost use Rattle.row_kit.specs.Row.{counted};
 
 use crate::derived::Factor;
@@ -13,7 +13,7 @@ pub struct Line {
 }
 
 impl Line {
-    ghost use Rattle.derived_rows.specs.Line.{line_at, IsLight, IsWithin};
+    ghost use Rattle.derived_rows.specs.Line.{line_at, IsLight, IsNothing, IsWithin};
 
     // The line with a factor times an entry besides.
     pub fn with_entry(&self, entry: &Entry, factor: &Factor) -> Line
@@ -29,12 +29,19 @@ impl Line {
         }
     }
 
+    // Whether it counts nothing at any value.
+    pub fn is_nothing(&self) -> bool
+        ensures { IsTrue result ↔ IsNothing self.now }
+    {
+        self.fixed == 0 && self.per == 0
+    }
+
     // What the line counts at a value of 1 or more.
     pub fn at(&self, value: u8) -> i128
-        requires within { IsWithin (2 ^ 70) self.now }
+        requires within { IsWithin (2 ^ 73) self.now }
         requires positive { 1 ≤ value }
         ensures value { result ≡ line_at self.now value }
-        ensures small { unsigned_abs result ≤ 2 ^ 79 }
+        ensures small { unsigned_abs result ≤ 2 ^ 81 }
     {
         self.fixed + times_value(self.per, value)
     }
@@ -51,7 +58,7 @@ fn scaled(part: i64, by: i64) -> i128
 
 // A part for each unit of a value.
 fn times_value(per: i128, value: u8) -> i128
-    requires { unsigned_abs per ≤ 2 ^ 70 }
+    requires { unsigned_abs per ≤ 2 ^ 73 }
     ensures value { result ≡ per *ℤ pos value }
     ensures small { unsigned_abs result ≤ unsigned_abs per * value }
 {

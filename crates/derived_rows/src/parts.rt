@@ -17,7 +17,7 @@ pub struct Parts {
 }
 
 impl Parts {
-    ghost use Rattle.derived_rows.specs.Line.{parts_term, AreSmall, IsBelow, IsRounding};
+    ghost use Rattle.derived_rows.specs.Line.{parts_term, AreSmall, IsBelow, IsNothing, IsRounding};
 
     // Whether the entry is below what is rounded at each value of 1 or more that a domain holds.
     pub fn are_below(&self, derived: &Derived, domain: Domain) -> bool
@@ -26,12 +26,23 @@ impl Parts {
         requires normal { IsNormal domain }
         ensures { IsTrue result ↔ ((v : ℕ) → 1 ≤ v → Holds domain v → IsBelow derived.now self.now v) }
     {
+        if self.count_nothing() {
+            return true;
+        }
         for value in u32::from(domain.lo)..u32::from(domain.hi) + 1 {
             if !self.is_below(derived, value as u8) {
                 return false;
             }
         }
         true
+    }
+
+    // Whether nothing counts of the slot at any value.
+    fn count_nothing(&self) -> bool
+        ensures { IsTrue result ↔ (IsNothing self.now.sum × IsNothing self.now.slack
+            × IsNothing self.now.own) }
+    {
+        self.sum.is_nothing() && self.slack.is_nothing() && self.own.is_nothing()
     }
 
     // Whether down times what the entry counts at a value is at most up times T.
@@ -50,7 +61,7 @@ impl Parts {
         requires rounding { IsRounding derived.now }
         requires positive { 1 ≤ value }
         ensures value { result ≡ parts_term derived.now self.now value }
-        ensures small { unsigned_abs result ≤ 2 ^ 83 }
+        ensures small { unsigned_abs result ≤ 2 ^ 87 }
     {
         let shift = i128::from(self.shift);
         let shifted = phi(derived.divisor, derived.rest, self.sum.at(value) - shift);

@@ -6,9 +6,9 @@ ghost use Rattle.derived_rows.specs.Rounding.{phi};
 // phi of a number.
 pub fn phi(divisor: u32, rest: u32, number: i128) -> i128
     requires rest { rest < divisor }
-    requires small { unsigned_abs number ≤ 2 ^ 80 }
+    requires small { unsigned_abs number ≤ 2 ^ 84 }
     ensures value { result ≡ phi divisor rest number }
-    ensures small { unsigned_abs result ≤ 2 ^ 81 }
+    ensures small { unsigned_abs result ≤ 2 ^ 85 }
 {
     whole_part(divisor, rest, number) + left_part(divisor, rest, number)
 }
@@ -16,7 +16,7 @@ pub fn phi(divisor: u32, rest: u32, number: i128) -> i128
 // The divisor less the rest for each whole time that a number holds the divisor.
 fn whole_part(divisor: u32, rest: u32, number: i128) -> i128
     requires rest { rest < divisor }
-    requires small { unsigned_abs number ≤ 2 ^ 80 }
+    requires small { unsigned_abs number ≤ 2 ^ 84 }
     ensures value { result ≡ pos (divisor - rest) *ℤ int_div_euclid number (pos divisor) }
     ensures small { unsigned_abs result ≤ 2 ^ 124 }
 {

@@ -15,9 +15,9 @@ pub with_entry-requires-clause-within : goal.with_entry-requires-clause-within
 with_entry-requires-clause-within c =
     let i = c.loop-entry.entry-index in
     let e = get_or c.args.entries.now i no_entry in
-    let few : length c.args.entries.now ≤ 512 = omega (arith, few_entries (length c.args.lines.now) 10000000 c.args.entries.now c.requires.bounded, c.requires.slots) in
+    let few : length c.args.entries.now ≤ 4096 = omega (arith, few_entries (length c.args.lines.now) 10000000 c.args.entries.now c.requires.bounded, c.requires.slots) in
     let lt : e.slot < length c.loop-entry.lines = omega (arith, c.requires.bounded.named i no_entry c.loop-entry-test.true, c.loop-entry.auto.lines) in
-    within_le (2 ^ 70 + 2 ^ 55 * i) (2 ^ 80) (get_or c.loop-entry.lines e.slot no_line) (c.loop-entry.invariant.within (2 ^ 70) c.requires.within e.slot no_line lt) (omega (arith, few, c.loop-entry-test.true))
+    within_le (2 ^ 73 + 2 ^ 55 * i) (2 ^ 80) (get_or c.loop-entry.lines e.slot no_line) (c.loop-entry.invariant.within (2 ^ 73) c.requires.within e.slot no_line lt) (omega (arith, few, c.loop-entry-test.true))
 
 pub loop-entry-preserved : goal.loop-entry-preserved
 loop-entry-preserved c =
@@ -39,7 +39,7 @@ loop-entry-preserved c =
 pub returns-clause-within : goal.returns-clause-within
 returns-clause-within c = λ most h.
     let few = few_entries (length c.args.lines.now) 10000000 c.args.entries.now c.requires.bounded in
-    all_within_le (most + 2 ^ 55 * c.loop-entry.entry-index) (most + 2 ^ 64) c.loop-entry.lines (omega (arith, few, c.requires.slots, c.loop-entry.auto.entry-index-end)) (c.loop-entry.invariant.within most h)
+    all_within_le (most + 2 ^ 55 * c.loop-entry.entry-index) (most + 2 ^ 67) c.loop-entry.lines (omega (arith, few, c.requires.slots, c.loop-entry.auto.entry-index-end)) (c.loop-entry.invariant.within most h)
 
 pub returns-clause-value : goal.returns-clause-value
 returns-clause-value c = λ slot v h.

@@ -16,7 +16,7 @@ no_factor = record { row = 0; by = pos 0 }
 
 pub add_row-requires-clause-within : goal.add_row-requires-clause-within
 add_row-requires-clause-within c =
-    all_within_le (2 ^ 64 * c.loop-factor.factor-index) (2 ^ 70) c.loop-factor.lines (omega (arith, c.requires.few, c.loop-factor-test.true)) c.loop-factor.invariant.within
+    all_within_le (2 ^ 67 * c.loop-factor.factor-index) (2 ^ 73) c.loop-factor.lines (omega (arith, c.requires.few, c.loop-factor-test.true)) c.loop-factor.invariant.within
 
 pub loop-factor-preserved : goal.loop-factor-preserved
 loop-factor-preserved c =
@@ -35,6 +35,6 @@ loop-factor-preserved c =
           let before = c.loop-factor.invariant.whole slot v (omega (arith, h, c.add_row.auto.lines)) in
           omega (arith, ints, one, more, before);
       within =
-          let bound : 2 ^ 64 * i + 2 ^ 64 ≡ 2 ^ 64 * (i + 1) = omega arith in
-          subst (λ (n : ℕ). All (IsWithin n) c.add_row.new.lines) bound (c.add_row.ensures.within (2 ^ 64 * i) c.loop-factor.invariant.within);
+          let bound : 2 ^ 67 * i + 2 ^ 67 ≡ 2 ^ 67 * (i + 1) = omega arith in
+          subst (λ (n : ℕ). All (IsWithin n) c.add_row.new.lines) bound (c.add_row.ensures.within (2 ^ 67 * i) c.loop-factor.invariant.within);
     }

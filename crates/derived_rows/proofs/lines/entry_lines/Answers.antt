@@ -27,4 +27,4 @@ returns-clause-within c =
     let rest = drop (length new') c.in_ok-lines.lines.items in
     let whole = take_at new' rest c.in_ok-lines.lines.len (omega (arith, c.add_entries.auto.lines, c.deref_mut.ensures.len)) in
     let bare = subst (All (IsWithin 0)) (sym (c.deref_mut.ensures.value ∙ c.in_ok-lines.ensures.items)) (bare_within c.args.slots) in
-    subst (All (IsWithin (2 ^ 70))) (sym (c.from_vec.ensures ∙ whole)) (all_within_le (0 + 2 ^ 64) (2 ^ 70) new' (omega arith) (c.add_entries.ensures.within 0 bare))
+    subst (All (IsWithin (2 ^ 73))) (sym (c.from_vec.ensures ∙ whole)) (all_within_le (0 + 2 ^ 67) (2 ^ 73) new' (omega arith) (c.add_entries.ensures.within 0 bare))
