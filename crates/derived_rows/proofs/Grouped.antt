@@ -1,5 +1,5 @@
 -- Groups: at most one member has a value other than 0, so what is rounded for a group is rounded once.
-use Rattle.std.proofs.Common.{◌≡◌, ℕ, zero, suc, ◌+◌, ◌<◌, ◌≤◌, Bool, true, false, cond, eqb, ◌||◌, List, [], ◌∷◌, length, get_or, refl, sym, ap, ap₂, ◌∙◌, arith, ℤ, pos, neg_ℤ, ◌+ℤ◌, ◌-ℤ◌, ◌*ℤ◌, ◌≤ℤ◌, ◌⊎◌, inl, inr}
+use Rattle.std.proofs.Common.{◌≡◌, ℕ, zero, suc, ◌+◌, Bool, true, false, cond, eqb, ◌||◌, List, [], ◌∷◌, refl, sym, ap, ap₂, ◌∙◌, arith, ℤ, pos, neg_ℤ, ◌+ℤ◌, ◌-ℤ◌, ◌*ℤ◌, ◌≤ℤ◌, ◌⊎◌, inl, inr}
 use Rattle.std.specs.List.{All, list_any}
 use Rattle.std.proofs.lemmas.Int.{ints}
 use Rattle.std.proofs.lemmas.List.Elements.{All-head, All-tail}
@@ -10,7 +10,7 @@ use Rattle.row_kit.specs.Row.{counted, entries_sum, entry_at}
 use Rattle.row_kit.proofs.Values.{part_above}
 use Rattle.derived_rows.specs.declared.derived.Group.{Group}
 use Rattle.derived_rows.specs.Groups.{is_member, member_entries, shift_at, shifts_sum, starts_sum}
-use Rattle.derived_rows.proofs.SlotSums.{over_entries, over_nothing, over_slots, over_sum}
+use Rattle.derived_rows.proofs.SlotSums.{over_entries, over_slots, over_sum}
 
 -- a function of whole numbers that is superadditive, and 0 at 0
 pub record Rounds (round : ℤ → ℤ) : Type 0 where

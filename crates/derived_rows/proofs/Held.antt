@@ -1,26 +1,22 @@
 -- A point that keeps the rows keeps the row that is derived from them.
-use Rattle.std.proofs.Common.{◌≡◌, ℕ, zero, suc, ◌+◌, ◌<◌, ◌≤◌, List, [], ◌∷◌, length, map, get_or, refl, sym, ap, ◌∙◌, subst, arith, ℤ, pos, neg_ℤ, ◌+ℤ◌, ◌-ℤ◌, ◌*ℤ◌, ◌≤ℤ◌}
-use Rattle.std.specs.Int.{int_div_euclid}
+use Rattle.std.proofs.Common.{◌≡◌, ℕ, zero, suc, ◌+◌, ◌<◌, List, [], ◌∷◌, length, map, get_or, refl, ap, ◌∙◌, arith, ℤ, pos, neg_ℤ, ◌+ℤ◌, ◌-ℤ◌, ◌*ℤ◌, ◌≤ℤ◌}
 use Rattle.std.specs.List.{All}
-use Rattle.std.proofs.lemmas.Int.{ints, by_lt_z}
+use Rattle.std.proofs.lemmas.Int.{ints}
 use Rattle.std.proofs.lemmas.List.Elements.{All-cons, All-nil}
 use Rattle.std.proofs.Math.IntN.{*ℤ-zero, zero-*ℤ}
-use Rattle.row_kit.specs.declared.domain.Domain.{Domain}
 use Rattle.row_kit.specs.declared.program.Program.{Program}
 use Rattle.row_kit.specs.declared.row.Entry.{Entry}
 use Rattle.row_kit.specs.declared.row.Row.{Row}
 use Rattle.row_kit.specs.Domain.{Holds, domain_at}
-use Rattle.row_kit.specs.Point.{LiesIn}
-use Rattle.row_kit.specs.Row.{IsKept, counted, entries_sum, entry_at, no_row, row_at}
+use Rattle.row_kit.specs.Row.{IsKept, counted, entries_sum, entry_at, no_row}
 use Rattle.row_kit.proofs.Values.{part_above}
 use Rattle.derived_rows.specs.declared.derived.Derived.{Derived}
-use Rattle.derived_rows.specs.declared.derived.Group.{Group}
 use Rattle.derived_rows.specs.declared.derived.Members.{Members}
 use Rattle.derived_rows.specs.declared.derived.Members.TheVariants.{One, OfRow}
 use Rattle.derived_rows.specs.Derived.{mixed_at, mixed_limit, round_of, slack_factor, term_at, whole_limit}
-use Rattle.derived_rows.specs.Groups.{AreMembers, member_entries, shift_at, shifts_sum, starts_sum}
+use Rattle.derived_rows.specs.Groups.{AreMembers, shift_at, shifts_sum}
 use Rattle.derived_rows.specs.Law.{DerivedRowsHold, RoundsDown}
-use Rattle.derived_rows.specs.Shown.{IsGroup, IsShownRow, derived_row}
+use Rattle.derived_rows.specs.Shown.{IsGroup}
 use Rattle.derived_rows.proofs.Grouped.{AreOnes, IsAlone, Rounds, grouped, none_at_zero, shifted}
 use Rattle.derived_rows.proofs.Mixed.{mixed_bare, mixed_whole, slacks, slacks_rounded}
 use Rattle.derived_rows.proofs.Products.{times_le}

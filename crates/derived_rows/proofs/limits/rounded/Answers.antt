@@ -1,5 +1,5 @@
 -- phi of a factor fits, since it is no further from 0 than the factor and the divisor.
-use Rattle.std.proofs.Common.{ℤ, ◌≡◌, ◌∙◌, ◌≤◌, ◌^◌, unsigned_abs, to_z, of_z, ap, arith}
+use Rattle.std.proofs.Common.{◌≡◌, ◌∙◌, ◌≤◌, ◌^◌, unsigned_abs, to_z, of_z, ap, arith}
 use Rattle.std.proofs.lemmas.Int.{ints}
 use Rattle.derived_rows.specs.Rounding.{phi}
 use Rattle.derived_rows.proofs.Bounds.{phi_small}

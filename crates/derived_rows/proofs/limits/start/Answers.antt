@@ -1,5 +1,5 @@
 -- phi of a shift is no further from 0 than the shift and the divisor.
-use Rattle.std.proofs.Common.{ℤ, ◌≡◌, ◌≤◌, ◌^◌, pos, neg_ℤ, ◌-ℤ◌, unsigned_abs, to_z, of_z, arith}
+use Rattle.std.proofs.Common.{◌≡◌, pos, neg_ℤ, ◌-ℤ◌, to_z, of_z, arith}
 use Rattle.std.proofs.lemmas.Int.{ints}
 use Rattle.derived_rows.proofs.Bounds.{phi_small}
 use Rattle.derived_rows.proofs.limits.start.Goals as goal

@@ -3,7 +3,6 @@ use Rattle.std.proofs.Common.{ℤ, List, ◌≡◌, ◌∙◌, ◌-ℤ◌, to_z,
 use Rattle.std.proofs.lemmas.Int.{ints}
 use Rattle.row_kit.specs.declared.row.Row.{Row}
 use Rattle.derived_rows.specs.declared.derived.Factor.{Factor}
-use Rattle.derived_rows.specs.declared.derived.Group.{Group}
 use Rattle.derived_rows.specs.Derived.{mixed_limit}
 use Rattle.derived_rows.specs.Groups.{shifts_sum, starts_sum}
 use Rattle.derived_rows.specs.Rounding.{phi}

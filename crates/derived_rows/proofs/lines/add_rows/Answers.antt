@@ -1,8 +1,8 @@
 -- One row more is added.
-use Rattle.std.proofs.Common.{ℤ, ◌≡◌, ◌∙◌, ◌+◌, ◌*◌, ◌^◌, ◌<◌, ◌≤◌, ℕ, List, [], length, get_or, drop, ap, subst, pos, ◌+ℤ◌, ◌*ℤ◌, arith}
+use Rattle.std.proofs.Common.{◌≡◌, ◌∙◌, ◌+◌, ◌*◌, ◌^◌, ◌<◌, ℕ, List, [], length, get_or, ap, subst, pos, ◌+ℤ◌, ◌*ℤ◌, arith}
 use Rattle.std.specs.List.{All}
 use Rattle.std.proofs.lemmas.Int.{ints}
-use Rattle.std.proofs.lemmas.List.{get_or_read, at_drop_more, at_drop_all}
+use Rattle.std.proofs.lemmas.List.{get_or_read, at_drop_more}
 use Rattle.row_kit.specs.Row.{entry_at, row_at}
 use Rattle.row_kit.specs.declared.row.Row.{Row}
 use Rattle.derived_rows.specs.declared.derived.Factor.{Factor}

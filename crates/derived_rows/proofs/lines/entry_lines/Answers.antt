@@ -1,5 +1,5 @@
 -- The lines count nothing at first.
-use Rattle.std.proofs.Common.{ℤ, ℕ, ◌≡◌, ◌∙◌, ◌<◌, ◌+◌, ◌^◌, ◌++◌, List, length, drop, take, pos, ◌+ℤ◌, ◌*ℤ◌, sym, ap, subst, arith}
+use Rattle.std.proofs.Common.{◌≡◌, ◌∙◌, ◌<◌, ◌+◌, ◌^◌, List, length, drop, pos, ◌*ℤ◌, sym, ap, subst, arith}
 use Rattle.std.specs.List.{All}
 use Rattle.std.proofs.lemmas.Int.{ints}
 use Rattle.std.proofs.lemmas.List.{take_at}

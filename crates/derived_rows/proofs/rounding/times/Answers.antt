@@ -1,5 +1,5 @@
 -- A product of small numbers is small.
-use Rattle.std.proofs.Common.{ℤ, ◌≡◌, ◌<◌, ◌^◌, pos, ◌*ℤ◌, to_z, of_z, ap₂, arith}
+use Rattle.std.proofs.Common.{ℤ, ◌≡◌, pos, ◌*ℤ◌, to_z, of_z, ap₂, arith}
 use Rattle.std.proofs.lemmas.Int.{ints}
 use Rattle.derived_rows.proofs.Bounds.{times_small}
 use Rattle.derived_rows.proofs.rounding.times.Goals as goal

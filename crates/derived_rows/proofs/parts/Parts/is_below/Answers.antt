@@ -1,5 +1,5 @@
 -- The comparison is that of the two products.
-use Rattle.std.proofs.Common.{ℤ, ◌≡◌, ◌∙◌, ◌^◌, pos, ◌*ℤ◌, ◌≤ℤ◌, IsTrue, to_z, of_z, ap, arith}
+use Rattle.std.proofs.Common.{ℤ, ◌≡◌, ◌∙◌, pos, ◌*ℤ◌, ◌≤ℤ◌, IsTrue, to_z, of_z, ap, arith}
 use Rattle.std.proofs.lemmas.Int.{ints}
 use Rattle.derived_rows.specs.Line.{line_at, parts_term}
 use Rattle.derived_rows.proofs.parts.Parts.is_below.Goals as goal

@@ -1,5 +1,5 @@
 -- T is the sum of its parts, which are small.
-use Rattle.std.proofs.Common.{ℤ, ◌≡◌, ◌∙◌, ◌^◌, pos, neg_ℤ, ◌-ℤ◌, to_z, of_z, ap, arith}
+use Rattle.std.proofs.Common.{ℤ, ◌≡◌, ◌∙◌, pos, neg_ℤ, ◌-ℤ◌, to_z, of_z, ap, arith}
 use Rattle.std.proofs.lemmas.Int.{ints}
 use Rattle.derived_rows.specs.Line.{line_at}
 use Rattle.derived_rows.specs.Rounding.{phi}

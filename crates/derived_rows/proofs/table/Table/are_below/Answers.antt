@@ -1,5 +1,5 @@
 -- One slot more is looked at.
-use Rattle.std.proofs.Common.{rules, ℕ, ◌≡◌, ◌+◌, ◌<◌, ◌≤◌, false, ◌∙◌, ap, sym, subst, ⊎_elim, arith}
+use Rattle.std.proofs.Common.{rules, ℕ, ◌≡◌, ◌<◌, ◌≤◌, false, ◌∙◌, ap, sym, subst, ⊎_elim, arith}
 use Rattle.std.proofs.lemmas.Bool.{cases_lt}
 use Rattle.std.proofs.lemmas.List.{get_or_default}
 use Rattle.row_kit.specs.declared.domain.Domain.{Domain}
