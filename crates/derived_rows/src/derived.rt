@@ -22,8 +22,8 @@ pub struct Group {
     pub shift: i64,
 }
 
-/// A declared derived row: the divisor and the rest of its rounding, the factors of the rows that it is made of, its groups, and its
-/// entries, which are shown by `up / down` times what is rounded.
+/// A declared derived row: the divisor and the rest of its rounding, the factors of the rows that it is made of, its groups, and
+/// its entries, which are shown by `up / down` times what is rounded.
 #[derive(Drop)]
 pub struct Derived {
     pub divisor: u32,

@@ -94,7 +94,8 @@ fn shifted_limit(rows: &[Row], derived: &Derived) -> i128
     requires limits { All (λ row. unsigned_abs row.limit ≤ 1000000000000) rows.now }
     requires few_groups { length derived.now.groups ≤ 512 }
     requires shifts { All (λ group. unsigned_abs group.shift ≤ 1000000000000) derived.now.groups }
-    ensures value { result ≡ mixed_limit rows.now derived.now.factors -ℤ shifts_sum derived.now.groups }
+    ensures value { result
+        ≡ mixed_limit rows.now derived.now.factors -ℤ shifts_sum derived.now.groups }
     ensures small { unsigned_abs result ≤ 2 ^ 78 }
 {
     mixed_limit(rows, derived.factors.as_slice()) - shifts_sum(derived.groups.as_slice())

@@ -80,7 +80,8 @@ fn add_row(lines: &mut [Line], row: &Row, factor: &Factor)
     requires within { All (IsWithin (2 ^ 73)) lines.old }
     ensures value { (slot v : ℕ) → slot < length lines.new
         → line_at (slot_line lines.new slot) v
-        ≡ line_at (slot_line lines.old slot) v +ℤ (factor.now.by *ℤ entry_at row.now.entries slot v) }
+        ≡ line_at (slot_line lines.old slot) v
+        +ℤ (factor.now.by *ℤ entry_at row.now.entries slot v) }
     ensures within { (most : ℕ) → All (IsWithin most) lines.old
         → All (IsWithin (most + 2 ^ 67)) lines.new }
 {

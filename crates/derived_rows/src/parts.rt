@@ -24,7 +24,8 @@ impl Parts {
         requires small { AreSmall self.now }
         requires rounding { IsRounding derived.now }
         requires normal { IsNormal domain }
-        ensures { IsTrue result ↔ ((v : ℕ) → 1 ≤ v → Holds domain v → IsBelow derived.now self.now v) }
+        ensures { IsTrue result
+            ↔ ((v : ℕ) → 1 ≤ v → Holds domain v → IsBelow derived.now self.now v) }
     {
         if self.count_nothing() {
             return true;

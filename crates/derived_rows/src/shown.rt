@@ -1,6 +1,7 @@
 //! Derived rows that are shown.
 ghost use Rattle.std.specs.Prelude.{◌≡◌, ◌≤◌, ℕ, ◌<◌, ◌↔◌, length, map, pos, ◌*ℤ◌, ◌≤ℤ◌, IsTrue, IfOk, IfSome, IsSome, unsigned_abs};
 ghost use Rattle.std.specs.List.{All};
+ghost use Rattle.row_kit.specs.Bounds.{IsBoundedRow};
 ghost use Rattle.row_kit.specs.Domain.{Holds, IsNormal, domain_at};
 ghost use Rattle.row_kit.specs.Row.{entry_at};
 ghost use Rattle.derived_rows.specs.Derived.{derived_limit, round_of, slack_factor, term_at};
@@ -14,9 +15,10 @@ use crate::table::Table;
 use row_kit::{Domain, List, MOST_LIMIT, Program, Row};
 use std::alloc::{AllocError, Global};
 
-/// The row that is derived from the rows of a program, where it is shown over domains, and None where it is not. An error means that
-/// memory was not found. It takes memory for four numbers of each slot and for the entries, and costs the slots, the entries of the
-/// rows that factors and groups name, and the values of 1 or more that the domains hold.
+/// The row that is derived from the rows of a program, where it is shown over domains, and None where it is not. An error means
+/// that memory was not found. It takes memory for seven numbers of each slot, the factors and the entries, and costs the slots, the
+/// entries of the rows that factors and groups name, and phi at each value of 1 or more that the domains hold of the slots that
+/// these factors or the entries count.
 pub fn shown_row(
     alloc: Global,
     program: &Program,
@@ -29,6 +31,8 @@ pub fn shown_row(
         ↔ IsShownRow program.now domains.now derived.now) }
     ensures row { IfOk result (λ row. IfSome row
         (λ r. r ≡ derived_row program.now.rows derived.now)) }
+    ensures bounded { IfOk result (λ row. IfSome row
+        (IsBoundedRow (length program.now.root))) }
 {
     if !is_declared(program, derived) {
         return Ok(None);

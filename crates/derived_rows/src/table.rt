@@ -54,7 +54,8 @@ impl Table {
 
     // Whether the entries are below what is rounded at each value of 1 or more that the domains hold.
     pub fn are_below(&self, derived: &Derived, domains: &[Domain]) -> bool
-        requires slots { (slot : ℕ) → slot < length domains.now → AreSmall (parts_at self.now slot) }
+        requires slots { (slot : ℕ) → slot < length domains.now
+            → AreSmall (parts_at self.now slot) }
         requires sums { length self.now.sums ≡ length domains.now }
         requires slacks { length self.now.slacks ≡ length domains.now }
         requires own { length self.now.own ≡ length domains.now }
