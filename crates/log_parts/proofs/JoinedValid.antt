@@ -19,11 +19,9 @@ use Rattle.row_set.specs.Parts.{IsButRoot, IsWithin, IsPartOf, IsAdmitted, plan_
 use Rattle.row_set.specs.PlantProgram.{plant_root, plant_rows, slot_domain, IsMadeOf}
 use Rattle.row_set.proofs.PartPoints.{worth-part}
 use Rattle.sum_slots.specs.declared.sum.Sum.{Sum}
-use Rattle.sum_slots.specs.Larger.{IsWithSums, sum_domain}
-use Rattle.sum_slots.specs.Law.{IsSameWithSums}
+use Rattle.sum_slots.specs.Larger.{IsWithSums, completed, given_of, sum_domain}
 use Rattle.sum_slots.specs.Shown.{IsShown}
 use Rattle.sum_slots.specs.Sum.{IsDeclared}
-use Rattle.sum_slots.proofs.Sameness.{law}
 use Rattle.sum_lines.specs.Head.{AreKept}
 use Rattle.proof_tree.specs.declared.capped.Capped.{Capped}
 use Rattle.proof_tree.specs.declared.capped.Capped.TheVariants.{AtMost, NoPoint, Bad}
@@ -47,6 +45,7 @@ use Rattle.proof_log.specs.Behind.{behind}
 use Rattle.proof_log.specs.OneText.{IsOver}
 use Rattle.proof_log.proofs.GrammarWalk.{at, closed}
 use Rattle.log_lines.specs.declared.grammar.Place.TheVariants.{Node as AtNode}
+use Rattle.plan_images.proofs.Imaging.{HaveSamePoints, shown-points}
 use Rattle.plan_images.proofs.Telling.{same-plans}
 use Rattle.valid_log.specs.declared.verdict.LogVerdict.TheVariants as verdict
 use Rattle.valid_log.specs.Verdict.{IsLog, IsSoundLog, IsVerdict, IsVerdictGiven, limits_of}
@@ -320,13 +319,13 @@ module _ (plant : Plant) (levels : ℕ) (logs : ℕ → List ℕ) (sums : List S
       All-weaker (IsShown first.program (plant_root plant)) (IsShown whole (plant_root plant)) (λ sum is. shown-same first.program whole (plant_root plant) sum (rows-same 0 (pow_pos levels)) is) sums first.shown
 
   -- a program with the sums has the same points
-  same-whole : (wide : Program) → IsWithSums whole (plant_root plant) sums wide → IsSameWithSums whole sums wide
-  same-whole wide added = law whole wide (plant_root plant) sums (plant-ranges plant whole made) declared all-shown added
+  same-whole : (wide : Program) → IsWithSums whole (plant_root plant) sums wide → HaveSamePoints whole wide (completed sums) (given_of whole)
+  same-whole wide added = shown-points whole wide (plant_root plant) sums (plant-ranges plant whole made) declared all-shown added
 
-  same-part : (k : ℕ) (l : k < 2 ^ levels) → IsSameWithSums (all.each k l).program sums (all.each k l).larger
+  same-part : (k : ℕ) (l : k < 2 ^ levels) → HaveSamePoints (all.each k l).program (all.each k l).larger (completed sums) (given_of (all.each k l).program)
   same-part k l =
       let is = all.each k l in
-      law is.program is.larger (plant_root plant) sums (part-ranges plant is.program is.of_part.is_part) (subst (λ (n : ℕ). All (IsDeclared n) sums) (sym (long-same k l)) declared) is.shown is.enlarged
+      shown-points is.program is.larger (plant_root plant) sums (part-ranges plant is.program is.of_part.is_part) (subst (λ (n : ℕ). All (IsDeclared n) sums) (sym (long-same k l)) declared) is.shown is.enlarged
 
   -- the claim of a part over the part's program with the sums
   own-claim : (k : ℕ) (l : k < 2 ^ levels) → ((all.each k l).own ≡ larger_claim sums (get_or claims k Infeasible)) × IsPointed (all.each k l).program (get_or claims k Infeasible)

@@ -13,8 +13,8 @@ use Rattle.proof_log.specs.declared.claim.Claim.{Claim}
 use Rattle.proof_log.specs.declared.claim.Claim.TheVariants.{Optimal, Infeasible, Between, Below}
 use Rattle.valid_log.proofs.FoundSound.{IsFinePoint}
 use Rattle.sum_slots.specs.declared.sum.Sum.{Sum}
-use Rattle.sum_slots.specs.Larger.{completed}
-use Rattle.sum_slots.specs.Law.{IsSameWithSums}
+use Rattle.sum_slots.specs.Larger.{completed, given_of}
+use Rattle.plan_images.proofs.Imaging.{HaveSamePoints}
 use Rattle.valid_log.specs.AnyVersion.{given_claim}
 use Rattle.valid_log.specs.SumTexts.{larger_claim}
 use Rattle.log_parts.specs.declared.joining.ClaimedPlan.{ClaimedPlan}
@@ -126,18 +126,18 @@ fine-pointed program proof_cap claim none = by (plan_of claim) refl
     by (Some plan) is = fine-lawful program plan.profit plan.point (plan-fine program proof_cap claim plan none is)
 
 -- the claim of a log over a program with sums is that of the log over the program, with its point completed
-pub own-larger : (program larger : Program) (sums : List Sum) (own : Claim) → IsSameWithSums program sums larger → IsPointed larger own
+pub own-larger : (program larger : Program) (sums : List Sum) (own : Claim) → HaveSamePoints program larger (completed sums) (given_of program) → IsPointed larger own
     → (own ≡ larger_claim sums (given_claim (length program.root) own)) × IsPointed program (given_claim (length program.root) own)
-own-larger program larger sums (Optimal profit point) same lawful = (let is = (same.points point).0 lawful in (ap (Optimal profit) is.1, is.0))
+own-larger program larger sums (Optimal profit point) same lawful = (ap (Optimal profit) (sym (same.back_there point lawful)), (same.back_is point lawful).0)
 own-larger program larger sums Infeasible same lawful = (refl, tt)
-own-larger program larger sums (Between profit most point) same lawful = (let is = (same.points point).0 lawful in (ap (Between profit most) is.1, is.0))
+own-larger program larger sums (Between profit most point) same lawful = (ap (Between profit most) (sym (same.back_there point lawful)), (same.back_is point lawful).0)
 own-larger program larger sums (Below most) same lawful = (refl, tt)
 
 -- a claim with its point completed, cut back
-pub given-larger : (program larger : Program) (sums : List Sum) (claim : Claim) → IsSameWithSums program sums larger → IsPointed program claim → claim ≡ given_claim (length program.root) (larger_claim sums claim)
-given-larger program larger sums (Optimal profit point) same lawful = ap (Optimal profit) (sym (same.given point lawful))
+pub given-larger : (program larger : Program) (sums : List Sum) (claim : Claim) → HaveSamePoints program larger (completed sums) (given_of program) → IsPointed program claim → claim ≡ given_claim (length program.root) (larger_claim sums claim)
+given-larger program larger sums (Optimal profit point) same lawful = ap (Optimal profit) (sym (same.there_back point lawful))
 given-larger program larger sums Infeasible same lawful = refl
-given-larger program larger sums (Between profit most point) same lawful = ap (Between profit most) (sym (same.given point lawful))
+given-larger program larger sums (Between profit most point) same lawful = ap (Between profit most) (sym (same.there_back point lawful))
 given-larger program larger sums (Below most) same lawful = refl
 
 plan-with : (plan : Option ClaimedPlan) (cap : Option ℤ) → plan_of (claim_with plan cap) ≡ plan

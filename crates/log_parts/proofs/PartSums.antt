@@ -17,11 +17,11 @@ use Rattle.row_kit.specs.Row.{row_at}
 use Rattle.row_set.specs.Parts.{IsButRoot, IsWithin}
 use Rattle.row_set.proofs.PartPoints.{worth-part}
 use Rattle.sum_slots.specs.declared.sum.Sum.{Sum}
-use Rattle.sum_slots.specs.Larger.{IsWithSums, given_of, sum_domain, sum_rows, sum_tag}
-use Rattle.sum_slots.specs.Law.{IsSameWithSums}
+use Rattle.sum_slots.specs.Larger.{IsWithSums, completed, given_of, sum_domain, sum_rows, sum_tag}
 use Rattle.sum_slots.specs.Shown.{IsShown, most_by_row, most_count, opposites, value_up_to}
 use Rattle.sum_slots.specs.Sum.{IsByte, value_at}
 use Rattle.sum_slots.proofs.Joined.{All-second}
+use Rattle.plan_images.proofs.Imaging.{HaveSamePoints}
 use Rattle.plant_parts.specs.PlantParts.{cut_domain, cut_root}
 use Rattle.plant_parts.proofs.Cutting.{cut-at, cut-rest, length-cut}
 use Rattle.log_parts.proofs.PartCaps.{IsPart, lawful-part}
@@ -134,15 +134,15 @@ zip-append (x ∷ xs) [] ds within = absurd within
 zip-append (x ∷ xs) (y ∷ ys) ds within = (within.0, zip-append xs ys ds within.1)
 
 -- a lawful point of a part with the sums is worth there what it is worth in the whole with them
-larger-worth : (whole part wide larger : Program) (sums : List Sum) → IsButRoot whole part → AllZip IsWithin part.root whole.root → IsPart whole part → IsSameWithSums whole sums wide → IsSameWithSums part sums larger
-    → (point : List ℕ) → IsLawful larger point → worth_of larger point ≡ worth_of wide point
+larger-worth : (whole part wide larger : Program) (sums : List Sum) → IsButRoot whole part → AllZip IsWithin part.root whole.root → IsPart whole part
+    → HaveSamePoints whole wide (completed sums) (given_of whole) → HaveSamePoints part larger (completed sums) (given_of part) → (point : List ℕ) → IsLawful larger point → worth_of larger point ≡ worth_of wide point
 larger-worth whole part wide larger sums but within is of_whole of_part point lawful =
-    let own = (of_part.points point).0 lawful in
+    let own = of_part.back_is point lawful in
     let given = given_of part point in
-    ap (worth_of larger) own.1 ∙ of_part.worth given own.0 ∙ worth-part whole part given but ∙ sym (of_whole.worth given (lawful-part whole part given is own.0)) ∙ sym (ap (worth_of wide) own.1)
+    sym own.1 ∙ worth-part whole part given but ∙ sym (of_whole.there_is given (lawful-part whole part given is own.0)).1 ∙ ap (worth_of wide) (of_part.back_there point lawful)
 
 pub part-larger : (whole part wide larger : Program) (ranges : List Domain) (sums : List Sum) → IsButRoot whole part → AllZip IsWithin part.root whole.root → length part.root ≡ length whole.root
-    → IsWithSums whole ranges sums wide → IsWithSums part ranges sums larger → IsSameWithSums whole sums wide → IsSameWithSums part sums larger → IsPart wide larger
+    → IsWithSums whole ranges sums wide → IsWithSums part ranges sums larger → HaveSamePoints whole wide (completed sums) (given_of whole) → HaveSamePoints part larger (completed sums) (given_of part) → IsPart wide larger
 part-larger whole part wide larger ranges sums but within same of_whole of_part same_whole same_part =
     let is : IsPart whole part = record { rows = but.rows; profit = but.profit; base = but.base; worth = λ point lawful. worth-part whole part point but; within = within } in
     record {

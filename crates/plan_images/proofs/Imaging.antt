@@ -1,5 +1,5 @@
 -- Images, and what makes them.
-use Rattle.std.proofs.Common.{ℕ, List, sym, ap, ap₂, ◌∙◌, subst, arith, ℤ, pos, ◌+ℤ◌, ◌-ℤ◌, ◌≤ℤ◌}
+use Rattle.std.proofs.Common.{◌≡◌, ℕ, List, length, sym, ap, ap₂, ◌∙◌, subst, arith, ℤ, pos, ◌+ℤ◌, ◌-ℤ◌, ◌≤ℤ◌}
 use Rattle.std.specs.List.{All}
 use Rattle.std.proofs.lemmas.Int.{ints}
 use Rattle.std.proofs.lemmas.List.Elements.{All-append}
@@ -11,11 +11,13 @@ use Rattle.row_kit.specs.Change.{changeovers}
 use Rattle.row_kit.specs.Point.{IsLawful, LiesIn, value_of, worth_of}
 use Rattle.row_kit.specs.Row.{IsKept, entries_sum}
 use Rattle.sum_slots.specs.declared.sum.Sum.{Sum}
-use Rattle.sum_slots.specs.Larger.{completed, given_of}
+use Rattle.sum_slots.specs.Larger.{IsWithSums, completed, given_of}
 use Rattle.sum_slots.specs.Law.{IsSameWithSums}
+use Rattle.sum_slots.specs.Shown.{AreRanges, IsShown}
+use Rattle.sum_slots.specs.Sum.{IsDeclared}
 use Rattle.sum_slots.proofs.Sameness.{law}
 use Rattle.plan_images.specs.Extensions.{Extends, IsWithRows}
-use Rattle.plan_images.specs.Images.{IsImage, IsRelaxation}
+use Rattle.plan_images.specs.Images.{IsImage, IsRelaxation, Relaxes}
 use Rattle.plan_images.specs.Law.{SumsExtend}
 use Rattle.plan_images.specs.Told.{ReadsAs}
 
@@ -70,28 +72,49 @@ with-rows admits earned given larger alone more is keep added = record { image =
       said = image.said;
     }
 
--- ---- sums
+-- ---- the same points
 
--- a lawful point, completed by the values of sums, is lawful in the program with the sums
-pub completed-lawful : (given larger : Program) (sums : List Sum) (point : List ℕ) → IsSameWithSums given sums larger → IsLawful given point → IsLawful larger (completed sums point)
-completed-lawful given larger sums point same lawful =
-    (same.points (completed sums point)).1 (subst (IsLawful given) (sym (same.given point lawful)) lawful, ap (completed sums) (sym (same.given point lawful)))
+-- Two programs have the same points under two names: a lawful point of each stands for one of the other that is worth the same, and going there and back gives the point.
+pub record HaveSamePoints (one other : Program) (there back : List ℕ → List ℕ) : Type 0 where
+  pub there_is : ReadsAs one (IsLawful other) (worth_of other) there
+  pub back_is : ReadsAs other (IsLawful one) (worth_of one) back
+  pub there_back : (point : List ℕ) → IsLawful one point → back (there point) ≡ point
+  pub back_there : (point : List ℕ) → IsLawful other point → there (back point) ≡ point
 
--- a program with the same lawful points, completed by the values of sums and each worth the same, extends the one without them
-pub sums-extend : (given larger : Program) (sums : List Sum) → IsSameWithSums given sums larger → Extends given (worth_of given) larger (worth_of larger)
-sums-extend given larger sums same = record {
-  image = completed sums;
+-- so the other extends it
+same-extend : (one other : Program) (there back : List ℕ → List ℕ) → HaveSamePoints one other there back → Extends one (worth_of one) other (worth_of other)
+same-extend one other there back same = record {
+  image = there;
   is = λ point earned image.
-      worth-image larger earned (completed sums point) (completed-lawful given larger sums point same image.lawful)
-      (subst (λ (worth : ℤ). earned ≤ℤ worth) (sym (same.worth point image.lawful)) image.said);
+      let is = same.there_is point image.lawful in
+      worth-image other earned (there point) is.0 (subst (λ (worth : ℤ). earned ≤ℤ worth) (sym is.1) image.said);
 }
 
--- a lawful point of the program with the sums, cut back, is lawful without them, and worth the same
-pub sums-read : (given larger : Program) (sums : List Sum) → IsSameWithSums given sums larger → ReadsAs larger (IsLawful given) (worth_of given) (given_of given)
-sums-read given larger sums same point lawful =
-    let is = (same.points point).0 lawful in
-    (is.0, sym (same.worth (given_of given point) is.0) ∙ ap (worth_of larger) (sym is.1))
+-- and is a relaxation of whatever it is one of
+pub same-relaxes : {X : Type 0} (admits : X → Type 0) (earned : X → ℤ) (one other : Program) (there back : List ℕ → List ℕ) → HaveSamePoints one other there back → Relaxes admits earned one → Relaxes admits earned other
+same-relaxes admits earned one other there back same first = composed admits earned one other (worth_of one) (worth_of other) first (same-extend one other there back same)
 
--- sums that are shown extend a program
+-- ---- sums
+
+-- a program with sums has the points of the one without them: completed by the values of the sums there, and cut back here
+pub sums-points : (given larger : Program) (sums : List Sum) → IsSameWithSums given sums larger → HaveSamePoints given larger (completed sums) (given_of given)
+sums-points given larger sums same = record {
+  there_is = λ point lawful.
+      let own = sym (same.given point lawful) in
+      ((same.points (completed sums point)).1 (subst (IsLawful given) own lawful, ap (completed sums) own), same.worth point lawful);
+  back_is = λ point lawful.
+      let is = (same.points point).0 lawful in
+      (is.0, sym (same.worth (given_of given point) is.0) ∙ ap (worth_of larger) (sym is.1));
+  there_back = same.given;
+  back_there = λ point lawful. sym ((same.points point).0 lawful).1;
+}
+
+-- so it has where each sum is shown
+pub shown-points : (given larger : Program) (ranges : List Domain) (sums : List Sum) → AreRanges given ranges → All (IsDeclared (length given.root)) sums → All (IsShown given ranges) sums
+    → IsWithSums given ranges sums larger → HaveSamePoints given larger (completed sums) (given_of given)
+shown-points given larger ranges sums wide declared shown enlarged = sums-points given larger sums (law given larger ranges sums wide declared shown enlarged)
+
+-- so sums that are shown extend a program
 pub shown-extend : SumsExtend
-shown-extend given larger ranges sums wide declared shown enlarged = sums-extend given larger sums (law given larger ranges sums wide declared shown enlarged)
+shown-extend given larger ranges sums wide declared shown enlarged =
+    same-extend given larger (completed sums) (given_of given) (shown-points given larger ranges sums wide declared shown enlarged)

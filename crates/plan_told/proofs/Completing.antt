@@ -11,9 +11,10 @@ use Rattle.proof_log.specs.declared.claim.Claim.TheVariants.{Optimal, Infeasible
 use Rattle.sum_slots.specs.declared.sum.Sum.{Sum}
 use Rattle.sum_slots.specs.Larger.{IsWithSums}
 use Rattle.sum_slots.specs.Sum.{IsDeclared}
+use Rattle.sum_slots.proofs.Ranges.{value_byte}
 use Rattle.valid_log.specs.SumTexts.{MayHead}
+use Rattle.valid_log.proofs.PlantRanges.{part-ranges}
 use Rattle.plan_told.specs.Claims.{HaveBytes, IfPoint}
-use Rattle.plan_told.proofs.ValidSums.{same-given}
 
 module _ (plant : Plant) (part larger : Program) (sums : List Sum) (is : IsPartOf plant part) (may : MayHead part (plant_root plant) sums) (enlarged : IsWithSums part (plant_root plant) sums larger) where
   -- at a lawful point
@@ -21,7 +22,7 @@ module _ (plant : Plant) (part larger : Program) (sums : List Sum) (is : IsPartO
   have_bytes point lawful = record {
     few = omega (arith, lawful.lies.same_length, part.few_slots);
     declared = subst (λ (n : ℕ). All (IsDeclared n) sums) (sym lawful.lies.same_length) may.kept.declared;
-    bytes = (same-given plant part larger sums is may enlarged).bytes point lawful;
+    bytes = λ k d lt. value_byte part (plant_root plant) _ point (part-ranges plant part is) (may.kept.declared k d lt) (may.shown k d lt) lawful;
   }
 
   -- at the point of a claim, where it is lawful

@@ -15,8 +15,8 @@ use Rattle.branch_tree.specs.Searched.{IsSettled}
 use Rattle.branch_tree.specs.laws.Ends.{is_over}
 use Rattle.branch_tree.proofs.Best.{better-first, better-keeps, better-second}
 use Rattle.sum_slots.specs.declared.sum.Sum.{Sum}
-use Rattle.sum_slots.specs.Law.{IsSameWithSums}
-use Rattle.plan_images.proofs.Imaging.{sums-read}
+use Rattle.sum_slots.specs.Larger.{completed, given_of}
+use Rattle.plan_images.proofs.Imaging.{HaveSamePoints}
 use Rattle.plan_told.specs.Given.{cut_found, given_best, least_found, worth_found}
 use Rattle.plan_told.proofs.Least.{with_worth}
 
@@ -40,11 +40,11 @@ least_there part lawful = at (is_lawful part (only_point part.root)) (lawful_tru
     at true is = refl
     at false is = cc
 
-module _ (part larger : Program) (sums : List Sum) (same : IsSameWithSums part sums larger) where
+module _ (part larger : Program) (sums : List Sum) (same : HaveSamePoints part larger (completed sums) (given_of part)) where
   -- a lawful point of the larger program, cut back, is lawful and worth the same
   cut_group : (found : Found) → IsGroup larger found → IsGroup part (cut_found (length part.root) found)
   cut_group found group =
-      let own = sums-read part larger sums same found.point group.lawful in
+      let own = same.back_is found.point group.lawful in
       record { lawful = own.0; worth = group.worth ∙ sym own.1 }
 
   -- the same of the best found point

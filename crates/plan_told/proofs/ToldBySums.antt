@@ -22,12 +22,11 @@ use Rattle.branch_tree.specs.Justified.{IsGroup}
 use Rattle.branch_tree.specs.Searched.{HasOpenBox, IsExact, IsSearch}
 use Rattle.branch_tree.specs.laws.Ends.{is_over}
 use Rattle.plan_images.specs.Caps.{Caps}
+use Rattle.plan_images.proofs.Imaging.{HaveSamePoints, itself-relaxes, same-relaxes}
 use Rattle.plan_images.proofs.Telling.{bounds-cap}
 use Rattle.sum_slots.specs.declared.sum.Sum.{Sum}
-use Rattle.sum_slots.specs.Larger.{IsWithSums}
-use Rattle.sum_slots.specs.Law.{IsSameWithSums}
+use Rattle.sum_slots.specs.Larger.{IsWithSums, completed, given_of}
 use Rattle.valid_log.specs.SumTexts.{MayHead}
-use Rattle.valid_log.proofs.Holding.{larger-relaxes}
 use Rattle.plan_told.specs.Outcomes.{whole_count}
 use Rattle.plan_told.specs.Proofs.{IsCapOf, IsSumsProofOf, claim_of}
 use Rattle.plan_told.specs.Telling.{IsTold}
@@ -70,7 +69,7 @@ over_of Bad found real over = absurd (real refl)
 
 module _ (plant : Plant) (part larger : Program) (sums : List Sum) (sound : Sound plant) (is : IsPartOf plant part) (may : MayHead part (plant_root plant) sums) (enlarged : IsWithSums part (plant_root plant) sums larger)
     (many : 50000 < points_of part.root) (budget : ℕ) (few : budget ≤ 100000) (tree : RowTree) (ended : Ended) (search : IsSearch larger (length part.root) budget tree ended) (exact : IsExact larger budget ended) where
-  same : IsSameWithSums part sums larger
+  same : HaveSamePoints part larger (completed sums) (given_of part)
   same = same-given plant part larger sums is may enlarged
 
   -- what the search ended with, as of the part
@@ -80,7 +79,8 @@ module _ (plant : Plant) (part larger : Program) (sums : List Sum) (sound : Soun
       let spent : ended.spent ≡ counted tree = search.spent in
       let count : budget < whole_count part = below_count budget (points_of part.root) many few in
       let group = given-group part larger sums same ended.best (best-group larger budget tree ended search) in
-      let points = bounds-cap (IsLawful part) (worth_of part) larger (LiesIn larger.root) ended.cap (larger-relaxes part larger sums same) (λ point lawful. lawful.lies) search.bounds in
+      let relaxes = same-relaxes (IsLawful part) (worth_of part) part larger (completed sums) (given_of part) same (itself-relaxes part) in
+      let points = bounds-cap (IsLawful part) (worth_of part) larger (LiesIn larger.root) ended.cap relaxes (λ point lawful. lawful.lies) search.bounds in
       record {
         group = group;
         least = given-least part ended.best;

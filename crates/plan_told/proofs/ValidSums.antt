@@ -6,7 +6,6 @@ use Rattle.stn_model.specs.declared.plant.Plant.{Plant}
 use Rattle.stn_model.specs.Profit.{profit}
 use Rattle.row_kit.specs.declared.domain.Domain.{Domain}
 use Rattle.row_kit.specs.declared.program.Program.{Program}
-use Rattle.row_kit.specs.Point.{worth_of}
 use Rattle.row_set.specs.Parts.{IsAdmitted, IsPartOf}
 use Rattle.row_set.specs.PlantProgram.{plant_root}
 use Rattle.row_relax.specs.RowProofs.{RowTree}
@@ -20,11 +19,9 @@ use Rattle.proof_log.specs.Log.{log_text}
 use Rattle.valid_log.specs.declared.verdict.LogVerdict.TheVariants.{Yes}
 use Rattle.valid_log.specs.Meaning.{IsSoundClaim}
 use Rattle.sum_slots.specs.declared.sum.Sum.{Sum}
-use Rattle.sum_slots.specs.Larger.{IsWithSums, sum_domain}
-use Rattle.sum_slots.specs.Law.{IsSameWithSums}
-use Rattle.sum_slots.proofs.Sameness.{law}
+use Rattle.sum_slots.specs.Larger.{IsWithSums, completed, given_of, sum_domain}
 use Rattle.plan_images.specs.Images.{Relaxes}
-use Rattle.plan_images.proofs.Imaging.{completed-lawful, composed, sums-extend}
+use Rattle.plan_images.proofs.Imaging.{HaveSamePoints, same-relaxes, shown-points}
 use Rattle.plan_images.proofs.Plans.{part-relaxes}
 use Rattle.valid_log.specs.AnyVersion.{given_claim}
 use Rattle.valid_log.specs.PlantLogs.{IsPlantVerdict}
@@ -41,19 +38,19 @@ depth_less : (program larger : Program) (ranges : List Domain) (sums : List Sum)
 depth_less program larger ranges sums enlarged =
     omega (arith, ap (sum_by spared) enlarged.root, sum_by-append spared program.root (map (sum_domain program ranges) sums))
 
-module _ (part larger : Program) (sums : List Sum) (same : IsSameWithSums part sums larger) where
+module _ (part larger : Program) (sums : List Sum) (same : HaveSamePoints part larger (completed sums) (given_of part)) where
   -- a claim that a cap bears out over the part is so over the larger program, with its point completed
   sound_larger : (cap : Capped) (claim : Claim) → IsSoundClaim part cap claim → IsSoundClaim larger cap (larger_claim sums claim)
-  sound_larger cap (Optimal profit point) sound = ((completed-lawful part larger sums point same sound.0.0, same.worth point sound.0.0 ∙ sound.0.1), sound.1)
+  sound_larger cap (Optimal profit point) sound = (let is = same.there_is point sound.0.0 in ((is.0, is.1 ∙ sound.0.1), sound.1))
   sound_larger cap Infeasible sound = sound
-  sound_larger cap (Between profit most point) sound = ((completed-lawful part larger sums point same sound.0.0, same.worth point sound.0.0 ∙ sound.0.1), sound.1)
+  sound_larger cap (Between profit most point) sound = (let is = same.there_is point sound.0.0 in ((is.0, is.1 ∙ sound.0.1), sound.1))
   sound_larger cap (Below most) sound = sound
 
   -- that claim cut back is the given one
   cut_same : (cap : Capped) (claim : Claim) → IsSoundClaim part cap claim → given_claim (length part.root) (larger_claim sums claim) ≡ claim
-  cut_same cap (Optimal profit point) sound = ap (Optimal profit) (same.given point sound.0.0)
+  cut_same cap (Optimal profit point) sound = ap (Optimal profit) (same.there_back point sound.0.0)
   cut_same cap Infeasible sound = refl
-  cut_same cap (Between profit most point) sound = ap (Between profit most) (same.given point sound.0.0)
+  cut_same cap (Between profit most point) sound = ap (Between profit most) (same.there_back point sound.0.0)
   cut_same cap (Below most) sound = refl
 
 -- its cap has at most 30 digits where that of the given claim has
@@ -63,14 +60,14 @@ small_larger sums Infeasible small = small
 small_larger sums (Between profit most point) small = small
 small_larger sums (Below most) small = small
 
--- the larger program has the same lawful points, each completed and worth the same
-pub same-given : (plant : Plant) (part larger : Program) (sums : List Sum) → IsPartOf plant part → MayHead part (plant_root plant) sums → IsWithSums part (plant_root plant) sums larger → IsSameWithSums part sums larger
-same-given plant part larger sums is may enlarged = law part larger (plant_root plant) sums (part-ranges plant part is) may.kept.declared may.shown enlarged
+-- the larger program has the same points, each completed
+pub same-given : (plant : Plant) (part larger : Program) (sums : List Sum) → IsPartOf plant part → MayHead part (plant_root plant) sums → IsWithSums part (plant_root plant) sums larger → HaveSamePoints part larger (completed sums) (given_of part)
+same-given plant part larger sums is may enlarged = shown-points part larger (plant_root plant) sums (part-ranges plant part is) may.kept.declared may.shown enlarged
 
 -- so it is a relaxation of the plans of the part
 pub sums-relax : (plant : Plant) (part larger : Program) (sums : List Sum) → IsPartOf plant part → MayHead part (plant_root plant) sums → IsWithSums part (plant_root plant) sums larger → Relaxes (IsAdmitted plant part) (profit plant) larger
 sums-relax plant part larger sums is may enlarged =
-    composed (IsAdmitted plant part) (profit plant) part larger (worth_of part) (worth_of larger) (part-relaxes plant part is) (sums-extend part larger sums (same-given plant part larger sums is may enlarged))
+    same-relaxes (IsAdmitted plant part) (profit plant) part larger (completed sums) (given_of part) (same-given plant part larger sums is may enlarged) (part-relaxes plant part is)
 
 -- the text of the proof of a search over the larger program, with a claim over the part that its cap bears out, is a valid log
 pub valid-sums : {given : ℕ} (plant : Plant) (part larger : Program) (sums : List Sum) (budget : ℕ) (tree : RowTree) (ended : Ended) (claim : Claim) → IsPartOf plant part → MayHead part (plant_root plant) sums

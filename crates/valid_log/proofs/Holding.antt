@@ -3,13 +3,13 @@ use Rattle.std.proofs.Common.{◌≡◌, ℕ, List, [], length, refl, ap, append
 use Rattle.row_kit.specs.declared.program.Program.{Program}
 use Rattle.row_kit.specs.Point.{IsLawful, worth_of}
 use Rattle.sum_slots.specs.declared.sum.Sum.{Sum}
-use Rattle.sum_slots.specs.Larger.{given_of}
+use Rattle.sum_slots.specs.Larger.{completed, given_of}
 use Rattle.sum_slots.specs.Law.{IsSameWithSums}
 use Rattle.proof_log.specs.declared.claim.Claim.{Claim}
 use Rattle.proof_log.specs.declared.claim.Claim.TheVariants.{Optimal, Infeasible, Between, Below}
 use Rattle.proof_log.specs.ClaimSays.{ClaimSays}
 use Rattle.plan_images.specs.Images.{Relaxes}
-use Rattle.plan_images.proofs.Imaging.{composed, itself-relaxes, sums-extend, sums-read}
+use Rattle.plan_images.proofs.Imaging.{itself-relaxes, same-relaxes, sums-points}
 use Rattle.plan_images.proofs.Telling.{told}
 use Rattle.valid_log.specs.declared.verdict.LogVerdict.{LogVerdict}
 use Rattle.valid_log.specs.declared.verdict.LogVerdict.TheVariants.{Yes, No}
@@ -28,14 +28,14 @@ claim_given program (Below most) says = says
 -- a program with sums is a relaxation of the lawful points of the given one
 pub larger-relaxes : (program larger : Program) (sums : List Sum) → IsSameWithSums program sums larger → Relaxes (IsLawful program) (worth_of program) larger
 larger-relaxes program larger sums same =
-    composed (IsLawful program) (worth_of program) program larger (worth_of program) (worth_of larger) (itself-relaxes program) (sums-extend program larger sums same)
+    same-relaxes (IsLawful program) (worth_of program) program larger (completed sums) (given_of program) (sums-points program larger sums same) (itself-relaxes program)
 
 -- the same of a yes
 pub holds_given : (program larger : Program) (sums : List Sum) (count : ℕ) (verdict : LogVerdict) → IsSameWithSums program sums larger → YesHolds larger verdict → YesHolds program (given_verdict (length program.root) count verdict)
 holds_given program larger sums count (No defect) same holds = tt
 holds_given program larger sums count (Yes claim) same holds =
     claim_given program claim
-    (told (IsLawful program) (worth_of program) larger (given_of program) claim (larger-relaxes program larger sums same) (sums-read program larger sums same) holds)
+    (told (IsLawful program) (worth_of program) larger (given_of program) claim (larger-relaxes program larger sums same) (sums-points program larger sums same).back_is holds)
 
 -- without sums a claim stays
 pub larger-none : (claim : Claim) → larger_claim [] claim ≡ claim
