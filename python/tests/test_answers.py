@@ -102,7 +102,7 @@ class Asking(unittest.TestCase):
         self.assertEqual(odd.check(str(EXAMPLES / "odd.log")).profit, 34)
         self.assertEqual(odd.plan_of_log(str(EXAMPLES / "odd.log")), Plan([(0, "U", "make", 3)]))
         with self.assertRaises(InvalidLog):
-            self.tiny.plan_of_log(answer.log.read()[:-1])
+            self.tiny.plan_of_log((EXAMPLES / "tiny.log").read_bytes()[:-1])
         slots, rows_ = odd.slots()
         self.assertEqual((slots[1], rows_[3]), (["U", "make", 1, 3, 3], ["low", "feed", 1]))
 
