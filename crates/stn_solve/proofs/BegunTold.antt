@@ -79,11 +79,10 @@ module _ (plant : Plant) (part : Program) (summed : Summed) (is : IsPartOf plant
   pub begun-given : (point whole : List ℕ) (ended own : Ended) → (IsLawful part point → whole ≡ completed summed.sums point) → IsWorth summed.rows.program whole ended.best
       → own ≡ given_end summed.given summed.least ended → IsWorth part point own.best
   begun-given point whole ended own same worth as_given lawful =
-      let law = same-given plant part summed.rows.program summed.sums is with_sums.may with_sums.enlarged in
-      let given = sym (law.given point lawful) in
-      let larger = (law.points (completed summed.sums point)).1 (subst (IsLawful part) given lawful, ap (completed summed.sums) given) in
-      let there : IsLawful summed.rows.program whole = subst (IsLawful summed.rows.program) (sym (same lawful)) larger in
-      let value : worth_of summed.rows.program whole ≡ worth_of part point = ap (worth_of summed.rows.program) (same lawful) ∙ law.worth point lawful in
+      let points = same-given plant part summed.rows.program summed.sums is with_sums.may with_sums.enlarged in
+      let larger = points.there_is point lawful in
+      let there : IsLawful summed.rows.program whole = subst (IsLawful summed.rows.program) (sym (same lawful)) larger.0 in
+      let value : worth_of summed.rows.program whole ≡ worth_of part point = ap (worth_of summed.rows.program) (same lawful) ∙ larger.1 in
       let low : IsSomeAnd ended.best (λ f. worth_of part point ≤ℤ f.value) = subst (λ (z : ℤ). IsSomeAnd ended.best (λ f. z ≤ℤ f.value)) value (worth there) in
       subst (λ (o : Ended). IsSomeAnd o.best (λ b. worth_of part point ≤ℤ b.value)) (sym as_given) (given-worth (worth_of part point) summed.given summed.least ended.best low)
 
