@@ -2,7 +2,7 @@
 ghost use Rattle.std.specs.Prelude.{◌≡◌, ◌≢◌, ◌≤◌, IfOk, OnOk, OnErr, IsErrOf, false, true};
 ghost use Rattle.proof_tree.specs.Taker.{Rose};
 ghost use Rattle.proof_tree.specs.Tree.{tree_of};
-ghost use Rattle.branch_tree.specs.Searched.{IsExact, IsSearch, IsSearchedTo, IsBrokenOff, ended_of};
+ghost use Rattle.branch_tree.specs.Searched.{IsExact, IsSearch, IsSearchedTo, IsBrokenOff, IsWorth, ended_of};
 
 use best_first::Advisers;
 use box_advice::{Guide, Hinter};
@@ -14,11 +14,13 @@ use std::alloc::{AllocError, Global};
 
 /// Searches the root with the advice of both advisers, as `branch_tree::search_guided_to` does. The guide may leave boxes open
 /// though budget is left: the answer also says whether the count is exact, so that the budget was spent, or nothing is left open.
+/// The best point is worth as much as `start`, where that is lawful.
 pub fn search_advised<O, T: NodeTaker<Rows, O>>(
     alloc: Global,
     rows: &Rows,
     given: u32,
     budget: u32,
+    start: &[u8],
     taker: &mut T,
     out: &mut O,
 ) -> Result<Guided, TakeStop>
@@ -27,6 +29,8 @@ pub fn search_advised<O, T: NodeTaker<Rows, O>>(
     ensures ready { OnOk result (T.ready taker.new out.new) }
     ensures ok { IfOk result (λ guided. IsSearchedTo T.took rows.now.program given budget
         guided.ended taker.old out.old taker.new out.new) }
+    ensures begun { IfOk result
+        (λ guided. IsWorth rows.now.program start.now guided.ended.best) }
     ensures exact { IfOk result
         (λ guided. guided.exact ≡ true → IsExact rows.now.program budget guided.ended) }
     ensures inexact { IfOk result
@@ -38,7 +42,7 @@ pub fn search_advised<O, T: NodeTaker<Rows, O>>(
     ensures failed { IsErrOf result TakeStop.Failed → Rose (T.faults out.old) (T.faults out.new) }
 {
     let Advisers { guide, hinter } = Advisers::new(alloc, &rows.program, given, budget)?;
-    guided_to(alloc, rows, given, budget, hinter, guide, taker, out)
+    guided_to(alloc, rows, given, budget, start, hinter, guide, taker, out)
 }
 
 // Searches with advisers that are let go of here, of whatever types they are.
@@ -47,6 +51,7 @@ fn guided_to<H: Hinter + Drop, G: Guide + Drop, O, T: NodeTaker<Rows, O>>(
     rows: &Rows,
     given: u32,
     budget: u32,
+    start: &[u8],
     mut hinter: H,
     mut guide: G,
     taker: &mut T,
@@ -57,6 +62,8 @@ fn guided_to<H: Hinter + Drop, G: Guide + Drop, O, T: NodeTaker<Rows, O>>(
     ensures ready { OnOk result (T.ready taker.new out.new) }
     ensures ok { IfOk result (λ guided. IsSearchedTo T.took rows.now.program given budget
         guided.ended taker.old out.old taker.new out.new) }
+    ensures begun { IfOk result
+        (λ guided. IsWorth rows.now.program start.now guided.ended.best) }
     ensures exact { IfOk result
         (λ guided. guided.exact ≡ true → IsExact rows.now.program budget guided.ended) }
     ensures inexact { IfOk result
@@ -72,6 +79,7 @@ fn guided_to<H: Hinter + Drop, G: Guide + Drop, O, T: NodeTaker<Rows, O>>(
         rows,
         given,
         budget,
+        start,
         &mut hinter,
         &mut guide,
         taker,
@@ -85,6 +93,7 @@ pub fn search_hinted<O, T: NodeTaker<Rows, O>>(
     rows: &Rows,
     given: u32,
     budget: u32,
+    start: &[u8],
     taker: &mut T,
     out: &mut O,
 ) -> Result<Ended, TakeStop>
@@ -93,6 +102,7 @@ pub fn search_hinted<O, T: NodeTaker<Rows, O>>(
     ensures ready { OnOk result (T.ready taker.new out.new) }
     ensures ok { IfOk result (λ ended. IsSearchedTo T.took rows.now.program given budget ended
         taker.old out.old taker.new out.new) }
+    ensures begun { IfOk result (λ ended. IsWorth rows.now.program start.now ended.best) }
     ensures exact { IfOk result (IsExact rows.now.program budget) }
     ensures err { OnErr result (IsBrokenOff T.took T.broke rows.now.program taker.old out.old
         taker.new out.new) }
@@ -100,7 +110,7 @@ pub fn search_hinted<O, T: NodeTaker<Rows, O>>(
     ensures failed { IsErrOf result TakeStop.Failed → Rose (T.faults out.old) (T.faults out.new) }
 {
     let hinter = PlanHinter::new(alloc, &rows.program, given)?;
-    hinted_to(alloc, rows, given, budget, hinter, taker, out)
+    hinted_to(alloc, rows, given, budget, start, hinter, taker, out)
 }
 
 // Searches with a hinter that is let go of here.
@@ -109,6 +119,7 @@ fn hinted_to<H: Hinter + Drop, O, T: NodeTaker<Rows, O>>(
     rows: &Rows,
     given: u32,
     budget: u32,
+    start: &[u8],
     mut hinter: H,
     taker: &mut T,
     out: &mut O,
@@ -118,13 +129,14 @@ fn hinted_to<H: Hinter + Drop, O, T: NodeTaker<Rows, O>>(
     ensures ready { OnOk result (T.ready taker.new out.new) }
     ensures ok { IfOk result (λ ended. IsSearchedTo T.took rows.now.program given budget ended
         taker.old out.old taker.new out.new) }
+    ensures begun { IfOk result (λ ended. IsWorth rows.now.program start.now ended.best) }
     ensures exact { IfOk result (IsExact rows.now.program budget) }
     ensures err { OnErr result (IsBrokenOff T.took T.broke rows.now.program taker.old out.old
         taker.new out.new) }
     ensures later { T.faults out.old ≤ T.faults out.new }
     ensures failed { IsErrOf result TakeStop.Failed → Rose (T.faults out.old) (T.faults out.new) }
 {
-    search_to(alloc, rows, given, budget, &mut hinter, taker, out)
+    search_to(alloc, rows, given, budget, start, &mut hinter, taker, out)
 }
 
 /// As `search_advised`, and builds the proof. The answer also says whether the count is exact.
@@ -133,17 +145,19 @@ pub fn build_advised(
     rows: &Rows,
     given: u32,
     budget: u32,
+    start: &[u8],
 ) -> Result<(Searched, bool), AllocError>
     requires { (1 ≤ budget) × (budget ≤ 100000) }
     ensures ok { IfOk result (λ found. IsSearch rows.now.program given budget
         (tree_of found.0.tree) (ended_of found.0)) }
+    ensures begun { IfOk result (λ found. IsWorth rows.now.program start.now found.0.best) }
     ensures exact { IfOk result
         (λ found. found.1 ≡ true → IsExact rows.now.program budget (ended_of found.0)) }
     ensures inexact { IfOk result
         (λ found. found.1 ≡ false → (found.0.left_open ≡ true) × (found.0.spent ≢ budget)) }
 {
     let Advisers { guide, hinter } = Advisers::new(alloc, &rows.program, given, budget)?;
-    guided(alloc, rows, given, budget, hinter, guide)
+    guided(alloc, rows, given, budget, start, hinter, guide)
 }
 
 // Searches with advisers that are let go of here, and builds the proof.
@@ -152,18 +166,20 @@ fn guided<H: Hinter + Drop, G: Guide + Drop>(
     rows: &Rows,
     given: u32,
     budget: u32,
+    start: &[u8],
     mut hinter: H,
     mut guide: G,
 ) -> Result<(Searched, bool), AllocError>
     requires { (1 ≤ budget) × (budget ≤ 100000) }
     ensures ok { IfOk result (λ found. IsSearch rows.now.program given budget
         (tree_of found.0.tree) (ended_of found.0)) }
+    ensures begun { IfOk result (λ found. IsWorth rows.now.program start.now found.0.best) }
     ensures exact { IfOk result
         (λ found. found.1 ≡ true → IsExact rows.now.program budget (ended_of found.0)) }
     ensures inexact { IfOk result
         (λ found. found.1 ≡ false → (found.0.left_open ≡ true) × (found.0.spent ≢ budget)) }
 {
-    search_guided(alloc, rows, given, budget, &mut hinter, &mut guide)
+    search_guided(alloc, rows, given, budget, start, &mut hinter, &mut guide)
 }
 
 /// As `search_hinted`, and builds the proof.
@@ -172,14 +188,17 @@ pub fn build_hinted(
     rows: &Rows,
     given: u32,
     budget: u32,
+    start: &[u8],
 ) -> Result<Searched, AllocError>
     requires { (1 ≤ budget) × (budget ≤ 100000) }
     ensures ok { IfOk result (λ searched. IsSearch rows.now.program given budget
         (tree_of searched.tree) (ended_of searched)) }
+    ensures begun { IfOk result
+        (λ searched. IsWorth rows.now.program start.now searched.best) }
     ensures exact { IfOk result (λ searched. IsExact rows.now.program budget (ended_of searched)) }
 {
     let hinter = PlanHinter::new(alloc, &rows.program, given)?;
-    hinted(alloc, rows, given, budget, hinter)
+    hinted(alloc, rows, given, budget, start, hinter)
 }
 
 // Searches with a hinter that is let go of here, and builds the proof.
@@ -188,12 +207,15 @@ fn hinted<H: Hinter + Drop>(
     rows: &Rows,
     given: u32,
     budget: u32,
+    start: &[u8],
     mut hinter: H,
 ) -> Result<Searched, AllocError>
     requires { (1 ≤ budget) × (budget ≤ 100000) }
     ensures ok { IfOk result (λ searched. IsSearch rows.now.program given budget
         (tree_of searched.tree) (ended_of searched)) }
+    ensures begun { IfOk result
+        (λ searched. IsWorth rows.now.program start.now searched.best) }
     ensures exact { IfOk result (λ searched. IsExact rows.now.program budget (ended_of searched)) }
 {
-    search(alloc, rows, given, budget, &mut hinter)
+    search(alloc, rows, given, budget, start, &mut hinter)
 }

@@ -1,16 +1,19 @@
 -- The best of found points, and the caps that it closes.
-use Rattle.std.proofs.Common.{◌≡◌, ◌≢◌, Bool, true, false, cond, List, [], ◌∷◌, ◌++◌, Option, Some, None, option_to_list, refl, sym, ◌∙◌, subst, arith, append-nil}
-use Rattle.std.specs.Prelude.{◌≤ℤ◌, ◌<ℤ◌, int_lt, IfSome}
+use Rattle.std.proofs.Common.{◌≡◌, ◌≢◌, ℕ, ap, Bool, true, false, cond, List, [], ◌∷◌, ◌++◌, Option, Some, None, option_to_list, refl, sym, ◌∙◌, subst, arith, append-nil}
+use Rattle.std.specs.Prelude.{◌≤ℤ◌, ◌<ℤ◌, int_lt, IfSome, MatchOption}
 use Rattle.std.specs.List.{All, Contains}
 use Rattle.std.specs.Option.{IsSomeAnd, option_map}
 use Rattle.std.proofs.lemmas.Int.{ints, clamps}
 use Rattle.std.proofs.lemmas.List.Elements.{All-contains, All-nil, All-push, All-weaker, Contains-append_left, Contains-append_right}
 use Rattle.row_kit.specs.declared.found.Found.{Found}
+use Rattle.row_kit.specs.declared.program.Program.{Program}
+use Rattle.row_kit.specs.Point.{IsLawful, worth_of}
 use Rattle.proof_tree.specs.declared.capped.Capped.{Capped}
 use Rattle.proof_tree.specs.declared.capped.Capped.TheVariants.{AtMost, NoPoint, Bad}
 use Rattle.proof_tree.specs.Cap.{greater}
-use Rattle.branch_tree.specs.Justified.{IsAbove}
-use Rattle.branch_tree.specs.Searched.{IsBest}
+use Rattle.branch_tree.specs.Justified.{IsAbove, IsGroup}
+use Rattle.branch_tree.specs.Searched.{IsBest, IsWorth}
+use Rattle.branch_tree.specs.laws.Grounds.{IsOffered}
 use Rattle.branch_tree.specs.laws.Ends.{ClosedBy, Reaches, better_of, is_over}
 
 -- a point that stands last among others is one of them
@@ -158,3 +161,27 @@ above-same (AtMost n) None fs gs is other above = subst (All (λ f. f.value <ℤ
 above-same (AtMost n) (Some b) fs gs is other above =
     let more : b.value <ℤ n = All-contains (λ f. f.value <ℤ n) fs b above is.0 in
     All-weaker (λ f. f.value ≤ℤ b.value) (λ f. f.value <ℤ n) (λ f low. omega (arith, ints, more)) gs other.1
+
+-- ---- the start of a search
+
+-- a point that was tested is worth what its found point is
+tested-worth : (program : Program) (point : List ℕ) (found best : Option Found) → MatchOption found (¬ IsLawful program point) (λ f. IsGroup program f × (f.point ≡ point))
+    → IfSome found (λ f. IsSomeAnd best (λ b. f.value ≤ℤ b.value)) → IsWorth program point best
+tested-worth program point None best is low lawful = absurd (is lawful)
+tested-worth program point (Some f) None is low lawful = low
+tested-worth program point (Some f) (Some b) is low lawful = subst (λ z. z ≤ℤ b.value) (is.0.worth ∙ ap (worth_of program) is.1) low
+
+-- and its found point is lawful
+tested-group : (program : Program) (point : List ℕ) (found : Option Found) → MatchOption found (¬ IsLawful program point) (λ f. IsGroup program f × (f.point ≡ point)) → IfSome found (IsGroup program)
+tested-group program point None is = tt
+tested-group program point (Some f) is = is.0
+
+-- so the better of two points is one to be offered
+pub offered : (program : Program) (least start : List ℕ) (given own best : Option Found) → best ≡ better_of given own
+    → MatchOption given (¬ IsLawful program start) (λ f. IsGroup program f × (f.point ≡ start)) → MatchOption own (¬ IsLawful program least) (λ f. IsGroup program f × (f.point ≡ least))
+    → IsOffered program least start best
+offered program least start given own best is first second = subst (IsOffered program least start) (sym is) (record {
+  group = better-keeps (IsGroup program) given own (tested-group program start given first) (tested-group program least own second);
+  least = tested-worth program least own (better_of given own) second (better-second given own);
+  given = tested-worth program start given (better_of given own) first (better-first given own);
+})

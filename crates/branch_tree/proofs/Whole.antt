@@ -1,6 +1,6 @@
 -- A whole search, from the search of its root.
 use Rattle.std.proofs.Common.{◌≡◌, ◌≢◌, ℕ, zero, suc, ◌+◌, ◌*◌, ◌<◌, ◌≤◌, Bool, true, false, List, [], ◌∷◌, Option, Some, None, refl, ap, sym, ◌∙◌, subst, arith, inl, inr}
-use Rattle.std.specs.Prelude.{ℤ, ◌≤ℤ◌, IfSome, MatchOption, ⊤, length}
+use Rattle.std.specs.Prelude.{ℤ, ◌≤ℤ◌, IfSome, ⊤, length}
 use Rattle.std.specs.List.{All}
 use Rattle.std.specs.Option.{IsSomeAnd, option_map}
 use Rattle.std.proofs.lemmas.Int.{ints}
@@ -31,7 +31,7 @@ use Rattle.branch_tree.specs.declared.ended.Ended.{Ended}
 use Rattle.branch_tree.specs.declared.reached.Reached.{Reached}
 use Rattle.row_relax.specs.RowProofs.{RowItem, RowTree}
 use Rattle.branch_tree.specs.Justified.{IsGroup}
-use Rattle.branch_tree.specs.Searched.{IsBest, IsBrokenOff, IsExact, IsFitItem, IsSearch, IsSearchedTo, IsSettled}
+use Rattle.branch_tree.specs.Searched.{IsBest, IsBrokenOff, IsExact, IsFitItem, IsSearch, IsSearchedTo, IsSettled, IsWorth}
 use Rattle.branch_tree.specs.laws.Ends.{NodeDone, is_over}
 use Rattle.range_prop.specs.Cuts.{HaveRoomBut}
 use Rattle.branch_tree.specs.declared.reached.Ground.{Ground}
@@ -88,21 +88,20 @@ module _ (program : Program) where
       let high : n ≤ℤ b.value = grind (arith, ints) in
       omega (arith, ints, low, high)
 
-  -- where the root's least point is lawful, the best is worth as much
-  least_best : (own best : Option Found) → MatchOption own (¬ IsLawful program (only_point program.root)) (λ found. IsGroup program found × (found.point ≡ only_point program.root))
-      → IsOwnBest own best → IsLawful program (only_point program.root) → IsSomeAnd best (λ b. worth_of program (only_point program.root) ≤ℤ b.value)
-  least_best None best is offered lawful = absurd (is lawful)
-  least_best (Some f) None is offered lawful = offered
-  least_best (Some f) (Some b) is offered lawful = subst (λ z. z ≤ℤ b.value) (is.0.worth ∙ ap (worth_of program) is.1) offered
+  -- the best is worth as much as a point that the one to be offered is worth as much as
+  best_worth : (point : List ℕ) (own best : Option Found) → IsWorth program point own → IsOwnBest own best → IsWorth program point best
+  best_worth point None best is offered lawful = absurd (is lawful)
+  best_worth point (Some f) None is offered lawful = offered
+  best_worth point (Some f) (Some b) is offered lawful = (let low = is lawful in omega (arith, ints, low, offered))
 
 -- the start of a search stands in the root
-pub root-stands : (ground : Ground) (marks : List (List Domain)) (start : Reached) → IsGround ground → marks ≡ (program_of ground).root ∷ [] → IsStart (program_of ground) start → StandsIn ground (seen marks) 0 start
-root-stands ground marks start indexed is begun = subst (λ (ms : List (List Domain)). StandsIn ground (seen ms) 0 start) (sym is) at_root
+pub root-stands : (ground : Ground) (point : List ℕ) (marks : List (List Domain)) (start : Reached) → IsGround ground → marks ≡ (program_of ground).root ∷ [] → IsStart (program_of ground) point start → StandsIn ground (seen marks) 0 start
+root-stands ground point marks start indexed is begun = subst (λ (ms : List (List Domain)). StandsIn ground (seen ms) 0 start) (sym is) at_root
   where
-    own_at : (own : Option Found) → MatchOption own (¬ IsLawful (program_of ground) (only_point (program_of ground).root)) (λ found. IsGroup (program_of ground) found × (found.point ≡ only_point (program_of ground).root))
+    own_at : (own : Option Found) → IfSome own (IsGroup (program_of ground))
         → IfSome own (λ found. IsGroup (program_of ground) found × IsIn (view_of (program_of ground).root) found.point)
     own_at None offered = tt
-    own_at (Some f) offered = (offered.0, subst (λ (ds : List Domain). LiesIn ds f.point) (sym (domains_of-view_of (program_of ground).root)) offered.0.lawful.lies)
+    own_at (Some f) offered = (offered, subst (λ (ds : List Domain). LiesIn ds f.point) (sym (domains_of-view_of (program_of ground).root)) offered.lawful.lies)
 
     at_root : StandsIn ground (view_of (program_of ground).root) 0 start
     at_root = record {
@@ -111,19 +110,19 @@ root-stands ground marks start indexed is begun = subst (λ (ms : List (List Dom
       places = begun.places;
       deep = omega (arith, splits-root (program_of ground));
       room = subst (λ o. IfSome o (λ slot. (slot < length (program_of ground).root) × HaveRoomBut (program_of ground).rows (slot ∷ []) (domains_of (view_of (program_of ground).root)))) (sym begun.changed) tt;
-      own = own_at start.own begun.own;
+      own = own_at start.own begun.own.group;
     }
 
 -- what is known of the search of the root
-pub record RootSearched {T O : Type 0} (took : T → O → List RowItem → T → O → Type 0) (program : Program) (given budget : ℕ) (may_leave : Bool) (cap : Capped) (start new : Reached) (left_open : Bool) (t : T) (o : O) (t2 : T) (o2 : O) : Type 0 where
+pub record RootSearched {T O : Type 0} (took : T → O → List RowItem → T → O → Type 0) (program : Program) (point : List ℕ) (given budget : ℕ) (may_leave : Bool) (cap : Capped) (start new : Reached) (left_open : Bool) (t : T) (o : O) (t2 : T) (o2 : O) : Type 0 where
   pub box : BoxHanded took (λ parent. ⊤) program given budget may_leave (view_of program.root) cap start t o new t2 o2
-  pub begun : IsStart program start
+  pub begun : IsStart program point start
   pub own : IsOwnBest start.own new.best
   pub within : new.spent ≤ budget
   pub over : left_open ≡ is_over cap (option_map (λ f. f.value) new.best)
 
-module _ {T O : Type 0} (took : T → O → List RowItem → T → O → Type 0) (program : Program) (given budget : ℕ) (may_leave : Bool) (cap : Capped) (start new : Reached) (left_open : Bool) (t : T) (o : O) (t2 : T) (o2 : O)
-    (root : RootSearched took program given budget may_leave cap start new left_open t o t2 o2) where
+module _ {T O : Type 0} (took : T → O → List RowItem → T → O → Type 0) (program : Program) (point : List ℕ) (given budget : ℕ) (may_leave : Bool) (cap : Capped) (start new : Reached) (left_open : Bool) (t : T) (o : O) (t2 : T) (o2 : O)
+    (root : RootSearched took program point given budget may_leave cap start new left_open t o t2 o2) where
   -- each node of the proof
   nodes : EachNode (NodeDone program given) (row_steps program) None [] (view_of program.root) root.box.tree
   nodes = root.box.done None [] tt (subst (λ b. IsBest b []) (sym root.begun.best) refl)
@@ -180,7 +179,7 @@ module _ {T O : Type 0} (took : T → O → List RowItem → T → O → Type 0)
       over-above cap new.best (found_points root.box.tree) defined best (sym root.over ∙ over),
     );
     settled = λ over. settled program cap new.best (found_points root.box.tree) best groups bounds (sym root.over ∙ over);
-    least = least_best program start.own new.best root.begun.own root.own;
+    least = best_worth program (only_point program.root) start.own new.best root.begun.own.least root.own;
   }
     where
       bounds : Bounds (LiesIn program.root) (IsLawful program) (worth_of program) cap
@@ -188,6 +187,10 @@ module _ {T O : Type 0} (took : T → O → List RowItem → T → O → Type 0)
 
       groups : All (IsGroup program) (found_points root.box.tree)
       groups = subst (All (IsGroup program)) (found_in-tree Rows Area root.box.tree) (fit-groups program (tree_items root.box.tree) root.box.fit)
+
+  -- the best is worth as much as the point to begin with
+  pub root-begun : IsWorth program point new.best
+  root-begun = best_worth program point start.own new.best root.begun.own.given root.own
 
   -- the items of the proof were taken
   pub root-taken : took t o [] t o → IsSearchedTo took program given budget (record { best = new.best; cap = cap; spent = new.spent; left_open = left_open }) t o t2 o2
@@ -204,10 +207,10 @@ module _ {T O : Type 0} (took : T → O → List RowItem → T → O → Type 0)
   root-full never over = root.box.counts.full never (some_open over)
 
 -- what the search of the root comes to
-pub root-searched : {T O : Type 0} (took : T → O → List RowItem → T → O → Type 0) (program : Program) (given budget : ℕ) (may_leave : Bool) (cap : Capped) (start new : Reached) (left_open : Bool) (t : T) (o : O) (t2 : T) (o2 : O)
-    (marks : List (List Domain)) (worth : Option ℤ) → marks ≡ program.root ∷ [] → BoxHanded took (λ parent. ⊤) program given budget may_leave (seen marks) cap start t o new t2 o2 → IsStart program start → IsOwnBest start.own new.best
-    → new.spent ≤ budget → worth ≡ option_map (λ f. f.value) new.best → left_open ≡ is_over cap worth → RootSearched took program given budget may_leave cap start new left_open t o t2 o2
-root-searched took program given budget may_leave cap start new left_open t o t2 o2 marks worth is box begun own within worth_is over = record {
+pub root-searched : {T O : Type 0} (took : T → O → List RowItem → T → O → Type 0) (program : Program) (point : List ℕ) (given budget : ℕ) (may_leave : Bool) (cap : Capped) (start new : Reached) (left_open : Bool) (t : T) (o : O) (t2 : T) (o2 : O)
+    (marks : List (List Domain)) (worth : Option ℤ) → marks ≡ program.root ∷ [] → BoxHanded took (λ parent. ⊤) program given budget may_leave (seen marks) cap start t o new t2 o2 → IsStart program point start → IsOwnBest start.own new.best
+    → new.spent ≤ budget → worth ≡ option_map (λ f. f.value) new.best → left_open ≡ is_over cap worth → RootSearched took program point given budget may_leave cap start new left_open t o t2 o2
+root-searched took program point given budget may_leave cap start new left_open t o t2 o2 marks worth is box begun own within worth_is over = record {
   box = subst (λ (ms : List (List Domain)). BoxHanded took (λ parent. ⊤) program given budget may_leave (seen ms) cap start t o new t2 o2) is box;
   begun = begun;
   own = own;

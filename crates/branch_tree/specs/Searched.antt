@@ -86,6 +86,10 @@ pub record IsSearch (program : Program) (given budget : ℕ) (tree : RowTree) (e
   -- where the root's least point is lawful, the best is worth as much
   pub least : IsLawful program (only_point program.root) → IsSomeAnd ended.best (λ best. worth_of program (only_point program.root) ≤ℤ best.value)
 
+-- where the point is lawful, the found point is worth as much
+abbrev pub IsWorth : Program → List ℕ → Option Found → Type 0
+IsWorth program point found = IsLawful program point → IsSomeAnd found (λ f. worth_of program point ≤ℤ f.value)
+
 -- what a search ended with whose proof was built
 abbrev pub ended_of : Searched → Ended
 ended_of searched = record { best = searched.best; cap = searched.cap; spent = searched.spent; left_open = searched.left_open }

@@ -4,30 +4,46 @@ ghost use Rattle.proof_tree.specs.Taker.{Rose};
 ghost use Rattle.proof_tree.specs.Tree.{tree_of};
 ghost use Rattle.proof_tree.specs.Items.{tree_items};
 ghost use Rattle.proof_tree.specs.Built.{HoldsItems};
-ghost use Rattle.branch_tree.specs.Searched.{IsExact, IsSearch, IsSearchedTo, IsBrokenOff, ended_of};
+ghost use Rattle.branch_tree.specs.Searched.{IsExact, IsSearch, IsSearchedTo, IsBrokenOff, IsWorth, ended_of};
 ghost use Rattle.row_relax.specs.RowProofs.{RowTree};
-ghost use Rattle.branch_tree.specs.laws.Grounds.{IsGround, IsStart, program_of};
+ghost use Rattle.branch_tree.specs.laws.Grounds.{IsGround, IsOffered, IsStart, program_of};
 
 use crate::boxes::{search_box, worth_of};
 use crate::copies::RowCopier;
 use crate::ended::{Ended, Guided, Searched};
-use crate::found::{put_least, tested};
+use crate::found::{better, put_least, tested};
 use crate::guide::PlainGuide;
 use crate::judging::exceeds;
 use crate::reached::{Ground, Reached};
 use box_advice::{Guide, Hinter};
 use proof_tree::{NodeTaker, TakeStop, TreeTaker};
 use range_prop::RowIndex;
+use row_kit::{Found, Program};
 use row_relax::Rows;
 use std::alloc::{AllocError, Global};
 
-// The start of a search: nothing is counted, and the least point of the root is offered first where it is lawful.
-fn begun(alloc: Global, rows: &Rows) -> Result<Reached, AllocError>
-    ensures { IfOk result (IsStart rows.now.program) }
+// The one of two points that is worth more, where it is lawful.
+fn offered(
+    alloc: Global,
+    program: &Program,
+    least: &[u8],
+    start: &[u8],
+) -> Result<Option<Found>, AllocError>
+    ensures { IfOk result (IsOffered program.now least.now start.now) }
+{
+    let given = tested(alloc, program, start)?;
+    let own = tested(alloc, program, least)?;
+    Ok(better(given, own))
+}
+
+// The start of a search: nothing is counted, and the point to begin with or the least point of the root is offered first, the one
+// of those that are lawful which is worth more.
+fn begun(alloc: Global, rows: &Rows, start: &[u8]) -> Result<Reached, AllocError>
+    ensures { IfOk result (IsStart rows.now.program start.now) }
 {
     let mut point = vec![in alloc; 0u8; rows.program.root.len()]?;
     put_least(rows.program.root.as_slice(), &mut point);
-    let own = tested(alloc, &rows.program, point.as_slice())?;
+    let own = offered(alloc, &rows.program, point.as_slice(), start)?;
     Ok(Reached {
         spent: 0,
         best: None,
@@ -41,6 +57,7 @@ fn begun(alloc: Global, rows: &Rows) -> Result<Reached, AllocError>
 // Searches the root.
 fn search_root<H: Hinter, G: Guide, O, T: NodeTaker<Rows, O>>(
     ground: &Ground,
+    start: &[u8],
     hinter: &mut H,
     guide: &mut G,
     taker: &mut T,
@@ -52,6 +69,8 @@ fn search_root<H: Hinter, G: Guide, O, T: NodeTaker<Rows, O>>(
     ensures ready { OnOk result (T.ready taker.new out.new) }
     ensures ok { IfOk result (λ ended. IsSearchedTo T.took (program_of ground.now)
         ground.now.given ground.now.budget ended taker.old out.old taker.new out.new) }
+    ensures begun { IfOk result
+        (λ ended. IsWorth (program_of ground.now) start.now ended.best) }
     ensures exact { IfOk result
         (λ ended. ground.now.may_leave ≡ false
         → IsExact (program_of ground.now) ground.now.budget ended) }
@@ -63,7 +82,7 @@ fn search_root<H: Hinter, G: Guide, O, T: NodeTaker<Rows, O>>(
     ensures later { T.faults out.old ≤ T.faults out.new }
     ensures failed { IsErrOf result TakeStop.Failed → Rose (T.faults out.old) (T.faults out.new) }
 {
-    let mut reached = begun(ground.alloc, ground.rows)?;
+    let mut reached = begun(ground.alloc, ground.rows, start)?;
     let mut area = ground.rows.root_area(ground.alloc)?;
     let cap = search_box(
         ground,
@@ -89,11 +108,13 @@ fn search_root<H: Hinter, G: Guide, O, T: NodeTaker<Rows, O>>(
 /// exact: whether the budget was spent, or nothing is left open.
 ///
 /// Slots from the number `given` on are sums, and may be split at any value; those below it are split at 0 or in the middle alone.
+/// The best point is worth as much as `start`, where that is a lawful point; any other is passed over.
 pub fn search_guided_to<H: Hinter, G: Guide, O, T: NodeTaker<Rows, O>>(
     alloc: Global,
     rows: &Rows,
     given: u32,
     budget: u32,
+    start: &[u8],
     hinter: &mut H,
     guide: &mut G,
     taker: &mut T,
@@ -104,6 +125,8 @@ pub fn search_guided_to<H: Hinter, G: Guide, O, T: NodeTaker<Rows, O>>(
     ensures ready { OnOk result (T.ready taker.new out.new) }
     ensures ok { IfOk result (λ guided. IsSearchedTo T.took rows.now.program given budget
         guided.ended taker.old out.old taker.new out.new) }
+    ensures begun { IfOk result
+        (λ guided. IsWorth rows.now.program start.now guided.ended.best) }
     ensures exact { IfOk result
         (λ guided. guided.exact ≡ true → IsExact rows.now.program budget guided.ended) }
     ensures inexact { IfOk result
@@ -122,7 +145,7 @@ pub fn search_guided_to<H: Hinter, G: Guide, O, T: NodeTaker<Rows, O>>(
         budget,
         may_leave: true,
     };
-    let ended = search_root(&ground, hinter, guide, taker, out)?;
+    let ended = search_root(&ground, start, hinter, guide, taker, out)?;
     let exact = !ended.left_open || ended.spent == budget;
     Ok(Guided { ended, exact })
 }
@@ -132,11 +155,13 @@ pub fn search_guided_to<H: Hinter, G: Guide, O, T: NodeTaker<Rows, O>>(
 /// leaves a box open only where it counted just as many. After an error the taker took the first items of some proof.
 ///
 /// Slots from the number `given` on are sums, and may be split at any value; those below it are split at 0 or in the middle alone.
+/// The best point is worth as much as `start`, where that is a lawful point; any other is passed over.
 pub fn search_to<H: Hinter, O, T: NodeTaker<Rows, O>>(
     alloc: Global,
     rows: &Rows,
     given: u32,
     budget: u32,
+    start: &[u8],
     hinter: &mut H,
     taker: &mut T,
     out: &mut O,
@@ -146,6 +171,7 @@ pub fn search_to<H: Hinter, O, T: NodeTaker<Rows, O>>(
     ensures ready { OnOk result (T.ready taker.new out.new) }
     ensures ok { IfOk result (λ ended. IsSearchedTo T.took rows.now.program given budget ended
         taker.old out.old taker.new out.new) }
+    ensures begun { IfOk result (λ ended. IsWorth rows.now.program start.now ended.best) }
     ensures exact { IfOk result (IsExact rows.now.program budget) }
     ensures err { OnErr result (IsBrokenOff T.took T.broke rows.now.program taker.old out.old
         taker.new out.new) }
@@ -160,23 +186,26 @@ pub fn search_to<H: Hinter, O, T: NodeTaker<Rows, O>>(
         budget,
         may_leave: false,
     };
-    search_root(&ground, hinter, &mut PlainGuide, taker, out)
+    search_root(&ground, start, hinter, &mut PlainGuide, taker, out)
 }
 
 /// As `search`, with a guide that may leave boxes open though budget is left. The answer also says whether the count is exact.
 ///
 /// Slots from the number `given` on are sums, and may be split at any value; those below it are split at 0 or in the middle alone.
+/// The best point is worth as much as `start`, where that is a lawful point; any other is passed over.
 pub fn search_guided<H: Hinter, G: Guide>(
     alloc: Global,
     rows: &Rows,
     given: u32,
     budget: u32,
+    start: &[u8],
     hinter: &mut H,
     guide: &mut G,
 ) -> Result<(Searched, bool), AllocError>
     requires { (1 ≤ budget) × (budget ≤ 100000) }
     ensures ok { IfOk result (λ found. IsSearch rows.now.program given budget
         (tree_of found.0.tree) (ended_of found.0)) }
+    ensures begun { IfOk result (λ found. IsWorth rows.now.program start.now found.0.best) }
     ensures exact { IfOk result
         (λ found. found.1 ≡ true → IsExact rows.now.program budget (ended_of found.0)) }
     ensures inexact { IfOk result
@@ -188,6 +217,7 @@ pub fn search_guided<H: Hinter, G: Guide>(
         rows,
         given,
         budget,
+        start,
         hinter,
         guide,
         &mut taker,
@@ -202,20 +232,33 @@ pub fn search_guided<H: Hinter, G: Guide>(
 /// tells. It counts at most as many boxes as the budget, and leaves a box open only where it counted just as many.
 ///
 /// Slots from the number `given` on are sums, and may be split at any value; those below it are split at 0 or in the middle alone.
+/// The best point is worth as much as `start`, where that is a lawful point; any other is passed over.
 pub fn search<H: Hinter>(
     alloc: Global,
     rows: &Rows,
     given: u32,
     budget: u32,
+    start: &[u8],
     hinter: &mut H,
 ) -> Result<Searched, AllocError>
     requires { (1 ≤ budget) × (budget ≤ 100000) }
     ensures ok { IfOk result (λ searched. IsSearch rows.now.program given budget
         (tree_of searched.tree) (ended_of searched)) }
+    ensures begun { IfOk result
+        (λ searched. IsWorth rows.now.program start.now searched.best) }
     ensures exact { IfOk result (λ searched. IsExact rows.now.program budget (ended_of searched)) }
 {
     let mut taker = TreeTaker::new(alloc, RowCopier);
-    match search_to(alloc, rows, given, budget, hinter, &mut taker, &mut ()) {
+    match search_to(
+        alloc,
+        rows,
+        given,
+        budget,
+        start,
+        hinter,
+        &mut taker,
+        &mut (),
+    ) {
         Ok(ended) => Ok(with_tree(ended, taker)),
         Err(_) => Err(AllocError),
     }

@@ -15,12 +15,13 @@ use Rattle.row_kit.specs.declared.program.Program.{Program}
 use Rattle.row_set.specs.Parts.{IsPartOf, IsAdmitted}
 use Rattle.row_set.specs.PlantProgram.{slot_domain}
 use Rattle.branch_tree.specs.Searched.{spared}
-use Rattle.plan_told.specs.Outcomes.{IsPartOutcome, least_plan, whole_count}
+use Rattle.plan_told.specs.Outcomes.{least_plan, whole_count}
 use Rattle.plan_told.specs.Proofs.{HasProof, depth_over, claim_of}
 use Rattle.plant_parts.specs.PlantParts.{digit, cut_domain, cut_root, part_root, IsOfPart}
 use Rattle.command_replies.specs.declared.reply.Reply.{Reply}
 use Rattle.answer_texts.specs.Planning.{Planned}
 use Rattle.planning_commands.specs.PartSolving.{HasPartProof, PartSolved}
+use Rattle.planning_commands.specs.Replanning.{IsBegunOutcome}
 use Rattle.command_replies.specs.Answers.{IsUnwritten}
 use Rattle.answer_texts.proofs.StatusLemmas.{solved-status}
 use Rattle.valid_log.proofs.Deeper.{plant-deeper}
@@ -63,17 +64,17 @@ has-part-proof plant levels part program log outcome enough root has = record {
 -- ---- the answer
 
 -- an answer of planning over a part's program is one of planning the part
-pub part_solved : {E : Type 0} (plant : Plant) (levels part budget : ℕ) (log : Option (List ℕ)) (program : Program) (r : Result Reply E) → levels ≤ length (slots plant)
+pub part_solved : {E : Type 0} (plant : Plant) (start : List Start) (levels part budget : ℕ) (log : Option (List ℕ)) (program : Program) (r : Result Reply E) → levels ≤ length (slots plant)
     → IsPartOf plant program → program.root ≡ part_root plant levels part → ((plan : List Start) → IsAdmitted plant program plan ↔ IsOfPart plant levels part plan)
-    → IfOk r (λ reply. Planned plant (IsPartOutcome plant program budget) (HasProof plant program log) reply.status reply.text.items)
+    → IfOk r (λ reply. Planned plant (IsBegunOutcome plant program start budget) (HasProof plant program log) reply.status reply.text.items)
     → IfOk r (λ reply. PartSolved budget plant levels part log reply.status reply.text.items)
-part_solved plant levels part budget log program (Ok reply) enough is_part root exact planned = (
+part_solved plant start levels part budget log program (Ok reply) enough is_part root exact planned = (
   program,
   (
     record { is_part = is_part; root = root },
     record {
       outcome = planned.outcome;
-      right = outcome-among plant (IsAdmitted plant program) (IsOfPart plant levels part) (λ plan. (exact plan).0) (λ plan. (exact plan).1) (least_plan plant program) (whole_count program) budget planned.outcome planned.right;
+      right = outcome-among plant (IsAdmitted plant program) (IsOfPart plant levels part) (λ plan. (exact plan).0) (λ plan. (exact plan).1) (least_plan plant program) (whole_count program) budget planned.outcome planned.right.right;
       proof = has-part-proof plant levels part program log planned.outcome enough root planned.proof;
       status_is = planned.status_is;
       text_is = planned.text_is;
@@ -81,7 +82,7 @@ part_solved plant levels part budget log program (Ok reply) enough is_part root 
     },
   ),
 )
-part_solved plant levels part budget log program (Err e) enough is_part root exact planned = tt
+part_solved plant start levels part budget log program (Err e) enough is_part root exact planned = tt
 
 -- the status of such an answer is that of no refusal
 pub part_written : {E : Type 0} (plant : Plant) (levels part budget : ℕ) (log : Option (List ℕ)) (Unchanged : Type 0) (r : Result Reply E)

@@ -5,26 +5,42 @@ use Rattle.stn_model.specs.declared.plant.Plant.{Plant}
 use Rattle.stn_model.specs.declared.start.Start.{Start}
 use Rattle.stn_model.specs.declared.answer.Outcome.{Outcome}
 use Rattle.stn_model.specs.Answers.{IsOutcomeOf}
+use Rattle.stn_model.specs.Feasible.{Feasible}
+use Rattle.stn_model.specs.Profit.{profit}
 use Rattle.plant_text.specs.Reading.{reading}
 use Rattle.plan_text.specs.PlanText.{plan_of_text}
 use Rattle.row_kit.specs.declared.program.Program.{Program}
+use Rattle.row_set.specs.Parts.{IsAdmitted}
 use Rattle.frozen_plan.specs.Frozen.{kept_starts}
 use Rattle.frozen_plan.specs.Keeping.{Keeps, IsKeptPart, StandTogether}
-use Rattle.plan_told.specs.Outcomes.{least_plan, whole_count}
+use Rattle.plan_told.specs.Outcomes.{IsPartOutcome, least_plan, whole_count}
 use Rattle.plan_told.specs.Proofs.{HasProof, IsLeft, bytes_in}
+use Rattle.stn_solve.specs.Begun.{EarnsAtLeast}
 use Rattle.command_replies.specs.Sources.{IsReadOf}
 use Rattle.answer_texts.specs.Kept.{OnKept}
 use Rattle.answer_texts.specs.Planning.{Planned}
 
+-- a right outcome of planning over a part of a plant's choices; where the part admits a plan to begin with, the PROFIT is at least
+-- what that earns
+pub record IsBegunOutcome (plant : Plant) (part : Program) (start : List Start) (budget : ℕ) (outcome : Outcome) : Type 0 where
+  pub right : IsPartOutcome plant part budget outcome
+  pub begun : IsAdmitted plant part start → EarnsAtLeast (profit plant start) outcome.answer
+
+-- A right outcome of planning among the feasible plans that keep the first starts of a plan. Where this plan is feasible as a
+-- whole, the PROFIT is at least what it earns.
+pub record IsReplanOutcome (plant : Plant) (period : ℕ) (start : List Start) (part : Program) (budget : ℕ) (outcome : Outcome) : Type 0 where
+  pub right : IsOutcomeOf plant (Keeps plant period (kept_starts period start)) (least_plan plant part) (whole_count part) budget outcome
+  pub begun : Feasible plant start → EarnsAtLeast (profit plant start) outcome.answer
+
 -- The answer of `replan` over a program of the feasible plans that keep the starts: a right outcome of planning among these
 -- plans within the budget. There is a proof of it, and where the bytes of a log are told, they are the text of its log.
 abbrev pub SolvedOver : ℕ → Plant → ℕ → List Start → Option (List ℕ) → Program → ℕ → List ℕ → Type 0
-SolvedOver budget plant period kept log part status text =
-    Planned plant (IsOutcomeOf plant (Keeps plant period kept) (least_plan plant part) (whole_count part) budget) (HasProof plant part log) status text
+SolvedOver budget plant period start log part status text = Planned plant (IsReplanOutcome plant period start part budget) (HasProof plant part log) status text
 
--- the answer of `replan`
+-- the answer of `replan` from the starts of a plan before a period
 abbrev pub Replanned : ℕ → Plant → ℕ → List Start → Option (List ℕ) → Type 0 → ℕ → List ℕ → Type 0
-Replanned budget plant period kept log Unchanged status text = OnKept plant period kept Unchanged (SolvedOver budget plant period kept log) status text
+Replanned budget plant period start log Unchanged status text =
+    OnKept plant period (kept_starts period start) Unchanged (SolvedOver budget plant period start log) status text
 
 -- what an attempt over a part leaves in the file of a log: a log that was begun, if anything, or a whole one, of an outcome
 abbrev pub LeavesLog : Plant → Program → List ℕ → Option FileMap → Option FileMap → Type 0

@@ -124,5 +124,5 @@ fn log_rows_of_part<F: Shelf>(
 {
     let levels = part.levels.number;
     let rows = part_rows(alloc, plant, levels, part.number)?;
-    log_part(alloc, files, plant, rows.program, levels, budget, log)
+    log_part(alloc, files, plant, rows.program, levels, &[], budget, log)
 }

@@ -9,7 +9,6 @@ ghost use Rattle.plant_text.specs.Reading.{reading};
 ghost use Rattle.row_set.specs.Parts.{IsPartOf};
 ghost use Rattle.frozen_plan.specs.Frozen.{kept_starts};
 ghost use Rattle.frozen_plan.specs.Keeping.{StandTogether};
-ghost use Rattle.plan_told.specs.Outcomes.{IsPartOutcome};
 ghost use Rattle.plan_told.specs.Proofs.{HasProof, bytes_in};
 ghost use Rattle.command_replies.specs.Answers.{IsPlanAnswer, IsUnwritten};
 ghost use Rattle.command_replies.specs.Sources.{IfReplied, IfRefused, IsReadOf};
@@ -17,6 +16,7 @@ ghost use Rattle.answer_texts.specs.Planning.{Planned};
 ghost use Rattle.planning_commands.specs.Replanning.{
   CanReplan,
   HoldsReplan,
+  IsBegunOutcome,
   LeavesLog,
   LeavesReplan,
   Replanned,
@@ -30,7 +30,7 @@ use row_kit::Program;
 use std::alloc::{AllocError, Global};
 use stn_edge::{Shelf, Stop};
 use stn_model::{Plant, Start};
-use stn_solve::{plan_rows, solve_rows_to};
+use stn_solve::{plan_rows, point_of, solve_rows_to};
 
 /// Plans on from the starts of the plan in a file before a period, on the plant in another, with at most so many boxes. The files
 /// are as before.
@@ -45,8 +45,8 @@ pub fn replan_file<F: Shelf>(
     requires plant_readable { IsTrue (F.may_read files.old plant.now) }
     requires plan_readable { IsTrue (F.may_read files.old plan.now) }
     ensures answer { IfReplied result (λ reply. IsPlanAnswer (F.files files.old) (F.files files.new)
-        plant.now plan.now [] (λ plant starts. Replanned budget.boxes plant period.number
-        (kept_starts period.number starts) None (F.files files.new ≡ F.files files.old))
+        plant.now plan.now [] (λ plant starts. Replanned budget.boxes plant period.number starts
+        None (F.files files.new ≡ F.files files.old))
         reply.status reply.text.items) }
     ensures fault { result ≡ Err Stopped.ReadFault
         → Rose (F.read_faults files.old) (F.read_faults files.new) }
@@ -74,8 +74,8 @@ fn replan_on<F: Shelf>(
     requires sound { Sound plant.now }
     ensures answer { (name : List ℕ) → IsReadOf reading (F.files files.old) name (Ok plant.now)
         → IfReplied result (λ reply. IsPlanAnswer (F.files files.old) (F.files files.new)
-        name plan.now [] (λ plant starts. Replanned budget.boxes plant period.number
-        (kept_starts period.number starts) None (F.files files.new ≡ F.files files.old))
+        name plan.now [] (λ plant starts. Replanned budget.boxes plant period.number starts
+        None (F.files files.new ≡ F.files files.old))
         reply.status reply.text.items) }
     ensures fault { result ≡ Err Stopped.ReadFault
         → Rose (F.read_faults files.old) (F.read_faults files.new) }
@@ -106,8 +106,8 @@ pub fn log_replan_file<F: Shelf>(
     requires plan_readable { IsTrue (F.may_read files.old plan.now) }
     requires log_writable { IsTrue (F.may_write files.old log.now) }
     ensures answer { IfReplied result (λ reply. IsPlanAnswer (F.files files.old) (F.files files.new)
-        plant.now plan.now [] (λ plant starts. Replanned budget.boxes plant period.number
-        (kept_starts period.number starts) (bytes_in log.now (F.files files.new))
+        plant.now plan.now [] (λ plant starts. Replanned budget.boxes plant period.number starts
+        (bytes_in log.now (F.files files.new))
         (F.files files.new ≡ F.files files.old)) reply.status reply.text.items) }
     ensures refused { IfReplied result (λ reply. IsUnwritten reply.status
         → F.files files.new ≡ F.files files.old) }
@@ -145,8 +145,8 @@ fn log_replan_on<F: Shelf>(
     requires sound { Sound plant.now }
     ensures answer { (name : List ℕ) → IsReadOf reading (F.files files.old) name (Ok plant.now)
         → IfReplied result (λ reply. IsPlanAnswer (F.files files.old) (F.files files.new)
-        name plan.now [] (λ plant starts. Replanned budget.boxes plant period.number
-        (kept_starts period.number starts) (bytes_in log.now (F.files files.new))
+        name plan.now [] (λ plant starts. Replanned budget.boxes plant period.number starts
+        (bytes_in log.now (F.files files.new))
         (F.files files.new ≡ F.files files.old)) reply.status reply.text.items) }
     ensures refused { IfReplied result (λ reply. IsUnwritten reply.status
         → F.files files.new ≡ F.files files.old) }
@@ -182,11 +182,11 @@ fn replan(
 ) -> Result<Reply, AllocError>
     requires sound { Sound plant.now }
     requires short { length plan.now < 2 ^ 32 }
-    ensures { IfOk result (λ reply. Replanned budget.boxes plant.now period.number
-        (kept_starts period.number plan.now) None ⊤ reply.status reply.text.items) }
+    ensures { IfOk result (λ reply. Replanned budget.boxes plant.now period.number plan.now None ⊤
+        reply.status reply.text.items) }
 {
     match keep(alloc, plant, plan, period.number)? {
-        Keeping::Open(rows) => plan_part(alloc, plant, rows.program, budget),
+        Keeping::Open(rows) => plan_part(alloc, plant, rows.program, plan, budget),
         Keeping::Broken(violation) => broken(alloc, plant, &violation),
     }
 }
@@ -204,8 +204,8 @@ fn log_replan<F: Shelf>(
     requires sound { Sound plant.now }
     requires short { length plan.now < 2 ^ 32 }
     requires allowed { IsTrue (F.may_write files.old log.now) }
-    ensures answer { IfOk result (λ reply. Replanned budget.boxes plant.now period.number
-        (kept_starts period.number plan.now) (bytes_in log.now (F.files files.new))
+    ensures answer { IfOk result (λ reply. Replanned budget.boxes plant.now period.number plan.now
+        (bytes_in log.now (F.files files.new))
         (F.files files.new ≡ F.files files.old) reply.status reply.text.items) }
     ensures none { IfRefused result (λ _. ⊥) }
     ensures no_fault { result ≢ Err Stopped.ReadFault }
@@ -222,36 +222,40 @@ fn log_replan<F: Shelf>(
     ensures writes { F.write_faults files.old ≤ F.write_faults files.new }
 {
     match keep(alloc, plant, plan, period.number)? {
-        Keeping::Open(rows) => log_part(alloc, files, plant, rows.program, 0, budget, log),
+        Keeping::Open(rows) => log_part(alloc, files, plant, rows.program, 0, plan, budget, log),
         Keeping::Broken(violation) => Ok(broken(alloc, plant, &violation)?),
     }
 }
 
-// The answer of planning over the program of a part of a plant's choices.
+// The answer of planning over the program of a part of a plant's choices, beginning with a plan.
 fn plan_part(
     alloc: Global,
     plant: &Plant,
     part: Program,
+    start: &[Start],
     budget: Budget,
 ) -> Result<Reply, AllocError>
     requires sound { Sound plant.now }
     requires part { IsPartOf plant.now part }
-    ensures { IfOk result (λ reply. Planned plant.now (IsPartOutcome plant.now part budget.boxes)
+    ensures { IfOk result (λ reply. Planned plant.now
+        (IsBegunOutcome plant.now part start.now budget.boxes)
         (HasProof plant.now part None) reply.status reply.text.items) }
 {
-    let outcome = plan_rows(alloc, plant, part, 0, budget.boxes)?;
+    let point = point_of(alloc, plant, start)?;
+    let outcome = plan_rows(alloc, plant, part, 0, budget.boxes, &point)?;
     in_money(&outcome.answer);
     planned(alloc, plant, &outcome)
 }
 
-/// The answer of planning over the program of a part of a plant's choices, whose log is written. The part is one of those that are
-/// told apart by so many first slots, 0 where there is none beside it.
+/// The answer of planning over the program of a part of a plant's choices, beginning with a plan, whose log is written. The part is
+/// one of those that are told apart by so many first slots, 0 where there is none beside it.
 pub fn log_part<F: Shelf>(
     alloc: Global,
     files: &mut F,
     plant: &Plant,
     part: Program,
     levels: u32,
+    start: &[Start],
     budget: Budget,
     log: &str,
 ) -> Result<Reply, Stopped>
@@ -259,7 +263,7 @@ pub fn log_part<F: Shelf>(
     requires part { IsPartOf plant.now part }
     requires allowed { IsTrue (F.may_write files.old log.now) }
     ensures answer { IfOk result (λ reply. Planned plant.now
-        (IsPartOutcome plant.now part budget.boxes)
+        (IsBegunOutcome plant.now part start.now budget.boxes)
         (HasProof plant.now part (bytes_in log.now (F.files files.new)))
         reply.status reply.text.items) }
     ensures none { IfRefused result (λ _. ⊥) }
@@ -273,7 +277,8 @@ pub fn log_part<F: Shelf>(
     ensures no_read { F.read_faults files.new ≡ F.read_faults files.old }
     ensures writes { F.write_faults files.old ≤ F.write_faults files.new }
 {
-    match solve_rows_to(alloc, plant, part, levels, budget.boxes, files, log) {
+    let point = point_of(alloc, plant, start)?;
+    match solve_rows_to(alloc, plant, part, levels, budget.boxes, &point, files, log) {
         Ok(outcome) => {
             in_money(&outcome.answer);
             Ok(planned(alloc, plant, &outcome)?)

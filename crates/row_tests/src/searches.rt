@@ -99,6 +99,7 @@ fn searched(alloc: Global, rows: &Rows, left: u32) -> (Option<TakeStop>, u32) {
         rows,
         slot_count(rows),
         7,
+        &[],
         &mut hinter,
         &mut taker,
         &mut (),
@@ -146,7 +147,7 @@ fn wide_program(alloc: Global) -> Result<Option<Program>, AllocError> {
 fn dived(alloc: Global, rows: &Rows) -> Result<(bool, Capped, u32), AllocError> {
     let mut hinter = Silent { asked: 0 };
     let given = slot_count(rows);
-    let (found, exact) = search_guided(alloc, rows, given, 100_000, &mut hinter, &mut Diver)?;
+    let (found, exact) = search_guided(alloc, rows, given, 100_000, &[], &mut hinter, &mut Diver)?;
     Ok((found.left_open && !exact, found.cap, found.spent))
 }
 

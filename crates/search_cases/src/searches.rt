@@ -18,6 +18,7 @@ pub fn answer_step(
 ) -> Result<(), AllocError> {
     match verb {
         "search" | "hint" => plain(alloc, rows, sheet),
+        "begin" => begun(alloc, rows, sheet),
         "lie" => guided(alloc, rows, false, sheet),
         "leave" => guided(alloc, rows, true, sheet),
         "split" => split(alloc, rows, sheet),
@@ -52,7 +53,16 @@ fn plain(alloc: Global, rows: &Rows, sheet: &mut Sheet) -> Result<(), AllocError
     let mut hinter = Teller {
         point: bytes_of(alloc, sheet)?,
     };
-    let found = search(alloc, rows, slot_count(rows), budget, &mut hinter)?;
+    let found = search(alloc, rows, slot_count(rows), budget, &[], &mut hinter)?;
+    put_search(&found, sheet);
+    Ok(())
+}
+
+// `begin BUDGET VALUE ..`, without plans that are offered: a search that begins with this point, which may not be lawful.
+fn begun(alloc: Global, rows: &Rows, sheet: &mut Sheet) -> Result<(), AllocError> {
+    let budget = budget_of(sheet);
+    let start = bytes_of(alloc, sheet)?;
+    let found = search(alloc, rows, slot_count(rows), budget, &start, &mut Silent)?;
     put_search(&found, sheet);
     Ok(())
 }
@@ -83,6 +93,7 @@ fn search_lying(
         rows,
         slot_count(rows),
         budget,
+        &[],
         &mut hinter,
         &mut guide,
     )
@@ -118,6 +129,7 @@ fn search_splitting(
         rows,
         given,
         1_000,
+        &[],
         &mut Silent,
         &mut Splitter { max },
     )

@@ -3,3 +3,4 @@ pub mod Both
 pub mod LogsLeft
 pub mod SearchTold
 pub mod SumsChosen
+pub mod BegunTold

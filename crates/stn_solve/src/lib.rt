@@ -17,5 +17,5 @@ mod summing;
 
 pub use part::{plan_rows, solve_rows_to};
 pub use plain::solve_rows;
-pub use plant::{plan, solve, solve_to};
+pub use plant::{plan, plan_from, point_of, solve, solve_from_to, solve_to};
 pub use solved::Solved;

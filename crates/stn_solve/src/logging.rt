@@ -1,7 +1,7 @@
 //! Searches whose proof is written to a log behind a head while they go on.
 ghost use Rattle.std.specs.Prelude.{◌≡◌, ◌≤◌, ◌↔◌, true, Err, IsTrue, IfOk, OnErr};
 ghost use Rattle.stn_edge.specs.Count.{Rose};
-ghost use Rattle.branch_tree.specs.Searched.{IsExact};
+ghost use Rattle.branch_tree.specs.Searched.{IsExact, IsWorth};
 ghost use Rattle.proof_log.specs.Writer.{Keeps, writing};
 ghost use Rattle.stn_solve.specs.laws.Logging.{IsLogged, LeavesBegun, stored};
 
@@ -27,6 +27,7 @@ pub fn search_logged<F: Shelf>(
     rows: &Rows,
     given: u32,
     budget: u32,
+    start: &[u8],
     head: &[u8],
     files: &mut F,
     name: &str,
@@ -35,6 +36,7 @@ pub fn search_logged<F: Shelf>(
     requires allowed { IsTrue (F.may_write files.old name.now) }
     ensures logged { IfOk result (λ logged. IsLogged rows.now.program given budget head.now name.now
         logged.ended (writing F.files F.read_faults F.may_read F.may_write logged.writer files.new)) }
+    ensures begun { IfOk result (λ logged. IsWorth rows.now.program start.now logged.ended.best) }
     ensures exact { IfOk result (λ logged. IsExact rows.now.program budget logged.ended) }
     ensures err { OnErr result (LeavesBegun rows.now.program head.now name.now (F.files files.old)
         (F.files files.new)) }
@@ -44,11 +46,11 @@ pub fn search_logged<F: Shelf>(
     ensures failed { result ≡ Err Stop.Failed
         → Rose (F.write_faults files.old) (F.write_faults files.new) }
 {
-    let (logged, exact) = log_advised(alloc, rows, given, budget, head, files, name)?;
+    let (logged, exact) = log_advised(alloc, rows, given, budget, start, head, files, name)?;
     if exact {
         return Ok(logged);
     }
-    log_hinted(alloc, rows, given, budget, head, files, name)
+    log_hinted(alloc, rows, given, budget, start, head, files, name)
 }
 
 // Begins a log and writes the proof of a search with both advisers. The answer also says whether its count is exact.
@@ -57,6 +59,7 @@ fn log_advised<F: Shelf>(
     rows: &Rows,
     given: u32,
     budget: u32,
+    start: &[u8],
     head: &[u8],
     files: &mut F,
     name: &str,
@@ -65,6 +68,8 @@ fn log_advised<F: Shelf>(
     requires allowed { IsTrue (F.may_write files.old name.now) }
     ensures logged { IfOk result (λ found. IsLogged rows.now.program given budget head.now name.now
         found.0.ended (writing F.files F.read_faults F.may_read F.may_write found.0.writer files.new)) }
+    ensures begun { IfOk result
+        (λ found. IsWorth rows.now.program start.now found.0.ended.best) }
     ensures exact { IfOk result
         (λ found. found.1 ≡ true → IsExact rows.now.program budget found.0.ended) }
     ensures err { OnErr result (LeavesBegun rows.now.program head.now name.now (F.files files.old)
@@ -76,7 +81,7 @@ fn log_advised<F: Shelf>(
         → Rose (F.write_faults files.old) (F.write_faults files.new) }
 {
     let mut writer = LogWriter::begin_with(alloc, files, name, head)?;
-    match search_advised(alloc, rows, given, budget, &mut writer, files) {
+    match search_advised(alloc, rows, given, budget, start, &mut writer, files) {
         Ok(guided) => {
             let exact = guided.exact;
             let logged = Logged {
@@ -95,6 +100,7 @@ fn log_hinted<F: Shelf>(
     rows: &Rows,
     given: u32,
     budget: u32,
+    start: &[u8],
     head: &[u8],
     files: &mut F,
     name: &str,
@@ -103,6 +109,7 @@ fn log_hinted<F: Shelf>(
     requires allowed { IsTrue (F.may_write files.old name.now) }
     ensures logged { IfOk result (λ logged. IsLogged rows.now.program given budget head.now name.now
         logged.ended (writing F.files F.read_faults F.may_read F.may_write logged.writer files.new)) }
+    ensures begun { IfOk result (λ logged. IsWorth rows.now.program start.now logged.ended.best) }
     ensures exact { IfOk result (λ logged. IsExact rows.now.program budget logged.ended) }
     ensures err { OnErr result (LeavesBegun rows.now.program head.now name.now (F.files files.old)
         (F.files files.new)) }
@@ -113,7 +120,7 @@ fn log_hinted<F: Shelf>(
         → Rose (F.write_faults files.old) (F.write_faults files.new) }
 {
     let mut writer = LogWriter::begin_with(alloc, files, name, head)?;
-    match search_hinted(alloc, rows, given, budget, &mut writer, files) {
+    match search_hinted(alloc, rows, given, budget, start, &mut writer, files) {
         Ok(ended) => Ok(Logged { ended, writer }),
         Err(stop) => Err(stop_of(stop)),
     }

@@ -6,6 +6,7 @@ ghost use Rattle.stn_model.specs.Sound.{Sound};
 ghost use Rattle.row_set.specs.Parts.{IsPartOf};
 ghost use Rattle.plan_told.specs.Outcomes.{IsPartOutcome};
 ghost use Rattle.plan_told.specs.Proofs.{HasProof, IsLeft, bytes_in};
+ghost use Rattle.stn_solve.specs.Begun.{EarnsPoint};
 
 use crate::plain::{plan_plain, solve_plain_to};
 use crate::summed::{plan_summed, solve_summed_to};
@@ -18,25 +19,28 @@ use sum_choice::has_many;
 
 /// Plans over a part of a plant's choices, with at most so many boxes. Where its slots from the number `levels` on have more than
 /// 50,000 points, it is searched with sums: so are then all parts that are told apart by as many first slots, with the same sums.
-/// There is a proof of the outcome, which is not kept.
+/// There is a proof of the outcome, which is not kept. The search begins with the point `start`, where that is lawful, so that the
+/// PROFIT is at least what it is worth.
 pub fn plan_rows(
     alloc: Global,
     plant: &Plant,
     part: Program,
     levels: u32,
     budget: u32,
+    start: &[u8],
 ) -> Result<Outcome, AllocError>
     requires sound { Sound plant.now }
     requires part { IsPartOf plant.now part }
     requires budget { (1 ≤ budget) × (budget ≤ 100000) }
     ensures outcome { IfOk result (IsPartOutcome plant.now part budget) }
     ensures proof { IfOk result (HasProof plant.now part None) }
+    ensures begun { IfOk result (λ outcome. EarnsPoint part start.now outcome.answer) }
 {
     if has_many(&part, levels) {
-        return plan_summed(alloc, plant, part, budget);
+        return plan_summed(alloc, plant, part, budget, start);
     }
     let rows = Rows { program: part };
-    plan_plain(alloc, plant, &rows, budget)
+    plan_plain(alloc, plant, &rows, budget, start)
 }
 
 /// Plans over a part of a plant's choices, as `plan_rows` does, and writes the log of the proof to a file while it searches: of
@@ -48,6 +52,7 @@ pub fn solve_rows_to<F: Shelf>(
     part: Program,
     levels: u32,
     budget: u32,
+    start: &[u8],
     files: &mut F,
     name: &str,
 ) -> Result<Outcome, Stop>
@@ -57,6 +62,7 @@ pub fn solve_rows_to<F: Shelf>(
     requires allowed { IsTrue (F.may_write files.old name.now) }
     ensures outcome { IfOk result (IsPartOutcome plant.now part budget) }
     ensures proof { IfOk result (HasProof plant.now part (bytes_in name.now (F.files files.new))) }
+    ensures begun { IfOk result (λ outcome. EarnsPoint part start.now outcome.answer) }
     ensures err { OnErr result (IsLeft plant.now part name.now (F.files files.old)
         (F.files files.new)) }
     ensures others { OthersStay name.now (F.files files.old) (F.files files.new) }
@@ -68,8 +74,8 @@ pub fn solve_rows_to<F: Shelf>(
         → Rose (F.write_faults files.old) (F.write_faults files.new) }
 {
     if has_many(&part, levels) {
-        return solve_summed_to(alloc, plant, part, budget, files, name);
+        return solve_summed_to(alloc, plant, part, budget, start, files, name);
     }
     let rows = Rows { program: part };
-    solve_plain_to(alloc, plant, &rows, budget, files, name)
+    solve_plain_to(alloc, plant, &rows, budget, start, files, name)
 }

@@ -8,6 +8,7 @@ ghost use Rattle.row_set.specs.Parts.{IsPartOf};
 ghost use Rattle.log_lines.specs.declared.line.Line.{Line};
 ghost use Rattle.proof_log.specs.Log.{lines_text};
 ghost use Rattle.plan_told.specs.Outcomes.{IsPartOutcome};
+ghost use Rattle.stn_solve.specs.Begun.{EarnsPoint};
 ghost use Rattle.plan_told.specs.Proofs.{HasProof, IsLeft, IsProofOf, bytes_in, claim_of};
 
 use crate::logging::{Logged, search_logged};
@@ -27,14 +28,17 @@ pub fn plan_plain(
     plant: &Plant,
     rows: &Rows,
     budget: u32,
+    start: &[u8],
 ) -> Result<Outcome, AllocError>
     requires sound { Sound plant.now }
     requires part { IsPartOf plant.now rows.now.program }
     requires budget { (1 ≤ budget) × (budget ≤ 100000) }
     ensures outcome { IfOk result (IsPartOutcome plant.now rows.now.program budget) }
     ensures proof { IfOk result (HasProof plant.now rows.now.program None) }
+    ensures begun { IfOk result
+        (λ outcome. EarnsPoint rows.now.program start.now outcome.answer) }
 {
-    let ended = search_only(alloc, rows, slot_count(rows), budget)?;
+    let ended = search_only(alloc, rows, slot_count(rows), budget, start)?;
     let Told { outcome, .. } = told_of(alloc, plant, ended)?;
     Ok(outcome)
 }
@@ -83,6 +87,7 @@ pub fn solve_plain_to<F: Shelf>(
     plant: &Plant,
     rows: &Rows,
     budget: u32,
+    start: &[u8],
     files: &mut F,
     name: &str,
 ) -> Result<Outcome, Stop>
@@ -93,6 +98,8 @@ pub fn solve_plain_to<F: Shelf>(
     ensures outcome { IfOk result (IsPartOutcome plant.now rows.now.program budget) }
     ensures proof { IfOk result
         (HasProof plant.now rows.now.program (bytes_in name.now (F.files files.new))) }
+    ensures begun { IfOk result
+        (λ outcome. EarnsPoint rows.now.program start.now outcome.answer) }
     ensures err { OnErr result (IsLeft plant.now rows.now.program name.now (F.files files.old)
         (F.files files.new)) }
     ensures others { OthersStay name.now (F.files files.old) (F.files files.new) }
@@ -110,6 +117,7 @@ pub fn solve_plain_to<F: Shelf>(
         rows,
         given,
         budget,
+        start,
         head.as_slice(),
         files,
         name,

@@ -4,8 +4,12 @@ ghost use Rattle.stn_edge.specs.Count.{Rose};
 ghost use Rattle.stn_edge.specs.Files.{OthersStay};
 ghost use Rattle.stn_model.specs.Sound.{Sound};
 ghost use Rattle.stn_model.specs.Answers.{IsOutcome};
+ghost use Rattle.stn_model.specs.Feasible.{Feasible};
+ghost use Rattle.stn_model.specs.Profit.{profit};
+ghost use Rattle.time_grid.specs.PlanPoint.{HasPoint, plan_point};
 ghost use Rattle.proof_tree.specs.Tree.{tree_of};
 ghost use Rattle.plan_told.specs.Proofs.{HasPlantProof, IsLeftOf, IsPlantProof, bytes_in, claim_of};
+ghost use Rattle.stn_solve.specs.Begun.{EarnsAtLeast};
 
 use crate::part::{plan_rows, solve_rows_to};
 use crate::plain::solve_rows;
@@ -14,7 +18,8 @@ use row_relax::Rows;
 use row_set::program_of;
 use std::alloc::{AllocError, Global};
 use stn_edge::{Shelf, Stop};
-use stn_model::{Outcome, Plant};
+use stn_model::{Outcome, Plant, Start};
+use time_grid::Grid;
 
 /// Plans a plant with at most so many boxes. There is a proof of the outcome, which is not kept.
 pub fn plan(alloc: Global, plant: &Plant, budget: u32) -> Result<Outcome, AllocError>
@@ -23,8 +28,39 @@ pub fn plan(alloc: Global, plant: &Plant, budget: u32) -> Result<Outcome, AllocE
     ensures outcome { IfOk result (IsOutcome plant.now budget) }
     ensures proof { IfOk result (HasPlantProof plant.now None) }
 {
+    plan_from(alloc, plant, &[], budget)
+}
+
+/// Plans a plant as `plan` does, and begins with a plan: where that is feasible, the PROFIT is at least what it earns, whatever the
+/// budget.
+pub fn plan_from(
+    alloc: Global,
+    plant: &Plant,
+    start: &[Start],
+    budget: u32,
+) -> Result<Outcome, AllocError>
+    requires sound { Sound plant.now }
+    requires budget { (1 ≤ budget) × (budget ≤ 100000) }
+    ensures outcome { IfOk result (IsOutcome plant.now budget) }
+    ensures proof { IfOk result (HasPlantProof plant.now None) }
+    ensures begun { IfOk result (λ outcome. Feasible plant.now start.now
+        → EarnsAtLeast (profit plant.now start.now) outcome.answer) }
+{
     let program = program_of(alloc, plant)?;
-    plan_rows(alloc, plant, program, 0, budget)
+    let point = point_of(alloc, plant, start)?;
+    plan_rows(alloc, plant, program, 0, budget, &point)
+}
+
+/// The point of a plan, where it has one. It takes memory for the slots.
+pub fn point_of(alloc: Global, plant: &Plant, plan: &[Start]) -> Result<Vec<u8>, AllocError>
+    requires { Sound plant.now }
+    ensures { IfOk result (λ point. HasPoint plant.now plan.now
+        → point.items ≡ plan_point plant.now plan.now) }
+{
+    let grid = Grid::new(alloc, plant)?;
+    let mut point = vec![in alloc; 0u8; grid.slot_count() as usize]?;
+    let _has = grid.point_of(plant, plan, &mut point);
+    Ok(point)
 }
 
 /// Plans a plant with at most so many boxes, and keeps the proof. No sums are declared.
@@ -66,6 +102,37 @@ pub fn solve_to<F: Shelf>(
     ensures failed { result ≡ Err Stop.Failed
         → Rose (F.write_faults files.old) (F.write_faults files.new) }
 {
+    solve_from_to(alloc, plant, &[], budget, files, name)
+}
+
+/// Plans a plant as `solve_to` does, and begins with a plan: where that is feasible, the PROFIT is at least what it earns, whatever
+/// the budget.
+pub fn solve_from_to<F: Shelf>(
+    alloc: Global,
+    plant: &Plant,
+    start: &[Start],
+    budget: u32,
+    files: &mut F,
+    name: &str,
+) -> Result<Outcome, Stop>
+    requires sound { Sound plant.now }
+    requires budget { (1 ≤ budget) × (budget ≤ 100000) }
+    requires allowed { IsTrue (F.may_write files.old name.now) }
+    ensures outcome { IfOk result (IsOutcome plant.now budget) }
+    ensures proof { IfOk result (HasPlantProof plant.now (bytes_in name.now (F.files files.new))) }
+    ensures begun { IfOk result (λ outcome. Feasible plant.now start.now
+        → EarnsAtLeast (profit plant.now start.now) outcome.answer) }
+    ensures err { OnErr result (IsLeftOf plant.now name.now (F.files files.old)
+        (F.files files.new)) }
+    ensures others { OthersStay name.now (F.files files.old) (F.files files.new) }
+    ensures readable { F.may_read files.new ≡ F.may_read files.old }
+    ensures writable { F.may_write files.new ≡ F.may_write files.old }
+    ensures no_read { F.read_faults files.new ≡ F.read_faults files.old }
+    ensures later { F.write_faults files.old ≤ F.write_faults files.new }
+    ensures failed { result ≡ Err Stop.Failed
+        → Rose (F.write_faults files.old) (F.write_faults files.new) }
+{
     let program = program_of(alloc, plant)?;
-    solve_rows_to(alloc, plant, program, 0, budget, files, name)
+    let point = point_of(alloc, plant, start)?;
+    solve_rows_to(alloc, plant, program, 0, budget, &point, files, name)
 }

@@ -1,7 +1,7 @@
 //! Searches with the advice on plans, and where that leaves boxes open though budget is left, anew without it.
 ghost use Rattle.std.specs.Prelude.{◌≡◌, ◌≤◌, IfOk, length};
 ghost use Rattle.proof_tree.specs.Tree.{tree_of};
-ghost use Rattle.branch_tree.specs.Searched.{ended_of};
+ghost use Rattle.branch_tree.specs.Searched.{IsWorth, ended_of};
 ghost use Rattle.plan_told.specs.Ended.{IsSearchOf, IsSearched};
 
 use crate::item_dropper::ItemDropper;
@@ -17,19 +17,26 @@ pub(crate) fn slot_count(rows: &Rows) -> u32
     rows.program.root.len() as u32
 }
 
-// Searches the root, and drops the proof. Slots from the number `given` on are sums.
-pub fn search_only(alloc: Global, rows: &Rows, given: u32, budget: u32) -> Result<Ended, AllocError>
+// Searches the root, beginning with a point where that is lawful, and drops the proof. Slots from the number `given` on are sums.
+pub fn search_only(
+    alloc: Global,
+    rows: &Rows,
+    given: u32,
+    budget: u32,
+    start: &[u8],
+) -> Result<Ended, AllocError>
     requires budget { (1 ≤ budget) × (budget ≤ 100000) }
-    ensures { IfOk result (IsSearched rows.now.program given budget) }
+    ensures ended { IfOk result (IsSearched rows.now.program given budget) }
+    ensures begun { IfOk result (λ ended. IsWorth rows.now.program start.now ended.best) }
 {
     let mut taker = ItemDropper;
-    let Ok(guided) = search_advised(alloc, rows, given, budget, &mut taker, &mut ()) else {
+    let Ok(guided) = search_advised(alloc, rows, given, budget, start, &mut taker, &mut ()) else {
         return Err(AllocError);
     };
     if guided.exact {
         return Ok(guided.ended);
     }
-    match search_hinted(alloc, rows, given, budget, &mut taker, &mut ()) {
+    match search_hinted(alloc, rows, given, budget, start, &mut taker, &mut ()) {
         Ok(ended) => Ok(ended),
         Err(_) => Err(AllocError),
     }
@@ -46,9 +53,9 @@ pub fn search_built(
     ensures { IfOk result (λ searched. IsSearchOf rows.now.program given budget
         (ended_of searched) (tree_of searched.tree)) }
 {
-    let (searched, exact) = build_advised(alloc, rows, given, budget)?;
+    let (searched, exact) = build_advised(alloc, rows, given, budget, &[])?;
     if exact {
         return Ok(searched);
     }
-    build_hinted(alloc, rows, given, budget)
+    build_hinted(alloc, rows, given, budget, &[])
 }

@@ -7,12 +7,13 @@ ghost use Rattle.row_kit.specs.Points.{points_of};
 ghost use Rattle.row_set.specs.Parts.{IsPartOf};
 ghost use Rattle.plan_told.specs.Outcomes.{IsPartOutcome};
 ghost use Rattle.plan_told.specs.Proofs.{HasProof, IsLeft, bytes_in};
+ghost use Rattle.stn_solve.specs.Begun.{EarnsPoint};
 
 use crate::logging::{Logged, search_logged};
 use crate::searching::search_only;
-use crate::summing::{Summed, with_chosen};
+use crate::summing::{Summed, completed, with_chosen};
 use plan_told::{Told, given_ended, larger_claim, told_of};
-use row_kit::Program;
+use row_kit::{Program, is_lawful};
 use std::alloc::{AllocError, Global};
 use stn_edge::{Shelf, Stop};
 use stn_model::{Outcome, Plant};
@@ -23,6 +24,7 @@ pub fn plan_summed(
     plant: &Plant,
     part: Program,
     budget: u32,
+    start: &[u8],
 ) -> Result<Outcome, AllocError>
     requires sound { Sound plant.now }
     requires part { IsPartOf plant.now part }
@@ -30,14 +32,18 @@ pub fn plan_summed(
     requires budget { (1 ≤ budget) × (budget ≤ 100000) }
     ensures outcome { IfOk result (IsPartOutcome plant.now part budget) }
     ensures proof { IfOk result (HasProof plant.now part None) }
+    ensures begun { IfOk result (λ outcome. EarnsPoint part start.now outcome.answer) }
 {
+    let lawful = is_lawful(&part, start);
     let Summed {
         rows,
+        sums,
         given,
         least,
         ..
     } = with_chosen(alloc, plant, part)?;
-    let ended = search_only(alloc, &rows, given, budget)?;
+    let whole = completed(alloc, sums.as_slice(), start, lawful)?;
+    let ended = search_only(alloc, &rows, given, budget, whole.as_slice())?;
     let own = given_ended(alloc, given as usize, least, ended)?;
     let Told { outcome, .. } = told_of(alloc, plant, own)?;
     Ok(outcome)
@@ -49,6 +55,7 @@ pub fn solve_summed_to<F: Shelf>(
     plant: &Plant,
     part: Program,
     budget: u32,
+    start: &[u8],
     files: &mut F,
     name: &str,
 ) -> Result<Outcome, Stop>
@@ -59,6 +66,7 @@ pub fn solve_summed_to<F: Shelf>(
     requires allowed { IsTrue (F.may_write files.old name.now) }
     ensures outcome { IfOk result (IsPartOutcome plant.now part budget) }
     ensures proof { IfOk result (HasProof plant.now part (bytes_in name.now (F.files files.new))) }
+    ensures begun { IfOk result (λ outcome. EarnsPoint part start.now outcome.answer) }
     ensures err { OnErr result (IsLeft plant.now part name.now (F.files files.old)
         (F.files files.new)) }
     ensures others { OthersStay name.now (F.files files.old) (F.files files.new) }
@@ -69,6 +77,7 @@ pub fn solve_summed_to<F: Shelf>(
     ensures failed { result ≡ Err Stop.Failed
         → Rose (F.write_faults files.old) (F.write_faults files.new) }
 {
+    let lawful = is_lawful(&part, start);
     let Summed {
         rows,
         sums,
@@ -76,11 +85,13 @@ pub fn solve_summed_to<F: Shelf>(
         given,
         least,
     } = with_chosen(alloc, plant, part)?;
+    let begun = completed(alloc, sums.as_slice(), start, lawful)?;
     let Logged { ended, writer } = search_logged(
         alloc,
         &rows,
         given,
         budget,
+        begun.as_slice(),
         head.as_slice(),
         files,
         name,

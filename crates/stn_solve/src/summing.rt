@@ -1,7 +1,9 @@
 //! The program of a part of a plant's choices with sums, over which a large part is searched.
-ghost use Rattle.std.specs.Prelude.{IfOk};
+ghost use Rattle.std.specs.Prelude.{◌≡◌, IfOk, IsTrue};
 ghost use Rattle.stn_model.specs.Sound.{Sound};
 ghost use Rattle.row_set.specs.Parts.{IsPartOf};
+ghost use Rattle.sum_slots.specs.Larger.{completed};
+ghost use Rattle.plan_told.specs.Claims.{HaveBytes};
 ghost use Rattle.stn_solve.specs.laws.Summing.{IsSummed};
 
 use plan_told::least_found;
@@ -12,7 +14,7 @@ use std::alloc::{AllocError, Global};
 use stn_model::Plant;
 use sum_choice::choose_sums;
 use sum_lines::put_head;
-use sum_slots::{Sum, with_sums};
+use sum_slots::{Sum, complete, with_sums};
 
 /// A part of a plant's choices with sums, as a search finds it.
 #[derive(Drop)]
@@ -48,4 +50,22 @@ pub fn with_chosen(alloc: Global, plant: &Plant, part: Program) -> Result<Summed
         given,
         least,
     })
+}
+
+// A lawful point of a part as it is in the part's program with sums: followed by the values of the sums. There is no point where
+// it is not lawful.
+pub fn completed(
+    alloc: Global,
+    sums: &[Sum],
+    point: &[u8],
+    lawful: bool,
+) -> Result<List<u8>, AllocError>
+    requires { IsTrue lawful → HaveBytes sums.now point.now }
+    ensures { IfOk result (λ whole. IsTrue lawful → whole ≡ completed sums.now point.now) }
+{
+    if lawful {
+        complete(alloc, sums, point)
+    } else {
+        Ok(List::new(alloc))
+    }
 }

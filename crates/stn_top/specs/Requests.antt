@@ -100,9 +100,9 @@ AnswersTo old new contents (Upgrading plant) status text = OnPlant (reading (con
 AnswersTo old new contents (Numbering plant) status text = OnPlant (reading (content contents 0)) Numbered status text
 AnswersTo old new contents (Showing seed) status text = Shown seed status text
 AnswersTo old new contents (Replanning plant plan period budget) status text =
-    OnPlant (reading (content contents 0)) (λ p. OnPlan (plan_of_text p (content contents 1)) (λ starts. Replanned budget p period (kept_starts period starts) None (new ≡ old))) status text
+    OnPlant (reading (content contents 0)) (λ p. OnPlan (plan_of_text p (content contents 1)) (λ starts. Replanned budget p period starts None (new ≡ old))) status text
 AnswersTo old new contents (ReplanLogging plant plan period budget log) status text =
-    OnPlant (reading (content contents 0)) (λ p. OnPlan (plan_of_text p (content contents 1)) (λ starts. Replanned budget p period (kept_starts period starts) (bytes_in log new) (new ≡ old))) status text
+    OnPlant (reading (content contents 0)) (λ p. OnPlan (plan_of_text p (content contents 1)) (λ starts. Replanned budget p period starts (bytes_in log new) (new ≡ old))) status text
 AnswersTo old new contents (CheckingReplan plant plan period log) status text =
     OnPlant (reading (content contents 0)) (λ p. OnPlan (plan_of_text p (content contents 1)) (λ starts. ReplanChecked (bytes_in log old) p period (kept_starts period starts) (new ≡ old))) status text
 AnswersTo old new contents (Estimating plant log state step count) status text = OnPlant (reading (content contents 0)) (Estimated state step count (content contents 1)) status text

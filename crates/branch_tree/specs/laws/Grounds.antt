@@ -1,10 +1,9 @@
 -- What a search goes over, and where it stands. Only clauses of private functions cite it.
-use Rattle.std.specs.Prelude.{◌≡◌, ◌≢◌, ℕ, ◌+◌, ◌≤◌, ◌<◌, false, List, [], ◌∷◌, length, map, Option, None, IfSome, MatchOption, ◌≤ℤ◌}
+use Rattle.std.specs.Prelude.{◌≡◌, ◌≢◌, ℕ, ◌+◌, ◌≤◌, ◌<◌, false, List, [], ◌∷◌, length, map, Option, None, IfSome, ◌≤ℤ◌}
 use Rattle.std.specs.Option.{IsSomeAnd}
 use Rattle.row_kit.specs.declared.domain.Domain.{Domain}
 use Rattle.row_kit.specs.declared.found.Found.{Found}
 use Rattle.row_kit.specs.declared.program.Program.{Program}
-use Rattle.row_kit.specs.Point.{IsLawful}
 use Rattle.row_relax.specs.Settle.{only_point}
 use Rattle.dual_bound.specs.declared.cert.Cert.{Cert}
 use Rattle.proof_tree.specs.declared.capped.Capped.TheVariants.{Bad}
@@ -17,6 +16,7 @@ use Rattle.row_relax.specs.View.{Fits, IsIn, domains_of, view_of}
 use Rattle.branch_tree.specs.declared.reached.Ground.{Ground}
 use Rattle.branch_tree.specs.declared.reached.Reached.{Reached}
 use Rattle.branch_tree.specs.Justified.{IsGroup, IsPolished, IsParted}
+use Rattle.branch_tree.specs.Searched.{IsWorth}
 use Rattle.branch_tree.specs.laws.Ends.{view_splits}
 
 -- the view that an area shows
@@ -43,13 +43,20 @@ pub record StandsIn (ground : Ground) (view : View) (depth : ℕ) (reached : Rea
   -- the point that is to be offered is lawful, and lies in the area
   pub own : IfSome reached.own (λ found. IsGroup (program_of ground) found × IsIn view found.point)
 
--- the start of a search: nothing is counted or found, and the least point of the root is to be offered where it is lawful
-pub record IsStart (program : Program) (reached : Reached) : Type 0 where
+-- a found point is lawful, and worth as much as each of two points that is lawful
+pub record IsOffered (program : Program) (first second : List ℕ) (own : Option Found) : Type 0 where
+  pub group : IfSome own (IsGroup program)
+  pub least : IsWorth program first own
+  pub given : IsWorth program second own
+
+-- the start of a search: nothing is counted or found, and a lawful point is to be offered that is worth as much as the root's least
+-- point and as the point to begin with, where these are lawful
+pub record IsStart (program : Program) (start : List ℕ) (reached : Reached) : Type 0 where
   pub spent : reached.spent ≡ 0
   pub best : reached.best ≡ None
   pub changed : reached.changed ≡ None
   pub places : length reached.point.items ≡ length program.root
-  pub own : MatchOption reached.own (¬ IsLawful program (only_point program.root)) (λ found. IsGroup program found × (found.point ≡ only_point program.root))
+  pub own : IsOffered program (only_point program.root) start reached.own
 
 -- where a point of one's own was to be offered, the best found point is worth as much
 abbrev pub IsOwnBest : Option Found → Option Found → Type 0

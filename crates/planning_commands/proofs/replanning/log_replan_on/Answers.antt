@@ -2,7 +2,6 @@ use Rattle.std.proofs.Common.{◌≡◌, ℕ, List, [], inl, inr}
 use Rattle.std.proofs.lemmas.Result.{err_from_is_err_and}
 use Rattle.stn_model.specs.declared.plant.Plant.{Plant}
 use Rattle.stn_model.specs.declared.start.Start.{Start}
-use Rattle.frozen_plan.specs.Frozen.{kept_starts}
 use Rattle.plan_told.specs.Proofs.{bytes_in}
 use Rattle.command_replies.specs.declared.reply.Reply.{Reply}
 use Rattle.command_replies.specs.Answers.{IsPlanAnswer, IsUnwritten}
@@ -18,7 +17,7 @@ returns-in_err-plan-clause-answer g c = λ name read.
     let new = g.F.Shelf.files c.plan_in.new.files in
     let period = c.args.period.number in
     let budget = c.args.budget.boxes in
-    let answers : Plant → List Start → ℕ → List ℕ → Type 0 = λ plant starts. Replanned budget plant period (kept_starts period starts) (bytes_in c.args.log.now new) (new ≡ old) in
+    let answers : Plant → List Start → ℕ → List ℕ → Type 0 = λ plant starts. Replanned budget plant period starts (bytes_in c.args.log.now new) (new ≡ old) in
     let p = err_from_is_err_and c.from_residual.result c.from_residual.ensures.1 in
     rw (p.1, p.2) (plan_refused old new name c.args.plan.now [] answers c.args.plant.now read c.in_err-plan.field-0.0 c.in_err-plan.ensures.same c.in_err-plan.ensures.refused)
 
@@ -39,16 +38,15 @@ returns-clause-answer g c = λ name read.
     let new = g.F.Shelf.files c.log_replan.new.files in
     let period = c.args.period.number in
     let budget = c.args.budget.boxes in
-    let answers : Plant → List Start → ℕ → List ℕ → Type 0 = λ plant starts. Replanned budget plant period (kept_starts period starts) (bytes_in c.args.log.now new) (new ≡ old) in
+    let answers : Plant → List Start → ℕ → List ℕ → Type 0 = λ plant starts. Replanned budget plant period starts (bytes_in c.args.log.now new) (new ≡ old) in
     let told = bytes_in c.args.log.now new in
     let plant = c.args.plant.now in
-    let kept = kept_starts period c.in_ok-plan.plan in
     let slice = c.as_slice.ensures in
     let same = c.in_ok-plan.ensures.same in
-    replied_if c.log_replan.result (λ reply. Replanned budget plant period kept told (new ≡ old) reply.status reply.text.items)
+    replied_if c.log_replan.result (λ reply. Replanned budget plant period c.in_ok-plan.plan told (new ≡ old) reply.status reply.text.items)
     (λ reply. IsPlanAnswer old new name c.args.plan.now [] answers reply.status reply.text.items)
     (λ reply is. plan_answer old new name c.args.plan.now [] answers plant read c.in_ok-plan.plan c.in_ok-plan.ensures.read reply.status reply.text.items is
-    (λ refused. unwritten-kept budget plant period kept told (new ≡ old) reply.status reply.text.items is (of_refusal reply.status refused)))
+    (λ refused. unwritten-kept budget plant period c.in_ok-plan.plan told (new ≡ old) reply.status reply.text.items is (of_refusal reply.status refused)))
     (rw (slice, same) at c.log_replan.ensures.answer) c.log_replan.ensures.none
 
 pub returns-clause-refused : goal.returns-clause-refused
@@ -59,11 +57,10 @@ returns-clause-refused g c =
     let budget = c.args.budget.boxes in
     let told = bytes_in c.args.log.now new in
     let plant = c.args.plant.now in
-    let kept = kept_starts period c.in_ok-plan.plan in
     let slice = c.as_slice.ensures in
     let same = c.in_ok-plan.ensures.same in
-    replied_if c.log_replan.result (λ reply. Replanned budget plant period kept told (new ≡ old) reply.status reply.text.items) (λ reply. IsUnwritten reply.status → new ≡ old)
-    (λ reply is none. unwritten-kept budget plant period kept told (new ≡ old) reply.status reply.text.items is none)
+    replied_if c.log_replan.result (λ reply. Replanned budget plant period c.in_ok-plan.plan told (new ≡ old) reply.status reply.text.items) (λ reply. IsUnwritten reply.status → new ≡ old)
+    (λ reply is none. unwritten-kept budget plant period c.in_ok-plan.plan told (new ≡ old) reply.status reply.text.items is none)
     (rw (slice, same) at c.log_replan.ensures.answer) c.log_replan.ensures.none
 
 pub returns-clause-begun : goal.returns-clause-begun

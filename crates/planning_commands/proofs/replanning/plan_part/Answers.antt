@@ -1,9 +1,10 @@
+use Rattle.std.proofs.Common.{◌∙◌}
 use Rattle.std.specs.Prelude.{None}
 use Rattle.row_set.specs.Parts.{IsAdmitted}
 use Rattle.plan_told.specs.Outcomes.{least_plan, whole_count}
 use Rattle.plan_told.specs.Proofs.{HasProof}
 use Rattle.answer_texts.proofs.Named.{named-IsAnswer}
-use Rattle.answer_texts.proofs.ReadBack.{planned_if}
+use Rattle.planning_commands.proofs.ReplanLemmas.{begun_if}
 use Rattle.planning_commands.proofs.replanning.plan_part.Goals as goal
 
 pub planned-requires : goal.planned-requires
@@ -14,6 +15,5 @@ planned-requires c =
 
 pub returns : goal.returns
 returns c =
-    let part = c.args.part in
-    planned_if c.args.plant.now (IsAdmitted c.args.plant.now part) (least_plan c.args.plant.now part) (whole_count part) c.args.budget.boxes (HasProof c.args.plant.now part None) c.in_ok-outcome.outcome c.planned.result
-    c.requires.sound (λ plan is. is.feasible) c.args.budget.most c.in_ok-outcome.ensures.outcome c.in_ok-outcome.ensures.proof c.planned.ensures c.in_money.ensures
+    begun_if c.args.plant.now c.args.part c.args.start.now c.args.budget.boxes c.deref.result.now (HasProof c.args.plant.now c.args.part None) c.in_ok-outcome.outcome c.planned.result
+    c.requires.sound c.requires.part c.args.budget.most c.in_ok-outcome.ensures.outcome (λ has. c.deref.ensures.value ∙ c.in_ok-point.ensures has) c.in_ok-outcome.ensures.begun c.in_ok-outcome.ensures.proof c.planned.ensures c.in_money.ensures

@@ -4,7 +4,6 @@ use Rattle.std.proofs.lemmas.Result.{err_from_is_err_and}
 use Rattle.stn_model.specs.declared.plant.Plant.{Plant}
 use Rattle.stn_model.specs.declared.start.Start.{Start}
 use Rattle.plan_text.specs.PlanText.{plan_of_text}
-use Rattle.frozen_plan.specs.Frozen.{kept_starts}
 use Rattle.command_replies.specs.Answers.{content}
 use Rattle.command_replies.specs.Sources.{OnPlan}
 use Rattle.command_replies.proofs.AnswerLemmas.{plant_refused}
@@ -17,7 +16,7 @@ returns-in_err-plant-clause-answer g c =
     let new = g.F.Shelf.files c.plant_in.new.files in
     let period = c.args.period.number in
     let budget = c.args.budget.boxes in
-    let answers : Plant → List Start → ℕ → List ℕ → Type 0 = λ plant starts. Replanned budget plant period (kept_starts period starts) None (new ≡ old) in
+    let answers : Plant → List Start → ℕ → List ℕ → Type 0 = λ plant starts. Replanned budget plant period starts None (new ≡ old) in
     let p = err_from_is_err_and c.from_residual.result c.from_residual.ensures.1 in
     rw (p.1, p.2) (plant_refused old new c.args.plant.now (c.args.plan.now ∷ []) (λ contents plant. OnPlan (plan_of_text plant (content contents 1)) (answers plant)) c.in_err-plant.field-0.0
     c.in_err-plant.ensures.same c.in_err-plant.ensures.refused)

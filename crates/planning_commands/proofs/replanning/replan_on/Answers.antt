@@ -15,7 +15,7 @@ returns-in_err-plan-clause-answer g c = λ name read.
     let new = g.F.Shelf.files c.plan_in.new.files in
     let period = c.args.period.number in
     let budget = c.args.budget.boxes in
-    let answers : Plant → List Start → ℕ → List ℕ → Type 0 = λ plant starts. Replanned budget plant period (kept_starts period starts) None (new ≡ old) in
+    let answers : Plant → List Start → ℕ → List ℕ → Type 0 = λ plant starts. Replanned budget plant period starts None (new ≡ old) in
     let p = err_from_is_err_and c.from_residual.result c.from_residual.ensures.1 in
     rw (p.1, p.2) (plan_refused old new name c.args.plan.now [] answers c.args.plant.now read c.in_err-plan.field-0.0 c.in_err-plan.ensures.same c.in_err-plan.ensures.refused)
 
@@ -25,10 +25,10 @@ returns-clause-answer g c = λ name read.
     let new = g.F.Shelf.files c.plan_in.new.files in
     let period = c.args.period.number in
     let budget = c.args.budget.boxes in
-    let answers : Plant → List Start → ℕ → List ℕ → Type 0 = λ plant starts. Replanned budget plant period (kept_starts period starts) None (new ≡ old) in
+    let answers : Plant → List Start → ℕ → List ℕ → Type 0 = λ plant starts. Replanned budget plant period starts None (new ≡ old) in
     let plant = c.args.plant.now in
     let kept = kept_starts period c.in_ok-plan.plan in
     let reply = c.in_ok-replan.field-0 in
     let same : new ≡ old = c.in_ok-plan.ensures.same in
     plan_answer old new name c.args.plan.now [] answers plant read c.in_ok-plan.plan c.in_ok-plan.ensures.read reply.status reply.text.items
-    (unchanged plant period kept (new ≡ old) (SolvedOver budget plant period kept None) reply.status reply.text.items same (let e = c.as_slice.ensures in rw e at c.in_ok-replan.ensures)) (λ _. same)
+    (unchanged plant period kept (new ≡ old) (SolvedOver budget plant period c.in_ok-plan.plan None) reply.status reply.text.items same (let e = c.as_slice.ensures in rw e at c.in_ok-replan.ensures)) (λ _. same)

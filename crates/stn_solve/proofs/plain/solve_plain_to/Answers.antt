@@ -7,6 +7,7 @@ use Rattle.proof_log.specs.Log.{claim_lines, item_lines, lines_text, log_text}
 use Rattle.proof_log.specs.Writer.{writing}
 use Rattle.plan_told.proofs.Texts.{plain-has}
 use Rattle.stn_solve.proofs.LogsLeft.{logged-begun, logged-broke, logged-whole, plain-left, plain-text, plain-told, told-bytes}
+use Rattle.stn_solve.proofs.BegunTold.{told-earns}
 use Rattle.stn_solve.proofs.SearchTold.{plain-places, plain-right}
 use Rattle.stn_solve.proofs.plain.solve_plain_to.Goals as goal
 
@@ -46,3 +47,6 @@ returns-clause-proof g c =
     let whole = logged-whole part c.args.budget _ c.args.name.now c.in_ok-ended.field-0.ended at logged in
     plain-has c.args.plant.now part _ told.outcome logged.tree right.proof
     (told-bytes c.args.name.now at.name (g.F.Shelf.files c.finish.new.files) _ _ logged.named (ap (λ (head : List ℕ). head ++ lines_text (flat_map item_lines items ++ (claim_lines told.claim ++ End ∷ []))) (c.as_slice.ensures.value ∙ c.in_ok-head.ensures) ∙ plain-text items told.claim ∙ ap (log_text 2 items) right.claim) (c.in_ok-finish.ensures.file _ items whole))
+
+pub returns-clause-begun : goal.returns-clause-begun
+returns-clause-begun g c = told-earns c.args.plant.now c.args.rows.now.program c.args.start.now c.in_ok-ended.field-0.ended c.in_ok-told.told c.in_ok-ended.ensures.begun c.in_ok-told.ensures

@@ -1,12 +1,12 @@
 -- A count that the guide left exact is exact, and that of the second search, which has no guide.
 use Rattle.stn_solve.proofs.searching.search_only.Goals as goal
 
-pub returns-then-guided : goal.returns-then-guided
-returns-then-guided c =
+pub returns-then-guided-clause-ended : goal.returns-then-guided-clause-ended
+returns-then-guided-clause-ended c =
     let found = c.in-Ok.ensures.ok in
     record { tree = found.tree; of = record { search = found.search; exact = c.in-Ok.ensures.exact c.if-guided.true } }
 
-pub returns-in-Ok-search_hinted : goal.returns-in-Ok-search_hinted
-returns-in-Ok-search_hinted c =
+pub returns-in-Ok-search_hinted-clause-ended : goal.returns-in-Ok-search_hinted-clause-ended
+returns-in-Ok-search_hinted-clause-ended c =
     let found = c.in-Ok-search_hinted.ensures.ok in
     record { tree = found.tree; of = record { search = found.search; exact = c.in-Ok-search_hinted.ensures.exact } }

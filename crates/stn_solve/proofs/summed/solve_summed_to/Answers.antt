@@ -1,5 +1,5 @@
 -- What is told of a search with sums is right, and its log is the text of the proof with the claim.
-use Rattle.std.proofs.Common.{ℕ, List, [], ◌∷◌, ◌++◌, sym, ap₂, ◌∙◌, subst, inr, flat_map}
+use Rattle.std.proofs.Common.{ℕ, List, [], ◌∷◌, ◌++◌, ap, sym, ap₂, ◌∙◌, subst, inr, flat_map}
 use Rattle.branch_tree.proofs.Stopping.{at_err}
 use Rattle.proof_tree.specs.Items.{tree_items}
 use Rattle.log_lines.specs.declared.line.Line.TheVariants.{End}
@@ -7,10 +7,12 @@ use Rattle.proof_log.specs.declared.claim.Claim.{Claim}
 use Rattle.proof_log.specs.Log.{claim_lines, item_lines, lines_text}
 use Rattle.proof_log.specs.Writer.{writing}
 use Rattle.sum_slots.specs.declared.sum.Sum.{Sum}
+use Rattle.sum_slots.specs.Larger.{completed}
 use Rattle.valid_log.specs.SumTexts.{larger_claim}
 use Rattle.plan_told.specs.Claims.{HaveBytes, IfPoint}
 use Rattle.plan_told.proofs.Completing.{claim-bytes}
 use Rattle.plan_told.proofs.Texts.{sums-has}
+use Rattle.stn_solve.proofs.BegunTold.{begun-bytes, begun-given, told-earns}
 use Rattle.stn_solve.proofs.LogsLeft.{logged-begun, logged-broke, logged-whole, sums-left, sums-told, told-bytes}
 use Rattle.stn_solve.proofs.SearchTold.{sums-places, sums-right}
 use Rattle.stn_solve.proofs.summed.solve_summed_to.Goals as goal
@@ -27,36 +29,36 @@ larger_claim-requires g c =
     let logged = c.in_ok-ended.ensures.logged in
     let right = sums-right c.args.plant.now c.args.part summed c.args.budget logged.tree c.in_ok-ended.field-0.ended c.in_ok-own.own c.requires.sound c.requires.part c.in_ok-rows.ensures
     (record { search = logged.search; exact = c.in_ok-ended.ensures.exact }) c.in_ok-own.ensures c.requires.many c.requires.budget.1 c.in_ok-outcome.field-0 c.in_ok-outcome.ensures in
-    subst (λ (sums : List Sum). IfPoint c.in_ok-outcome.field-0.claim (HaveBytes sums)) (sym c.as_slice-2.ensures)
+    subst (λ (sums : List Sum). IfPoint c.in_ok-outcome.field-0.claim (HaveBytes sums)) (sym c.as_slice-4.ensures)
     (claim-bytes c.args.plant.now c.args.part summed.rows.program summed.sums c.requires.part c.in_ok-rows.ensures.may c.in_ok-rows.ensures.enlarged c.in_ok-outcome.field-0.claim right.point)
 
 pub returns-in_err-ended-clause-err : goal.returns-in_err-ended-clause-err
 returns-in_err-ended-clause-err g c =
     let summed = c.in_ok-rows.field-0 in
-    at_err _ _ (sums-left c.args.plant.now c.args.part summed.rows.program summed.sums _ c.args.name.now _ _ c.in_ok-rows.ensures.enlarged (c.as_slice.ensures.value ∙ c.in_ok-rows.ensures.head) c.in_err-ended.ensures.err)
+    at_err _ _ (sums-left c.args.plant.now c.args.part summed.rows.program summed.sums _ c.args.name.now _ _ c.in_ok-rows.ensures.enlarged (c.as_slice-3.ensures.value ∙ c.in_ok-rows.ensures.head) c.in_err-ended.ensures.err)
 
 pub returns-in_err-own-clause-err : goal.returns-in_err-own-clause-err
 returns-in_err-own-clause-err g c =
     let summed = c.in_ok-rows.field-0 in
-    at_err _ _ (inr (sums-told c.args.plant.now c.args.part summed.rows.program summed.sums _ c.args.name.now _ c.in_ok-rows.ensures.enlarged (c.as_slice.ensures.value ∙ c.in_ok-rows.ensures.head)
+    at_err _ _ (inr (sums-told c.args.plant.now c.args.part summed.rows.program summed.sums _ c.args.name.now _ c.in_ok-rows.ensures.enlarged (c.as_slice-3.ensures.value ∙ c.in_ok-rows.ensures.head)
     (logged-begun summed.rows.program c.args.budget _ c.args.name.now c.in_ok-ended.field-0.ended _ c.in_ok-ended.ensures.logged)))
 
 pub returns-in_err-outcome-clause-err : goal.returns-in_err-outcome-clause-err
 returns-in_err-outcome-clause-err g c =
     let summed = c.in_ok-rows.field-0 in
-    at_err _ _ (inr (sums-told c.args.plant.now c.args.part summed.rows.program summed.sums _ c.args.name.now _ c.in_ok-rows.ensures.enlarged (c.as_slice.ensures.value ∙ c.in_ok-rows.ensures.head)
+    at_err _ _ (inr (sums-told c.args.plant.now c.args.part summed.rows.program summed.sums _ c.args.name.now _ c.in_ok-rows.ensures.enlarged (c.as_slice-3.ensures.value ∙ c.in_ok-rows.ensures.head)
     (logged-begun summed.rows.program c.args.budget _ c.args.name.now c.in_ok-ended.field-0.ended _ c.in_ok-ended.ensures.logged)))
 
 pub returns-in_err-whole-clause-err : goal.returns-in_err-whole-clause-err
 returns-in_err-whole-clause-err g c =
     let summed = c.in_ok-rows.field-0 in
-    at_err _ _ (inr (sums-told c.args.plant.now c.args.part summed.rows.program summed.sums _ c.args.name.now _ c.in_ok-rows.ensures.enlarged (c.as_slice.ensures.value ∙ c.in_ok-rows.ensures.head)
+    at_err _ _ (inr (sums-told c.args.plant.now c.args.part summed.rows.program summed.sums _ c.args.name.now _ c.in_ok-rows.ensures.enlarged (c.as_slice-3.ensures.value ∙ c.in_ok-rows.ensures.head)
     (logged-begun summed.rows.program c.args.budget _ c.args.name.now c.in_ok-ended.field-0.ended _ c.in_ok-ended.ensures.logged)))
 
 pub returns-in_err-finish-clause-err : goal.returns-in_err-finish-clause-err
 returns-in_err-finish-clause-err g c =
     let summed = c.in_ok-rows.field-0 in
-    at_err _ _ (inr (sums-told c.args.plant.now c.args.part summed.rows.program summed.sums _ c.args.name.now _ c.in_ok-rows.ensures.enlarged (c.as_slice.ensures.value ∙ c.in_ok-rows.ensures.head)
+    at_err _ _ (inr (sums-told c.args.plant.now c.args.part summed.rows.program summed.sums _ c.args.name.now _ c.in_ok-rows.ensures.enlarged (c.as_slice-3.ensures.value ∙ c.in_ok-rows.ensures.head)
     (logged-broke summed.rows.program c.args.budget _ c.args.name.now c.in_ok-ended.field-0.ended _ _ c.in_ok-whole.whole c.in_ok-ended.ensures.logged c.in_err-finish.ensures.broke)))
 
 pub returns-clause-outcome : goal.returns-clause-outcome
@@ -76,6 +78,18 @@ returns-clause-proof g c =
     let right = sums-right c.args.plant.now c.args.part summed c.args.budget logged.tree c.in_ok-ended.field-0.ended c.in_ok-own.own c.requires.sound c.requires.part c.in_ok-rows.ensures
     (record { search = logged.search; exact = c.in_ok-ended.ensures.exact }) c.in_ok-own.ensures c.requires.many c.requires.budget.1 told c.in_ok-outcome.ensures in
     let whole = logged-whole summed.rows.program c.args.budget _ c.args.name.now c.in_ok-ended.field-0.ended at logged in
-    let text = ap₂ (λ (head : List ℕ) (claim : Claim). head ++ lines_text (flat_map item_lines items ++ (claim_lines claim ++ End ∷ []))) (c.as_slice.ensures.value ∙ c.in_ok-rows.ensures.head) (c.in_ok-whole.ensures ∙ ap₂ (λ (sums : List Sum) (claim : Claim). larger_claim sums claim) c.as_slice-2.ensures right.claim) in
+    let text = ap₂ (λ (head : List ℕ) (claim : Claim). head ++ lines_text (flat_map item_lines items ++ (claim_lines claim ++ End ∷ []))) (c.as_slice-3.ensures.value ∙ c.in_ok-rows.ensures.head) (c.in_ok-whole.ensures ∙ ap₂ (λ (sums : List Sum) (claim : Claim). larger_claim sums claim) c.as_slice-4.ensures right.claim) in
     sums-has c.args.plant.now c.args.part summed.sums _ told.outcome logged.tree right.proof
     (told-bytes c.args.name.now at.name (g.F.Shelf.files c.finish.new.files) _ _ logged.named text (c.in_ok-finish.ensures.file _ items whole))
+
+pub completed-requires : goal.completed-requires
+completed-requires g c = λ holds.
+    subst (λ (sums : List Sum). HaveBytes sums c.args.start.now) (sym c.as_slice.ensures)
+    (begun-bytes c.args.plant.now c.args.part c.in_ok-rows.field-0 c.requires.part c.in_ok-rows.ensures c.args.start.now (c.is_lawful-lawful.ensures.0 holds))
+
+pub returns-clause-begun : goal.returns-clause-begun
+returns-clause-begun g c =
+    let worth = begun-given c.args.plant.now c.args.part c.in_ok-rows.field-0 c.requires.part c.in_ok-rows.ensures c.args.start.now c.as_slice-2.result.now c.in_ok-ended.field-0.ended c.in_ok-own.own
+    (λ lawful. c.as_slice-2.ensures ∙ c.in_ok-begun.ensures (c.is_lawful-lawful.ensures.1 lawful) ∙ ap (λ (sums : List Sum). completed sums c.args.start.now) c.as_slice.ensures)
+    c.in_ok-ended.ensures.begun c.in_ok-own.ensures in
+    told-earns c.args.plant.now c.args.part c.args.start.now c.in_ok-own.own c.in_ok-outcome.field-0 worth c.in_ok-outcome.ensures

@@ -1,10 +1,11 @@
 -- The program of a plant is a part of its choices, and its outcomes are those of the plant.
-use Rattle.std.proofs.Common.{inr}
+use Rattle.std.proofs.Common.{◌∙◌, inr}
 use Rattle.std.proofs.lemmas.Result.{IfOk-weaker, on_err_weaker}
 use Rattle.stn_model.specs.declared.answer.Outcome.{Outcome}
 use Rattle.plan_told.specs.Proofs.{HasProof, IsLeft, bytes_in}
 use Rattle.plan_told.proofs.WholePlant.{whole-is_part, whole-outcome}
-use Rattle.stn_solve.proofs.plant.solve_to.Goals as goal
+use Rattle.stn_solve.proofs.BegunTold.{begun-if}
+use Rattle.stn_solve.proofs.plant.solve_from_to.Goals as goal
 
 pub solve_rows_to-requires-clause-part : goal.solve_rows_to-requires-clause-part
 solve_rows_to-requires-clause-part g c = whole-is_part c.args.plant.now c.in_ok-program.program c.in_ok-program.ensures.made c.in_ok-program.ensures.means
@@ -26,3 +27,8 @@ returns-clause-err g c =
     on_err_weaker c.solve_rows_to.result
     (λ (left : IsLeft c.args.plant.now c.in_ok-program.program c.args.name.now (g.F.Shelf.files c.args.files.now) (g.F.Shelf.files c.solve_rows_to.new.files)). inr (c.in_ok-program.program, (c.in_ok-program.ensures.made, (c.in_ok-program.ensures.means, left))))
     c.solve_rows_to.ensures.err
+
+pub returns-clause-begun : goal.returns-clause-begun
+returns-clause-begun g c =
+    begun-if c.args.plant.now c.in_ok-program.program c.args.start.now c.deref.result.now c.solve_rows_to.result c.requires.sound (whole-is_part c.args.plant.now c.in_ok-program.program c.in_ok-program.ensures.made c.in_ok-program.ensures.means)
+    c.in_ok-program.ensures.means (λ has. c.deref.ensures.value ∙ c.in_ok-point.ensures has) c.solve_rows_to.ensures.begun

@@ -1,10 +1,11 @@
 -- The program of a plant is a part of its choices, and its outcomes are those of the plant.
-use Rattle.std.proofs.Common.{None}
+use Rattle.std.proofs.Common.{◌∙◌, None}
 use Rattle.std.proofs.lemmas.Result.{IfOk-weaker}
 use Rattle.stn_model.specs.declared.answer.Outcome.{Outcome}
 use Rattle.plan_told.specs.Proofs.{HasProof}
 use Rattle.plan_told.proofs.WholePlant.{whole-is_part, whole-outcome}
-use Rattle.stn_solve.proofs.plant.plan.Goals as goal
+use Rattle.stn_solve.proofs.BegunTold.{begun-if}
+use Rattle.stn_solve.proofs.plant.plan_from.Goals as goal
 
 pub plan_rows-requires-clause-part : goal.plan_rows-requires-clause-part
 plan_rows-requires-clause-part c = whole-is_part c.args.plant.now c.in_ok-program.program c.in_ok-program.ensures.made c.in_ok-program.ensures.means
@@ -20,3 +21,8 @@ returns-clause-proof c =
     IfOk-weaker c.plan_rows.result _ _
     (λ (outcome : Outcome) (has : HasProof c.args.plant.now c.in_ok-program.program None outcome). record { program = c.in_ok-program.program; made = c.in_ok-program.ensures.made; means = c.in_ok-program.ensures.means; has = has })
     c.plan_rows.ensures.proof
+
+pub returns-clause-begun : goal.returns-clause-begun
+returns-clause-begun c =
+    begun-if c.args.plant.now c.in_ok-program.program c.args.start.now c.deref.result.now c.plan_rows.result c.requires.sound (whole-is_part c.args.plant.now c.in_ok-program.program c.in_ok-program.ensures.made c.in_ok-program.ensures.means)
+    c.in_ok-program.ensures.means (λ has. c.deref.ensures.value ∙ c.in_ok-point.ensures has) c.plan_rows.ensures.begun
