@@ -1,4 +1,4 @@
-//! Searches of `branch_tree` with the advisers of `best_first`, which are made and let go of in each call.
+//! Searches of `branch_tree` with advisers that are made and let go of in each call, whoever they are.
 #![tactic(auto)]
 
 mod searching;

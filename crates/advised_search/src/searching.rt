@@ -4,10 +4,8 @@ ghost use Rattle.proof_tree.specs.Taker.{Rose};
 ghost use Rattle.proof_tree.specs.Tree.{tree_of};
 ghost use Rattle.branch_tree.specs.Searched.{IsExact, IsSearch, IsSearchedTo, IsBrokenOff, IsWorth, ended_of};
 
-use best_first::Advisers;
-use box_advice::{Guide, Hinter};
+use box_advice::Advisers;
 use branch_tree::{Ended, Guided, Searched, search, search_guided, search_guided_to, search_to};
-use plan_hints::PlanHinter;
 use proof_tree::{NodeTaker, TakeStop};
 use row_relax::Rows;
 use std::alloc::{AllocError, Global};
@@ -15,7 +13,7 @@ use std::alloc::{AllocError, Global};
 /// Searches the root with the advice of both advisers, as `branch_tree::search_guided_to` does. The guide may leave boxes open
 /// though budget is left: the answer also says whether the count is exact, so that the budget was spent, or nothing is left open.
 /// The best point is worth as much as `start`, where that is lawful.
-pub fn search_advised<O, T: NodeTaker<Rows, O>>(
+pub fn search_advised<A: Advisers, O, T: NodeTaker<Rows, O>>(
     alloc: Global,
     rows: &Rows,
     given: u32,
@@ -41,39 +39,7 @@ pub fn search_advised<O, T: NodeTaker<Rows, O>>(
     ensures later { T.faults out.old ≤ T.faults out.new }
     ensures failed { IsErrOf result TakeStop.Failed → Rose (T.faults out.old) (T.faults out.new) }
 {
-    let Advisers { guide, hinter } = Advisers::new(alloc, &rows.program, given, budget)?;
-    guided_to(alloc, rows, given, budget, start, hinter, guide, taker, out)
-}
-
-// Searches with advisers that are let go of here, of whatever types they are.
-fn guided_to<H: Hinter + Drop, G: Guide + Drop, O, T: NodeTaker<Rows, O>>(
-    alloc: Global,
-    rows: &Rows,
-    given: u32,
-    budget: u32,
-    start: &[u8],
-    mut hinter: H,
-    mut guide: G,
-    taker: &mut T,
-    out: &mut O,
-) -> Result<Guided, TakeStop>
-    requires budget { (1 ≤ budget) × (budget ≤ 100000) }
-    requires ready { T.ready taker.old out.old }
-    ensures ready { OnOk result (T.ready taker.new out.new) }
-    ensures ok { IfOk result (λ guided. IsSearchedTo T.took rows.now.program given budget
-        guided.ended taker.old out.old taker.new out.new) }
-    ensures begun { IfOk result
-        (λ guided. IsWorth rows.now.program start.now guided.ended.best) }
-    ensures exact { IfOk result
-        (λ guided. guided.exact ≡ true → IsExact rows.now.program budget guided.ended) }
-    ensures inexact { IfOk result
-        (λ guided. guided.exact ≡ false
-        → (guided.ended.left_open ≡ true) × (guided.ended.spent ≢ budget)) }
-    ensures err { OnErr result (IsBrokenOff T.took T.broke rows.now.program taker.old out.old
-        taker.new out.new) }
-    ensures later { T.faults out.old ≤ T.faults out.new }
-    ensures failed { IsErrOf result TakeStop.Failed → Rose (T.faults out.old) (T.faults out.new) }
-{
+    let (mut guide, mut hinter) = A::advised(alloc, &rows.program, given, budget)?;
     search_guided_to(
         alloc,
         rows,
@@ -87,8 +53,8 @@ fn guided_to<H: Hinter + Drop, G: Guide + Drop, O, T: NodeTaker<Rows, O>>(
     )
 }
 
-/// Searches the root without a guide, as `branch_tree::search_to` does, and looks for plans on the way.
-pub fn search_hinted<O, T: NodeTaker<Rows, O>>(
+/// Searches the root without advice on where to split, as `branch_tree::search_to` does, and looks for plans on the way.
+pub fn search_hinted<A: Advisers, O, T: NodeTaker<Rows, O>>(
     alloc: Global,
     rows: &Rows,
     given: u32,
@@ -109,38 +75,22 @@ pub fn search_hinted<O, T: NodeTaker<Rows, O>>(
     ensures later { T.faults out.old ≤ T.faults out.new }
     ensures failed { IsErrOf result TakeStop.Failed → Rose (T.faults out.old) (T.faults out.new) }
 {
-    let hinter = PlanHinter::new(alloc, &rows.program, given)?;
-    hinted_to(alloc, rows, given, budget, start, hinter, taker, out)
-}
-
-// Searches with a hinter that is let go of here.
-fn hinted_to<H: Hinter + Drop, O, T: NodeTaker<Rows, O>>(
-    alloc: Global,
-    rows: &Rows,
-    given: u32,
-    budget: u32,
-    start: &[u8],
-    mut hinter: H,
-    taker: &mut T,
-    out: &mut O,
-) -> Result<Ended, TakeStop>
-    requires budget { (1 ≤ budget) × (budget ≤ 100000) }
-    requires ready { T.ready taker.old out.old }
-    ensures ready { OnOk result (T.ready taker.new out.new) }
-    ensures ok { IfOk result (λ ended. IsSearchedTo T.took rows.now.program given budget ended
-        taker.old out.old taker.new out.new) }
-    ensures begun { IfOk result (λ ended. IsWorth rows.now.program start.now ended.best) }
-    ensures exact { IfOk result (IsExact rows.now.program budget) }
-    ensures err { OnErr result (IsBrokenOff T.took T.broke rows.now.program taker.old out.old
-        taker.new out.new) }
-    ensures later { T.faults out.old ≤ T.faults out.new }
-    ensures failed { IsErrOf result TakeStop.Failed → Rose (T.faults out.old) (T.faults out.new) }
-{
-    search_to(alloc, rows, given, budget, start, &mut hinter, taker, out)
+    let (mut guide, mut hinter) = A::hinted(alloc, &rows.program, given)?;
+    search_to(
+        alloc,
+        rows,
+        given,
+        budget,
+        start,
+        &mut hinter,
+        &mut guide,
+        taker,
+        out,
+    )
 }
 
 /// As `search_advised`, and builds the proof. The answer also says whether the count is exact.
-pub fn build_advised(
+pub fn build_advised<A: Advisers>(
     alloc: Global,
     rows: &Rows,
     given: u32,
@@ -156,34 +106,20 @@ pub fn build_advised(
     ensures inexact { IfOk result
         (λ found. found.1 ≡ false → (found.0.left_open ≡ true) × (found.0.spent ≢ budget)) }
 {
-    let Advisers { guide, hinter } = Advisers::new(alloc, &rows.program, given, budget)?;
-    guided(alloc, rows, given, budget, start, hinter, guide)
-}
-
-// Searches with advisers that are let go of here, and builds the proof.
-fn guided<H: Hinter + Drop, G: Guide + Drop>(
-    alloc: Global,
-    rows: &Rows,
-    given: u32,
-    budget: u32,
-    start: &[u8],
-    mut hinter: H,
-    mut guide: G,
-) -> Result<(Searched, bool), AllocError>
-    requires { (1 ≤ budget) × (budget ≤ 100000) }
-    ensures ok { IfOk result (λ found. IsSearch rows.now.program given budget
-        (tree_of found.0.tree) (ended_of found.0)) }
-    ensures begun { IfOk result (λ found. IsWorth rows.now.program start.now found.0.best) }
-    ensures exact { IfOk result
-        (λ found. found.1 ≡ true → IsExact rows.now.program budget (ended_of found.0)) }
-    ensures inexact { IfOk result
-        (λ found. found.1 ≡ false → (found.0.left_open ≡ true) × (found.0.spent ≢ budget)) }
-{
-    search_guided(alloc, rows, given, budget, start, &mut hinter, &mut guide)
+    let (mut guide, mut hinter) = A::advised(alloc, &rows.program, given, budget)?;
+    search_guided(
+        alloc,
+        rows,
+        given,
+        budget,
+        start,
+        &mut hinter,
+        &mut guide,
+    )
 }
 
 /// As `search_hinted`, and builds the proof.
-pub fn build_hinted(
+pub fn build_hinted<A: Advisers>(
     alloc: Global,
     rows: &Rows,
     given: u32,
@@ -197,25 +133,14 @@ pub fn build_hinted(
         (λ searched. IsWorth rows.now.program start.now searched.best) }
     ensures exact { IfOk result (λ searched. IsExact rows.now.program budget (ended_of searched)) }
 {
-    let hinter = PlanHinter::new(alloc, &rows.program, given)?;
-    hinted(alloc, rows, given, budget, start, hinter)
-}
-
-// Searches with a hinter that is let go of here, and builds the proof.
-fn hinted<H: Hinter + Drop>(
-    alloc: Global,
-    rows: &Rows,
-    given: u32,
-    budget: u32,
-    start: &[u8],
-    mut hinter: H,
-) -> Result<Searched, AllocError>
-    requires { (1 ≤ budget) × (budget ≤ 100000) }
-    ensures ok { IfOk result (λ searched. IsSearch rows.now.program given budget
-        (tree_of searched.tree) (ended_of searched)) }
-    ensures begun { IfOk result
-        (λ searched. IsWorth rows.now.program start.now searched.best) }
-    ensures exact { IfOk result (λ searched. IsExact rows.now.program budget (ended_of searched)) }
-{
-    search(alloc, rows, given, budget, start, &mut hinter)
+    let (mut guide, mut hinter) = A::hinted(alloc, &rows.program, given)?;
+    search(
+        alloc,
+        rows,
+        given,
+        budget,
+        start,
+        &mut hinter,
+        &mut guide,
+    )
 }

@@ -7,18 +7,20 @@ ghost use Rattle.row_kit.specs.Domain.{IsOpen};
 use crate::explorer::{Explored, explore};
 use crate::kept_guide::KeptGuide;
 use crate::kept_hinter::KeptHinter;
-use box_advice::{Advice, Guide, Hinter};
+use box_advice::{Advice, Advisers, Guide, Hinter};
 use explored_tree::Lead;
 use plan_hints::PlanHinter;
 use row_kit::{Area, Program};
-use split_advice::PlanGuide;
+use split_advice::{PlainGuide, PlanGuide};
 use std::alloc::{AllocError, Global};
 
-/// A guide of a search: one that is asked as the search goes on, or one that leads it through boxes explored before.
+/// A guide of a search: one that is asked as the search goes on, one that leads it through boxes explored before, or one that bounds
+/// boxes alone.
 #[derive(Drop)]
 pub enum SearchGuide {
     Depth(PlanGuide),
     Best(KeptGuide),
+    Plain(PlainGuide),
 }
 
 /// A hinter of a search: one that looks for plans as the search goes on, or one that offers the plan that was found before.
@@ -28,50 +30,56 @@ pub enum SearchHinter {
     Best(KeptHinter),
 }
 
-/// The guide and the hinter of a search.
-#[derive(Drop)]
-pub struct Advisers {
-    pub guide: SearchGuide,
-    pub hinter: SearchHinter,
-}
+/// The advisers of searches: of more than 50,000 points best first, else depth first.
+pub struct BestFirst;
 
 // Roots with more points are explored best first.
 const MOST_POINTS: u64 = 50_000;
 
-impl Advisers {
-    /// The advisers of a search of at most so many boxes: of more than 50,000 points best first, else depth first. The slots from
-    /// `given` on are those of sums, of which the last rows of the program are, two for each; where there are none, `given` is the
-    /// number of slots.
-    pub fn new(
+impl Advisers for BestFirst {
+    type Guide = SearchGuide;
+
+    type Hinter = SearchHinter;
+
+    fn advised(
         alloc: Global,
         program: &Program,
         given: u32,
         budget: u32,
-    ) -> Result<Advisers, AllocError> {
+    ) -> Result<(SearchGuide, SearchHinter), AllocError> {
         if point_count(program) > MOST_POINTS {
-            return Advisers::explored(alloc, program, given, budget);
+            return explored(alloc, program, given, budget);
         }
-        Ok(Advisers {
-            guide: SearchGuide::Depth(PlanGuide::new(alloc, program, given)?),
-            hinter: SearchHinter::Depth(PlanHinter::new(alloc, program, given)?),
-        })
+        let guide = PlanGuide::new(alloc, program, given)?;
+        let hinter = PlanHinter::new(alloc, program, given)?;
+        Ok((SearchGuide::Depth(guide), SearchHinter::Depth(hinter)))
     }
 
-    // The advisers of a search that is explored first.
-    fn explored(
+    fn hinted(
         alloc: Global,
         program: &Program,
         given: u32,
-        budget: u32,
-    ) -> Result<Advisers, AllocError> {
-        let Explored { tree, best } = explore(alloc, program, given, budget)?;
-        let lead = Lead::new(alloc, program, tree.nodes, best.worth, budget)?;
-        let guide = KeptGuide::new(alloc, program, given, lead)?;
-        Ok(Advisers {
-            guide: SearchGuide::Best(guide),
-            hinter: SearchHinter::Best(KeptHinter::new(best)),
-        })
+    ) -> Result<(SearchGuide, SearchHinter), AllocError> {
+        let hinter = PlanHinter::new(alloc, program, given)?;
+        Ok((
+            SearchGuide::Plain(PlainGuide),
+            SearchHinter::Depth(hinter),
+        ))
     }
+}
+
+// The advisers of a search that is explored first.
+fn explored(
+    alloc: Global,
+    program: &Program,
+    given: u32,
+    budget: u32,
+) -> Result<(SearchGuide, SearchHinter), AllocError> {
+    let Explored { tree, best } = explore(alloc, program, given, budget)?;
+    let lead = Lead::new(alloc, program, tree.nodes, best.worth, budget)?;
+    let guide = KeptGuide::new(alloc, program, given, lead)?;
+    let hinter = KeptHinter::new(best);
+    Ok((SearchGuide::Best(guide), SearchHinter::Best(hinter)))
 }
 
 // The number of points of a root, or the greatest number of 64 bits.
@@ -88,6 +96,7 @@ impl Guide for SearchGuide {
         match self {
             SearchGuide::Depth(guide) => guide.leaves(program, area, depth),
             SearchGuide::Best(guide) => guide.leaves(program, area, depth),
+            SearchGuide::Plain(guide) => guide.leaves(program, area, depth),
         }
     }
 
@@ -103,6 +112,7 @@ impl Guide for SearchGuide {
         match self {
             SearchGuide::Depth(guide) => guide.advise(alloc, program, area, depth, best, point),
             SearchGuide::Best(guide) => guide.advise(alloc, program, area, depth, best, point),
+            SearchGuide::Plain(guide) => guide.advise(alloc, program, area, depth, best, point),
         }
     }
 }

@@ -8,4 +8,4 @@ mod explorer;
 mod kept_guide;
 mod kept_hinter;
 
-pub use advisers::{Advisers, SearchGuide, SearchHinter};
+pub use advisers::{BestFirst, SearchGuide, SearchHinter};

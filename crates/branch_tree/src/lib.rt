@@ -9,7 +9,6 @@ mod copies;
 mod cutting;
 mod ended;
 mod found;
-mod guide;
 mod judging;
 mod picking;
 mod putting;
@@ -18,5 +17,4 @@ mod searching;
 
 pub use box_advice::{Advice, Guide, Hinter};
 pub use ended::{Ended, Guided, Searched};
-pub use guide::PlainGuide;
 pub use searching::{search, search_guided, search_guided_to, search_to};

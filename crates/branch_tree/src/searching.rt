@@ -12,7 +12,6 @@ use crate::boxes::{search_box, worth_of};
 use crate::copies::RowCopier;
 use crate::ended::{Ended, Guided, Searched};
 use crate::found::{better, put_least, tested};
-use crate::guide::PlainGuide;
 use crate::judging::exceeds;
 use crate::reached::{Ground, Reached};
 use box_advice::{Guide, Hinter};
@@ -152,17 +151,19 @@ pub fn search_guided_to<H: Hinter, G: Guide, O, T: NodeTaker<Rows, O>>(
 
 /// Searches the root by branch and bound, and puts the items of the proof as it is made: after `Ok` the taker took the items of
 /// a justified proof that covers the root, whose numbers the answer tells. It counts at most as many boxes as the budget, and
-/// leaves a box open only where it counted just as many. After an error the taker took the first items of some proof.
+/// leaves a box open only where it counted just as many: the guide is not asked which to leave. After an error the taker took the first
+/// items of some proof.
 ///
 /// Slots from the number `given` on are sums, and may be split at any value; those below it are split at 0 or in the middle alone.
 /// The best point is worth as much as `start`, where that is a lawful point; any other is passed over.
-pub fn search_to<H: Hinter, O, T: NodeTaker<Rows, O>>(
+pub fn search_to<H: Hinter, G: Guide, O, T: NodeTaker<Rows, O>>(
     alloc: Global,
     rows: &Rows,
     given: u32,
     budget: u32,
     start: &[u8],
     hinter: &mut H,
+    guide: &mut G,
     taker: &mut T,
     out: &mut O,
 ) -> Result<Ended, TakeStop>
@@ -186,7 +187,7 @@ pub fn search_to<H: Hinter, O, T: NodeTaker<Rows, O>>(
         budget,
         may_leave: false,
     };
-    search_root(&ground, start, hinter, &mut PlainGuide, taker, out)
+    search_root(&ground, start, hinter, guide, taker, out)
 }
 
 /// As `search`, with a guide that may leave boxes open though budget is left. The answer also says whether the count is exact.
@@ -233,13 +234,14 @@ pub fn search_guided<H: Hinter, G: Guide>(
 ///
 /// Slots from the number `given` on are sums, and may be split at any value; those below it are split at 0 or in the middle alone.
 /// The best point is worth as much as `start`, where that is a lawful point; any other is passed over.
-pub fn search<H: Hinter>(
+pub fn search<H: Hinter, G: Guide>(
     alloc: Global,
     rows: &Rows,
     given: u32,
     budget: u32,
     start: &[u8],
     hinter: &mut H,
+    guide: &mut G,
 ) -> Result<Searched, AllocError>
     requires { (1 ≤ budget) × (budget ≤ 100000) }
     ensures ok { IfOk result (λ searched. IsSearch rows.now.program given budget
@@ -256,6 +258,7 @@ pub fn search<H: Hinter>(
         budget,
         start,
         hinter,
+        guide,
         &mut taker,
         &mut (),
     ) {

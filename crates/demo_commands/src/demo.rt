@@ -9,6 +9,7 @@ ghost use Rattle.answer_texts.specs.Planning.{profit_word, status_of};
 ghost use Rattle.demo_commands.specs.Demo.{shown_plant, answer_line, demo_head, Shown};
 
 use answer_texts::{amount_line, checked};
+use best_first::BestFirst;
 use command_replies::Reply;
 use plant_check::check_stream;
 use plant_make::{make, put_plant};
@@ -32,7 +33,7 @@ pub fn show(alloc: Global, seed: u32) -> Result<Reply, AllocError>
 {
     let plant = read_made(alloc, seed)?;
     let mut files = FixedShelf::new(alloc);
-    match solve_to(alloc, &plant, BOXES, &mut files, "log") {
+    match solve_to::<BestFirst, _>(alloc, &plant, BOXES, &mut files, "log") {
         Ok(outcome) => {
             let line = check_line(alloc, &plant, &mut files, "log")?;
             let text = demo_text(alloc, seed, &plant, &outcome.answer, &line)?;

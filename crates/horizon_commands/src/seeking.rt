@@ -22,6 +22,7 @@ ghost use Rattle.horizon_commands.specs.Seeking.{
 };
 
 use answer_texts::{bounded, with_plan};
+use best_first::BestFirst;
 use command_replies::{Reply, Stopped, plant_in};
 use command_words::Budget;
 use least_horizon::{LeastAnswer, least, least_to};
@@ -96,7 +97,7 @@ fn seek_plant(alloc: Global, plant: &Plant, budget: Budget) -> Result<Reply, All
         (λ reply. Sought budget.boxes plant.now (λ _. None) (λ _. Unit {0})
         reply.status reply.text.items) }
 {
-    let said = least(alloc, plant, budget.boxes)?;
+    let said = least::<BestFirst>(alloc, plant, budget.boxes)?;
     in_money(&said);
     found(alloc, plant, &said)
 }
@@ -127,7 +128,7 @@ fn trace_plant<F: Shelf>(
     ensures no_read { F.read_faults files.new ≡ F.read_faults files.old }
     ensures writes { F.write_faults files.old ≤ F.write_faults files.new }
 {
-    match least_to(alloc, plant, budget.boxes, files, stem) {
+    match least_to::<BestFirst, _>(alloc, plant, budget.boxes, files, stem) {
         Ok(said) => {
             in_money(&said);
             Ok(found(alloc, plant, &said)?)

@@ -10,6 +10,7 @@ ghost use Rattle.least_horizon.specs.LogNames.{logs_in, AreAllowed, OthersStayBe
 ghost use Rattle.least_horizon.specs.Least.{settled, untried, IsLeast, IsSettled, IsStopped};
 
 use crate::answer::LeastAnswer;
+use box_advice::Advisers;
 use proof_log::log_name;
 use shorter_plant::plant_at;
 use std::alloc::{AllocError, Global};
@@ -19,13 +20,13 @@ use stn_solve::{plan, solve_to};
 
 /// Solves the horizons from 1 to the plant's own in their order, each with at most so many boxes, and stops at the first that is
 /// not found to have no feasible plan.
-pub fn least(alloc: Global, plant: &Plant, budget: u32) -> Result<LeastAnswer, AllocError>
+pub fn least<A: Advisers>(alloc: Global, plant: &Plant, budget: u32) -> Result<LeastAnswer, AllocError>
     requires sound { Sound plant.now }
     requires budget { (1 ≤ budget) × (budget ≤ 100000) }
     ensures least { IfOk result (IsLeast plant.now budget (λ _. None)) }
 {
     for horizon in 1..plant.periods + 1 {
-        if let Some(answer) = least_at(alloc, plant, budget, horizon)? {
+        if let Some(answer) = least_at::<A>(alloc, plant, budget, horizon)? {
             return Ok(answer);
         }
     }
@@ -35,7 +36,7 @@ pub fn least(alloc: Global, plant: &Plant, budget: u32) -> Result<LeastAnswer, A
 /// Solves the horizons as `least` does, and writes the log of each to the file of the stem, a dot and the horizon. After an error
 /// the logs of shorter horizons are whole, that of the last is as before or a first part of a log, and every other file is as
 /// before. `Failed` comes only where the store counted a fault of writing.
-pub fn least_to<F: Shelf>(
+pub fn least_to<A: Advisers, F: Shelf>(
     alloc: Global,
     plant: &Plant,
     budget: u32,
@@ -58,7 +59,7 @@ pub fn least_to<F: Shelf>(
         → Rose (F.write_faults files.old) (F.write_faults files.new) }
 {
     for horizon in 1..plant.periods + 1 {
-        if let Some(answer) = log_at(alloc, plant, budget, horizon, files, stem)? {
+        if let Some(answer) = log_at::<A, _>(alloc, plant, budget, horizon, files, stem)? {
             return Ok(answer);
         }
     }
@@ -66,7 +67,7 @@ pub fn least_to<F: Shelf>(
 }
 
 // What solving the plant within the horizon settles.
-fn least_at(
+fn least_at<A: Advisers>(
     alloc: Global,
     plant: &Plant,
     budget: u32,
@@ -78,12 +79,12 @@ fn least_at(
     ensures { IfOk result (IsSettled plant.now budget (λ _. None) horizon) }
 {
     let short = plant_at(alloc, plant, horizon)?;
-    let Outcome { answer, .. } = plan(alloc, &short, budget)?;
+    let Outcome { answer, .. } = plan::<A>(alloc, &short, budget)?;
     Ok(settled(horizon, answer))
 }
 
 // What solving the plant within the horizon settles, with its log.
-fn log_at<F: Shelf>(
+fn log_at<A: Advisers, F: Shelf>(
     alloc: Global,
     plant: &Plant,
     budget: u32,
@@ -110,7 +111,7 @@ fn log_at<F: Shelf>(
 {
     let short = plant_at(alloc, plant, horizon)?;
     let name = log_name(alloc, stem, horizon)?;
-    let Outcome { answer, .. } = solve_to(alloc, &short, budget, files, name.as_str())?;
+    let Outcome { answer, .. } = solve_to::<A, _>(alloc, &short, budget, files, name.as_str())?;
     Ok(settled(horizon, answer))
 }
 

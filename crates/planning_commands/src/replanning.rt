@@ -23,6 +23,7 @@ ghost use Rattle.planning_commands.specs.Replanning.{
 };
 
 use answer_texts::{broken, in_money, planned};
+use best_first::BestFirst;
 use command_replies::{Reply, Stopped, plan_in, plant_in};
 use command_words::{Budget, Period};
 use frozen_plan::{Keeping, keep};
@@ -242,7 +243,7 @@ fn plan_part(
         (HasProof plant.now part None) reply.status reply.text.items) }
 {
     let point = point_of(alloc, plant, start)?;
-    let outcome = plan_rows(alloc, plant, part, 0, budget.boxes, &point)?;
+    let outcome = plan_rows::<BestFirst>(alloc, plant, part, 0, budget.boxes, &point)?;
     in_money(&outcome.answer);
     planned(alloc, plant, &outcome)
 }
@@ -278,7 +279,7 @@ pub fn log_part<F: Shelf>(
     ensures writes { F.write_faults files.old ≤ F.write_faults files.new }
 {
     let point = point_of(alloc, plant, start)?;
-    match solve_rows_to(alloc, plant, part, levels, budget.boxes, &point, files, log) {
+    match solve_rows_to::<BestFirst, _>(alloc, plant, part, levels, budget.boxes, &point, files, log) {
         Ok(outcome) => {
             in_money(&outcome.answer);
             Ok(planned(alloc, plant, &outcome)?)

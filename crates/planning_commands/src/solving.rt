@@ -12,6 +12,7 @@ ghost use Rattle.command_replies.specs.Sources.{IfReplied, IfRefused, IsReadOf};
 ghost use Rattle.planning_commands.specs.Solving.{HoldsLog, Solved};
 
 use answer_texts::{in_money, planned};
+use best_first::BestFirst;
 use command_replies::{Reply, Stopped, plant_in};
 use command_words::Budget;
 use std::alloc::{AllocError, Global};
@@ -83,7 +84,7 @@ fn solve_plant(alloc: Global, plant: &Plant, budget: Budget) -> Result<Reply, Al
     ensures { IfOk result
         (λ reply. Solved budget.boxes plant.now None reply.status reply.text.items) }
 {
-    let outcome = plan(alloc, plant, budget.boxes)?;
+    let outcome = plan::<BestFirst>(alloc, plant, budget.boxes)?;
     in_money(&outcome.answer);
     planned(alloc, plant, &outcome)
 }
@@ -113,7 +114,7 @@ fn log_plant<F: Shelf>(
     ensures no_read { F.read_faults files.new ≡ F.read_faults files.old }
     ensures writes { F.write_faults files.old ≤ F.write_faults files.new }
 {
-    match solve_to(alloc, plant, budget.boxes, files, log) {
+    match solve_to::<BestFirst, _>(alloc, plant, budget.boxes, files, log) {
         Ok(outcome) => {
             in_money(&outcome.answer);
             Ok(planned(alloc, plant, &outcome)?)

@@ -5,6 +5,7 @@ use dual_bound::{Cert, Mult};
 use proof_tree::{Capped, Item, NodeTaker, TakeStop};
 use row_kit::{Area, Entry, List, Program, Row};
 use row_relax::Rows;
+use split_advice::PlainGuide;
 use std::alloc::{AllocError, Global};
 use std::test::Fail;
 
@@ -101,6 +102,7 @@ fn searched(alloc: Global, rows: &Rows, left: u32) -> (Option<TakeStop>, u32) {
         7,
         &[],
         &mut hinter,
+        &mut PlainGuide,
         &mut taker,
         &mut (),
     );

@@ -3,10 +3,11 @@ ghost use Rattle.std.specs.Prelude.{◌≤◌};
 
 use crate::advisers::{Liar, Silent, Splitter, Teller};
 use crate::told::{put_best, put_search, put_split};
-use branch_tree::{Searched, search, search_guided};
+use branch_tree::{Hinter, Searched, search, search_guided};
 use case_programs::{bytes_of, put_cap};
 use case_tables::Sheet;
 use row_relax::Rows;
+use split_advice::PlainGuide;
 use std::alloc::{AllocError, Global};
 
 /// Prints what a search gives.
@@ -53,16 +54,30 @@ fn plain(alloc: Global, rows: &Rows, sheet: &mut Sheet) -> Result<(), AllocError
     let mut hinter = Teller {
         point: bytes_of(alloc, sheet)?,
     };
-    let found = search(alloc, rows, slot_count(rows), budget, &[], &mut hinter)?;
+    let found = search_plain(alloc, rows, budget, &[], &mut hinter)?;
     put_search(&found, sheet);
     Ok(())
+}
+
+// A search that is not advised where to split.
+fn search_plain<H: Hinter>(
+    alloc: Global,
+    rows: &Rows,
+    budget: u32,
+    start: &[u8],
+    hinter: &mut H,
+) -> Result<Searched, AllocError>
+    requires { (1 ≤ budget) × (budget ≤ 100000) }
+{
+    let given = slot_count(rows);
+    search(alloc, rows, given, budget, start, hinter, &mut PlainGuide)
 }
 
 // `begin BUDGET VALUE ..`, without plans that are offered: a search that begins with this point, which may not be lawful.
 fn begun(alloc: Global, rows: &Rows, sheet: &mut Sheet) -> Result<(), AllocError> {
     let budget = budget_of(sheet);
     let start = bytes_of(alloc, sheet)?;
-    let found = search(alloc, rows, slot_count(rows), budget, &start, &mut Silent)?;
+    let found = search_plain(alloc, rows, budget, &start, &mut Silent)?;
     put_search(&found, sheet);
     Ok(())
 }

@@ -9,9 +9,11 @@ mod guide;
 mod past;
 mod path;
 mod picking;
+mod plain_guide;
 mod ranking;
 mod trying;
 mod weights;
 
 pub use candidates::{may_split, split_value};
 pub use guide::PlanGuide;
+pub use plain_guide::PlainGuide;

@@ -6,6 +6,7 @@ ghost use Rattle.proof_log.specs.Writer.{Keeps, writing};
 ghost use Rattle.stn_solve.specs.laws.Logging.{IsLogged, LeavesBegun, stored};
 
 use advised_search::{search_advised, search_hinted};
+use box_advice::Advisers;
 use branch_tree::Ended;
 use proof_log::LogWriter;
 use proof_tree::TakeStop;
@@ -22,7 +23,7 @@ pub struct Logged {
 
 // Searches the root with the advice on plans, and where its count is not exact anew without it, log and all. The log begins with a
 // head. Slots from the number `given` on are sums.
-pub fn search_logged<F: Shelf>(
+pub fn search_logged<A: Advisers, F: Shelf>(
     alloc: Global,
     rows: &Rows,
     given: u32,
@@ -46,15 +47,17 @@ pub fn search_logged<F: Shelf>(
     ensures failed { result ≡ Err Stop.Failed
         → Rose (F.write_faults files.old) (F.write_faults files.new) }
 {
-    let (logged, exact) = log_advised(alloc, rows, given, budget, start, head, files, name)?;
+    let (logged, exact) = log_advised::<A, _>(
+        alloc, rows, given, budget, start, head, files, name,
+    )?;
     if exact {
         return Ok(logged);
     }
-    log_hinted(alloc, rows, given, budget, start, head, files, name)
+    log_hinted::<A, _>(alloc, rows, given, budget, start, head, files, name)
 }
 
 // Begins a log and writes the proof of a search with both advisers. The answer also says whether its count is exact.
-fn log_advised<F: Shelf>(
+fn log_advised<A: Advisers, F: Shelf>(
     alloc: Global,
     rows: &Rows,
     given: u32,
@@ -81,7 +84,7 @@ fn log_advised<F: Shelf>(
         → Rose (F.write_faults files.old) (F.write_faults files.new) }
 {
     let mut writer = LogWriter::begin_with(alloc, files, name, head)?;
-    match search_advised(alloc, rows, given, budget, start, &mut writer, files) {
+    match search_advised::<A, _, _>(alloc, rows, given, budget, start, &mut writer, files) {
         Ok(guided) => {
             let exact = guided.exact;
             let logged = Logged {
@@ -95,7 +98,7 @@ fn log_advised<F: Shelf>(
 }
 
 // Begins a log and writes the proof of a search without a guide.
-fn log_hinted<F: Shelf>(
+fn log_hinted<A: Advisers, F: Shelf>(
     alloc: Global,
     rows: &Rows,
     given: u32,
@@ -120,7 +123,7 @@ fn log_hinted<F: Shelf>(
         → Rose (F.write_faults files.old) (F.write_faults files.new) }
 {
     let mut writer = LogWriter::begin_with(alloc, files, name, head)?;
-    match search_hinted(alloc, rows, given, budget, start, &mut writer, files) {
+    match search_hinted::<A, _, _>(alloc, rows, given, budget, start, &mut writer, files) {
         Ok(ended) => Ok(Logged { ended, writer }),
         Err(stop) => Err(stop_of(stop)),
     }

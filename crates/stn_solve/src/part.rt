@@ -10,6 +10,7 @@ ghost use Rattle.stn_solve.specs.Begun.{EarnsPoint};
 
 use crate::plain::{plan_plain, solve_plain_to};
 use crate::summed::{plan_summed, solve_summed_to};
+use box_advice::Advisers;
 use row_kit::Program;
 use row_relax::Rows;
 use std::alloc::{AllocError, Global};
@@ -21,7 +22,7 @@ use sum_choice::has_many;
 /// 50,000 points, it is searched with sums: so are then all parts that are told apart by as many first slots, with the same sums.
 /// There is a proof of the outcome, which is not kept. The search begins with the point `start`, where that is lawful, so that the
 /// PROFIT is at least what it is worth.
-pub fn plan_rows(
+pub fn plan_rows<A: Advisers>(
     alloc: Global,
     plant: &Plant,
     part: Program,
@@ -37,16 +38,16 @@ pub fn plan_rows(
     ensures begun { IfOk result (λ outcome. EarnsPoint part start.now outcome.answer) }
 {
     if has_many(&part, levels) {
-        return plan_summed(alloc, plant, part, budget, start);
+        return plan_summed::<A>(alloc, plant, part, budget, start);
     }
     let rows = Rows { program: part };
-    plan_plain(alloc, plant, &rows, budget, start)
+    plan_plain::<A>(alloc, plant, &rows, budget, start)
 }
 
 /// Plans over a part of a plant's choices, as `plan_rows` does, and writes the log of the proof to a file while it searches: of
 /// version 3 where it is searched with sums, and else of version 2. After an error the file is as before, or holds a first part of
 /// a log. `Failed` comes only where the store counted a fault of writing.
-pub fn solve_rows_to<F: Shelf>(
+pub fn solve_rows_to<A: Advisers, F: Shelf>(
     alloc: Global,
     plant: &Plant,
     part: Program,
@@ -74,8 +75,8 @@ pub fn solve_rows_to<F: Shelf>(
         → Rose (F.write_faults files.old) (F.write_faults files.new) }
 {
     if has_many(&part, levels) {
-        return solve_summed_to(alloc, plant, part, budget, start, files, name);
+        return solve_summed_to::<A, _>(alloc, plant, part, budget, start, files, name);
     }
     let rows = Rows { program: part };
-    solve_plain_to(alloc, plant, &rows, budget, start, files, name)
+    solve_plain_to::<A, _>(alloc, plant, &rows, budget, start, files, name)
 }

@@ -14,6 +14,7 @@ ghost use Rattle.plan_told.specs.Proofs.{HasProof, IsLeft, IsProofOf, bytes_in, 
 use crate::logging::{Logged, search_logged};
 use crate::searching::{search_built, search_only, slot_count};
 use crate::solved::Solved;
+use box_advice::Advisers;
 use branch_tree::{Ended, Searched};
 use log_lines::{Line, put_line};
 use plan_told::{Told, told_of};
@@ -23,7 +24,7 @@ use stn_edge::{Shelf, Stop};
 use stn_model::{Outcome, Plant};
 
 // Plans over the rows of a part's own program, with at most so many boxes.
-pub fn plan_plain(
+pub fn plan_plain<A: Advisers>(
     alloc: Global,
     plant: &Plant,
     rows: &Rows,
@@ -38,13 +39,13 @@ pub fn plan_plain(
     ensures begun { IfOk result
         (λ outcome. EarnsPoint rows.now.program start.now outcome.answer) }
 {
-    let ended = search_only(alloc, rows, slot_count(rows), budget, start)?;
+    let ended = search_only::<A>(alloc, rows, slot_count(rows), budget, start)?;
     let Told { outcome, .. } = told_of(alloc, plant, ended)?;
     Ok(outcome)
 }
 
 /// Plans over a part of a plant's choices, with at most so many boxes, and keeps the proof. No sums are declared.
-pub fn solve_rows(
+pub fn solve_rows<A: Advisers>(
     alloc: Global,
     plant: &Plant,
     rows: &Rows,
@@ -66,7 +67,7 @@ pub fn solve_rows(
         cap,
         spent,
         left_open,
-    } = search_built(alloc, rows, slot_count(rows), budget)?;
+    } = search_built::<A>(alloc, rows, slot_count(rows), budget)?;
     let ended = Ended {
         best,
         cap,
@@ -82,7 +83,7 @@ pub fn solve_rows(
 }
 
 // Plans over the rows of a part's own program, and writes the log of the proof, of version 2.
-pub fn solve_plain_to<F: Shelf>(
+pub fn solve_plain_to<A: Advisers, F: Shelf>(
     alloc: Global,
     plant: &Plant,
     rows: &Rows,
@@ -112,7 +113,7 @@ pub fn solve_plain_to<F: Shelf>(
 {
     let head = plain_head(alloc)?;
     let given = slot_count(rows);
-    let Logged { ended, writer } = search_logged(
+    let Logged { ended, writer } = search_logged::<A, _>(
         alloc,
         rows,
         given,

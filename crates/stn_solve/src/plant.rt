@@ -14,6 +14,7 @@ ghost use Rattle.stn_solve.specs.Begun.{EarnsAtLeast};
 use crate::part::{plan_rows, solve_rows_to};
 use crate::plain::solve_rows;
 use crate::solved::Solved;
+use box_advice::Advisers;
 use row_relax::Rows;
 use row_set::program_of;
 use std::alloc::{AllocError, Global};
@@ -22,18 +23,18 @@ use stn_model::{Outcome, Plant, Start};
 use time_grid::Grid;
 
 /// Plans a plant with at most so many boxes. There is a proof of the outcome, which is not kept.
-pub fn plan(alloc: Global, plant: &Plant, budget: u32) -> Result<Outcome, AllocError>
+pub fn plan<A: Advisers>(alloc: Global, plant: &Plant, budget: u32) -> Result<Outcome, AllocError>
     requires sound { Sound plant.now }
     requires budget { (1 ≤ budget) × (budget ≤ 100000) }
     ensures outcome { IfOk result (IsOutcome plant.now budget) }
     ensures proof { IfOk result (HasPlantProof plant.now None) }
 {
-    plan_from(alloc, plant, &[], budget)
+    plan_from::<A>(alloc, plant, &[], budget)
 }
 
 /// Plans a plant as `plan` does, and begins with a plan: where that is feasible, the PROFIT is at least what it earns, whatever the
 /// budget.
-pub fn plan_from(
+pub fn plan_from<A: Advisers>(
     alloc: Global,
     plant: &Plant,
     start: &[Start],
@@ -48,7 +49,7 @@ pub fn plan_from(
 {
     let program = program_of(alloc, plant)?;
     let point = point_of(alloc, plant, start)?;
-    plan_rows(alloc, plant, program, 0, budget, &point)
+    plan_rows::<A>(alloc, plant, program, 0, budget, &point)
 }
 
 /// The point of a plan, where it has one. It takes memory for the slots.
@@ -64,7 +65,7 @@ pub fn point_of(alloc: Global, plant: &Plant, plan: &[Start]) -> Result<Vec<u8>,
 }
 
 /// Plans a plant with at most so many boxes, and keeps the proof. No sums are declared.
-pub fn solve(alloc: Global, plant: &Plant, budget: u32) -> Result<Solved, AllocError>
+pub fn solve<A: Advisers>(alloc: Global, plant: &Plant, budget: u32) -> Result<Solved, AllocError>
     requires sound { Sound plant.now }
     requires budget { (1 ≤ budget) × (budget ≤ 100000) }
     ensures outcome { IfOk result (λ solved. IsOutcome plant.now budget solved.outcome) }
@@ -75,12 +76,12 @@ pub fn solve(alloc: Global, plant: &Plant, budget: u32) -> Result<Solved, AllocE
 {
     let program = program_of(alloc, plant)?;
     let rows = Rows { program };
-    solve_rows(alloc, plant, &rows, budget)
+    solve_rows::<A>(alloc, plant, &rows, budget)
 }
 
 /// Plans a plant with at most so many boxes, and writes the log of the proof to a file while it searches. After an error the
 /// file is as before, or holds a first part of a log. `Failed` comes only where the store counted a fault of writing.
-pub fn solve_to<F: Shelf>(
+pub fn solve_to<A: Advisers, F: Shelf>(
     alloc: Global,
     plant: &Plant,
     budget: u32,
@@ -102,12 +103,12 @@ pub fn solve_to<F: Shelf>(
     ensures failed { result ≡ Err Stop.Failed
         → Rose (F.write_faults files.old) (F.write_faults files.new) }
 {
-    solve_from_to(alloc, plant, &[], budget, files, name)
+    solve_from_to::<A, _>(alloc, plant, &[], budget, files, name)
 }
 
 /// Plans a plant as `solve_to` does, and begins with a plan: where that is feasible, the PROFIT is at least what it earns, whatever
 /// the budget.
-pub fn solve_from_to<F: Shelf>(
+pub fn solve_from_to<A: Advisers, F: Shelf>(
     alloc: Global,
     plant: &Plant,
     start: &[Start],
@@ -134,5 +135,5 @@ pub fn solve_from_to<F: Shelf>(
 {
     let program = program_of(alloc, plant)?;
     let point = point_of(alloc, plant, start)?;
-    solve_rows_to(alloc, plant, program, 0, budget, &point, files, name)
+    solve_rows_to::<A, _>(alloc, plant, program, 0, budget, &point, files, name)
 }

@@ -6,6 +6,7 @@ ghost use Rattle.plan_told.specs.Ended.{IsSearchOf, IsSearched};
 
 use crate::item_dropper::ItemDropper;
 use advised_search::{build_advised, build_hinted, search_advised, search_hinted};
+use box_advice::Advisers;
 use branch_tree::{Ended, Searched};
 use row_relax::Rows;
 use std::alloc::{AllocError, Global};
@@ -18,7 +19,7 @@ pub(crate) fn slot_count(rows: &Rows) -> u32
 }
 
 // Searches the root, beginning with a point where that is lawful, and drops the proof. Slots from the number `given` on are sums.
-pub fn search_only(
+pub fn search_only<A: Advisers>(
     alloc: Global,
     rows: &Rows,
     given: u32,
@@ -30,20 +31,28 @@ pub fn search_only(
     ensures begun { IfOk result (λ ended. IsWorth rows.now.program start.now ended.best) }
 {
     let mut taker = ItemDropper;
-    let Ok(guided) = search_advised(alloc, rows, given, budget, start, &mut taker, &mut ()) else {
+    let Ok(guided) = search_advised::<A, _, _>(
+        alloc,
+        rows,
+        given,
+        budget,
+        start,
+        &mut taker,
+        &mut (),
+    ) else {
         return Err(AllocError);
     };
     if guided.exact {
         return Ok(guided.ended);
     }
-    match search_hinted(alloc, rows, given, budget, start, &mut taker, &mut ()) {
+    match search_hinted::<A, _, _>(alloc, rows, given, budget, start, &mut taker, &mut ()) {
         Ok(ended) => Ok(ended),
         Err(_) => Err(AllocError),
     }
 }
 
 // Searches the root, and builds the proof.
-pub fn search_built(
+pub fn search_built<A: Advisers>(
     alloc: Global,
     rows: &Rows,
     given: u32,
@@ -53,9 +62,9 @@ pub fn search_built(
     ensures { IfOk result (λ searched. IsSearchOf rows.now.program given budget
         (ended_of searched) (tree_of searched.tree)) }
 {
-    let (searched, exact) = build_advised(alloc, rows, given, budget, &[])?;
+    let (searched, exact) = build_advised::<A>(alloc, rows, given, budget, &[])?;
     if exact {
         return Ok(searched);
     }
-    build_hinted(alloc, rows, given, budget, &[])
+    build_hinted::<A>(alloc, rows, given, budget, &[])
 }

@@ -12,6 +12,7 @@ ghost use Rattle.stn_solve.specs.Begun.{EarnsPoint};
 use crate::logging::{Logged, search_logged};
 use crate::searching::search_only;
 use crate::summing::{Summed, completed, with_chosen};
+use box_advice::Advisers;
 use plan_told::{Told, given_ended, larger_claim, told_of};
 use row_kit::{Program, is_lawful};
 use std::alloc::{AllocError, Global};
@@ -19,7 +20,7 @@ use stn_edge::{Shelf, Stop};
 use stn_model::{Outcome, Plant};
 
 // Plans over the program of a part with the sums that are chosen for it, with at most so many boxes.
-pub fn plan_summed(
+pub fn plan_summed<A: Advisers>(
     alloc: Global,
     plant: &Plant,
     part: Program,
@@ -43,14 +44,14 @@ pub fn plan_summed(
         ..
     } = with_chosen(alloc, plant, part)?;
     let whole = completed(alloc, sums.as_slice(), start, lawful)?;
-    let ended = search_only(alloc, &rows, given, budget, whole.as_slice())?;
+    let ended = search_only::<A>(alloc, &rows, given, budget, whole.as_slice())?;
     let own = given_ended(alloc, given as usize, least, ended)?;
     let Told { outcome, .. } = told_of(alloc, plant, own)?;
     Ok(outcome)
 }
 
 // Plans over the program of a part with the sums that are chosen for it, and writes the log of the proof, of version 3.
-pub fn solve_summed_to<F: Shelf>(
+pub fn solve_summed_to<A: Advisers, F: Shelf>(
     alloc: Global,
     plant: &Plant,
     part: Program,
@@ -86,7 +87,7 @@ pub fn solve_summed_to<F: Shelf>(
         least,
     } = with_chosen(alloc, plant, part)?;
     let begun = completed(alloc, sums.as_slice(), start, lawful)?;
-    let Logged { ended, writer } = search_logged(
+    let Logged { ended, writer } = search_logged::<A, _>(
         alloc,
         &rows,
         given,

@@ -3,6 +3,6 @@ use Rattle.branch_tree.proofs.Stopping.{at_err}
 use Rattle.branch_tree.proofs.Whole.{root-before}
 use Rattle.advised_search.proofs.searching.search_hinted.Goals as goal
 
-pub returns-in_err-hinter-clause-err : goal.returns-in_err-hinter-clause-err
-returns-in_err-hinter-clause-err g c =
+pub returns-in_err-guide-clause-err : goal.returns-in_err-guide-clause-err
+returns-in_err-guide-clause-err g c =
     at_err _ _ (root-before g.T.NodeTaker.took g.T.NodeTaker.broke c.args.rows.now.program c.args.taker.now c.args.out.now (g.met.T.NodeTaker.took_none c.args.taker.now c.args.out.now))

@@ -1,10 +1,10 @@
-//! The guide of the plain calls.
+//! The guide of a search that is not advised where to split.
 use box_advice::{Advice, Guide};
 use dual_simplex::solve_dual;
 use row_kit::{Area, Program};
 use std::alloc::{AllocError, Global};
 
-/// The guide of the plain calls: it advises the certificate of the dual simplex, and leaves no box open.
+/// Advises the certificate of the dual simplex and no slot to split, and leaves no box open.
 #[derive(Drop)]
 pub struct PlainGuide;
 
