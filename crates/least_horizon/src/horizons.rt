@@ -20,7 +20,11 @@ use stn_solve::{plan, solve_to};
 
 /// Solves the horizons from 1 to the plant's own in their order, each with at most so many boxes, and stops at the first that is
 /// not found to have no feasible plan.
-pub fn least<A: Advisers>(alloc: Global, plant: &Plant, budget: u32) -> Result<LeastAnswer, AllocError>
+pub fn least<A: Advisers>(
+    alloc: Global,
+    plant: &Plant,
+    budget: u32,
+) -> Result<LeastAnswer, AllocError>
     requires sound { Sound plant.now }
     requires budget { (1 ≤ budget) × (budget ≤ 100000) }
     ensures least { IfOk result (IsLeast plant.now budget (λ _. None)) }

@@ -6,21 +6,21 @@ use Rattle.stn_solve.proofs.SearchTold.{plain-places, plain-right}
 use Rattle.stn_solve.proofs.plain.plan_plain.Goals as goal
 
 pub told_of-requires-clause-places : goal.told_of-requires-clause-places
-told_of-requires-clause-places c =
+told_of-requires-clause-places g c =
     let s = c.in_ok-ended.ensures.ended in
     plain-places c.args.plant.now c.args.rows.now.program c.slot_count.result c.args.budget s.tree c.in_ok-ended.ended c.requires.sound c.requires.part c.slot_count.ensures s.of
 
 pub returns-clause-outcome : goal.returns-clause-outcome
-returns-clause-outcome c =
+returns-clause-outcome g c =
     let s = c.in_ok-ended.ensures.ended in
     (plain-right c.args.plant.now c.args.rows.now.program c.slot_count.result c.args.budget s.tree c.in_ok-ended.ended c.requires.sound c.requires.part c.slot_count.ensures s.of c.in_ok-outcome.field-0 c.in_ok-outcome.ensures).outcome
 
 pub returns-clause-proof : goal.returns-clause-proof
-returns-clause-proof c =
+returns-clause-proof g c =
     let s = c.in_ok-ended.ensures.ended in
     let told = c.in_ok-outcome.field-0 in
     let right = plain-right c.args.plant.now c.args.rows.now.program c.slot_count.result c.args.budget s.tree c.in_ok-ended.ended c.requires.sound c.requires.part c.slot_count.ensures s.of told c.in_ok-outcome.ensures in
     plain-has c.args.plant.now c.args.rows.now.program None told.outcome s.tree right.proof tt
 
 pub returns-clause-begun : goal.returns-clause-begun
-returns-clause-begun c = told-earns c.args.plant.now c.args.rows.now.program c.args.start.now c.in_ok-ended.ended c.in_ok-outcome.field-0 c.in_ok-ended.ensures.begun c.in_ok-outcome.ensures
+returns-clause-begun g c = told-earns c.args.plant.now c.args.rows.now.program c.args.start.now c.in_ok-ended.ended c.in_ok-outcome.field-0 c.in_ok-ended.ensures.begun c.in_ok-outcome.ensures

@@ -5,20 +5,20 @@ use Rattle.stn_solve.proofs.SearchTold.{plain-places, plain-right}
 use Rattle.stn_solve.proofs.plain.solve_rows.Goals as goal
 
 pub told_of-requires-clause-places : goal.told_of-requires-clause-places
-told_of-requires-clause-places c =
+told_of-requires-clause-places g c =
     plain-places c.args.plant.now c.args.rows.now.program c.slot_count.result c.args.budget (tree_of c.in_ok-tree.field-0.tree) (ended_of c.in_ok-tree.field-0) c.requires.sound c.requires.part c.slot_count.ensures c.in_ok-tree.ensures
 
 pub returns-clause-outcome : goal.returns-clause-outcome
-returns-clause-outcome c =
+returns-clause-outcome g c =
     (plain-right c.args.plant.now c.args.rows.now.program c.slot_count.result c.args.budget (tree_of c.in_ok-tree.field-0.tree) (ended_of c.in_ok-tree.field-0) c.requires.sound c.requires.part c.slot_count.ensures c.in_ok-tree.ensures
     c.in_ok-outcome.field-0 c.in_ok-outcome.ensures).outcome
 
 pub returns-clause-proof : goal.returns-clause-proof
-returns-clause-proof c =
+returns-clause-proof g c =
     (plain-right c.args.plant.now c.args.rows.now.program c.slot_count.result c.args.budget (tree_of c.in_ok-tree.field-0.tree) (ended_of c.in_ok-tree.field-0) c.requires.sound c.requires.part c.slot_count.ensures c.in_ok-tree.ensures
     c.in_ok-outcome.field-0 c.in_ok-outcome.ensures).proof
 
 pub returns-clause-claim : goal.returns-clause-claim
-returns-clause-claim c =
+returns-clause-claim g c =
     (plain-right c.args.plant.now c.args.rows.now.program c.slot_count.result c.args.budget (tree_of c.in_ok-tree.field-0.tree) (ended_of c.in_ok-tree.field-0) c.requires.sound c.requires.part c.slot_count.ensures c.in_ok-tree.ensures
     c.in_ok-outcome.field-0 c.in_ok-outcome.ensures).claim

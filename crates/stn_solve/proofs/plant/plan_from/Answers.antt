@@ -8,21 +8,21 @@ use Rattle.stn_solve.proofs.BegunTold.{begun-if}
 use Rattle.stn_solve.proofs.plant.plan_from.Goals as goal
 
 pub plan_rows-requires-clause-part : goal.plan_rows-requires-clause-part
-plan_rows-requires-clause-part c = whole-is_part c.args.plant.now c.in_ok-program.program c.in_ok-program.ensures.made c.in_ok-program.ensures.means
+plan_rows-requires-clause-part g c = whole-is_part c.args.plant.now c.in_ok-program.program c.in_ok-program.ensures.made c.in_ok-program.ensures.means
 
 pub returns-clause-outcome : goal.returns-clause-outcome
-returns-clause-outcome c =
+returns-clause-outcome g c =
     IfOk-weaker c.plan_rows.result _ _
     (λ outcome right. whole-outcome c.args.plant.now c.in_ok-program.program c.args.budget outcome c.requires.sound c.in_ok-program.ensures.made c.in_ok-program.ensures.means right)
     c.plan_rows.ensures.outcome
 
 pub returns-clause-proof : goal.returns-clause-proof
-returns-clause-proof c =
+returns-clause-proof g c =
     IfOk-weaker c.plan_rows.result _ _
     (λ (outcome : Outcome) (has : HasProof c.args.plant.now c.in_ok-program.program None outcome). record { program = c.in_ok-program.program; made = c.in_ok-program.ensures.made; means = c.in_ok-program.ensures.means; has = has })
     c.plan_rows.ensures.proof
 
 pub returns-clause-begun : goal.returns-clause-begun
-returns-clause-begun c =
+returns-clause-begun g c =
     begun-if c.args.plant.now c.in_ok-program.program c.args.start.now c.deref.result.now c.plan_rows.result c.requires.sound (whole-is_part c.args.plant.now c.in_ok-program.program c.in_ok-program.ensures.made c.in_ok-program.ensures.means)
     c.in_ok-program.ensures.means (λ has. c.deref.ensures.value ∙ c.in_ok-point.ensures has) c.plan_rows.ensures.begun

@@ -3,7 +3,7 @@ use Rattle.stn_solve.proofs.Both.{ok_both}
 use Rattle.stn_solve.proofs.searching.search_built.Goals as goal
 
 pub returns : goal.returns
-returns c =
+returns g c =
     ok_both c.build_hinted.result _ _ _
     (λ searched found exact. record { search = found; exact = exact })
     c.build_hinted.ensures.ok c.build_hinted.ensures.exact

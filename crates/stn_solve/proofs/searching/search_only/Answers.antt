@@ -2,11 +2,11 @@
 use Rattle.stn_solve.proofs.searching.search_only.Goals as goal
 
 pub returns-then-guided-clause-ended : goal.returns-then-guided-clause-ended
-returns-then-guided-clause-ended c =
+returns-then-guided-clause-ended g c =
     let found = c.in-Ok.ensures.ok in
     record { tree = found.tree; of = record { search = found.search; exact = c.in-Ok.ensures.exact c.if-guided.true } }
 
 pub returns-in-Ok-search_hinted-clause-ended : goal.returns-in-Ok-search_hinted-clause-ended
-returns-in-Ok-search_hinted-clause-ended c =
+returns-in-Ok-search_hinted-clause-ended g c =
     let found = c.in-Ok-search_hinted.ensures.ok in
     record { tree = found.tree; of = record { search = found.search; exact = c.in-Ok-search_hinted.ensures.exact } }
