@@ -1,5 +1,5 @@
 -- A head followed by the lines of a plan is the text of an answer.
-use Rattle.std.proofs.Common.{◌≡◌, ℕ, ℤ, List, ◌++◌, Option, ◌∙◌, ap, append_assoc, codes, Some, None}
+use Rattle.std.proofs.Common.{◌≡◌, ℕ, ℤ, List, ◌++◌, Option, ◌∙◌, ap, sym, append_assoc, append-nil, codes, Some, None}
 use Rattle.std.specs.Fmt.{signed_decimal}
 use Rattle.stn_model.specs.declared.plant.Plant.{Plant}
 use Rattle.stn_model.specs.declared.start.Start.{Start}
@@ -39,4 +39,4 @@ module _ (plant : Plant) (used : ℕ) (changed : Option ℕ) (lines : List ℕ) 
   -- of a budget that was spent before a plan was found
   pub unsettled_text : (earned cap : ℤ) → codes "# budget-spent - " ++ (signed_decimal cap ++ (codes "\n" ++ lines)) ≡ answer_text plant used changed (BudgetSpent None earned cap)
   unfolding answer_text
-  unsettled_text earned cap = ap (λ (l : List ℕ). codes "# budget-spent - " ++ (signed_decimal cap ++ (codes "\n" ++ l))) is ∙ simp append_assoc
+  unsettled_text earned cap = ap (λ (l : List ℕ). codes "# budget-spent - " ++ (signed_decimal cap ++ (codes "\n" ++ l))) (is ∙ sym (append-nil (boxes_lines used changed)))

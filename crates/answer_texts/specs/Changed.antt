@@ -1,5 +1,5 @@
 -- How many starts of a plan at hand an answer does not take over.
-use Rattle.std.specs.Prelude.{ℕ, ◌==◌, ◌&&◌, not, nat_le, Bool, List, Option, Some, count_by}
+use Rattle.std.specs.Prelude.{ℕ, ◌==◌, ◌&&◌, not, nat_le, Bool, List, Option, None, Some, count_by}
 use Rattle.std.specs.List.{list_any}
 use Rattle.stn_model.specs.declared.start.Start.{Start}
 use Rattle.stn_model.specs.declared.answer.Answer.{Answer}
@@ -18,9 +18,11 @@ abbrev pub is_changed : ℕ → List Start → Start → Bool
 is_changed period other start = nat_le period start.period && not (has_start other start)
 
 -- how many starts of a plan have changed from a period on
-unfoldable pub changed_count : ℕ → List Start → List Start → ℕ
+abbrev pub changed_count : ℕ → List Start → List Start → ℕ
 changed_count period plan other = count_by (is_changed period other) plan
 
--- the starts of a plan that an answer's plan does not have are counted from a period on; it has none where the answer has no plan
-abbrev pub counted_from : ℕ → List Start → Answer → Option ℕ
-counted_from period plan said = Some (changed_count period plan (printed_plan said))
+-- how many starts of a plan an answer's plan does not have, where they are counted from a period on; none are in it where the
+-- answer has no plan
+abbrev pub counted_since : Option ℕ → List Start → Answer → Option ℕ
+counted_since None plan said = None
+counted_since (Some period) plan said = Some (changed_count period plan (printed_plan said))

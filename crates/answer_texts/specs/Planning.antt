@@ -66,10 +66,6 @@ IsInMoney (Optimal plan earned) = IsMoney earned
 IsInMoney Infeasible = Unit {0}
 IsInMoney (BudgetSpent plan earned cap) = IsMoney earned × IsMoney cap
 
--- no starts are counted
-abbrev pub not_counted : Answer → Option ℕ
-not_counted said = None
-
 -- The answer of planning a plant: an outcome that is right, with its proof, its status and its text, which,
 -- read as plan text, says the plan of the outcome. The text says how many starts have changed, where they are counted.
 pub record Planned (plant : Plant) (changed : Answer → Option ℕ) (IsRight HasProof : Outcome → Type 0) (status : ℕ) (text : List ℕ) : Type 0 where

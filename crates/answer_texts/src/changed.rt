@@ -1,23 +1,25 @@
 //! How many starts of a plan at hand an answer does not take over.
-ghost use Rattle.std.specs.Prelude.{◌≡◌, ◌<◌, ◌^◌, Some, length};
+ghost use Rattle.std.specs.Prelude.{◌≡◌};
 ghost use Rattle.answer_texts.specs.Changed.{
   same_start,
   has_start,
   is_changed,
   changed_count,
-  counted_from,
+  counted_since,
 };
 ghost use Rattle.answer_texts.specs.Planning.{printed_plan};
 
 use stn_model::{Answer, Start};
 
-/// How many starts of a plan, from a period on, the plan of an answer does not have; an answer without a plan has none of them. Each
-/// of them is looked for in the answer's plan from its front.
-pub fn counted_from(plan: &[Start], period: u32, answer: &Answer) -> Option<u32>
-    requires { length plan.now < 2 ^ 32 }
-    ensures { result ≡ counted_from period plan.now answer.now }
+/// How many starts of a plan the plan of an answer does not have, where they are counted from a period on: all of them where the
+/// answer has no plan. Each of them is looked for in the answer's plan from its front.
+pub fn counted_since(plan: &[Start], since: Option<u32>, answer: &Answer) -> Option<usize>
+    ensures { result ≡ counted_since since plan.now answer.now }
 {
-    Some(changed_count(plan, period, printed_plan(answer)))
+    match since {
+        Some(period) => Some(changed_count(plan, period, printed_plan(answer))),
+        None => None,
+    }
 }
 
 // The plan that an answer prints.
@@ -41,8 +43,7 @@ fn printed_plan(answer: &Answer) -> &[Start]
 }
 
 // How many starts of a plan have changed from a period on.
-fn changed_count(plan: &[Start], period: u32, other: &[Start]) -> u32
-    requires { length plan.now < 2 ^ 32 }
+fn changed_count(plan: &[Start], period: u32, other: &[Start]) -> usize
     ensures { result ≡ changed_count period plan.now other.now }
 {
     let mut count = 0;

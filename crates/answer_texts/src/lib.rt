@@ -13,7 +13,7 @@ pub mod planning;
 pub mod simulation;
 mod violations;
 
-pub use changed::counted_from;
+pub use changed::counted_since;
 pub use checking::{checked, claim_line};
 pub use kept::broken;
 pub use levels::{has_slots, refused_levels};

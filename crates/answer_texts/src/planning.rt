@@ -21,15 +21,15 @@ pub fn planned(
     alloc: Global,
     plant: &Plant,
     outcome: &Outcome,
-    changed: Option<u32>,
+    changed: Option<usize>,
 ) -> Result<Reply, AllocError>
     requires { IsNamedIn plant.now outcome.now.answer }
     ensures { IfOk result (λ reply. (reply.status ≡ status_of outcome.now.answer)
         × (reply.text.items
         ≡ answer_text plant.now outcome.now.boxes changed outcome.now.answer)) }
 {
-    let lines = boxes_lines(alloc, outcome.boxes, changed)?;
-    let lines = lines.as_str();
+    let counts = boxes_lines(alloc, outcome.boxes, changed)?;
+    let lines = counts.as_str();
     match &outcome.answer {
         Answer::Optimal { plan, profit } => {
             let text = optimal_text(alloc, plant, lines, plan, profit)?;
@@ -75,7 +75,7 @@ pub fn bounded(amount: &i128)
 }
 
 // The line of the boxes, and that of the starts that have changed.
-fn boxes_lines(alloc: Global, boxes: u32, changed: Option<u32>) -> Result<String, AllocError>
+fn boxes_lines(alloc: Global, boxes: u32, changed: Option<usize>) -> Result<String, AllocError>
     ensures { IfOk result (λ lines. string_bytes lines ≡ boxes_lines boxes changed) }
 {
     match changed {
