@@ -31,23 +31,23 @@ pub fn improve<F: Shelf>(
     requires short { length plan.now < 2 ^ 32 }
     requires allowed { IfSome (named_log log) (λ name. IsTrue (F.may_write files.old name)) }
     ensures answer { IfOk result (λ reply. Improved budget.boxes plant.now plan.now
-        (told_log (named_log log) (F.files files.new)) (F.files files.new ≡ F.files files.old)
+        (told_log (named_log log.entry) (F.files files.new)) (F.files files.new ≡ F.files files.old)
         reply.status reply.text.items) }
     ensures none { IfRefused result (λ _. ⊥) }
     ensures no_fault { result ≢ Err Stopped.ReadFault }
     ensures write_fault { result ≡ Err Stopped.WriteFault
         → Rose (F.write_faults files.old) (F.write_faults files.new) }
-    ensures named { result ≡ Err Stopped.WriteFault → named_log log ≢ None }
+    ensures named { result ≡ Err Stopped.WriteFault → named_log log.entry ≢ None }
     ensures begun { result ≡ Err Stopped.WriteFault → CanGoOn None plant.now plan.now }
-    ensures left { LeftOn None plant.now plan.now (named_log log) (F.files files.old)
+    ensures left { LeftOn None plant.now plan.now (named_log log.entry) (F.files files.old)
         (F.files files.new) }
-    ensures others { LogLeft (named_log log) (λ name. OthersStay name (F.files files.old)
+    ensures others { LogLeft (named_log log.entry) (λ name. OthersStay name (F.files files.old)
         (F.files files.new)) (F.files files.old) (F.files files.new) }
     ensures readable { F.may_read files.new ≡ F.may_read files.old }
     ensures writable { F.may_write files.new ≡ F.may_write files.old }
     ensures no_read { F.read_faults files.new ≡ F.read_faults files.old }
     ensures writes { F.write_faults files.old ≤ F.write_faults files.new }
-    ensures no_write { named_log log ≡ None → F.write_faults files.new ≡ F.write_faults files.old }
+    ensures no_write { named_log log.entry ≡ None → F.write_faults files.new ≡ F.write_faults files.old }
 {
     let simulated = simulate_plan(alloc, PlanUse::Simulate, plant, plan)?;
     if simulated.status == 0 {

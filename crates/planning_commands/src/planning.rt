@@ -48,22 +48,22 @@ pub fn plan_plant<F: Shelf>(
     requires allowed { IfSome (named_log log) (λ name. IsTrue (F.may_write files.old name)) }
     ensures answer { IfOk result (λ reply. Planned plant.now (counted_since since start.now)
         (IsGivenOutcome plant.now start.now budget.boxes)
-        (HasPlantProof plant.now (told_log (named_log log) (F.files files.new)))
+        (HasPlantProof plant.now (told_log (named_log log.entry) (F.files files.new)))
         reply.status reply.text.items) }
     ensures none { IfRefused result (λ _. ⊥) }
     ensures no_fault { result ≢ Err Stopped.ReadFault }
     ensures write_fault { result ≡ Err Stopped.WriteFault
         → Rose (F.write_faults files.old) (F.write_faults files.new) }
-    ensures named { result ≡ Err Stopped.WriteFault → named_log log ≢ None }
-    ensures left { LogLeft (named_log log) (λ name. LeavesPlant plant.now name (F.files files.old)
+    ensures named { result ≡ Err Stopped.WriteFault → named_log log.entry ≢ None }
+    ensures left { LogLeft (named_log log.entry) (λ name. LeavesPlant plant.now name (F.files files.old)
         (F.files files.new)) (F.files files.old) (F.files files.new) }
-    ensures others { LogLeft (named_log log) (λ name. OthersStay name (F.files files.old)
+    ensures others { LogLeft (named_log log.entry) (λ name. OthersStay name (F.files files.old)
         (F.files files.new)) (F.files files.old) (F.files files.new) }
     ensures readable { F.may_read files.new ≡ F.may_read files.old }
     ensures writable { F.may_write files.new ≡ F.may_write files.old }
     ensures no_read { F.read_faults files.new ≡ F.read_faults files.old }
     ensures writes { F.write_faults files.old ≤ F.write_faults files.new }
-    ensures no_write { named_log log ≡ None → F.write_faults files.new ≡ F.write_faults files.old }
+    ensures no_write { named_log log.entry ≡ None → F.write_faults files.new ≡ F.write_faults files.old }
 {
     let program = program_of(alloc, plant)?;
     plan_part(alloc, files, plant, program, 0, start, since, budget, log)
@@ -88,22 +88,22 @@ pub fn plan_part<F: Shelf>(
     requires allowed { IfSome (named_log log) (λ name. IsTrue (F.may_write files.old name)) }
     ensures answer { IfOk result (λ reply. Planned plant.now (counted_since since start.now)
         (IsBegunOutcome plant.now part start.now budget.boxes)
-        (HasProof plant.now part (told_log (named_log log) (F.files files.new)))
+        (HasProof plant.now part (told_log (named_log log.entry) (F.files files.new)))
         reply.status reply.text.items) }
     ensures none { IfRefused result (λ _. ⊥) }
     ensures no_fault { result ≢ Err Stopped.ReadFault }
     ensures write_fault { result ≡ Err Stopped.WriteFault
         → Rose (F.write_faults files.old) (F.write_faults files.new) }
-    ensures named { result ≡ Err Stopped.WriteFault → named_log log ≢ None }
-    ensures left { LogLeft (named_log log) (λ name. LeavesLog plant.now part name (F.files files.old)
+    ensures named { result ≡ Err Stopped.WriteFault → named_log log.entry ≢ None }
+    ensures left { LogLeft (named_log log.entry) (λ name. LeavesLog plant.now part name (F.files files.old)
         (F.files files.new)) (F.files files.old) (F.files files.new) }
-    ensures others { LogLeft (named_log log) (λ name. OthersStay name (F.files files.old)
+    ensures others { LogLeft (named_log log.entry) (λ name. OthersStay name (F.files files.old)
         (F.files files.new)) (F.files files.old) (F.files files.new) }
     ensures readable { F.may_read files.new ≡ F.may_read files.old }
     ensures writable { F.may_write files.new ≡ F.may_write files.old }
     ensures no_read { F.read_faults files.new ≡ F.read_faults files.old }
     ensures writes { F.write_faults files.old ≤ F.write_faults files.new }
-    ensures no_write { named_log log ≡ None → F.write_faults files.new ≡ F.write_faults files.old }
+    ensures no_write { named_log log.entry ≡ None → F.write_faults files.new ≡ F.write_faults files.old }
 {
     let point = point_of(alloc, plant, start)?;
     let outcome = outcome_of(alloc, files, plant, part, levels, budget, &point, log)?;
@@ -126,22 +126,22 @@ fn outcome_of<F: Shelf>(
     requires allowed { IfSome (named_log log) (λ name. IsTrue (F.may_write files.old name)) }
     ensures outcome { IfOk result (IsPartOutcome plant.now part budget.boxes) }
     ensures proof { IfOk result
-        (HasProof plant.now part (told_log (named_log log) (F.files files.new))) }
+        (HasProof plant.now part (told_log (named_log log.entry) (F.files files.new))) }
     ensures begun { IfOk result (λ outcome. EarnsPoint part point.now outcome.answer) }
     ensures none { IfRefused result (λ _. ⊥) }
     ensures no_fault { result ≢ Err Stopped.ReadFault }
     ensures write_fault { result ≡ Err Stopped.WriteFault
         → Rose (F.write_faults files.old) (F.write_faults files.new) }
-    ensures named { result ≡ Err Stopped.WriteFault → named_log log ≢ None }
-    ensures left { LogLeft (named_log log) (λ name. LeavesLog plant.now part name (F.files files.old)
+    ensures named { result ≡ Err Stopped.WriteFault → named_log log.entry ≢ None }
+    ensures left { LogLeft (named_log log.entry) (λ name. LeavesLog plant.now part name (F.files files.old)
         (F.files files.new)) (F.files files.old) (F.files files.new) }
-    ensures others { LogLeft (named_log log) (λ name. OthersStay name (F.files files.old)
+    ensures others { LogLeft (named_log log.entry) (λ name. OthersStay name (F.files files.old)
         (F.files files.new)) (F.files files.old) (F.files files.new) }
     ensures readable { F.may_read files.new ≡ F.may_read files.old }
     ensures writable { F.may_write files.new ≡ F.may_write files.old }
     ensures no_read { F.read_faults files.new ≡ F.read_faults files.old }
     ensures writes { F.write_faults files.old ≤ F.write_faults files.new }
-    ensures no_write { named_log log ≡ None → F.write_faults files.new ≡ F.write_faults files.old }
+    ensures no_write { named_log log.entry ≡ None → F.write_faults files.new ≡ F.write_faults files.old }
 {
     let Some(name) = log else {
         return Ok(plan_rows(alloc, plant, part, levels, budget.boxes, point)?);

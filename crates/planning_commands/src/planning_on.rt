@@ -37,7 +37,7 @@ pub fn plan_on_file<F: Shelf>(
     requires log_writable { IfSome (named_log log) (λ name. IsTrue (F.may_write files.old name)) }
     ensures answer { IfReplied result (λ reply. IsPlanAnswer (F.files files.old) (F.files files.new)
         plant.now plan.now [] (λ plant starts. PlannedOn kept budget.boxes plant starts
-        (told_log (named_log log) (F.files files.new)) (F.files files.new ≡ F.files files.old))
+        (told_log (named_log log.entry) (F.files files.new)) (F.files files.new ≡ F.files files.old))
         reply.status reply.text.items) }
     ensures refused { IfReplied result (λ reply. IsUnwritten reply.status
         → F.files files.new ≡ F.files files.old) }
@@ -46,19 +46,19 @@ pub fn plan_on_file<F: Shelf>(
     ensures unread { result ≡ Err Stopped.ReadFault → F.files files.new ≡ F.files files.old }
     ensures write_fault { result ≡ Err Stopped.WriteFault
         → Rose (F.write_faults files.old) (F.write_faults files.new) }
-    ensures named { result ≡ Err Stopped.WriteFault → named_log log ≢ None }
+    ensures named { result ≡ Err Stopped.WriteFault → named_log log.entry ≢ None }
     ensures begun { result ≡ Err Stopped.WriteFault
         → GoesOn (F.files files.old) plant.now plan.now kept }
-    ensures left { LogLeft (named_log log) (λ name. (F.files files.new ≡ F.files files.old)
+    ensures left { LogLeft (named_log log.entry) (λ name. (F.files files.new ≡ F.files files.old)
         ⊎ HoldsOn (F.files files.old) (F.files files.new) plant.now plan.now kept name)
         (F.files files.old) (F.files files.new) }
-    ensures others { LogLeft (named_log log) (λ name. OthersStay name (F.files files.old)
+    ensures others { LogLeft (named_log log.entry) (λ name. OthersStay name (F.files files.old)
         (F.files files.new)) (F.files files.old) (F.files files.new) }
     ensures readable { F.may_read files.new ≡ F.may_read files.old }
     ensures writable { F.may_write files.new ≡ F.may_write files.old }
     ensures later { F.read_faults files.old ≤ F.read_faults files.new }
     ensures writes { F.write_faults files.old ≤ F.write_faults files.new }
-    ensures no_write { named_log log ≡ None → F.write_faults files.new ≡ F.write_faults files.old }
+    ensures no_write { named_log log.entry ≡ None → F.write_faults files.new ≡ F.write_faults files.old }
 {
     let plant = plant_in(alloc, files, plant)?;
     plan_on(alloc, files, &plant, plan, kept, budget, log)
@@ -80,7 +80,7 @@ fn plan_on<F: Shelf>(
     ensures answer { (name : List ℕ) → IsReadOf reading (F.files files.old) name (Ok plant.now)
         → IfReplied result (λ reply. IsPlanAnswer (F.files files.old) (F.files files.new)
         name plan.now [] (λ plant starts. PlannedOn kept budget.boxes plant starts
-        (told_log (named_log log) (F.files files.new)) (F.files files.new ≡ F.files files.old))
+        (told_log (named_log log.entry) (F.files files.new)) (F.files files.new ≡ F.files files.old))
         reply.status reply.text.items) }
     ensures refused { IfReplied result (λ reply. IsUnwritten reply.status
         → F.files files.new ≡ F.files files.old) }
@@ -89,20 +89,20 @@ fn plan_on<F: Shelf>(
     ensures unread { result ≡ Err Stopped.ReadFault → F.files files.new ≡ F.files files.old }
     ensures write_fault { result ≡ Err Stopped.WriteFault
         → Rose (F.write_faults files.old) (F.write_faults files.new) }
-    ensures named { result ≡ Err Stopped.WriteFault → named_log log ≢ None }
+    ensures named { result ≡ Err Stopped.WriteFault → named_log log.entry ≢ None }
     ensures begun { result ≡ Err Stopped.WriteFault → (starts : List Start)
         × (IsReadOf (plan_of_text plant.now) (F.files files.old) plan.now (Ok starts)
         × CanGoOn kept plant.now starts) }
     ensures left { (F.files files.new ≡ F.files files.old) ⊎ ((starts : List Start)
         × (IsReadOf (plan_of_text plant.now) (F.files files.old) plan.now (Ok starts)
-        × LeftOn kept plant.now starts (named_log log) (F.files files.old) (F.files files.new))) }
-    ensures others { LogLeft (named_log log) (λ name. OthersStay name (F.files files.old)
+        × LeftOn kept plant.now starts (named_log log.entry) (F.files files.old) (F.files files.new))) }
+    ensures others { LogLeft (named_log log.entry) (λ name. OthersStay name (F.files files.old)
         (F.files files.new)) (F.files files.old) (F.files files.new) }
     ensures readable { F.may_read files.new ≡ F.may_read files.old }
     ensures writable { F.may_write files.new ≡ F.may_write files.old }
     ensures later { F.read_faults files.old ≤ F.read_faults files.new }
     ensures writes { F.write_faults files.old ≤ F.write_faults files.new }
-    ensures no_write { named_log log ≡ None → F.write_faults files.new ≡ F.write_faults files.old }
+    ensures no_write { named_log log.entry ≡ None → F.write_faults files.new ≡ F.write_faults files.old }
 {
     let plan = plan_in(alloc, files, plant, plan)?;
     go_on(alloc, files, plant, plan.as_slice(), kept, budget, log)
@@ -122,23 +122,23 @@ fn go_on<F: Shelf>(
     requires short { length plan.now < 2 ^ 32 }
     requires allowed { IfSome (named_log log) (λ name. IsTrue (F.may_write files.old name)) }
     ensures answer { IfOk result (λ reply. PlannedOn kept budget.boxes plant.now plan.now
-        (told_log (named_log log) (F.files files.new)) (F.files files.new ≡ F.files files.old)
+        (told_log (named_log log.entry) (F.files files.new)) (F.files files.new ≡ F.files files.old)
         reply.status reply.text.items) }
     ensures none { IfRefused result (λ _. ⊥) }
     ensures no_fault { result ≢ Err Stopped.ReadFault }
     ensures write_fault { result ≡ Err Stopped.WriteFault
         → Rose (F.write_faults files.old) (F.write_faults files.new) }
-    ensures named { result ≡ Err Stopped.WriteFault → named_log log ≢ None }
+    ensures named { result ≡ Err Stopped.WriteFault → named_log log.entry ≢ None }
     ensures begun { result ≡ Err Stopped.WriteFault → CanGoOn kept plant.now plan.now }
-    ensures left { LeftOn kept plant.now plan.now (named_log log) (F.files files.old)
+    ensures left { LeftOn kept plant.now plan.now (named_log log.entry) (F.files files.old)
         (F.files files.new) }
-    ensures others { LogLeft (named_log log) (λ name. OthersStay name (F.files files.old)
+    ensures others { LogLeft (named_log log.entry) (λ name. OthersStay name (F.files files.old)
         (F.files files.new)) (F.files files.old) (F.files files.new) }
     ensures readable { F.may_read files.new ≡ F.may_read files.old }
     ensures writable { F.may_write files.new ≡ F.may_write files.old }
     ensures no_read { F.read_faults files.new ≡ F.read_faults files.old }
     ensures writes { F.write_faults files.old ≤ F.write_faults files.new }
-    ensures no_write { named_log log ≡ None → F.write_faults files.new ≡ F.write_faults files.old }
+    ensures no_write { named_log log.entry ≡ None → F.write_faults files.new ≡ F.write_faults files.old }
 {
     match kept {
         Some(period) => replan(alloc, files, plant, plan, period, budget, log),

@@ -32,23 +32,23 @@ pub fn replan<F: Shelf>(
     requires short { length plan.now < 2 ^ 32 }
     requires allowed { IfSome (named_log log) (λ name. IsTrue (F.may_write files.old name)) }
     ensures answer { IfOk result (λ reply. Replanned budget.boxes plant.now period plan.now
-        (told_log (named_log log) (F.files files.new)) (F.files files.new ≡ F.files files.old)
+        (told_log (named_log log.entry) (F.files files.new)) (F.files files.new ≡ F.files files.old)
         reply.status reply.text.items) }
     ensures none { IfRefused result (λ _. ⊥) }
     ensures no_fault { result ≢ Err Stopped.ReadFault }
     ensures write_fault { result ≡ Err Stopped.WriteFault
         → Rose (F.write_faults files.old) (F.write_faults files.new) }
-    ensures named { result ≡ Err Stopped.WriteFault → named_log log ≢ None }
+    ensures named { result ≡ Err Stopped.WriteFault → named_log log.entry ≢ None }
     ensures begun { result ≡ Err Stopped.WriteFault → CanGoOn (Some period) plant.now plan.now }
-    ensures left { LeftOn (Some period) plant.now plan.now (named_log log) (F.files files.old)
+    ensures left { LeftOn (Some period) plant.now plan.now (named_log log.entry) (F.files files.old)
         (F.files files.new) }
-    ensures others { LogLeft (named_log log) (λ name. OthersStay name (F.files files.old)
+    ensures others { LogLeft (named_log log.entry) (λ name. OthersStay name (F.files files.old)
         (F.files files.new)) (F.files files.old) (F.files files.new) }
     ensures readable { F.may_read files.new ≡ F.may_read files.old }
     ensures writable { F.may_write files.new ≡ F.may_write files.old }
     ensures no_read { F.read_faults files.new ≡ F.read_faults files.old }
     ensures writes { F.write_faults files.old ≤ F.write_faults files.new }
-    ensures no_write { named_log log ≡ None → F.write_faults files.new ≡ F.write_faults files.old }
+    ensures no_write { named_log log.entry ≡ None → F.write_faults files.new ≡ F.write_faults files.old }
 {
     match keep(alloc, plant, plan, period)? {
         Keeping::Open(rows) => {

@@ -29,7 +29,7 @@ pub fn solve_file<F: Shelf>(
     requires log_writable { IfSome (named_log log) (λ name. IsTrue (F.may_write files.old name)) }
     ensures answer { IfReplied result (λ reply. IsPlantAnswer (F.files files.old) (F.files files.new)
         name.now [] (λ _ plant. Solved budget.boxes plant
-        (told_log (named_log log) (F.files files.new))) reply.status reply.text.items) }
+        (told_log (named_log log.entry) (F.files files.new))) reply.status reply.text.items) }
     ensures refused { IfReplied result (λ reply. IsUnwritten reply.status
         → F.files files.new ≡ F.files files.old) }
     ensures fault { result ≡ Err Stopped.ReadFault
@@ -37,19 +37,19 @@ pub fn solve_file<F: Shelf>(
     ensures unread { result ≡ Err Stopped.ReadFault → F.files files.new ≡ F.files files.old }
     ensures write_fault { result ≡ Err Stopped.WriteFault
         → Rose (F.write_faults files.old) (F.write_faults files.new) }
-    ensures named { result ≡ Err Stopped.WriteFault → named_log log ≢ None }
+    ensures named { result ≡ Err Stopped.WriteFault → named_log log.entry ≢ None }
     ensures begun { result ≡ Err Stopped.WriteFault
         → (plant : Plant) × IsReadOf reading (F.files files.old) name.now (Ok plant) }
-    ensures left { LogLeft (named_log log) (λ log. (F.files files.new ≡ F.files files.old)
+    ensures left { LogLeft (named_log log.entry) (λ log. (F.files files.new ≡ F.files files.old)
         ⊎ HoldsLog (F.files files.old) (F.files files.new) name.now log)
         (F.files files.old) (F.files files.new) }
-    ensures others { LogLeft (named_log log) (λ name. OthersStay name (F.files files.old)
+    ensures others { LogLeft (named_log log.entry) (λ name. OthersStay name (F.files files.old)
         (F.files files.new)) (F.files files.old) (F.files files.new) }
     ensures readable { F.may_read files.new ≡ F.may_read files.old }
     ensures writable { F.may_write files.new ≡ F.may_write files.old }
     ensures later { F.read_faults files.old ≤ F.read_faults files.new }
     ensures writes { F.write_faults files.old ≤ F.write_faults files.new }
-    ensures no_write { named_log log ≡ None → F.write_faults files.new ≡ F.write_faults files.old }
+    ensures no_write { named_log log.entry ≡ None → F.write_faults files.new ≡ F.write_faults files.old }
 {
     let plant = plant_in(alloc, files, name)?;
     plan_plant(alloc, files, &plant, &[], None, budget, log)
