@@ -1,6 +1,7 @@
 -- The text of an answer, read as plan text, says the answer's plan.
 use Rattle.std.proofs.Common.{◌≡◌, ◌≢◌, ℕ, ℤ, pos, negsuc, suc, true, inl, inr, ◌+◌, ◌%◌, ◌<◌, ◌≤◌, ◌^◌, List, [], ◌∷◌, ◌++◌, length, get_or, Option, Some, None, codes, decimal, sym, ap, ◌∙◌, refl, arith, append_assoc, length-append}
-use Rattle.std.specs.Prelude.{All, Ok}
+use Rattle.std.proofs.lemmas.List.{append-nil}
+use Rattle.std.specs.Prelude.{All, Ok, IfSome}
 use Rattle.std.specs.Fmt.{signed_decimal}
 use Rattle.std.specs.List.{list_all}
 use Rattle.std.specs.Prelude.{not, ◌==◌}
@@ -31,7 +32,7 @@ use Rattle.plan_text.specs.PlanText.{plan_of_text}
 use Rattle.plan_text.specs.ReadsBack.{IsRemark, comment_lines, IsWritable, ReadsBack}
 use Rattle.plan_text.proofs.Again.{ReadsBack-lines}
 use Rattle.plan_text.proofs.Short.{short-lines}
-use Rattle.answer_texts.specs.Planning.{answer_text, boxes_line, profit_word, status_of, printed_plan, IsMoney, IsInMoney, Planned}
+use Rattle.answer_texts.specs.Planning.{answer_text, boxes_lines, changed_line, profit_word, status_of, printed_plan, IsMoney, IsInMoney, Planned}
 use Rattle.answer_texts.proofs.Named.{named-Feasible}
 
 -- ---- numbers
@@ -62,9 +63,13 @@ money-remark (negsuc n) small = (
 remark_line : (first second rest : List ℕ) → ((35 ∷ (first ++ second)) ++ 10 ∷ []) ++ rest ≡ (35 ∷ first) ++ (second ++ (10 ∷ rest))
 remark_line first second rest = ap (λ (x : List ℕ). 35 ∷ x) (append_assoc (first ++ second) (10 ∷ []) rest ∙ append_assoc first second (10 ∷ rest))
 
+-- comments and a text, of which two comments are told in parts
+pub first_lines : (a b e f : List ℕ) (rest : List (List ℕ)) (text : List ℕ) → comment_lines ((a ++ b) ∷ (e ++ f) ∷ rest) ++ text ≡ (35 ∷ a) ++ (b ++ (10 ∷ ((35 ∷ e) ++ (f ++ (10 ∷ (comment_lines rest ++ text))))))
+first_lines a b e f rest text = simp append_assoc
+
 -- two comments and a text
 pub two_lines : (a b e f text : List ℕ) → comment_lines ((a ++ b) ∷ (e ++ f) ∷ []) ++ text ≡ (35 ∷ a) ++ (b ++ (10 ∷ ((35 ∷ e) ++ (f ++ (10 ∷ text)))))
-two_lines a b e f text = simp append_assoc
+two_lines a b e f text = first_lines a b e f [] text
 
 -- the comment on the answer
 abbrev first_remark : Answer → List ℕ
@@ -72,31 +77,47 @@ first_remark (Optimal plan earned) = codes " optimal " ++ signed_decimal earned
 first_remark Infeasible = codes " infeasible" ++ []
 first_remark (BudgetSpent plan earned bound) = codes " budget-spent " ++ (profit_word plan earned ++ (codes " " ++ signed_decimal bound))
 
--- the two comments of an answer
-abbrev remarks : Answer → ℕ → List (List ℕ)
-remarks answer used = first_remark answer ∷ (codes " boxes " ++ decimal used) ∷ []
+-- the comment on the starts that have changed, where they are counted
+abbrev changed_remarks : Option ℕ → List (List ℕ)
+changed_remarks None = []
+changed_remarks (Some count) = (codes " changed " ++ decimal count) ∷ []
 
--- the line of the boxes, before what follows
-boxes_then : (used : ℕ) (lines : List ℕ) → boxes_line used ++ lines ≡ codes "# boxes " ++ (decimal used ++ (10 ∷ lines))
-boxes_then used lines = append_assoc (codes "# boxes ") (decimal used ++ codes "\n") lines ∙ ap (λ (x : List ℕ). codes "# boxes " ++ x) (append_assoc (decimal used) (codes "\n") lines)
+-- the comments of an answer
+abbrev remarks : Answer → ℕ → Option ℕ → List (List ℕ)
+remarks answer used changed = first_remark answer ∷ (codes " boxes " ++ decimal used) ∷ changed_remarks changed
+
+-- the line of the starts that have changed is their comment
+changed_then : (changed : Option ℕ) → changed_line changed ≡ comment_lines (changed_remarks changed)
+changed_then None = refl
+changed_then (Some count) = simp append_assoc
+
+-- the lines of the boxes and of the starts that have changed, before what follows
+boxes_then : (used : ℕ) (changed : Option ℕ) (lines : List ℕ) → boxes_lines used changed ++ lines ≡ codes "# boxes " ++ (decimal used ++ (10 ∷ (comment_lines (changed_remarks changed) ++ lines)))
+boxes_then used changed lines =
+    append_assoc (codes "# boxes ") (decimal used ++ (codes "\n" ++ changed_line changed)) lines
+    ∙ ap (λ (x : List ℕ). codes "# boxes " ++ x) (append_assoc (decimal used) (codes "\n" ++ changed_line changed) lines)
+    ∙ ap (λ (x : List ℕ). codes "# boxes " ++ (decimal used ++ (10 ∷ (x ++ lines)))) (changed_then changed)
 
 -- the lines of an answer under a spent budget
-spent_lines : (word bound : List ℕ) (used : ℕ) (lines : List ℕ) → codes "# budget-spent " ++ (word ++ (codes " " ++ (bound ++ (codes "\n" ++ (boxes_line used ++ lines)))))
-    ≡ comment_lines ((codes " budget-spent " ++ (word ++ (codes " " ++ bound))) ∷ (codes " boxes " ++ decimal used) ∷ []) ++ lines
-spent_lines word bound used lines =
-    ap (λ (x : List ℕ). codes "# budget-spent " ++ (word ++ (codes " " ++ (bound ++ (10 ∷ x))))) (boxes_then used lines)
-    ∙ ap (λ (x : List ℕ). codes "# budget-spent " ++ x) (sym (append_assoc word (codes " " ++ bound) (10 ∷ (codes "# boxes " ++ (decimal used ++ (10 ∷ lines))))))
-    ∙ sym (two_lines (codes " budget-spent ") (word ++ (codes " " ++ bound)) (codes " boxes ") (decimal used) lines)
+spent_lines : (word bound : List ℕ) (used : ℕ) (changed : Option ℕ) (lines : List ℕ) → codes "# budget-spent " ++ (word ++ (codes " " ++ (bound ++ (codes "\n" ++ (boxes_lines used changed ++ lines)))))
+    ≡ comment_lines ((codes " budget-spent " ++ (word ++ (codes " " ++ bound))) ∷ (codes " boxes " ++ decimal used) ∷ changed_remarks changed) ++ lines
+spent_lines word bound used changed lines =
+    let later = 10 ∷ (codes "# boxes " ++ (decimal used ++ (10 ∷ (comment_lines (changed_remarks changed) ++ lines)))) in
+    ap (λ (x : List ℕ). codes "# budget-spent " ++ (word ++ (codes " " ++ (bound ++ (10 ∷ x))))) (boxes_then used changed lines)
+    ∙ ap (λ (x : List ℕ). codes "# budget-spent " ++ x) (sym (append_assoc word (codes " " ++ bound) later))
+    ∙ sym (first_lines (codes " budget-spent ") (word ++ (codes " " ++ bound)) (codes " boxes ") (decimal used) (changed_remarks changed) lines)
 
--- the text of an answer is two comments and the lines of its plan
-answer-lines : (plant : Plant) (used : ℕ) (answer : Answer) → answer_text plant used answer ≡ comment_lines (remarks answer used) ++ plan_lines plant (printed_plan answer)
+-- the text of an answer is its comments and the lines of its plan
+answer-lines : (plant : Plant) (used : ℕ) (changed : Option ℕ) (answer : Answer) → answer_text plant used changed answer ≡ comment_lines (remarks answer used changed) ++ plan_lines plant (printed_plan answer)
 unfolding answer_text plan_lines
-answer-lines plant used (Optimal plan earned) =
-    ap (λ (x : List ℕ). codes "# optimal " ++ (signed_decimal earned ++ (10 ∷ x))) (boxes_then used (plan_lines plant plan))
-    ∙ sym (two_lines (codes " optimal ") (signed_decimal earned) (codes " boxes ") (decimal used) (plan_lines plant plan))
-answer-lines plant used Infeasible = sym (two_lines (codes " infeasible") [] (codes " boxes ") (decimal used) [])
-answer-lines plant used (BudgetSpent None earned bound) = spent_lines (codes "-") (signed_decimal bound) used []
-answer-lines plant used (BudgetSpent (Some plan) earned bound) = spent_lines (signed_decimal earned) (signed_decimal bound) used (plan_lines plant plan)
+answer-lines plant used changed (Optimal plan earned) =
+    ap (λ (x : List ℕ). codes "# optimal " ++ (signed_decimal earned ++ (10 ∷ x))) (boxes_then used changed (plan_lines plant plan))
+    ∙ sym (first_lines (codes " optimal ") (signed_decimal earned) (codes " boxes ") (decimal used) (changed_remarks changed) (plan_lines plant plan))
+answer-lines plant used changed Infeasible =
+    ap (λ (x : List ℕ). codes "# infeasible\n" ++ x) (sym (append-nil (boxes_lines used changed)) ∙ boxes_then used changed [])
+    ∙ sym (first_lines (codes " infeasible") [] (codes " boxes ") (decimal used) (changed_remarks changed) [])
+answer-lines plant used changed (BudgetSpent None earned bound) = spent_lines (codes "-") (signed_decimal bound) used changed []
+answer-lines plant used changed (BudgetSpent (Some plan) earned bound) = spent_lines (signed_decimal earned) (signed_decimal bound) used changed (plan_lines plant plan)
 
 -- the comments have no line feed, and are short
 pub record AreRemarks (lines : List (List ℕ)) : Type 0 where
@@ -123,6 +144,20 @@ both_remarks a b plain_a plain_b short_a short_b = record {
       let n = length-append ((35 ∷ b) ++ 10 ∷ []) [] in
       let o = length-append (35 ∷ b) (10 ∷ []) in
       omega (arith, l, m, n, o);
+}
+
+-- and one more of at most 50
+three_remarks : (a b e : List ℕ) → IsRemark a → IsRemark b → IsRemark e → length a ≤ 100 → length b ≤ 100 → length e ≤ 50 → AreRemarks (a ∷ b ∷ e ∷ [])
+three_remarks a b e plain_a plain_b plain_e short_a short_b short_e = record {
+  plain = All-cons IsRemark a (b ∷ e ∷ []) plain_a (All-cons IsRemark b (e ∷ []) plain_b (All-cons IsRemark e [] plain_e (λ k d within. absurd (omega arith))));
+  short =
+      let l = length-append ((35 ∷ a) ++ 10 ∷ []) (((35 ∷ b) ++ 10 ∷ []) ++ (((35 ∷ e) ++ 10 ∷ []) ++ [])) in
+      let m = length-append (35 ∷ a) (10 ∷ []) in
+      let n = length-append ((35 ∷ b) ++ 10 ∷ []) (((35 ∷ e) ++ 10 ∷ []) ++ []) in
+      let o = length-append (35 ∷ b) (10 ∷ []) in
+      let p = length-append ((35 ∷ e) ++ 10 ∷ []) [] in
+      let q = length-append (35 ∷ e) (10 ∷ []) in
+      omega (arith, l, m, n, o, p, q);
 }
 
 -- a word without a line feed
@@ -157,14 +192,28 @@ first-remark (BudgetSpent plan earned bound) small =
       omega (arith, long, later, amount.1, most.1),
     )
 
+-- the comment of a number
+number-remark : (word : List ℕ) (n : ℕ) → IsRemark word → n < 2 ^ 32 → IsRemark (word ++ decimal n) × (length (word ++ decimal n) ≤ length word + 10)
+number-remark word n plain small =
+    let digits = length-decimal-le_wide 10 n (omega (arith, small)) (omega arith) (omega arith) in
+    let long = length-append word (decimal n) in
+    (after_word word (decimal n) plain (decimal-remark n (omega (arith, small))), omega (arith, long, digits))
+
+-- the starts that have changed are fewer than 2 ^ 32, where they are counted
+abbrev pub IsFew : Option ℕ → Type 0
+IsFew changed = IfSome changed (λ count. count < 2 ^ 32)
+
 -- the comments of an answer
-are_remarks : (answer : Answer) (used : ℕ) → IsInMoney answer → used ≤ 100000 → AreRemarks (remarks answer used)
-are_remarks answer used small few =
+are_remarks : (answer : Answer) (used : ℕ) (changed : Option ℕ) → IsInMoney answer → used ≤ 100000 → IsFew changed → AreRemarks (remarks answer used changed)
+are_remarks answer used None small few count =
     let first = first-remark answer small in
-    let digits = length-decimal-le_wide 6 used (omega arith) (omega arith) (omega arith) in
-    let long = length-append (codes " boxes ") (decimal used) in
-    both_remarks (first_remark answer) (codes " boxes " ++ decimal used) first.0
-    (after_word (codes " boxes ") (decimal used) (plain_word (codes " boxes ") refl) (decimal-remark used (omega arith))) first.1 (omega (arith, long, digits))
+    let boxes = number-remark (codes " boxes ") used (plain_word (codes " boxes ") refl) (omega (arith, few)) in
+    both_remarks (first_remark answer) (codes " boxes " ++ decimal used) first.0 boxes.0 first.1 (omega (arith, boxes.1))
+are_remarks answer used (Some count) small few fewer =
+    let first = first-remark answer small in
+    let boxes = number-remark (codes " boxes ") used (plain_word (codes " boxes ") refl) (omega (arith, few)) in
+    let changed = number-remark (codes " changed ") count (plain_word (codes " changed ") refl) fewer in
+    three_remarks (first_remark answer) (codes " boxes " ++ decimal used) (codes " changed " ++ decimal count) first.0 boxes.0 changed.0 first.1 (omega (arith, boxes.1)) (omega (arith, changed.1))
 
 -- ---- the plan
 
@@ -232,22 +281,24 @@ reads-answer plant admits least count budget used (BudgetSpent None earned bound
 reads-answer plant admits least count budget used (BudgetSpent (Some plan) earned bound) lines sound some right are = reads-feasible plant plan lines sound (some plan right.found.admitted) are
 
 -- the text of a right answer says its plan
-pub reads-back : (plant : Plant) (admits : List Start → Type 0) (least : List Start) (count budget used : ℕ) (answer : Answer) → Sound plant → ((plan : List Start) → admits plan → Feasible plant plan)
-    → IsAnswerOf plant admits least count budget used answer → IsInMoney answer → used ≤ 100000 → plan_of_text plant (answer_text plant used answer) ≡ Ok (printed_plan answer)
-reads-back plant admits least count budget used answer sound some right small few =
-    ap (plan_of_text plant) (answer-lines plant used answer) ∙ reads-answer plant admits least count budget used answer (remarks answer used) sound some right (are_remarks answer used small few)
+pub reads-back : (plant : Plant) (admits : List Start → Type 0) (least : List Start) (count budget used : ℕ) (changed : Option ℕ) (answer : Answer) → Sound plant → ((plan : List Start) → admits plan → Feasible plant plan)
+    → IsAnswerOf plant admits least count budget used answer → IsInMoney answer → used ≤ 100000 → IsFew changed → plan_of_text plant (answer_text plant used changed answer) ≡ Ok (printed_plan answer)
+reads-back plant admits least count budget used changed answer sound some right small few fewer =
+    ap (plan_of_text plant) (answer-lines plant used changed answer) ∙ reads-answer plant admits least count budget used answer (remarks answer used changed) sound some right (are_remarks answer used changed small few fewer)
 
--- an outcome that is right of the admitted plans and its text are an answer of planning among them
-pub planned_if : {E : Type 0} (plant : Plant) (admits : List Start → Type 0) (least : List Start) (count budget : ℕ) (HasProof : Outcome → Type 0) (outcome : Outcome) (r : Result Reply E)
-    → Sound plant → ((plan : List Start) → admits plan → Feasible plant plan) → budget ≤ 100000 → IsOutcomeOf plant admits least count budget outcome → HasProof outcome
-    → IfOk r (λ reply. (reply.status ≡ status_of outcome.answer) × (reply.text.items ≡ answer_text plant outcome.boxes outcome.answer)) → IsInMoney outcome.answer
-    → IfOk r (λ reply. Planned plant (IsOutcomeOf plant admits least count budget) HasProof reply.status reply.text.items)
-planned_if plant admits least count budget HasProof outcome (Ok reply) sound some most right proof is money = record {
+-- an outcome that is right of the admitted plans, and more than that, and its text are an answer of planning among them
+pub planned_if : {E : Type 0} (plant : Plant) (admits : List Start → Type 0) (least : List Start) (count budget : ℕ) (changed : Answer → Option ℕ) (IsRight HasProof : Outcome → Type 0) (outcome : Outcome) (r : Result Reply E)
+    → Sound plant → ((plan : List Start) → admits plan → Feasible plant plan) → budget ≤ 100000 → IsOutcomeOf plant admits least count budget outcome → IsRight outcome → HasProof outcome → IsFew (changed outcome.answer)
+    → IfOk r (λ reply. (reply.status ≡ status_of outcome.answer) × (reply.text.items ≡ answer_text plant outcome.boxes (changed outcome.answer) outcome.answer)) → IsInMoney outcome.answer
+    → IfOk r (λ reply. Planned plant changed IsRight HasProof reply.status reply.text.items)
+planned_if plant admits least count budget changed IsRight HasProof outcome (Ok reply) sound some most among right proof fewer is money = record {
   outcome = outcome;
   right = right;
   proof = proof;
   status_is = is.0;
   text_is = is.1;
-  reads_back = ap (plan_of_text plant) is.1 ∙ reads-back plant admits least count budget outcome.boxes outcome.answer sound some right.answer money (omega (arith, right.within, most));
+  reads_back =
+      ap (plan_of_text plant) is.1
+      ∙ reads-back plant admits least count budget outcome.boxes (changed outcome.answer) outcome.answer sound some among.answer money (omega (arith, among.within, most)) fewer;
 }
-planned_if plant admits least count budget HasProof outcome (Err e) sound some most right proof is money = tt
+planned_if plant admits least count budget changed IsRight HasProof outcome (Err e) sound some most among right proof fewer is money = tt

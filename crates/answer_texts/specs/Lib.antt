@@ -5,3 +5,4 @@ pub mod Kept
 pub mod Checking
 pub mod Planning
 pub mod Levels
+pub mod Changed

@@ -9,9 +9,14 @@ use Rattle.stn_model.specs.declared.answer.Outcome.{Outcome}
 use Rattle.plan_text.specs.PlanLines.{plan_lines, IsNamed}
 use Rattle.plan_text.specs.PlanText.{plan_of_text}
 
--- the line that says how many boxes it took
-abbrev pub boxes_line : ℕ → List ℕ
-boxes_line used = codes "# boxes " ++ (decimal used ++ codes "\n")
+-- the line that says how many starts have changed, where they are counted
+abbrev pub changed_line : Option ℕ → List ℕ
+changed_line None = []
+changed_line (Some count) = codes "# changed " ++ (decimal count ++ codes "\n")
+
+-- the line that says how many boxes it took, and that of the starts that have changed
+abbrev pub boxes_lines : ℕ → Option ℕ → List ℕ
+boxes_lines used changed = codes "# boxes " ++ (decimal used ++ (codes "\n" ++ changed_line changed))
 
 -- the profit of a plan that may be there, as it is printed
 abbrev pub profit_word : Option (List Start) → ℤ → List ℕ
@@ -23,13 +28,14 @@ abbrev pub found_lines : Plant → Option (List Start) → List ℕ
 found_lines plant None = []
 found_lines plant (Some plan) = plan_lines plant plan
 
--- the text of an answer: its line, the line of the boxes, and the lines of its plan
-unfoldable pub answer_text : Plant → ℕ → Answer → List ℕ
-answer_text plant used (Optimal plan earned) =
-    codes "# optimal " ++ (signed_decimal earned ++ (codes "\n" ++ (boxes_line used ++ plan_lines plant plan)))
-answer_text plant used Infeasible = codes "# infeasible\n" ++ boxes_line used
-answer_text plant used (BudgetSpent plan earned cap) =
-    codes "# budget-spent " ++ (profit_word plan earned ++ (codes " " ++ (signed_decimal cap ++ (codes "\n" ++ (boxes_line used ++ found_lines plant plan)))))
+-- the text of an answer: its line, the line of the boxes, that of the starts that have changed where they are counted, and the lines
+-- of its plan
+unfoldable pub answer_text : Plant → ℕ → Option ℕ → Answer → List ℕ
+answer_text plant used changed (Optimal plan earned) =
+    codes "# optimal " ++ (signed_decimal earned ++ (codes "\n" ++ (boxes_lines used changed ++ plan_lines plant plan)))
+answer_text plant used changed Infeasible = codes "# infeasible\n" ++ boxes_lines used changed
+answer_text plant used changed (BudgetSpent plan earned cap) =
+    codes "# budget-spent " ++ (profit_word plan earned ++ (codes " " ++ (signed_decimal cap ++ (codes "\n" ++ (boxes_lines used changed ++ found_lines plant plan)))))
 
 -- the plan that an answer prints: no starts where it has none
 abbrev pub printed_plan : Answer → List Start
@@ -61,11 +67,11 @@ IsInMoney Infeasible = Unit {0}
 IsInMoney (BudgetSpent plan earned cap) = IsMoney earned × IsMoney cap
 
 -- The answer of planning a plant: an outcome that is right, with its proof, its status and its text, which,
--- read as plan text, says the plan of the outcome.
-pub record Planned (plant : Plant) (IsRight HasProof : Outcome → Type 0) (status : ℕ) (text : List ℕ) : Type 0 where
+-- read as plan text, says the plan of the outcome. The text says how many starts have changed, where they are counted.
+pub record Planned (plant : Plant) (changed : Answer → Option ℕ) (IsRight HasProof : Outcome → Type 0) (status : ℕ) (text : List ℕ) : Type 0 where
   pub outcome : Outcome
   pub right : IsRight outcome
   pub proof : HasProof outcome
   pub status_is : status ≡ status_of outcome.answer
-  pub text_is : text ≡ answer_text plant outcome.boxes outcome.answer
+  pub text_is : text ≡ answer_text plant outcome.boxes (changed outcome.answer) outcome.answer
   pub reads_back : plan_of_text plant text ≡ Ok (printed_plan outcome.answer)

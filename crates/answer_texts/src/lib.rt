@@ -4,6 +4,7 @@
 //! text is its crate's.
 #![tactic(auto)]
 
+pub mod changed;
 pub mod checking;
 pub mod kept;
 pub mod levels;
@@ -12,6 +13,7 @@ pub mod planning;
 pub mod simulation;
 mod violations;
 
+pub use changed::counted_since;
 pub use checking::{checked, claim_line};
 pub use kept::broken;
 pub use levels::{has_slots, refused_levels};

@@ -1,10 +1,10 @@
 //! What planning found.
-ghost use Rattle.std.specs.Prelude.{◌≡◌, ◌++◌, All, Some, IfOk, codes, string_bytes};
+ghost use Rattle.std.specs.Prelude.{◌≡◌, ◌++◌, All, IfOk, codes, string_bytes};
 ghost use Rattle.std.specs.Fmt.{signed_decimal};
 ghost use Rattle.plan_text.specs.PlanLines.{plan_lines, IsNamed};
 ghost use Rattle.answer_texts.specs.Planning.{
-  boxes_line,
   answer_text,
+  boxes_lines,
   status_of,
   IsNamedIn,
   IsInMoney,
@@ -16,26 +16,33 @@ use plan_text::put_plan;
 use std::alloc::{AllocError, Global};
 use stn_model::{Answer, List, Outcome, Plant, Start};
 
-/// The answer that planning found.
-pub fn planned(alloc: Global, plant: &Plant, outcome: &Outcome) -> Result<Reply, AllocError>
+/// The answer that planning found, which says how many starts have changed where they are counted. It takes memory for its text.
+pub fn planned(
+    alloc: Global,
+    plant: &Plant,
+    outcome: &Outcome,
+    changed: Option<usize>,
+) -> Result<Reply, AllocError>
     requires { IsNamedIn plant.now outcome.now.answer }
     ensures { IfOk result (λ reply. (reply.status ≡ status_of outcome.now.answer)
-        × (reply.text.items ≡ answer_text plant.now outcome.now.boxes outcome.now.answer)) }
+        × (reply.text.items
+        ≡ answer_text plant.now outcome.now.boxes changed outcome.now.answer)) }
 {
-    let boxes = outcome.boxes;
+    let counts = boxes_lines(alloc, outcome.boxes, changed)?;
+    let lines = counts.as_str();
     match &outcome.answer {
         Answer::Optimal { plan, profit } => {
-            let text = optimal_text(alloc, plant, boxes, plan, profit)?;
+            let text = optimal_text(alloc, plant, lines, plan, profit)?;
             Ok(Reply { status: 0, text })
         }
         Answer::Infeasible => {
-            let text = infeasible_text(alloc, boxes)?;
+            let text = infeasible_text(alloc, lines)?;
             Ok(Reply { status: 1, text })
         }
         Answer::BudgetSpent { plan, profit, cap } => {
             let text = match plan {
-                Some(plan) => spent_text(alloc, plant, boxes, plan, profit, cap)?,
-                None => unsettled_text(alloc, boxes, cap)?,
+                Some(plan) => spent_text(alloc, plant, lines, plan, profit, cap)?,
+                None => unsettled_text(alloc, lines, cap)?,
             };
             Ok(Reply { status: 6, text })
         }
@@ -67,66 +74,83 @@ pub fn bounded(amount: &i128)
     let _value = *amount;
 }
 
+// The line of the boxes, and that of the starts that have changed.
+fn boxes_lines(alloc: Global, boxes: u32, changed: Option<usize>) -> Result<String, AllocError>
+    ensures { IfOk result (λ lines. string_bytes lines ≡ boxes_lines boxes changed) }
+{
+    match changed {
+        Some(count) => format!(in alloc; "# boxes {boxes}\n# changed {count}\n"),
+        None => format!(in alloc; "# boxes {boxes}\n"),
+    }
+}
+
 fn optimal_text(
     alloc: Global,
     plant: &Plant,
-    boxes: u32,
+    lines: &str,
     plan: &List<Start>,
     profit: &i128,
 ) -> Result<Vec<u8>, AllocError>
     requires { All (IsNamed plant.now) plan.now }
     ensures { IfOk result (λ text. text.items
-        ≡ answer_text plant.now boxes (Answer.Optimal plan.now profit.now)) }
+        ≡ codes "# optimal " ++ (signed_decimal profit.now ++ (codes "\n"
+        ++ (lines.now ++ plan_lines plant.now plan.now)))) }
 {
-    let head = optimal_head(alloc, profit, boxes)?;
+    let head = optimal_head(alloc, profit, lines)?;
     with_plan(alloc, plant, head.as_str(), plan.as_slice())
 }
 
-fn infeasible_text(alloc: Global, boxes: u32) -> Result<Vec<u8>, AllocError>
-    ensures { IfOk result (λ text. text.items ≡ codes "# infeasible\n" ++ boxes_line boxes) }
+fn infeasible_text(alloc: Global, lines: &str) -> Result<Vec<u8>, AllocError>
+    ensures { IfOk result (λ text. text.items ≡ codes "# infeasible\n" ++ lines.now) }
 {
-    let head = format!(in alloc; "# infeasible\n# boxes {boxes}\n")?;
+    let head = format!(in alloc; "# infeasible\n{lines}")?;
     Vec::from_slice(alloc, head.as_bytes())
 }
 
 fn spent_text(
     alloc: Global,
     plant: &Plant,
-    boxes: u32,
+    lines: &str,
     plan: &List<Start>,
     profit: &i128,
     cap: &i128,
 ) -> Result<Vec<u8>, AllocError>
     requires { All (IsNamed plant.now) plan.now }
     ensures { IfOk result (λ text. text.items
-        ≡ answer_text plant.now boxes (Answer.BudgetSpent (Some plan.now) profit.now cap.now)) }
+        ≡ codes "# budget-spent " ++ (signed_decimal profit.now ++ (codes " "
+        ++ (signed_decimal cap.now ++ (codes "\n"
+        ++ (lines.now ++ plan_lines plant.now plan.now)))))) }
 {
-    let head = spent_head(alloc, profit, cap, boxes)?;
+    let head = spent_head(alloc, profit, cap, lines)?;
     with_plan(alloc, plant, head.as_str(), plan.as_slice())
 }
 
-fn unsettled_text(alloc: Global, boxes: u32, cap: &i128) -> Result<Vec<u8>, AllocError>
+fn unsettled_text(alloc: Global, lines: &str, cap: &i128) -> Result<Vec<u8>, AllocError>
     ensures { IfOk result (λ text. text.items
-        ≡ codes "# budget-spent - " ++ (signed_decimal cap.now ++ (codes "\n"
-        ++ boxes_line boxes))) }
+        ≡ codes "# budget-spent - " ++ (signed_decimal cap.now ++ (codes "\n" ++ lines.now))) }
 {
-    let head = format!(in alloc; "# budget-spent - {cap}\n# boxes {boxes}\n")?;
+    let head = format!(in alloc; "# budget-spent - {cap}\n{lines}")?;
     Vec::from_slice(alloc, head.as_bytes())
 }
 
-fn optimal_head(alloc: Global, profit: &i128, boxes: u32) -> Result<String, AllocError>
+fn optimal_head(alloc: Global, profit: &i128, lines: &str) -> Result<String, AllocError>
     ensures { IfOk result (λ head. string_bytes head
-        ≡ codes "# optimal " ++ (signed_decimal profit.now ++ (codes "\n" ++ boxes_line boxes))) }
+        ≡ codes "# optimal " ++ (signed_decimal profit.now ++ (codes "\n" ++ lines.now))) }
 {
-    format!(in alloc; "# optimal {profit}\n# boxes {boxes}\n")
+    format!(in alloc; "# optimal {profit}\n{lines}")
 }
 
-fn spent_head(alloc: Global, profit: &i128, cap: &i128, boxes: u32) -> Result<String, AllocError>
+fn spent_head(
+    alloc: Global,
+    profit: &i128,
+    cap: &i128,
+    lines: &str,
+) -> Result<String, AllocError>
     ensures { IfOk result (λ head. string_bytes head
         ≡ codes "# budget-spent " ++ (signed_decimal profit.now ++ (codes " "
-        ++ (signed_decimal cap.now ++ (codes "\n" ++ boxes_line boxes))))) }
+        ++ (signed_decimal cap.now ++ (codes "\n" ++ lines.now))))) }
 {
-    format!(in alloc; "# budget-spent {profit} {cap}\n# boxes {boxes}\n")
+    format!(in alloc; "# budget-spent {profit} {cap}\n{lines}")
 }
 
 /// The head, followed by the lines of the plan.

@@ -7,7 +7,7 @@ use Rattle.std.specs.Prelude.{Option, Some, None, MatchOption}
 use Rattle.command_words.specs.declared.command.Command.{Command}
 use Rattle.command_words.specs.declared.command.PlanUse.TheVariants.{Simulate, Report, Picture, Table, Violations}
 use Rattle.plan_tables.specs.declared.kind.TableKind.{TableKind}
-use Rattle.command_words.specs.Words.{texts, Request, Says, HasNoForm, Solving, Logging, Simulating, Checking, Telling, Numbering, Upgrading, Showing, Replanning, ReplanLogging, CheckingReplan, Estimating, Seeking, Tracing, Auditing, Parting, PartSolving, Joining, NoListing, NoHorizons, NoParts, meaning}
+use Rattle.command_words.specs.Words.{texts, Request, Says, HasNoForm, Solving, Logging, Simulating, Checking, Telling, Numbering, Upgrading, Showing, Replanning, ReplanLogging, CheckingReplan, Improving, Estimating, Seeking, Tracing, Auditing, Parting, PartSolving, Joining, NoListing, NoHorizons, NoParts, meaning}
 
 -- three words are the list of their texts
 pub three_texts : (words : List (Bor (List ℕ))) (d : Bor (List ℕ)) → 3 ≤ length words → length words < 4 → texts words ≡ (get_or words 0 d).now ∷ (get_or words 1 d).now ∷ (get_or words 2 d).now ∷ []
@@ -96,11 +96,12 @@ NoFiles words request = (first second : List ℕ) → ¬ Says words (request fir
 abbrev NoPlanning : List (List ℕ) → Type 0
 NoPlanning words = ((plant : List ℕ) (budget : ℕ) → ¬ Says words (Solving plant budget)) × ((plant log : List ℕ) (budget : ℕ) → ¬ Says words (Logging plant budget log))
 
--- the words say no replanning, with or without a log, and no check of one
+-- the words say no planning from a plan that is given, with or without a log, and no check of one
 pub record NoReplanning (words : List (List ℕ)) : Type 0 where
   pub replan : (plant plan : List ℕ) (period budget : ℕ) → ¬ Says words (Replanning plant plan period budget)
   pub log : (plant plan log : List ℕ) (period budget : ℕ) → ¬ Says words (ReplanLogging plant plan period budget log)
   pub check : (plant plan log : List ℕ) (period : ℕ) → ¬ Says words (CheckingReplan plant plan period log)
+  pub improve : (plant plan : List ℕ) (budget : ℕ) (log : Option (List ℕ)) → ¬ Says words (Improving plant plan budget log)
 
 -- the words say no estimate by an old log
 abbrev NoEstimate : List (List ℕ) → Type 0
@@ -131,6 +132,7 @@ has_no_form words solve simulate report picture violations check replan estimate
 has_no_form words solve simulate report picture violations check replan estimate list other least parts (Replanning plant plan period budget) = replan.replan plant plan period budget
 has_no_form words solve simulate report picture violations check replan estimate list other least parts (ReplanLogging plant plan period budget log) = replan.log plant plan log period budget
 has_no_form words solve simulate report picture violations check replan estimate list other least parts (CheckingReplan plant plan period log) = replan.check plant plan log period
+has_no_form words solve simulate report picture violations check replan estimate list other least parts (Improving plant plan budget log) = replan.improve plant plan budget log
 has_no_form words solve simulate report picture violations check replan estimate list other least parts (Estimating plant log state step count) = estimate plant log state step count
 has_no_form words solve simulate report picture violations check replan estimate list other least parts (Seeking plant budget) = least.seeking plant budget
 has_no_form words solve simulate report picture violations check replan estimate list other least parts (Tracing plant budget stem) = least.tracing plant stem budget
@@ -156,3 +158,16 @@ pub last_horizon_form : (words : List (List ℕ)) (command : Option Command) →
     → MatchOption command ((plant stem : List ℕ) (horizon : ℕ) → ¬ Says words (Auditing plant horizon stem)) (λ c. Says words (meaning c)) → MatchOption command (NoHorizons words) (λ c. Says words (meaning c))
 last_horizon_form words None seek trace audit = record { seeking = seek; tracing = trace; auditing = audit }
 last_horizon_form words (Some command) seek trace audit = audit
+
+-- planning that begins with a plan is said with a log or without one
+no_improving : (words : List (List ℕ)) → ((plant plan : List ℕ) (budget : ℕ) → ¬ Says words (Improving plant plan budget None)) → ((plant plan log : List ℕ) (budget : ℕ) → ¬ Says words (Improving plant plan budget (Some log)))
+    → (plant plan : List ℕ) (budget : ℕ) (log : Option (List ℕ)) → ¬ Says words (Improving plant plan budget log)
+no_improving words plain logged plant plan budget None = plain plant plan budget
+no_improving words plain logged plant plan budget (Some log) = logged plant plan log budget
+
+-- the last form of planning that begins with a plan
+pub last_improve_form : (words : List (List ℕ)) (command : Option Command) → ((plant plan : List ℕ) (budget : ℕ) → ¬ Says words (Improving plant plan budget None))
+    → MatchOption command ((plant plan log : List ℕ) (budget : ℕ) → ¬ Says words (Improving plant plan budget (Some log))) (λ c. Says words (meaning c))
+    → MatchOption command ((plant plan : List ℕ) (budget : ℕ) (log : Option (List ℕ)) → ¬ Says words (Improving plant plan budget log)) (λ c. Says words (meaning c))
+last_improve_form words None plain logged = no_improving words plain logged
+last_improve_form words (Some command) plain logged = logged

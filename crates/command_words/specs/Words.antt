@@ -1,5 +1,6 @@
 -- The words of a command.
-use Rattle.std.specs.Prelude.{◌≡◌, ◌≢◌, ℕ, ℤ, ◌<◌, ◌≤◌, ◌^◌, unsigned_abs, List, [], ◌∷◌, map, codes, decimal}
+use Rattle.std.specs.Prelude.{◌≡◌, ◌≢◌, ℕ, ℤ, ◌<◌, ◌≤◌, ◌^◌, unsigned_abs, List, [], ◌∷◌, map, codes, decimal, Option, Some, None, IfSome}
+use Rattle.std.specs.Option.{option_map}
 use Rattle.std.specs.Fmt.{signed_decimal}
 use Rattle.proof_log.specs.LogNames.{log_name}
 use Rattle.std.specs.Borrow.{Bor}
@@ -23,6 +24,7 @@ pub data Request : Type 0 where
   Replanning : (plant plan : List ℕ) (period budget : ℕ) → Request
   ReplanLogging : (plant plan : List ℕ) (period budget : ℕ) (log : List ℕ) → Request
   CheckingReplan : (plant plan : List ℕ) (period : ℕ) (log : List ℕ) → Request
+  Improving : (plant plan : List ℕ) (budget : ℕ) (log : Option (List ℕ)) → Request
   Estimating : (plant log state : List ℕ) (step : ℤ) (count : ℕ) → Request
   Seeking : (plant : List ℕ) (budget : ℕ) → Request
   Tracing : (plant : List ℕ) (budget : ℕ) (stem : List ℕ) → Request
@@ -111,6 +113,17 @@ pub record IsPart (word : List ℕ) (levels part : ℕ) : Type 0 where
 abbrev pub IsNoPartLog : List ℕ → List ℕ → ℕ → Type 0
 IsNoPartLog file stem levels = (part : ℕ) → part < 2 ^ levels → file ≢ log_name stem part
 
+-- the last word of a command whose log may be named, if it is
+abbrev pub log_words : Option (List ℕ) → List (List ℕ)
+log_words None = []
+log_words (Some log) = log ∷ []
+
+-- a log has a name, and is not written over the plant or the plan
+pub record IsLogBeside (plant plan log : List ℕ) : Type 0 where
+  pub named : log ≢ []
+  pub no_plant : log ≢ plant
+  pub no_plan : log ≢ plan
+
 -- the words say the request; no file has an empty name, and a log is not written over a file that is read
 abbrev pub Says : List (List ℕ) → Request → Type 0
 Says words (Solving plant budget) = (word : List ℕ) × ((words ≡ codes "solve" ∷ plant ∷ word ∷ []) × (plant ≢ []) × IsBudget word budget)
@@ -129,6 +142,8 @@ Says words (ReplanLogging plant plan period budget log) =
     × (plant ≢ []) × (plan ≢ []) × (log ≢ []) × (log ≢ plant) × (log ≢ plan) × IsPeriod from period × IsBudget most budget))
 Says words (CheckingReplan plant plan period log) =
     (from : List ℕ) × ((words ≡ codes "check-replan" ∷ plant ∷ plan ∷ from ∷ log ∷ []) × (plant ≢ []) × (plan ≢ []) × (log ≢ []) × IsPeriod from period)
+Says words (Improving plant plan budget log) =
+    (most : List ℕ) × ((words ≡ codes "improve" ∷ plant ∷ plan ∷ most ∷ log_words log) × (plant ≢ []) × (plan ≢ []) × IfSome log (IsLogBeside plant plan) × IsBudget most budget)
 Says words (Estimating plant log state step count) =
     (by : List ℕ) × ((times : List ℕ) × ((words ≡ codes "whatif" ∷ plant ∷ log ∷ state ∷ by ∷ times ∷ []) × (plant ≢ []) × (log ≢ []) × IsStep by step × IsStepCount times count))
 Says words (Seeking plant budget) = (word : List ℕ) × ((words ≡ codes "least" ∷ plant ∷ word ∷ []) × (plant ≢ []) × IsBudget word budget)
@@ -165,6 +180,10 @@ pub record NoParts (words : List (List ℕ)) : Type 0 where
   pub solving : (plant log : List ℕ) (levels part budget : ℕ) → ¬ Says words (PartSolving plant levels part budget log)
   pub joining : (plant stem log : List ℕ) (levels : ℕ) → ¬ Says words (Joining plant levels stem log)
 
+-- the name of a log that may be named
+abbrev pub named_log : Option (Bor (List ℕ)) → Option (List ℕ)
+named_log log = option_map (λ word. word.now) log
+
 -- what a command asks for
 abbrev pub meaning : declared.Command → Request
 meaning (variants.Solve plant budget) = Solving plant.now budget.boxes
@@ -178,6 +197,7 @@ meaning (variants.Demo seed) = Showing seed
 meaning (variants.Replan plant plan period budget) = Replanning plant.now plan.now period.number budget.boxes
 meaning (variants.LogReplan plant plan period budget log) = ReplanLogging plant.now plan.now period.number budget.boxes log.now
 meaning (variants.CheckReplan plant plan period log) = CheckingReplan plant.now plan.now period.number log.now
+meaning (variants.Improve plant plan budget log) = Improving plant.now plan.now budget.boxes (named_log log)
 meaning (variants.Estimate plant log state steps) = Estimating plant.now log.now state.now steps.step steps.count
 meaning (variants.Least plant budget) = Seeking plant.now budget.boxes
 meaning (variants.LeastLogs plant budget stem) = Tracing plant.now budget.boxes stem.now

@@ -4,6 +4,7 @@ ghost use Rattle.proof_log.specs.LogNames.{log_name};
 ghost use Rattle.command_words.specs.Words.{Says, HasNoForm, IsBudget, IsPeriod, IsSeed, IsStep, IsStepCount, Solving, Logging, Simulating, Checking, Upgrading, Showing, Replanning, ReplanLogging, CheckingReplan, Estimating, texts, meaning, Seeking, Tracing, Auditing, NoHorizons, IsHorizon, IsNoLog, use_word, last_words};
 
 use crate::budget::{Budget, MAX_BUDGET};
+use crate::improve_words::improve_form;
 use crate::levels::{Levels, Part};
 use crate::listing_words::listing_form;
 use crate::part_words::part_form;
@@ -94,6 +95,14 @@ pub enum Command<'a> {
         period: Period,
         log: &'a str,
     },
+    /// `improve PLANT PLAN BUDGET` and the same with LOG: plan, beginning with a plan at hand, and write the log of the proof where it
+    /// is named.
+    Improve {
+        plant: &'a str,
+        plan: &'a str,
+        budget: Budget,
+        log: Option<&'a str>,
+    },
     /// `whatif PLANT LOG STATE STEP COUNT`: say what a larger or a smaller tank would be worth at most.
     Estimate {
         plant: &'a str,
@@ -181,6 +190,9 @@ pub fn command_of<'a>(words: &[&'a str]) -> Option<Command<'a>>
         return Some(command);
     }
     if let Some(command) = check_replan_of(words) {
+        return Some(command);
+    }
+    if let Some(command) = improve_form(words) {
         return Some(command);
     }
     if let Some(command) = estimate_of(words) {

@@ -1,3 +1,5 @@
-pub mod SolveLemmas
+pub mod NamedLemmas
+pub mod PlannedLemmas
 pub mod ReplanLemmas
+pub mod OnLemmas
 pub mod PartLemmas

@@ -1,5 +1,5 @@
 -- Planning a part of a plant: its answer, and the files of it.
-use Rattle.std.proofs.Common.{◌≡◌, ℕ, zero, suc, ◌-◌, ◌<◌, ◌≤◌, List, length, map, sum_by, refl, inl, inr, arith, add-one, true, nat_lt}
+use Rattle.std.proofs.Common.{◌≡◌, ℕ, zero, suc, ◌-◌, ◌<◌, ◌≤◌, List, [], None, length, map, sum_by, refl, inl, inr, arith, add-one, true, nat_lt}
 use Rattle.std.specs.Prelude.{◌↔◌, ◌==◌, min, Option, Result, Ok, Err, IfOk}
 use Rattle.std.specs.List.{range_with_len}
 use Rattle.std.proofs.lemmas.List.{length-map}
@@ -8,6 +8,7 @@ use Rattle.std.proofs.lemmas.Bool.{cases_Bool, cases_lt, lt-ltb}
 use Rattle.stn_model.specs.declared.plant.Plant.{Plant}
 use Rattle.stn_model.specs.declared.start.Start.{Start}
 use Rattle.stn_model.specs.declared.answer.Outcome.{Outcome}
+use Rattle.stn_model.specs.Answers.{IsOutcomeOf}
 use Rattle.time_grid.specs.Slots.{slots}
 use Rattle.row_kit.specs.declared.domain.Domain.{Domain}
 use Rattle.row_kit.specs.Domain.{domain_at}
@@ -19,12 +20,14 @@ use Rattle.plan_told.specs.Outcomes.{least_plan, whole_count}
 use Rattle.plan_told.specs.Proofs.{HasProof, depth_over, claim_of}
 use Rattle.plant_parts.specs.PlantParts.{digit, cut_domain, cut_root, part_root, IsOfPart}
 use Rattle.command_replies.specs.declared.reply.Reply.{Reply}
+use Rattle.answer_texts.specs.Changed.{counted_since}
 use Rattle.answer_texts.specs.Planning.{Planned}
 use Rattle.planning_commands.specs.PartSolving.{HasPartProof, PartSolved}
 use Rattle.planning_commands.specs.Replanning.{IsBegunOutcome}
 use Rattle.command_replies.specs.Answers.{IsUnwritten}
 use Rattle.answer_texts.proofs.StatusLemmas.{solved-status}
 use Rattle.valid_log.proofs.Deeper.{plant-deeper}
+use Rattle.planning_commands.proofs.PlannedLemmas.{planned-as}
 use Rattle.planning_commands.proofs.ReplanLemmas.{outcome-among}
 
 -- ---- the depth of a part's logs
@@ -64,25 +67,21 @@ has-part-proof plant levels part program log outcome enough root has = record {
 -- ---- the answer
 
 -- an answer of planning over a part's program is one of planning the part
-pub part_solved : {E : Type 0} (plant : Plant) (start : List Start) (levels part budget : ℕ) (log : Option (List ℕ)) (program : Program) (r : Result Reply E) → levels ≤ length (slots plant)
+pub part_solved : {E : Type 0} (plant : Plant) (levels part budget : ℕ) (log : Option (List ℕ)) (program : Program) (r : Result Reply E) → levels ≤ length (slots plant)
     → IsPartOf plant program → program.root ≡ part_root plant levels part → ((plan : List Start) → IsAdmitted plant program plan ↔ IsOfPart plant levels part plan)
-    → IfOk r (λ reply. Planned plant (IsBegunOutcome plant program start budget) (HasProof plant program log) reply.status reply.text.items)
+    → IfOk r (λ reply. Planned plant (counted_since None []) (IsBegunOutcome plant program [] budget) (HasProof plant program log) reply.status reply.text.items)
     → IfOk r (λ reply. PartSolved budget plant levels part log reply.status reply.text.items)
-part_solved plant start levels part budget log program (Ok reply) enough is_part root exact planned = (
+part_solved plant levels part budget log program (Ok reply) enough is_part root exact planned = (
   program,
   (
     record { is_part = is_part; root = root },
-    record {
-      outcome = planned.outcome;
-      right = outcome-among plant (IsAdmitted plant program) (IsOfPart plant levels part) (λ plan. (exact plan).0) (λ plan. (exact plan).1) (least_plan plant program) (whole_count program) budget planned.outcome planned.right.right;
-      proof = has-part-proof plant levels part program log planned.outcome enough root planned.proof;
-      status_is = planned.status_is;
-      text_is = planned.text_is;
-      reads_back = planned.reads_back;
-    },
+    planned-as plant (counted_since None []) (IsBegunOutcome plant program [] budget) (IsOutcomeOf plant (IsOfPart plant levels part) (least_plan plant program) (whole_count program) budget)
+    (HasProof plant program log) (HasPartProof plant levels program log) reply.status reply.text.items
+    (λ outcome begun. outcome-among plant (IsAdmitted plant program) (IsOfPart plant levels part) (λ plan. (exact plan).0) (λ plan. (exact plan).1) (least_plan plant program) (whole_count program) budget outcome begun.right)
+    (λ outcome has. has-part-proof plant levels part program log outcome enough root has) planned,
   ),
 )
-part_solved plant start levels part budget log program (Err e) enough is_part root exact planned = tt
+part_solved plant levels part budget log program (Err e) enough is_part root exact planned = tt
 
 -- the status of such an answer is that of no refusal
 pub part_written : {E : Type 0} (plant : Plant) (levels part budget : ℕ) (log : Option (List ℕ)) (Unchanged : Type 0) (r : Result Reply E)

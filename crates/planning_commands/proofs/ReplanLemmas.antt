@@ -1,5 +1,5 @@
 -- Replanning: answers over the plans that keep the first starts of a plan.
-use Rattle.std.proofs.Common.{◌≡◌, ℕ, ℤ, ◌≤◌, List, Option, Some, None, Ok, Err, inl, inr, ap, ◌∙◌, arith}
+use Rattle.std.proofs.Common.{ℕ, ℤ, List, Option, Some, None, Ok, Err, inl, inr}
 use Rattle.std.specs.Prelude.{MatchOption, IfOk, Result}
 use Rattle.std.proofs.lemmas.List.Sorted.{IsPermutation-refl}
 use Rattle.stn_model.specs.declared.plant.Plant.{Plant}
@@ -9,22 +9,18 @@ use Rattle.stn_model.specs.declared.answer.Answer.TheVariants.{Optimal, Infeasib
 use Rattle.stn_model.specs.declared.answer.Outcome.{Outcome}
 use Rattle.stn_model.specs.Answers.{IsAnswerOf, IsOutcomeOf, NoneFound, EarnsBelow}
 use Rattle.row_kit.specs.declared.program.Program.{Program}
-use Rattle.stn_model.specs.Sound.{Sound}
-use Rattle.time_grid.specs.PlanPoint.{HasPoint, plan_point}
-use Rattle.row_set.specs.Parts.{IsAdmitted, IsPartOf}
-use Rattle.plan_text.specs.PlanText.{plan_of_text}
+use Rattle.row_set.specs.Parts.{IsAdmitted}
 use Rattle.frozen_plan.specs.Frozen.{kept_starts}
 use Rattle.frozen_plan.specs.Keeping.{Keeps, IsKeptPart}
-use Rattle.plan_told.specs.Outcomes.{IsPartOutcome, least_plan, whole_count}
+use Rattle.plan_told.specs.Outcomes.{least_plan, whole_count}
 use Rattle.plan_told.specs.Proofs.{HasProof}
 use Rattle.command_replies.specs.declared.reply.Reply.{Reply}
 use Rattle.command_replies.specs.Answers.{IsUnwritten}
-use Rattle.answer_texts.specs.Planning.{answer_text, status_of, IsInMoney, Planned}
-use Rattle.answer_texts.proofs.ReadBack.{reads-back}
+use Rattle.answer_texts.specs.Changed.{counted_since}
+use Rattle.answer_texts.specs.Planning.{Planned}
 use Rattle.answer_texts.proofs.StatusLemmas.{solved-status}
-use Rattle.stn_solve.specs.Begun.{EarnsPoint}
-use Rattle.stn_solve.proofs.BegunTold.{part-earns}
-use Rattle.planning_commands.specs.Replanning.{IsBegunOutcome, SolvedOver, Replanned}
+use Rattle.planning_commands.specs.Replanning.{IsBegunOutcome, IsReplanOutcome, Replanned}
+use Rattle.planning_commands.proofs.PlannedLemmas.{planned-as}
 
 -- ---- the same plans
 
@@ -56,40 +52,14 @@ module _ (plant : Plant) (A B : List Start → Type 0) (to : (plan : List Start)
     most = is.most;
   }
 
--- ---- planning that begins with a plan
-
--- a right outcome that begins with the point of a plan and its text are an answer of planning
-pub begun_if : {E : Type 0} (plant : Plant) (part : Program) (start : List Start) (budget : ℕ) (point : List ℕ) (IsProved : Outcome → Type 0) (outcome : Outcome) (r : Result Reply E)
-    → Sound plant → IsPartOf plant part → budget ≤ 100000 → IsPartOutcome plant part budget outcome → (HasPoint plant start → point ≡ plan_point plant start) → EarnsPoint part point outcome.answer → IsProved outcome
-    → IfOk r (λ reply. (reply.status ≡ status_of outcome.answer) × (reply.text.items ≡ answer_text plant outcome.boxes outcome.answer)) → IsInMoney outcome.answer
-    → IfOk r (λ reply. Planned plant (IsBegunOutcome plant part start budget) IsProved reply.status reply.text.items)
-begun_if plant part start budget point IsProved outcome (Ok reply) sound is most right made earns proof says money = record {
-  outcome = outcome;
-  right = record { right = right; begun = part-earns plant part start point outcome.answer sound is made earns };
-  proof = proof;
-  status_is = says.0;
-  text_is = says.1;
-  reads_back =
-      ap (plan_of_text plant) says.1
-      ∙ reads-back plant (IsAdmitted plant part) (least_plan plant part) (whole_count part) budget outcome.boxes outcome.answer sound (λ plan admitted. admitted.feasible) right.answer money (omega (arith, right.within, most));
-}
-begun_if plant part start budget point IsProved outcome (Err e) sound is most right made earns proof says money = tt
-
 -- ---- over a program of the plans that keep the starts
 
--- an answer of planning
-solved-over : (plant : Plant) (period : ℕ) (start : List Start) (part : Program) (budget : ℕ) (log : Option (List ℕ)) (status : ℕ) (text : List ℕ) → IsKeptPart plant period (kept_starts period start) part
-    → Planned plant (IsBegunOutcome plant part start budget) (HasProof plant part log) status text → SolvedOver budget plant period start log part status text
-solved-over plant period start part budget log status text is planned = record {
-  outcome = planned.outcome;
-  right = record {
-    right = outcome-among plant (IsAdmitted plant part) (Keeps plant period (kept_starts period start)) (λ plan. (is.exact plan).0) (λ plan. (is.exact plan).1) (least_plan plant part) (whole_count part) budget planned.outcome planned.right.right;
-    begun = λ feasible. planned.right.begun ((is.exact start).1 (feasible, IsPermutation-refl (kept_starts period start)));
-  };
-  proof = planned.proof;
-  status_is = planned.status_is;
-  text_is = planned.text_is;
-  reads_back = planned.reads_back;
+-- an outcome that begins with the plan
+replan-outcome : (plant : Plant) (period : ℕ) (start : List Start) (part : Program) (budget : ℕ) (outcome : Outcome) → IsKeptPart plant period (kept_starts period start) part
+    → IsBegunOutcome plant part start budget outcome → IsReplanOutcome plant period start part budget outcome
+replan-outcome plant period start part budget outcome is begun = record {
+  right = outcome-among plant (IsAdmitted plant part) (Keeps plant period (kept_starts period start)) (λ plan. (is.exact plan).0) (λ plan. (is.exact plan).1) (least_plan plant part) (whole_count part) budget outcome begun.right;
+  begun = λ feasible. begun.begun ((is.exact start).1 (feasible, IsPermutation-refl (kept_starts period start)));
 }
 
 -- ---- replies on kept starts
@@ -97,9 +67,11 @@ solved-over plant period start part budget log status text is planned = record {
 module _ {E : Type 0} (plant : Plant) (period : ℕ) (start : List Start) where
   -- of planning on
   pub replanned_open : (budget : ℕ) (log : Option (List ℕ)) (Unchanged : Type 0) (part : Program) (r : Result Reply E) → IsKeptPart plant period (kept_starts period start) part
-      → IfOk r (λ reply. Planned plant (IsBegunOutcome plant part start budget) (HasProof plant part log) reply.status reply.text.items)
+      → IfOk r (λ reply. Planned plant (counted_since (Some period) start) (IsBegunOutcome plant part start budget) (HasProof plant part log) reply.status reply.text.items)
       → IfOk r (λ reply. Replanned budget plant period start log Unchanged reply.status reply.text.items)
-  replanned_open budget log Unchanged part (Ok reply) is planned = inr (part, (is, solved-over plant period start part budget log reply.status reply.text.items is planned))
+  replanned_open budget log Unchanged part (Ok reply) is planned = 
+      inr (part, (is, planned-as plant (counted_since (Some period) start) (IsBegunOutcome plant part start budget) (IsReplanOutcome plant period start part budget) (HasProof plant part log) (HasProof plant part log) reply.status reply.text.items
+      (λ outcome begun. replan-outcome plant period start part budget outcome is begun) (λ outcome has. has) planned))
   replanned_open budget log Unchanged part (Err e) is planned = tt
 
 -- ---- replies that leave the files

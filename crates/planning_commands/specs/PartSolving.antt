@@ -1,5 +1,5 @@
 -- The answer of `solve-part`, when it is right, and what it leaves.
-use Rattle.std.specs.Prelude.{◌≡◌, ◌≤◌, ◌⊎◌, ℕ, ◌-◌, List, length, Option, Ok}
+use Rattle.std.specs.Prelude.{◌≡◌, ◌≤◌, ◌⊎◌, ℕ, ◌-◌, List, [], length, Option, None, Ok}
 use Rattle.stn_edge.specs.Files.{FileMap}
 use Rattle.stn_model.specs.declared.plant.Plant.{Plant}
 use Rattle.stn_model.specs.declared.answer.Outcome.{Outcome}
@@ -14,6 +14,7 @@ use Rattle.plan_told.specs.Proofs.{HasProof, claim_of}
 use Rattle.plant_parts.specs.PlantParts.{IsOfPart, IsPartProgram}
 use Rattle.command_replies.specs.Sources.{IsReadOf}
 use Rattle.answer_texts.specs.Planning.{Planned}
+use Rattle.answer_texts.specs.Changed.{counted_since}
 use Rattle.planning_commands.specs.Replanning.{LeavesLog}
 
 -- there is a proof of the outcome whose log is valid also where at most 4,608 splits less one for each level may be open; where
@@ -26,7 +27,7 @@ pub record HasPartProof (plant : Plant) (levels : ℕ) (program : Program) (log 
 -- budget. There is a proof of it, and where the bytes of a log are told, they are the text of its log.
 abbrev pub PartSolvedOver : ℕ → Plant → ℕ → ℕ → Option (List ℕ) → Program → ℕ → List ℕ → Type 0
 PartSolvedOver budget plant levels part log program status text =
-    Planned plant (IsOutcomeOf plant (IsOfPart plant levels part) (least_plan plant program) (whole_count program) budget) (HasPartProof plant levels program log) status text
+    Planned plant (counted_since None []) (IsOutcomeOf plant (IsOfPart plant levels part) (least_plan plant program) (whole_count program) budget) (HasPartProof plant levels program log) status text
 
 -- the answer of `solve-part`, where the plant has a slot for each level
 abbrev pub PartSolved : ℕ → Plant → ℕ → ℕ → Option (List ℕ) → ℕ → List ℕ → Type 0

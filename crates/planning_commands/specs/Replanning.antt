@@ -1,5 +1,5 @@
 -- The answer of `replan`, when it is right, and what it leaves.
-use Rattle.std.specs.Prelude.{◌≡◌, ◌⊎◌, ℕ, List, Option, Ok}
+use Rattle.std.specs.Prelude.{◌⊎◌, ℕ, List, Option, Some}
 use Rattle.stn_edge.specs.Files.{FileMap}
 use Rattle.stn_model.specs.declared.plant.Plant.{Plant}
 use Rattle.stn_model.specs.declared.start.Start.{Start}
@@ -7,18 +7,16 @@ use Rattle.stn_model.specs.declared.answer.Outcome.{Outcome}
 use Rattle.stn_model.specs.Answers.{IsOutcomeOf}
 use Rattle.stn_model.specs.Feasible.{Feasible}
 use Rattle.stn_model.specs.Profit.{profit}
-use Rattle.plant_text.specs.Reading.{reading}
-use Rattle.plan_text.specs.PlanText.{plan_of_text}
 use Rattle.row_kit.specs.declared.program.Program.{Program}
 use Rattle.row_set.specs.Parts.{IsAdmitted}
 use Rattle.frozen_plan.specs.Frozen.{kept_starts}
-use Rattle.frozen_plan.specs.Keeping.{Keeps, IsKeptPart, StandTogether}
+use Rattle.frozen_plan.specs.Keeping.{Keeps, IsKeptPart}
 use Rattle.plan_told.specs.Outcomes.{IsPartOutcome, least_plan, whole_count}
 use Rattle.plan_told.specs.Proofs.{HasProof, IsLeft, bytes_in}
 use Rattle.stn_solve.specs.Begun.{EarnsAtLeast}
-use Rattle.command_replies.specs.Sources.{IsReadOf}
 use Rattle.answer_texts.specs.Kept.{OnKept}
 use Rattle.answer_texts.specs.Planning.{Planned}
+use Rattle.answer_texts.specs.Changed.{counted_since}
 
 -- a right outcome of planning over a part of a plant's choices; where the part admits a plan to begin with, the PROFIT is at least
 -- what that earns
@@ -33,9 +31,10 @@ pub record IsReplanOutcome (plant : Plant) (period : ℕ) (start : List Start) (
   pub begun : Feasible plant start → EarnsAtLeast (profit plant start) outcome.answer
 
 -- The answer of `replan` over a program of the feasible plans that keep the starts: a right outcome of planning among these
--- plans within the budget. There is a proof of it, and where the bytes of a log are told, they are the text of its log.
+-- plans within the budget, and how many starts of the plan from the period on have changed. There is a proof of it, and where the
+-- bytes of a log are told, they are the text of its log.
 abbrev pub SolvedOver : ℕ → Plant → ℕ → List Start → Option (List ℕ) → Program → ℕ → List ℕ → Type 0
-SolvedOver budget plant period start log part status text = Planned plant (IsReplanOutcome plant period start part budget) (HasProof plant part log) status text
+SolvedOver budget plant period start log part status text = Planned plant (counted_since (Some period) start) (IsReplanOutcome plant period start part budget) (HasProof plant part log) status text
 
 -- the answer of `replan` from the starts of a plan before a period
 abbrev pub Replanned : ℕ → Plant → ℕ → List Start → Option (List ℕ) → Type 0 → ℕ → List ℕ → Type 0
@@ -46,23 +45,6 @@ Replanned budget plant period start log Unchanged status text =
 abbrev pub LeavesLog : Plant → Program → List ℕ → Option FileMap → Option FileMap → Type 0
 LeavesLog plant part log old new = IsLeft plant part log old new ⊎ ((outcome : Outcome) × HasProof plant part (bytes_in log new) outcome)
 
--- what replanning leaves in the file of its log: it is as it was, or the kept starts stand together and it holds a log over the
--- program of the plans that keep them
-abbrev pub LeavesReplan : Plant → ℕ → List Start → List ℕ → Option FileMap → Option FileMap → Type 0
-LeavesReplan plant period kept log old new = (new ≡ old) ⊎ ((part : Program) × (IsKeptPart plant period kept part × LeavesLog plant part log old new))
-
--- the plant and the plan in two files were read, and the file of a log is as it was, or holds a log over the kept starts
-pub record HoldsReplan (old new : Option FileMap) (name plan : List ℕ) (period : ℕ) (log : List ℕ) : Type 0 where
-  pub plant : Plant
-  pub read : IsReadOf reading old name (Ok plant)
-  pub starts : List Start
-  pub read_plan : IsReadOf (plan_of_text plant) old plan (Ok starts)
-  pub holds : LeavesReplan plant period (kept_starts period starts) log old new
-
--- the plant and the plan of a replanning were read, and the starts that are kept of the plan stand together
-pub record CanReplan (files : Option FileMap) (name plan : List ℕ) (period : ℕ) : Type 0 where
-  pub plant : Plant
-  pub read : IsReadOf reading files name (Ok plant)
-  pub starts : List Start
-  pub read_plan : IsReadOf (plan_of_text plant) files plan (Ok starts)
-  pub together : StandTogether plant (kept_starts period starts)
+-- what replanning leaves in the file of its log: a log over the program of the plans that keep the starts
+abbrev pub LeavesKept : Plant → ℕ → List Start → List ℕ → Option FileMap → Option FileMap → Type 0
+LeavesKept plant period kept log old new = (part : Program) × (IsKeptPart plant period kept part × LeavesLog plant part log old new)

@@ -12,7 +12,7 @@ ghost use Rattle.command_replies.specs.Sources.{IfReplied, IfRefused, IsReadOf};
 ghost use Rattle.answer_texts.specs.Levels.{OnLevels};
 ghost use Rattle.planning_commands.specs.PartSolving.{HoldsPart, LeavesPart, PartSolved};
 
-use crate::replanning::log_part;
+use crate::planning::plan_part;
 use answer_texts::{has_slots, refused_levels};
 use command_replies::{Reply, Stopped, plant_in};
 use command_words::{Budget, Part};
@@ -124,5 +124,5 @@ fn log_rows_of_part<F: Shelf>(
 {
     let levels = part.levels.number;
     let rows = part_rows(alloc, plant, levels, part.number)?;
-    log_part(alloc, files, plant, rows.program, levels, &[], budget, log)
+    plan_part(alloc, files, plant, rows.program, levels, &[], None, budget, Some(log))
 }

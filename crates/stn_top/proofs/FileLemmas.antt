@@ -1,12 +1,13 @@
 -- What a run leaves in its files, for whatever request its words say.
-use Rattle.std.proofs.Common.{◌≡◌, ◌≢◌, ℕ, List, [], ◌∷◌, length, get_or, Option, inl, sym, ap, ◌∙◌, subst, arith}
+use Rattle.std.proofs.Common.{◌≡◌, ◌≢◌, ℕ, List, [], ◌∷◌, length, get_or, Option, None, Some, inl, sym, ap, ◌∙◌, subst, arith}
 use Rattle.std.specs.Prelude.{codes}
 use Rattle.std.specs.Option.{option_map}
 use Rattle.std.specs.FinMap.{get}
 use Rattle.std.proofs.lemmas.Fmt.{decimal_injective}
 use Rattle.stn_edge.specs.Files.{FileMap, OthersStay}
 use Rattle.least_horizon.specs.LogNames.{OthersStayBelow}
-use Rattle.command_words.specs.Words.{Request, Solving, Logging, Simulating, Checking, Telling, Numbering, Upgrading, Showing, Replanning, ReplanLogging, CheckingReplan, Estimating, Seeking, Tracing, Auditing, Parting, PartSolving, Joining, Says}
+use Rattle.command_words.specs.Words.{Request, Solving, Logging, Simulating, Checking, Telling, Numbering, Upgrading, Showing, Replanning, ReplanLogging, CheckingReplan, Improving, Estimating, Seeking, Tracing, Auditing, Parting, PartSolving, Joining, Says}
+use Rattle.planning_commands.specs.NamedLog.{LogLeft}
 use Rattle.stn_top.specs.Requests.{IsLeft, OthersKept}
 use Rattle.command_words.specs.Words.{IsLevels, IsPart}
 use Rattle.horizon_commands.proofs.Horizons.{each_log}
@@ -32,6 +33,8 @@ left_same (Showing seed) old new same = same
 left_same (Replanning plant plan period budget) old new same = same
 left_same (ReplanLogging plant plan period budget log) old new same = inl same
 left_same (CheckingReplan plant plan period log) old new same = same
+left_same (Improving plant plan budget None) old new same = same
+left_same (Improving plant plan budget (Some log)) old new same = inl same
 left_same (Estimating plant log state step count) old new same = same
 left_same (Seeking plant budget) old new same = same
 left_same (Tracing plant budget stem) old new same = inl same
@@ -49,6 +52,11 @@ kept_log plant budget log old new stay = λ name others. stay name (others 0 [] 
 -- every file but the log of a replanning is as before
 pub kept_replan : (plant plan : List ℕ) (period budget : ℕ) (log : List ℕ) (old new : Option FileMap) → OthersStay log old new → OthersKept (ReplanLogging plant plan period budget log) old new
 kept_replan plant plan period budget log old new stay = λ name others. stay name (others 0 [] (omega arith))
+
+-- every file but the log of planning that begins with a plan is as before, where it is named
+pub kept_improve : (plant plan : List ℕ) (budget : ℕ) (log : Option (List ℕ)) (old new : Option FileMap) → LogLeft log (λ name. OthersStay name old new) old new → OthersKept (Improving plant plan budget log) old new
+kept_improve plant plan budget None old new same = kept_same (Improving plant plan budget None) old new same
+kept_improve plant plan budget (Some log) old new stay = λ name others. stay name (others 0 [] (omega arith))
 
 -- every file but the log of a part is as before
 pub kept_part : (plant : List ℕ) (levels part budget : ℕ) (log : List ℕ) (old new : Option FileMap) → OthersStay log old new → OthersKept (PartSolving plant levels part budget log) old new
@@ -88,6 +96,7 @@ leaves_log words plant budget log (Showing seed) old new says also is = (let sam
 leaves_log words plant budget log (Replanning plant2 plan2 period2 budget2) old new says also is = (let same = ap length (sym says.1.0 ∙ also.1.1.0) in absurd (omega (arith, same)))
 leaves_log words plant budget log (ReplanLogging plant2 plan2 period2 budget2 log2) old new says also is = (let same = ap length (sym says.1.0 ∙ also.1.1.0) in absurd (omega (arith, same)))
 leaves_log words plant budget log (CheckingReplan plant2 plan2 period2 log2) old new says also is = (let same = ap length (sym says.1.0 ∙ also.1.0) in absurd (omega (arith, same)))
+leaves_log words plant budget log (Improving plant2 plan2 budget2 log2) old new says also is = (let same = ap first_byte (sym says.1.0 ∙ also.1.0) in absurd (omega (arith, same)))
 leaves_log words plant budget log (Estimating plant2 log2 state step count) old new says also is = (let same = ap length (sym says.1.0 ∙ also.1.1.0) in absurd (omega (arith, same)))
 leaves_log words plant budget log (Seeking plant2 budget2) old new says also is = (let same = ap length (sym says.1.0 ∙ also.1.0) in absurd (omega (arith, same)))
 leaves_log words plant budget log (Tracing plant2 budget2 stem2) old new says also is = (let same = ap first_byte (sym says.1.0 ∙ also.1.0) in absurd (omega (arith, same)))
@@ -117,6 +126,7 @@ leaves_replan words plant plan period budget log (Numbering plant2) old new says
 leaves_replan words plant plan period budget log (Showing seed) old new says also is = (let same = ap length (sym says.1.1.0 ∙ also.1.0) in absurd (omega (arith, same)))
 leaves_replan words plant plan period budget log (Replanning plant2 plan2 period2 budget2) old new says also is = (let same = ap length (sym says.1.1.0 ∙ also.1.1.0) in absurd (omega (arith, same)))
 leaves_replan words plant plan period budget log (CheckingReplan plant2 plan2 period2 log2) old new says also is = (let same = ap length (sym says.1.1.0 ∙ also.1.0) in absurd (omega (arith, same)))
+leaves_replan words plant plan period budget log (Improving plant2 plan2 budget2 log2) old new says also is = (let same = ap first_byte (sym says.1.1.0 ∙ also.1.0) in absurd (omega (arith, same)))
 leaves_replan words plant plan period budget log (Seeking plant2 budget2) old new says also is = (let same = ap length (sym says.1.1.0 ∙ also.1.0) in absurd (omega (arith, same)))
 leaves_replan words plant plan period budget log (Tracing plant2 budget2 stem2) old new says also is = (let same = ap length (sym says.1.1.0 ∙ also.1.0) in absurd (omega (arith, same)))
 leaves_replan words plant plan period budget log (Auditing plant2 horizon2 stem2) old new says also is = (let same = ap length (sym says.1.1.0 ∙ also.1.0) in absurd (omega (arith, same)))
@@ -152,6 +162,7 @@ leaves_logs words plant budget stem (Showing seed) old new says also is = (let s
 leaves_logs words plant budget stem (Replanning plant2 plan2 period2 budget2) old new says also is = (let same = ap length (sym says.1.0 ∙ also.1.1.0) in absurd (omega (arith, same)))
 leaves_logs words plant budget stem (ReplanLogging plant2 plan2 period2 budget2 log2) old new says also is = (let same = ap length (sym says.1.0 ∙ also.1.1.0) in absurd (omega (arith, same)))
 leaves_logs words plant budget stem (CheckingReplan plant2 plan2 period2 log2) old new says also is = (let same = ap length (sym says.1.0 ∙ also.1.0) in absurd (omega (arith, same)))
+leaves_logs words plant budget stem (Improving plant2 plan2 budget2 log2) old new says also is = (let same = ap first_byte (sym says.1.0 ∙ also.1.0) in absurd (omega (arith, same)))
 leaves_logs words plant budget stem (Estimating plant2 log2 state step count) old new says also is = (let same = ap length (sym says.1.0 ∙ also.1.1.0) in absurd (omega (arith, same)))
 leaves_logs words plant budget stem (Seeking plant2 budget2) old new says also is = (let same = ap length (sym says.1.0 ∙ also.1.0) in absurd (omega (arith, same)))
 leaves_logs words plant budget stem (Auditing plant2 horizon2 stem2) old new says also is = (let same = ap first_byte (sym says.1.0 ∙ also.1.0) in absurd (omega (arith, same)))
@@ -185,6 +196,7 @@ leaves_part words plant levels part budget log (Showing seed) old new says also 
 leaves_part words plant levels part budget log (Replanning plant2 plan2 period2 budget2) old new says also is = (let same = ap length (sym says.1.1.1.0 ∙ also.1.1.0) in absurd (omega (arith, same)))
 leaves_part words plant levels part budget log (ReplanLogging plant2 plan2 period2 budget2 log2) old new says also is = (let same = ap first_byte (sym says.1.1.1.0 ∙ also.1.1.0) in absurd (omega (arith, same)))
 leaves_part words plant levels part budget log (CheckingReplan plant2 plan2 period2 log2) old new says also is = (let same = ap length (sym says.1.1.1.0 ∙ also.1.0) in absurd (omega (arith, same)))
+leaves_part words plant levels part budget log (Improving plant2 plan2 budget2 log2) old new says also is = (let same = ap first_byte (sym says.1.1.1.0 ∙ also.1.0) in absurd (omega (arith, same)))
 leaves_part words plant levels part budget log (Estimating plant2 log2 state step count) old new says also is = (let same = ap first_byte (sym says.1.1.1.0 ∙ also.1.1.0) in absurd (omega (arith, same)))
 leaves_part words plant levels part budget log (Seeking plant2 budget2) old new says also is = (let same = ap length (sym says.1.1.1.0 ∙ also.1.0) in absurd (omega (arith, same)))
 leaves_part words plant levels part budget log (Tracing plant2 budget2 stem2) old new says also is = (let same = ap length (sym says.1.1.1.0 ∙ also.1.0) in absurd (omega (arith, same)))
@@ -217,6 +229,7 @@ leaves_join words plant levels stem log (Showing seed) old new says also is = (l
 leaves_join words plant levels stem log (Replanning plant2 plan2 period2 budget2) old new says also is = (let same = ap first_byte (sym says.1.0 ∙ also.1.1.0) in absurd (omega (arith, same)))
 leaves_join words plant levels stem log (ReplanLogging plant2 plan2 period2 budget2 log2) old new says also is = (let same = ap length (sym says.1.0 ∙ also.1.1.0) in absurd (omega (arith, same)))
 leaves_join words plant levels stem log (CheckingReplan plant2 plan2 period2 log2) old new says also is = (let same = ap first_byte (sym says.1.0 ∙ also.1.0) in absurd (omega (arith, same)))
+leaves_join words plant levels stem log (Improving plant2 plan2 budget2 log2) old new says also is = (let same = ap first_byte (sym says.1.0 ∙ also.1.0) in absurd (omega (arith, same)))
 leaves_join words plant levels stem log (Estimating plant2 log2 state step count) old new says also is = (let same = ap length (sym says.1.0 ∙ also.1.1.0) in absurd (omega (arith, same)))
 leaves_join words plant levels stem log (Seeking plant2 budget2) old new says also is = (let same = ap length (sym says.1.0 ∙ also.1.0) in absurd (omega (arith, same)))
 leaves_join words plant levels stem log (Tracing plant2 budget2 stem2) old new says also is = (let same = ap length (sym says.1.0 ∙ also.1.0) in absurd (omega (arith, same)))
@@ -234,6 +247,37 @@ leaves_join words plant levels stem log (Joining plant2 levels2 stem2 log2) old 
           (subst (λ (n : ℕ). IsLeft (Joining plant2 n stem log) old new) levels_is (subst (λ (p : List ℕ). IsLeft (Joining p levels stem log) old new) (word 1) is.left)));
     }
 
+-- the words of planning that begins with a plan, with a log, say no other request
+leaves_improve : (words : List (List ℕ)) (plant plan : List ℕ) (budget : ℕ) (log : List ℕ) (other : Request) (old new : Option FileMap) → Says words (Improving plant plan budget (Some log)) → Says words other
+    → Leaves (Improving plant plan budget (Some log)) old new → Leaves other old new
+leaves_improve words plant plan budget log (Solving plant2 budget2) old new says also is = (let same = ap first_byte (sym says.1.0 ∙ also.1.0) in absurd (omega (arith, same)))
+leaves_improve words plant plan budget log (Logging plant2 budget2 log2) old new says also is = (let same = ap first_byte (sym says.1.0 ∙ also.1.0) in absurd (omega (arith, same)))
+leaves_improve words plant plan budget log (Checking plant2 log2) old new says also is = (let same = ap first_byte (sym says.1.0 ∙ also.0) in absurd (omega (arith, same)))
+leaves_improve words plant plan budget log (Telling plant2 log2) old new says also is = (let same = ap first_byte (sym says.1.0 ∙ also.0) in absurd (omega (arith, same)))
+leaves_improve words plant plan budget log (Upgrading plant2) old new says also is = (let same = ap first_byte (sym says.1.0 ∙ also.0) in absurd (omega (arith, same)))
+leaves_improve words plant plan budget log (Numbering plant2) old new says also is = (let same = ap first_byte (sym says.1.0 ∙ also.0) in absurd (omega (arith, same)))
+leaves_improve words plant plan budget log (Showing seed) old new says also is = (let same = ap first_byte (sym says.1.0 ∙ also.1.0) in absurd (omega (arith, same)))
+leaves_improve words plant plan budget log (Replanning plant2 plan2 period2 budget2) old new says also is = (let same = ap first_byte (sym says.1.0 ∙ also.1.1.0) in absurd (omega (arith, same)))
+leaves_improve words plant plan budget log (ReplanLogging plant2 plan2 period2 budget2 log2) old new says also is = (let same = ap first_byte (sym says.1.0 ∙ also.1.1.0) in absurd (omega (arith, same)))
+leaves_improve words plant plan budget log (CheckingReplan plant2 plan2 period2 log2) old new says also is = (let same = ap first_byte (sym says.1.0 ∙ also.1.0) in absurd (omega (arith, same)))
+leaves_improve words plant plan budget log (Estimating plant2 log2 state step count) old new says also is = (let same = ap first_byte (sym says.1.0 ∙ also.1.1.0) in absurd (omega (arith, same)))
+leaves_improve words plant plan budget log (Seeking plant2 budget2) old new says also is = (let same = ap first_byte (sym says.1.0 ∙ also.1.0) in absurd (omega (arith, same)))
+leaves_improve words plant plan budget log (Tracing plant2 budget2 stem2) old new says also is = (let same = ap first_byte (sym says.1.0 ∙ also.1.0) in absurd (omega (arith, same)))
+leaves_improve words plant plan budget log (Auditing plant2 horizon2 stem2) old new says also is = (let same = ap first_byte (sym says.1.0 ∙ also.1.0) in absurd (omega (arith, same)))
+leaves_improve words plant plan budget log (Parting plant2 levels2) old new says also is = (let same = ap first_byte (sym says.1.0 ∙ also.1.0) in absurd (omega (arith, same)))
+leaves_improve words plant plan budget log (PartSolving plant2 levels2 part2 budget2 log2) old new says also is = (let same = ap first_byte (sym says.1.0 ∙ also.1.1.1.0) in absurd (omega (arith, same)))
+leaves_improve words plant plan budget log (Joining plant2 levels2 stem2 log2) old new says also is = (let same = ap first_byte (sym says.1.0 ∙ also.1.0) in absurd (omega (arith, same)))
+leaves_improve words plant plan budget log (Simulating usage plant2 plan2) old new says also is = absurd (no_use words usage plant2 plan2 also.0 (let long = ap length says.1.0 in omega (arith, long)) (λ t. let first = ap first_byte says.1.0 in omega (arith, t, first)))
+leaves_improve words plant plan budget log (Improving plant2 plan2 budget2 None) old new says also is = (let same = ap length (sym says.1.0 ∙ also.1.0) in absurd (omega (arith, same)))
+leaves_improve words plant plan budget log (Improving plant2 plan2 budget2 (Some log2)) old new says also is =
+    let same : codes "improve" ∷ plant ∷ plan ∷ says.0 ∷ log ∷ [] ≡ codes "improve" ∷ plant2 ∷ plan2 ∷ also.0 ∷ log2 ∷ [] = sym says.1.0 ∙ also.1.0 in
+    let word = λ (k : ℕ). ap (λ (ws : List (List ℕ)). get_or ws k []) same in
+    record {
+      kept = subst (λ (l : List ℕ). OthersKept (Improving plant2 plan2 budget2 (Some l)) old new) (word 4) is.kept;
+      left = subst (λ (l : List ℕ). IsLeft (Improving plant2 plan2 budget2 (Some l)) old new) (word 4)
+          (subst (λ (p : List ℕ). IsLeft (Improving plant2 p budget2 (Some log)) old new) (word 2) (subst (λ (p : List ℕ). IsLeft (Improving p plan budget2 (Some log)) old new) (word 1) is.left));
+    }
+
 -- what one request leaves that the words say, each leaves that they say
 leaves : (words : List (List ℕ)) (request other : Request) (old new : Option FileMap) → Says words request → Says words other → Leaves request old new → Leaves other old new
 leaves words (Solving plant budget) other old new says also is = leaves_same other old new is.left
@@ -247,6 +291,8 @@ leaves words (Showing seed) other old new says also is = leaves_same other old n
 leaves words (Replanning plant plan period budget) other old new says also is = leaves_same other old new is.left
 leaves words (ReplanLogging plant plan period budget log) other old new says also is = leaves_replan words plant plan period budget log other old new says also is
 leaves words (CheckingReplan plant plan period log) other old new says also is = leaves_same other old new is.left
+leaves words (Improving plant plan budget None) other old new says also is = leaves_same other old new is.left
+leaves words (Improving plant plan budget (Some log)) other old new says also is = leaves_improve words plant plan budget log other old new says also is
 leaves words (Estimating plant log state step count) other old new says also is = leaves_same other old new is.left
 leaves words (Seeking plant budget) other old new says also is = leaves_same other old new is.left
 leaves words (Tracing plant budget stem) other old new says also is = leaves_logs words plant budget stem other old new says also is

@@ -1,5 +1,5 @@
 -- The files of a request, and its answer.
-use Rattle.std.specs.Prelude.{◌≡◌, ◌≢◌, ◌⊎◌, ◌≤◌, ℕ, Bool, IsTrue, All, List, [], ◌∷◌, Option, None, Ok, length}
+use Rattle.std.specs.Prelude.{◌≡◌, ◌≢◌, ◌⊎◌, ◌≤◌, ℕ, Bool, IsTrue, All, List, [], ◌∷◌, Option, None, Some, Ok, length}
 use Rattle.std.specs.Option.{option_map}
 use Rattle.std.specs.FinMap.{get}
 use Rattle.stn_edge.specs.Files.{FileMap}
@@ -11,7 +11,7 @@ use Rattle.plan_told.specs.Proofs.{bytes_in}
 use Rattle.least_horizon.specs.LogNames.{logs_in, OthersStayBelow}
 use Rattle.time_grid.specs.Slots.{slots}
 use Rattle.log_parts.specs.PartLogs.{AllAreValid}
-use Rattle.command_words.specs.Words.{Request, IsNoPartLog, Solving, Logging, Simulating, Checking, Telling, Numbering, Upgrading, Showing, Replanning, ReplanLogging, CheckingReplan, Estimating, Seeking, Tracing, Auditing, Parting, PartSolving, Joining}
+use Rattle.command_words.specs.Words.{Request, IsNoPartLog, Solving, Logging, Simulating, Checking, Telling, Numbering, Upgrading, Showing, Replanning, ReplanLogging, CheckingReplan, Improving, Estimating, Seeking, Tracing, Auditing, Parting, PartSolving, Joining, log_words}
 use Rattle.command_replies.specs.Answers.{IsAnswerOver, content}
 use Rattle.command_replies.specs.Sources.{IsReadOf, OnPlant, OnPlan}
 use Rattle.answer_texts.specs.Levels.{OnLevels}
@@ -23,7 +23,10 @@ use Rattle.listing_commands.specs.Numbering.{Numbered}
 use Rattle.log_commands.specs.CheckingReplan.{ReplanChecked}
 use Rattle.tank_commands.specs.Estimating.{Estimated}
 use Rattle.planning_commands.specs.Solving.{HoldsLog, Solved}
-use Rattle.planning_commands.specs.Replanning.{CanReplan, HoldsReplan, Replanned}
+use Rattle.planning_commands.specs.Replanning.{Replanned}
+use Rattle.planning_commands.specs.Improving.{Improved}
+use Rattle.planning_commands.specs.NamedLog.{LogLeft, told_log}
+use Rattle.planning_commands.specs.PlanningOn.{GoesOn, HoldsOn}
 use Rattle.planning_commands.specs.PartSolving.{HoldsPart, PartSolved}
 use Rattle.demo_commands.specs.Demo.{Shown}
 use Rattle.horizon_commands.specs.Seeking.{HoldsLogs, Sought, log_names}
@@ -45,6 +48,7 @@ read_names (Showing seed) = []
 read_names (Replanning plant plan period budget) = plant ∷ plan ∷ []
 read_names (ReplanLogging plant plan period budget log) = plant ∷ plan ∷ []
 read_names (CheckingReplan plant plan period log) = plant ∷ plan ∷ log ∷ []
+read_names (Improving plant plan budget log) = plant ∷ plan ∷ []
 read_names (Estimating plant log state step count) = plant ∷ log ∷ []
 read_names (Seeking plant budget) = plant ∷ []
 read_names (Tracing plant budget stem) = plant ∷ []
@@ -66,6 +70,7 @@ written_names (Showing seed) = []
 written_names (Replanning plant plan period budget) = []
 written_names (ReplanLogging plant plan period budget log) = log ∷ []
 written_names (CheckingReplan plant plan period log) = []
+written_names (Improving plant plan budget log) = log_words log
 written_names (Estimating plant log state step count) = []
 written_names (Seeking plant budget) = []
 written_names (Tracing plant budget stem) = log_names stem 337
@@ -105,6 +110,8 @@ AnswersTo old new contents (ReplanLogging plant plan period budget log) status t
     OnPlant (reading (content contents 0)) (λ p. OnPlan (plan_of_text p (content contents 1)) (λ starts. Replanned budget p period starts (bytes_in log new) (new ≡ old))) status text
 AnswersTo old new contents (CheckingReplan plant plan period log) status text =
     OnPlant (reading (content contents 0)) (λ p. OnPlan (plan_of_text p (content contents 1)) (λ starts. ReplanChecked (bytes_in log old) p period (kept_starts period starts) (new ≡ old))) status text
+AnswersTo old new contents (Improving plant plan budget log) status text =
+    OnPlant (reading (content contents 0)) (λ p. OnPlan (plan_of_text p (content contents 1)) (λ starts. Improved budget p starts (told_log log new) (new ≡ old))) status text
 AnswersTo old new contents (Estimating plant log state step count) status text = OnPlant (reading (content contents 0)) (Estimated state step count (content contents 1)) status text
 AnswersTo old new contents (Seeking plant budget) status text = OnPlant (reading (content contents 0)) (λ p. Sought budget p (λ _. None) (λ _. Unit {0})) status text
 AnswersTo old new contents (Tracing plant budget stem) status text = OnPlant (reading (content contents 0)) (λ p. Sought budget p (logs_in stem new) (λ horizon. OthersStayBelow stem horizon old new)) status text
@@ -132,8 +139,9 @@ IsLeft (Upgrading plant) old new = new ≡ old
 IsLeft (Numbering plant) old new = new ≡ old
 IsLeft (Showing seed) old new = new ≡ old
 IsLeft (Replanning plant plan period budget) old new = new ≡ old
-IsLeft (ReplanLogging plant plan period budget log) old new = (new ≡ old) ⊎ HoldsReplan old new plant plan period log
+IsLeft (ReplanLogging plant plan period budget log) old new = (new ≡ old) ⊎ HoldsOn old new plant plan (Some period) log
 IsLeft (CheckingReplan plant plan period log) old new = new ≡ old
+IsLeft (Improving plant plan budget log) old new = LogLeft log (λ name. (new ≡ old) ⊎ HoldsOn old new plant plan None name) old new
 IsLeft (Estimating plant log state step count) old new = new ≡ old
 IsLeft (Seeking plant budget) old new = new ≡ old
 IsLeft (Tracing plant budget stem) old new = (new ≡ old) ⊎ HoldsLogs budget old new plant stem
@@ -143,7 +151,7 @@ IsLeft (PartSolving plant levels part budget log) old new = (new ≡ old) ⊎ Ho
 IsLeft (Joining plant levels stem log) old new = (new ≡ old) ⊎ HoldsJoined old new plant levels stem log
 
 -- a request gets to writing a file: it names a log, and its plant was read, and its plan where it has one, of which the kept starts
--- stand together; where it speaks of parts, the plant has a slot for each level, and the logs that it joins are valid
+-- stand together, or which is feasible where none are kept; where it speaks of parts, the plant has a slot for each level, and the logs that it joins are valid
 abbrev pub GetsToWriting : Option FileMap → Request → Type 0
 GetsToWriting files (Solving plant budget) = ⊥
 GetsToWriting files (Logging plant budget log) = (p : Plant) × IsReadOf reading files plant (Ok p)
@@ -154,8 +162,9 @@ GetsToWriting files (Upgrading plant) = ⊥
 GetsToWriting files (Numbering plant) = ⊥
 GetsToWriting files (Showing seed) = ⊥
 GetsToWriting files (Replanning plant plan period budget) = ⊥
-GetsToWriting files (ReplanLogging plant plan period budget log) = CanReplan files plant plan period
+GetsToWriting files (ReplanLogging plant plan period budget log) = GoesOn files plant plan (Some period)
 GetsToWriting files (CheckingReplan plant plan period log) = ⊥
+GetsToWriting files (Improving plant plan budget log) = (log ≢ None) × GoesOn files plant plan None
 GetsToWriting files (Estimating plant log state step count) = ⊥
 GetsToWriting files (Seeking plant budget) = ⊥
 GetsToWriting files (Tracing plant budget stem) = (p : Plant) × IsReadOf reading files plant (Ok p)

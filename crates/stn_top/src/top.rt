@@ -19,7 +19,7 @@ use listing_commands::{list_file, show_file};
 use log_commands::{check_file, check_replan_file};
 use part_commands::{join_file, parts_file};
 use plan_commands::{simulate_file, upgrade_file};
-use planning_commands::{log_file, log_replan_file, replan_file, solve_file, solve_part_file};
+use planning_commands::{plan_on_file, solve_file, solve_part_file};
 use std::alloc::Global;
 use stn_edge::{Shelf, Sink, Stop};
 use tank_commands::estimate_file;
@@ -43,6 +43,8 @@ use tank_commands::estimate_file;
 /// | `demo SEED` | makes a plant of the seed, plans it with 500 boxes, and checks the log; no file is touched |
 /// | `replan PLANT PLAN PERIOD BUDGET` | keeps the starts of the plan before the period, and plans what comes after as `solve` does; where one of them does not fit or two meet, says so |
 /// | `replan PLANT PLAN PERIOD BUDGET LOG` | the same, and writes the log of the proof; LOG is neither the word PLANT nor PLAN |
+/// | `improve PLANT PLAN BUDGET` | plans as `solve` does, and begins with the plan, so that the answer earns no less; where the plan is not feasible, says what it breaks first |
+/// | `improve PLANT PLAN BUDGET LOG` | the same, and writes the log of the proof; LOG is neither the word PLANT nor PLAN |
 /// | `check-replan PLANT PLAN PERIOD LOG` | checks the proof log of such a planning, and says its claim or its first defect |
 /// | `whatif PLANT LOG STATE STEP COUNT` | says by an old log, without a search, what no plan earns more than where the limits of the state are raised by no step, by one, and so on, and what the log's plan then comes to |
 /// | `least PLANT BUDGET` | finds the least horizon within which all deliveries can be met, with at most BUDGET boxes for each |
@@ -179,8 +181,8 @@ fn reply_to<F: Shelf>(alloc: Global, command: Command, files: &mut F) -> Result<
     ensures writable { F.may_write files.new ≡ F.may_write files.old }
 {
     match command {
-        Command::Solve { plant, budget } => solve_file(alloc, files, plant, budget),
-        Command::Log { plant, budget, log } => log_file(alloc, files, plant, budget, log),
+        Command::Solve { plant, budget } => solve_file(alloc, files, plant, budget, None),
+        Command::Log { plant, budget, log } => solve_file(alloc, files, plant, budget, Some(log)),
         Command::Simulate { usage, plant, plan } => simulate_file(alloc, files, usage, plant, plan),
         Command::Check { plant, log } => check_file(alloc, files, plant, log),
         Command::Plan { plant, log } => show_file(alloc, files, plant, log),
@@ -192,20 +194,26 @@ fn reply_to<F: Shelf>(alloc: Global, command: Command, files: &mut F) -> Result<
             plan,
             period,
             budget,
-        } => replan_file(alloc, files, plant, plan, period, budget),
+        } => plan_on_file(alloc, files, plant, plan, Some(period.number), budget, None),
         Command::LogReplan {
             plant,
             plan,
             period,
             budget,
             log,
-        } => log_replan_file(alloc, files, plant, plan, period, budget, log),
+        } => plan_on_file(alloc, files, plant, plan, Some(period.number), budget, Some(log)),
         Command::CheckReplan {
             plant,
             plan,
             period,
             log,
         } => check_replan_file(alloc, files, plant, plan, period, log),
+        Command::Improve {
+            plant,
+            plan,
+            budget,
+            log,
+        } => plan_on_file(alloc, files, plant, plan, None, budget, log),
         Command::Estimate {
             plant,
             log,

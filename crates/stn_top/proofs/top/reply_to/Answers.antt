@@ -1,9 +1,9 @@
 -- Each command's work comes to what its call promises.
 use Rattle.std.proofs.Common.{ap, refl}
-use Rattle.command_words.specs.Words.{meaning, Solving, Logging, Simulating, Checking, Telling, Numbering, Upgrading, Replanning, ReplanLogging, CheckingReplan, Estimating, Seeking, Tracing, Auditing, Parting, PartSolving, Joining}
+use Rattle.command_words.specs.Words.{meaning, Solving, Logging, Simulating, Checking, Telling, Numbering, Upgrading, Replanning, ReplanLogging, CheckingReplan, Improving, named_log, Estimating, Seeking, Tracing, Auditing, Parting, PartSolving, Joining}
 use Rattle.horizon_commands.proofs.Horizons.{logs_allowed, all_logs_allowed}
 use Rattle.part_commands.proofs.JoinLemmas.{parts_allowed}
-use Rattle.stn_top.proofs.FileLemmas.{kept_log, kept_replan, kept_logs, kept_part, kept_joined}
+use Rattle.stn_top.proofs.FileLemmas.{kept_log, kept_replan, kept_improve, kept_logs, kept_part, kept_joined}
 use Rattle.stn_top.proofs.DoneLemmas.{only_read, wrote, demonstrated}
 use Rattle.stn_top.proofs.top.reply_to.Goals as goal
 
@@ -11,7 +11,7 @@ pub returns-in-Solve-clause-done : goal.returns-in-Solve-clause-done
 returns-in-Solve-clause-done g c =
     rw c.in-Solve.is (only_read (Solving c.in-Solve.plant.now c.in-Solve.budget.boxes) (g.F.Shelf.files c.args.files.now) (g.F.Shelf.files c.solve_file.new.files) (g.F.Shelf.read_faults c.args.files.now) (g.F.Shelf.read_faults c.solve_file.new.files)
     (g.F.Shelf.write_faults c.args.files.now) (g.F.Shelf.write_faults c.solve_file.new.files) c.solve_file.result
-    c.solve_file.ensures.answer c.solve_file.ensures.fault c.solve_file.ensures.unwritten c.solve_file.ensures.same c.solve_file.ensures.later c.solve_file.ensures.no_write)
+    c.solve_file.ensures.answer c.solve_file.ensures.fault (λ is. c.solve_file.ensures.named is refl) c.solve_file.ensures.left c.solve_file.ensures.later (c.solve_file.ensures.no_write refl))
 
 pub returns-in-Simulate-clause-done : goal.returns-in-Simulate-clause-done
 returns-in-Simulate-clause-done g c =
@@ -45,9 +45,9 @@ returns-in-Upgrade-clause-done g c =
 
 pub returns-in-Replan-clause-done : goal.returns-in-Replan-clause-done
 returns-in-Replan-clause-done g c =
-    rw c.in-Replan.is (only_read (Replanning c.in-Replan.plant.now c.in-Replan.plan.now c.in-Replan.period.number c.in-Replan.budget.boxes) (g.F.Shelf.files c.args.files.now) (g.F.Shelf.files c.replan_file.new.files) (g.F.Shelf.read_faults c.args.files.now) (g.F.Shelf.read_faults c.replan_file.new.files)
-    (g.F.Shelf.write_faults c.args.files.now) (g.F.Shelf.write_faults c.replan_file.new.files) c.replan_file.result
-    c.replan_file.ensures.answer c.replan_file.ensures.fault c.replan_file.ensures.unwritten c.replan_file.ensures.same c.replan_file.ensures.later c.replan_file.ensures.no_write)
+    rw c.in-Replan.is (only_read (Replanning c.in-Replan.plant.now c.in-Replan.plan.now c.in-Replan.period.number c.in-Replan.budget.boxes) (g.F.Shelf.files c.args.files.now) (g.F.Shelf.files c.plan_on_file.new.files) (g.F.Shelf.read_faults c.args.files.now) (g.F.Shelf.read_faults c.plan_on_file.new.files)
+    (g.F.Shelf.write_faults c.args.files.now) (g.F.Shelf.write_faults c.plan_on_file.new.files) c.plan_on_file.result
+    c.plan_on_file.ensures.answer c.plan_on_file.ensures.fault (λ is. c.plan_on_file.ensures.named is refl) c.plan_on_file.ensures.left c.plan_on_file.ensures.later (c.plan_on_file.ensures.no_write refl))
 
 pub returns-in-CheckReplan-clause-done : goal.returns-in-CheckReplan-clause-done
 returns-in-CheckReplan-clause-done g c =
@@ -86,17 +86,24 @@ returns-in-Demo-clause-done g c =
 
 pub returns-in-Log-clause-done : goal.returns-in-Log-clause-done
 returns-in-Log-clause-done g c =
-    rw c.in-Log.is (wrote (Logging c.in-Log.plant.now c.in-Log.budget.boxes c.in-Log.log.now) (g.F.Shelf.files c.args.files.now) (g.F.Shelf.files c.log_file.new.files) (g.F.Shelf.read_faults c.args.files.now) (g.F.Shelf.read_faults c.log_file.new.files)
-    (g.F.Shelf.write_faults c.args.files.now) (g.F.Shelf.write_faults c.log_file.new.files) c.log_file.result
-    c.log_file.ensures.answer c.log_file.ensures.refused c.log_file.ensures.fault (λ is _. c.log_file.ensures.unread is) c.log_file.ensures.write_fault c.log_file.ensures.begun
-    (kept_log c.in-Log.plant.now c.in-Log.budget.boxes c.in-Log.log.now (g.F.Shelf.files c.args.files.now) (g.F.Shelf.files c.log_file.new.files) c.log_file.ensures.others) c.log_file.ensures.left c.log_file.ensures.later c.log_file.ensures.writes)
+    rw c.in-Log.is (wrote (Logging c.in-Log.plant.now c.in-Log.budget.boxes c.in-Log.log.now) (g.F.Shelf.files c.args.files.now) (g.F.Shelf.files c.solve_file-in-Log.new.files) (g.F.Shelf.read_faults c.args.files.now) (g.F.Shelf.read_faults c.solve_file-in-Log.new.files)
+    (g.F.Shelf.write_faults c.args.files.now) (g.F.Shelf.write_faults c.solve_file-in-Log.new.files) c.solve_file-in-Log.result
+    c.solve_file-in-Log.ensures.answer c.solve_file-in-Log.ensures.refused c.solve_file-in-Log.ensures.fault (λ is _. c.solve_file-in-Log.ensures.unread is) c.solve_file-in-Log.ensures.write_fault c.solve_file-in-Log.ensures.begun
+    (kept_log c.in-Log.plant.now c.in-Log.budget.boxes c.in-Log.log.now (g.F.Shelf.files c.args.files.now) (g.F.Shelf.files c.solve_file-in-Log.new.files) c.solve_file-in-Log.ensures.others) c.solve_file-in-Log.ensures.left c.solve_file-in-Log.ensures.later c.solve_file-in-Log.ensures.writes)
 
 pub returns-in-LogReplan-clause-done : goal.returns-in-LogReplan-clause-done
 returns-in-LogReplan-clause-done g c =
-    rw c.in-LogReplan.is (wrote (ReplanLogging c.in-LogReplan.plant.now c.in-LogReplan.plan.now c.in-LogReplan.period.number c.in-LogReplan.budget.boxes c.in-LogReplan.log.now) (g.F.Shelf.files c.args.files.now) (g.F.Shelf.files c.log_replan_file.new.files) (g.F.Shelf.read_faults c.args.files.now) (g.F.Shelf.read_faults c.log_replan_file.new.files)
-    (g.F.Shelf.write_faults c.args.files.now) (g.F.Shelf.write_faults c.log_replan_file.new.files) c.log_replan_file.result
-    c.log_replan_file.ensures.answer c.log_replan_file.ensures.refused c.log_replan_file.ensures.fault (λ is _. c.log_replan_file.ensures.unread is) c.log_replan_file.ensures.write_fault c.log_replan_file.ensures.begun
-    (kept_replan c.in-LogReplan.plant.now c.in-LogReplan.plan.now c.in-LogReplan.period.number c.in-LogReplan.budget.boxes c.in-LogReplan.log.now (g.F.Shelf.files c.args.files.now) (g.F.Shelf.files c.log_replan_file.new.files) c.log_replan_file.ensures.others) c.log_replan_file.ensures.left c.log_replan_file.ensures.later c.log_replan_file.ensures.writes)
+    rw c.in-LogReplan.is (wrote (ReplanLogging c.in-LogReplan.plant.now c.in-LogReplan.plan.now c.in-LogReplan.period.number c.in-LogReplan.budget.boxes c.in-LogReplan.log.now) (g.F.Shelf.files c.args.files.now) (g.F.Shelf.files c.plan_on_file-in-LogReplan.new.files) (g.F.Shelf.read_faults c.args.files.now) (g.F.Shelf.read_faults c.plan_on_file-in-LogReplan.new.files)
+    (g.F.Shelf.write_faults c.args.files.now) (g.F.Shelf.write_faults c.plan_on_file-in-LogReplan.new.files) c.plan_on_file-in-LogReplan.result
+    c.plan_on_file-in-LogReplan.ensures.answer c.plan_on_file-in-LogReplan.ensures.refused c.plan_on_file-in-LogReplan.ensures.fault (λ is _. c.plan_on_file-in-LogReplan.ensures.unread is) c.plan_on_file-in-LogReplan.ensures.write_fault c.plan_on_file-in-LogReplan.ensures.begun
+    (kept_replan c.in-LogReplan.plant.now c.in-LogReplan.plan.now c.in-LogReplan.period.number c.in-LogReplan.budget.boxes c.in-LogReplan.log.now (g.F.Shelf.files c.args.files.now) (g.F.Shelf.files c.plan_on_file-in-LogReplan.new.files) c.plan_on_file-in-LogReplan.ensures.others) c.plan_on_file-in-LogReplan.ensures.left c.plan_on_file-in-LogReplan.ensures.later c.plan_on_file-in-LogReplan.ensures.writes)
+
+pub returns-in-Improve-clause-done : goal.returns-in-Improve-clause-done
+returns-in-Improve-clause-done g c =
+    rw c.in-Improve.is (wrote (Improving c.in-Improve.plant.now c.in-Improve.plan.now c.in-Improve.budget.boxes (named_log c.in-Improve.log)) (g.F.Shelf.files c.args.files.now) (g.F.Shelf.files c.plan_on_file-in-Improve.new.files) (g.F.Shelf.read_faults c.args.files.now) (g.F.Shelf.read_faults c.plan_on_file-in-Improve.new.files)
+    (g.F.Shelf.write_faults c.args.files.now) (g.F.Shelf.write_faults c.plan_on_file-in-Improve.new.files) c.plan_on_file-in-Improve.result
+    c.plan_on_file-in-Improve.ensures.answer c.plan_on_file-in-Improve.ensures.refused c.plan_on_file-in-Improve.ensures.fault (λ is _. c.plan_on_file-in-Improve.ensures.unread is) c.plan_on_file-in-Improve.ensures.write_fault (λ is. (c.plan_on_file-in-Improve.ensures.named is, c.plan_on_file-in-Improve.ensures.begun is))
+    (kept_improve c.in-Improve.plant.now c.in-Improve.plan.now c.in-Improve.budget.boxes (named_log c.in-Improve.log) (g.F.Shelf.files c.args.files.now) (g.F.Shelf.files c.plan_on_file-in-Improve.new.files) c.plan_on_file-in-Improve.ensures.others) c.plan_on_file-in-Improve.ensures.left c.plan_on_file-in-Improve.ensures.later c.plan_on_file-in-Improve.ensures.writes)
 
 pub returns-in-LeastLogs-clause-done : goal.returns-in-LeastLogs-clause-done
 returns-in-LeastLogs-clause-done g c =

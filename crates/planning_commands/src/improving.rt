@@ -1,0 +1,58 @@
+//! `improve`: planning that begins with a plan at hand.
+ghost use Rattle.std.specs.Prelude.{◌≡◌, ◌≢◌, ◌≤◌, ◌<◌, ◌^◌, length, None, Err, IsTrue, IfOk, IfSome};
+ghost use Rattle.stn_edge.specs.Count.{Rose};
+ghost use Rattle.stn_edge.specs.Files.{OthersStay};
+ghost use Rattle.stn_model.specs.Sound.{Sound};
+ghost use Rattle.command_words.specs.Words.{named_log};
+ghost use Rattle.command_replies.specs.Sources.{IfRefused};
+ghost use Rattle.planning_commands.specs.Improving.{Improved};
+ghost use Rattle.planning_commands.specs.NamedLog.{LogLeft, told_log};
+ghost use Rattle.planning_commands.specs.PlanningOn.{CanGoOn, LeftOn};
+
+use crate::planning::plan_plant;
+use answer_texts::simulate_plan;
+use command_replies::{Reply, Stopped};
+use command_words::{Budget, PlanUse};
+use std::alloc::Global;
+use stn_edge::Shelf;
+use stn_model::{Plant, Start};
+
+/// The answer of planning that begins with a plan: what the plan breaks first where it is not feasible. The log of the proof is
+/// written where it is named.
+pub fn improve<F: Shelf>(
+    alloc: Global,
+    files: &mut F,
+    plant: &Plant,
+    plan: &[Start],
+    budget: Budget,
+    log: Option<&str>,
+) -> Result<Reply, Stopped>
+    requires sound { Sound plant.now }
+    requires short { length plan.now < 2 ^ 32 }
+    requires allowed { IfSome (named_log log) (λ name. IsTrue (F.may_write files.old name)) }
+    ensures answer { IfOk result (λ reply. Improved budget.boxes plant.now plan.now
+        (told_log (named_log log.entry) (F.files files.new)) (F.files files.new ≡ F.files files.old)
+        reply.status reply.text.items) }
+    ensures none { IfRefused result (λ _. ⊥) }
+    ensures no_fault { result ≢ Err Stopped.ReadFault }
+    ensures write_fault { result ≡ Err Stopped.WriteFault
+        → Rose (F.write_faults files.old) (F.write_faults files.new) }
+    ensures named { result ≡ Err Stopped.WriteFault → named_log log.entry ≢ None }
+    ensures begun { result ≡ Err Stopped.WriteFault → CanGoOn None plant.now plan.now }
+    ensures left { LeftOn None plant.now plan.now (named_log log.entry) (F.files files.old)
+        (F.files files.new) }
+    ensures others { LogLeft (named_log log.entry) (λ name. OthersStay name (F.files files.old)
+        (F.files files.new)) (F.files files.old) (F.files files.new) }
+    ensures readable { F.may_read files.new ≡ F.may_read files.old }
+    ensures writable { F.may_write files.new ≡ F.may_write files.old }
+    ensures no_read { F.read_faults files.new ≡ F.read_faults files.old }
+    ensures writes { F.write_faults files.old ≤ F.write_faults files.new }
+    ensures no_write { named_log log.entry ≡ None → F.write_faults files.new ≡ F.write_faults files.old }
+{
+    let simulated = simulate_plan(alloc, PlanUse::Simulate, plant, plan)?;
+    if simulated.status == 0 {
+        plan_plant(alloc, files, plant, plan, Some(0), budget, log)
+    } else {
+        Ok(simulated)
+    }
+}

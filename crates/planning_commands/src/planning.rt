@@ -1,0 +1,173 @@
+//! The one path of planning: over a part of a plant's choices, beginning with a plan, with a log or without one.
+ghost use Rattle.std.specs.Prelude.{◌≡◌, ◌≢◌, ◌≤◌, ◌<◌, ◌^◌, length, None, Err, IsTrue, IfOk, IfSome};
+ghost use Rattle.stn_edge.specs.Count.{Rose};
+ghost use Rattle.stn_edge.specs.Files.{OthersStay};
+ghost use Rattle.stn_model.specs.Sound.{Sound};
+ghost use Rattle.row_set.specs.Parts.{IsPartOf};
+ghost use Rattle.plan_told.specs.Outcomes.{IsPartOutcome};
+ghost use Rattle.plan_told.specs.Proofs.{HasPlantProof, HasProof};
+ghost use Rattle.stn_solve.specs.Begun.{EarnsPoint};
+ghost use Rattle.command_words.specs.Words.{named_log};
+ghost use Rattle.command_replies.specs.Sources.{IfRefused};
+ghost use Rattle.answer_texts.specs.Changed.{counted_since};
+ghost use Rattle.answer_texts.specs.Planning.{
+  Planned,
+  IsInMoney,
+  IsNamedIn,
+  answer_text,
+  status_of,
+};
+ghost use Rattle.planning_commands.specs.Improving.{IsGivenOutcome};
+ghost use Rattle.planning_commands.specs.NamedLog.{LogLeft, told_log};
+ghost use Rattle.planning_commands.specs.Replanning.{IsBegunOutcome, LeavesLog};
+ghost use Rattle.planning_commands.specs.Solving.{LeavesPlant};
+
+use answer_texts::{counted_since, in_money, planned};
+use best_first::BestFirst;
+use command_replies::{Reply, Stopped};
+use command_words::Budget;
+use row_kit::Program;
+use row_set::program_of;
+use std::alloc::{AllocError, Global};
+use stn_edge::{Shelf, Stop};
+use stn_model::{Outcome, Plant, Start};
+use stn_solve::{plan_rows, point_of, solve_rows_to};
+
+/// The answer of planning a plant, beginning with a plan, of whose starts those are counted that have changed since a period, if one
+/// is given. The log of the proof is written where it is named.
+pub fn plan_plant<F: Shelf>(
+    alloc: Global,
+    files: &mut F,
+    plant: &Plant,
+    start: &[Start],
+    since: Option<u32>,
+    budget: Budget,
+    log: Option<&str>,
+) -> Result<Reply, Stopped>
+    requires sound { Sound plant.now }
+    requires short { length start.now < 2 ^ 32 }
+    requires allowed { IfSome (named_log log) (λ name. IsTrue (F.may_write files.old name)) }
+    ensures answer { IfOk result (λ reply. Planned plant.now (counted_since since start.now)
+        (IsGivenOutcome plant.now start.now budget.boxes)
+        (HasPlantProof plant.now (told_log (named_log log.entry) (F.files files.new)))
+        reply.status reply.text.items) }
+    ensures none { IfRefused result (λ _. ⊥) }
+    ensures no_fault { result ≢ Err Stopped.ReadFault }
+    ensures write_fault { result ≡ Err Stopped.WriteFault
+        → Rose (F.write_faults files.old) (F.write_faults files.new) }
+    ensures named { result ≡ Err Stopped.WriteFault → named_log log.entry ≢ None }
+    ensures left { LogLeft (named_log log.entry) (λ name. LeavesPlant plant.now name (F.files files.old)
+        (F.files files.new)) (F.files files.old) (F.files files.new) }
+    ensures others { LogLeft (named_log log.entry) (λ name. OthersStay name (F.files files.old)
+        (F.files files.new)) (F.files files.old) (F.files files.new) }
+    ensures readable { F.may_read files.new ≡ F.may_read files.old }
+    ensures writable { F.may_write files.new ≡ F.may_write files.old }
+    ensures no_read { F.read_faults files.new ≡ F.read_faults files.old }
+    ensures writes { F.write_faults files.old ≤ F.write_faults files.new }
+    ensures no_write { named_log log.entry ≡ None → F.write_faults files.new ≡ F.write_faults files.old }
+{
+    let program = program_of(alloc, plant)?;
+    plan_part(alloc, files, plant, program, 0, start, since, budget, log)
+}
+
+/// The answer of planning over the program of a part of a plant's choices, as `plan_plant` answers over the plant. The part is one of
+/// those that are told apart by so many first slots, 0 where there is none beside it.
+pub fn plan_part<F: Shelf>(
+    alloc: Global,
+    files: &mut F,
+    plant: &Plant,
+    part: Program,
+    levels: u32,
+    start: &[Start],
+    since: Option<u32>,
+    budget: Budget,
+    log: Option<&str>,
+) -> Result<Reply, Stopped>
+    requires sound { Sound plant.now }
+    requires part { IsPartOf plant.now part }
+    requires short { length start.now < 2 ^ 32 }
+    requires allowed { IfSome (named_log log) (λ name. IsTrue (F.may_write files.old name)) }
+    ensures answer { IfOk result (λ reply. Planned plant.now (counted_since since start.now)
+        (IsBegunOutcome plant.now part start.now budget.boxes)
+        (HasProof plant.now part (told_log (named_log log.entry) (F.files files.new)))
+        reply.status reply.text.items) }
+    ensures none { IfRefused result (λ _. ⊥) }
+    ensures no_fault { result ≢ Err Stopped.ReadFault }
+    ensures write_fault { result ≡ Err Stopped.WriteFault
+        → Rose (F.write_faults files.old) (F.write_faults files.new) }
+    ensures named { result ≡ Err Stopped.WriteFault → named_log log.entry ≢ None }
+    ensures left { LogLeft (named_log log.entry) (λ name. LeavesLog plant.now part name (F.files files.old)
+        (F.files files.new)) (F.files files.old) (F.files files.new) }
+    ensures others { LogLeft (named_log log.entry) (λ name. OthersStay name (F.files files.old)
+        (F.files files.new)) (F.files files.old) (F.files files.new) }
+    ensures readable { F.may_read files.new ≡ F.may_read files.old }
+    ensures writable { F.may_write files.new ≡ F.may_write files.old }
+    ensures no_read { F.read_faults files.new ≡ F.read_faults files.old }
+    ensures writes { F.write_faults files.old ≤ F.write_faults files.new }
+    ensures no_write { named_log log.entry ≡ None → F.write_faults files.new ≡ F.write_faults files.old }
+{
+    let point = point_of(alloc, plant, start)?;
+    let outcome = outcome_of(alloc, files, plant, part, levels, budget, &point, log)?;
+    Ok(reply_of(alloc, plant, &outcome, start, since)?)
+}
+
+// What planning over the part comes to, beginning with a point.
+fn outcome_of<F: Shelf>(
+    alloc: Global,
+    files: &mut F,
+    plant: &Plant,
+    part: Program,
+    levels: u32,
+    budget: Budget,
+    point: &[u8],
+    log: Option<&str>,
+) -> Result<Outcome, Stopped>
+    requires sound { Sound plant.now }
+    requires part { IsPartOf plant.now part }
+    requires allowed { IfSome (named_log log) (λ name. IsTrue (F.may_write files.old name)) }
+    ensures outcome { IfOk result (IsPartOutcome plant.now part budget.boxes) }
+    ensures proof { IfOk result
+        (HasProof plant.now part (told_log (named_log log.entry) (F.files files.new))) }
+    ensures begun { IfOk result (λ outcome. EarnsPoint part point.now outcome.answer) }
+    ensures none { IfRefused result (λ _. ⊥) }
+    ensures no_fault { result ≢ Err Stopped.ReadFault }
+    ensures write_fault { result ≡ Err Stopped.WriteFault
+        → Rose (F.write_faults files.old) (F.write_faults files.new) }
+    ensures named { result ≡ Err Stopped.WriteFault → named_log log.entry ≢ None }
+    ensures left { LogLeft (named_log log.entry) (λ name. LeavesLog plant.now part name (F.files files.old)
+        (F.files files.new)) (F.files files.old) (F.files files.new) }
+    ensures others { LogLeft (named_log log.entry) (λ name. OthersStay name (F.files files.old)
+        (F.files files.new)) (F.files files.old) (F.files files.new) }
+    ensures readable { F.may_read files.new ≡ F.may_read files.old }
+    ensures writable { F.may_write files.new ≡ F.may_write files.old }
+    ensures no_read { F.read_faults files.new ≡ F.read_faults files.old }
+    ensures writes { F.write_faults files.old ≤ F.write_faults files.new }
+    ensures no_write { named_log log.entry ≡ None → F.write_faults files.new ≡ F.write_faults files.old }
+{
+    let Some(name) = log else {
+        return Ok(plan_rows::<BestFirst>(alloc, plant, part, levels, budget.boxes, point)?);
+    };
+    match solve_rows_to::<BestFirst, _>(alloc, plant, part, levels, budget.boxes, point, files, name) {
+        Ok(outcome) => Ok(outcome),
+        Err(Stop::Failed) => Err(Stopped::WriteFault),
+        Err(Stop::Memory) => Err(Stopped::Memory),
+    }
+}
+
+// The reply of an outcome, which says how many starts of a plan have changed, where they are counted.
+fn reply_of(
+    alloc: Global,
+    plant: &Plant,
+    outcome: &Outcome,
+    start: &[Start],
+    since: Option<u32>,
+) -> Result<Reply, AllocError>
+    requires { IsNamedIn plant.now outcome.now.answer }
+    ensures says { IfOk result (λ reply. (reply.status ≡ status_of outcome.now.answer)
+        × (reply.text.items ≡ answer_text plant.now outcome.now.boxes
+        (counted_since since start.now outcome.now.answer) outcome.now.answer)) }
+    ensures money { IsInMoney outcome.now.answer }
+{
+    in_money(&outcome.answer);
+    planned(alloc, plant, outcome, counted_since(start, since, &outcome.answer))
+}
