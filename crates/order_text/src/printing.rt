@@ -37,7 +37,6 @@ fn head_line(alloc: Global, count: u64) -> Result<Vec<u8>, AllocError>
 }
 
 // Appends the lines of the deliveries that are left.
-#[tactic(auto, using(plan_tables::proofs::Ranges::pieces_next))]
 fn push_orders(
     alloc: Global,
     text: &mut Vec<u8>,

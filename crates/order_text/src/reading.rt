@@ -1,5 +1,5 @@
 //! The deliveries that the text of a conflict names.
-ghost use Rattle.std.specs.Prelude.{◌≡◌, ◌≤◌, ◌<◌, length, IfOk, MatchResult};
+ghost use Rattle.std.specs.Prelude.{◌≡◌, ◌≤◌, ◌<◌, ◌==◌, length, position, IfOk, IfSome, MatchResult};
 ghost use Rattle.stn_model.specs.Sound.{Sound};
 ghost use Rattle.order_text.specs.declared.reading.OrderStop.TheVariants.{Memory as OutOfMemory};
 ghost use Rattle.order_text.specs.ReadConflict.{
@@ -74,13 +74,21 @@ pub fn read_conflict(alloc: Global, plant: &Plant, text: &[u8]) -> Result<Vec<bo
 fn has_feed(text: &[u8]) -> bool
     ensures { result ≡ has_feed text.now }
 {
-    text.iter().position(|b| *b == b'\n').is_some()
+    feed_place(text).is_some()
+}
+
+// Where the first line feed stands.
+fn feed_place(text: &[u8]) -> Option<usize>
+    ensures { result ≡ position (λ b. b == 10) text.now }
+{
+    text.iter().position(|b| *b == b'\n')
 }
 
 // How many deliveries the first line says.
 #[tactic(auto, unfolding(crate::specs::ReadConflict::count_of))]
 fn count_of(line: &[u8]) -> Option<u64>
-    ensures { result ≡ count_of line.now }
+    ensures value { result ≡ count_of line.now }
+    ensures small { IfSome result (λ count. count < number_limit) }
 {
     let (first, rest) = cut_at(line, b' ');
     let (second, count) = cut_at(rest, b' ');
@@ -103,7 +111,7 @@ fn read_orders(
     ensures reads { ReadsOrders (orders_of plant.now count 2 0 (none_kept plant.now) text.now) result }
     ensures each { IfOk result (λ kept. length kept.items ≡ length plant.now.deliveries) }
 {
-    let mut kept = vec![in alloc; false; plant.deliveries.len()]?;
+    let mut kept = none_kept(alloc, plant)?;
     let mut above = 0;
     let mut rest = text;
     for done in 0..count {
@@ -126,6 +134,18 @@ fn read_orders(
             kind: 1,
         }))
     }
+}
+
+// No delivery is named yet.
+fn none_kept(alloc: Global, plant: &Plant) -> Result<Vec<bool>, AllocError>
+    ensures { IfOk result (λ kept. kept.items ≡ none_kept plant.now) }
+{
+    plant
+        .deliveries
+        .as_slice()
+        .iter()
+        .map(|_| false)
+        .collect(alloc)
 }
 
 // The number of the delivery that a line names, or its defect.

@@ -1,5 +1,5 @@
 -- The plant within a shorter horizon is sound.
-use Rattle.std.proofs.Common.{◌≡◌, ◌≢◌, ℕ, ◌+◌, ◌<◌, ◌≤◌, Bool, ltb, leb, List, [], length, map, filter, get_or, refl, inl, inr, arith, All, AllPairs}
+use Rattle.std.proofs.Common.{◌≢◌, ℕ, ◌+◌, ◌<◌, ◌≤◌, Bool, ltb, leb, List, [], length, map, filter, get_or, refl, inl, inr, arith, All, AllPairs}
 use Rattle.std.proofs.lemmas.Bool.{leb-true, ltb-true}
 use Rattle.std.proofs.lemmas.List.{length-map, length-take-le, get_or-map, take_all}
 use Rattle.std.proofs.lemmas.List.Elements.{All-map, All-filter, All-take, filter_passes}
@@ -7,9 +7,6 @@ use Rattle.std.proofs.lemmas.List.Sums.{length-filter, count_by-le-length}
 use Rattle.stn_model.specs.declared.plant.Plant.{Plant}
 use Rattle.stn_model.specs.declared.plant.State.{State}
 use Rattle.stn_model.specs.declared.plant.Utility.{Utility}
-use Rattle.stn_model.specs.declared.plant.Task.{Task}
-use Rattle.stn_model.specs.declared.plant.Run.{Run}
-use Rattle.stn_model.specs.declared.plant.Gap.{Gap}
 use Rattle.stn_model.specs.declared.plant.Receipt.{Receipt}
 use Rattle.stn_model.specs.declared.plant.Delivery.{Delivery}
 use Rattle.stn_model.specs.declared.plant.Outage.{Outage}
