@@ -11,6 +11,7 @@ use stn_model::{Delivery, Plant};
 
 /// The text of a conflict among the deliveries of the plant: how many are left, and a line for each of them. An error says that no
 /// memory was found.
+#[tactic(auto, unfolding(crate::specs::ConflictText::conflict_text))]
 pub fn conflict_text(alloc: Global, plant: &Plant, marks: &[Mark]) -> Result<Vec<u8>, AllocError>
     requires sound { Sound plant.now }
     requires each { length marks.now ≡ length plant.now.deliveries }

@@ -1,0 +1,121 @@
+//! Passes over the deliveries that are left.
+ghost use Rattle.std.specs.Prelude.{◌≡◌, ◌≤◌, ◌<◌, length, map, IfOk};
+ghost use Rattle.stn_model.specs.Best.{NoPlan};
+ghost use Rattle.stn_model.specs.Sound.{Sound};
+ghost use Rattle.order_conflict.specs.Conflict.{
+  left_plant,
+  planned,
+  AreMarks,
+  IsConflict,
+};
+ghost use Rattle.order_conflict.specs.Passes.{all_open, IsPassed, IsSettled};
+
+use crate::answer::ConflictAnswer;
+use crate::trials::trial;
+use order_text::Mark;
+use std::alloc::{AllocError, Global};
+use stn_model::{Answer, Outcome, Plant};
+use stn_solve::plan;
+
+/// Plans the plant with at most so many boxes, and where no plan is feasible, leaves deliveries out: one without which the others
+/// that are left have no plan goes for good, in the order of the file, pass after pass, until a whole pass leaves none out. Each
+/// step has so many boxes; N deliveries take at most N (N + 1) / 2 steps after the first. An error says that no memory was found.
+pub fn conflict(alloc: Global, plant: &Plant, budget: u32) -> Result<ConflictAnswer, AllocError>
+    requires sound { Sound plant.now }
+    requires budget { (1 ≤ budget) × (budget ≤ 100000) }
+    ensures { IfOk result (IsConflict plant.now budget) }
+{
+    let Outcome { answer, .. } = plan(alloc, plant, budget)?;
+    match planned(answer) {
+        Some(said) => Ok(said),
+        None => {
+            let marks = narrowed(alloc, plant, budget)?;
+            Ok(ConflictAnswer::Among { marks })
+        }
+    }
+}
+
+// What planning the whole plant answers, where some plan may be feasible.
+fn planned(answer: Answer) -> Option<ConflictAnswer>
+    ensures { result ≡ planned answer }
+{
+    match answer {
+        Answer::Optimal { plan, profit } => Some(ConflictAnswer::Planned { profit, plan }),
+        Answer::Infeasible => None,
+        Answer::BudgetSpent { plan, profit, .. } => match plan {
+            Some(plan) => Some(ConflictAnswer::Planned { profit, plan }),
+            None => Some(ConflictAnswer::Unsettled),
+        },
+    }
+}
+
+// The deliveries that can't be met together, where no plan meets all: passes until a whole one leaves none out.
+fn narrowed(alloc: Global, plant: &Plant, budget: u32) -> Result<Vec<Mark>, AllocError>
+    requires sound { Sound plant.now }
+    requires budget { (1 ≤ budget) × (budget ≤ 100000) }
+    requires none { NoPlan plant.now }
+    ensures { IfOk result (λ marks. AreMarks plant.now budget marks.items) }
+{
+    let mut marks = all_open(alloc, plant)?;
+    let mut changed = true;
+    while changed {
+        changed = pass(alloc, plant, budget, &mut marks)?;
+    }
+    Ok(marks)
+}
+
+// A mark on each delivery, all of which are left.
+fn all_open(alloc: Global, plant: &Plant) -> Result<Vec<Mark>, AllocError>
+    ensures { IfOk result (λ marks. marks.items ≡ all_open plant.now) }
+{
+    plant
+        .deliveries
+        .as_slice()
+        .iter()
+        .map(|_| Mark::Open)
+        .collect(alloc)
+}
+
+// A pass over the deliveries that are left. It says whether it left one out; after an error of memory some may be left out.
+fn pass(
+    alloc: Global,
+    plant: &Plant,
+    budget: u32,
+    marks: &mut [Mark],
+) -> Result<bool, AllocError>
+    requires sound { Sound plant.now }
+    requires budget { (1 ≤ budget) × (budget ≤ 100000) }
+    requires each { length marks.old ≡ length plant.now.deliveries }
+    requires none { NoPlan (left_plant plant.now marks.old) }
+    ensures { IfOk result (λ changed. IsPassed plant.now budget marks.old marks.new changed (length marks.old)) }
+{
+    let mut changed = false;
+    for place in 0..marks.len() {
+        if settle(alloc, plant, budget, marks, place)? {
+            changed = true;
+        }
+    }
+    Ok(changed)
+}
+
+// Marks the delivery at a place anew, where it is left, and says whether it goes.
+fn settle(
+    alloc: Global,
+    plant: &Plant,
+    budget: u32,
+    marks: &mut [Mark],
+    place: usize,
+) -> Result<bool, AllocError>
+    requires sound { Sound plant.now }
+    requires budget { (1 ≤ budget) × (budget ≤ 100000) }
+    requires each { length marks.old ≡ length plant.now.deliveries }
+    requires within { place < length marks.old }
+    ensures { IfOk result (IsSettled plant.now budget place marks.old marks.new) }
+{
+    if !marks[place].is_left() {
+        return Ok(false);
+    }
+    let mark = trial(alloc, plant, budget, marks, place)?;
+    marks[place] = mark;
+    Ok(!mark.is_left())
+}
