@@ -4,6 +4,7 @@ ghost use Rattle.proof_log.specs.LogNames.{log_name};
 ghost use Rattle.command_words.specs.Words.{Says, HasNoForm, IsBudget, IsPeriod, IsSeed, IsStep, IsStepCount, Solving, Logging, Simulating, Checking, Upgrading, Showing, Replanning, ReplanLogging, CheckingReplan, Estimating, texts, meaning, Seeking, Tracing, Auditing, NoHorizons, IsHorizon, IsNoLog, use_word, last_words};
 
 use crate::budget::{Budget, MAX_BUDGET};
+use crate::conflict_words::conflict_form;
 use crate::levels::{Levels, Part};
 use crate::listing_words::listing_form;
 use crate::part_words::part_form;
@@ -118,6 +119,22 @@ pub enum Command<'a> {
         horizon: u32,
         stem: &'a str,
     },
+    /// `conflict PLANT BUDGET`: find deliveries that can't be met together, with at most this many boxes for each step.
+    Conflict {
+        plant: &'a str,
+        budget: Budget,
+    },
+    /// `conflict PLANT BUDGET STEM`: the same, and write the answer and the log that shows it.
+    ConflictLogs {
+        plant: &'a str,
+        budget: Budget,
+        stem: &'a str,
+    },
+    /// `check-conflict PLANT STEM`: check such an answer and its log.
+    CheckConflict {
+        plant: &'a str,
+        stem: &'a str,
+    },
     /// `parts PLANT LEVELS`: print the parts of the plant.
     Parts {
         plant: &'a str,
@@ -190,6 +207,9 @@ pub fn command_of<'a>(words: &[&'a str]) -> Option<Command<'a>>
         return Some(command);
     }
     if let Some(command) = horizon_form(words) {
+        return Some(command);
+    }
+    if let Some(command) = conflict_form(words) {
         return Some(command);
     }
     part_form(words)

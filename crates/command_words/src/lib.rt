@@ -6,6 +6,7 @@
 
 pub mod budget;
 pub mod command;
+mod conflict_words;
 pub mod levels;
 mod listing_words;
 mod part_words;

@@ -1,5 +1,5 @@
 -- Which deliveries of a plant can't be met together.
-use Rattle.std.specs.Prelude.{◌≡◌, ◌<◌, ℕ, ⊤, ⊥, Bool, false, List, length, Option, Some, None, slice_set, slice_index_or}
+use Rattle.std.specs.Prelude.{◌≡◌, ◌<◌, ℕ, ⊤, Bool, false, List, length, Option, Some, None, slice_set, slice_index_or}
 use Rattle.stn_model.specs.declared.plant.Plant.{Plant}
 use Rattle.stn_model.specs.declared.start.Start.{Start}
 use Rattle.stn_model.specs.declared.answer.Answer.{Answer}
@@ -75,9 +75,9 @@ planned (BudgetSpent None earned cap) = Some Unsettled
 planned (BudgetSpent (Some plan) earned cap) = Some (Planned earned plan)
 
 -- The answer is right: the plan is feasible and earns the profit; or the budget was spent on the plant as a whole; or no plan of the plant is
--- feasible, and the marks are right.
+-- feasible, and the marks are right. Nothing is to be proved, so nothing stays unproved.
 abbrev pub IsConflict : Plant → ℕ → ConflictAnswer → Type 0
 IsConflict plant budget (Planned earned plan) = Feasible plant plan × (profit plant plan ≡ earned)
 IsConflict plant budget Unsettled = IsOpen plant budget
 IsConflict plant budget (Among marks) = NoPlan plant × AreMarks plant budget marks.items
-IsConflict plant budget (Unproved marks) = NoPlan plant × AreMarks plant budget marks.items
+IsConflict plant budget (Unproved marks) = ⊥

@@ -4,7 +4,7 @@ ghost use Rattle.stn_edge.specs.Count.{Rose};
 ghost use Rattle.stn_edge.specs.Files.{OthersStay};
 ghost use Rattle.stn_model.specs.Sound.{Sound};
 ghost use Rattle.stn_model.specs.Best.{NoPlan};
-ghost use Rattle.order_conflict.specs.Conflict.{AreMarks, IsConflict};
+ghost use Rattle.order_conflict.specs.Conflict.{AreMarks};
 ghost use Rattle.order_conflict.specs.Logged.{proved, IsLogOf, LeavesLog};
 
 use crate::answer::ConflictAnswer;
@@ -30,7 +30,6 @@ pub fn conflict_to<F: Shelf>(
     requires sound { Sound plant.now }
     requires budget { (1 ≤ budget) × (budget ≤ 100000) }
     requires allowed { IsTrue (F.may_write files.old name.now) }
-    ensures conflict { IfOk result (IsConflict plant.now budget) }
     ensures log { IfOk result (IsLogOf plant.now budget name.now
         (F.files files.old) (F.files files.new)) }
     ensures err { OnErr result (LeavesLog plant.now budget name.now
@@ -66,7 +65,6 @@ fn prove_marks<F: Shelf>(
     requires allowed { IsTrue (F.may_write files.old name.now) }
     requires marks { AreMarks plant.now budget marks.items }
     requires none { NoPlan plant.now }
-    ensures conflict { IfOk result (IsConflict plant.now budget) }
     ensures log { IfOk result (IsLogOf plant.now budget name.now
         (F.files files.old) (F.files files.new)) }
     ensures err { OnErr result (LeavesLog plant.now budget name.now

@@ -1,7 +1,9 @@
 //! Passes over the deliveries that are left.
-ghost use Rattle.std.specs.Prelude.{◌≡◌, ◌≤◌, ◌<◌, length, map, IfOk};
+ghost use Rattle.std.specs.Prelude.{◌≡◌, ◌≤◌, ◌<◌, length, slice_index_or, IfOk};
 ghost use Rattle.stn_model.specs.Best.{NoPlan};
 ghost use Rattle.stn_model.specs.Sound.{Sound};
+ghost use Rattle.order_text.specs.declared.mark.Mark.TheVariants.{Out};
+ghost use Rattle.order_text.specs.Marks.{is_left};
 ghost use Rattle.order_conflict.specs.Conflict.{
   left_plant,
   planned,
@@ -81,13 +83,13 @@ fn pass(
     alloc: Global,
     plant: &Plant,
     budget: u32,
-    marks: &mut [Mark],
+    marks: &mut Vec<Mark>,
 ) -> Result<bool, AllocError>
     requires sound { Sound plant.now }
     requires budget { (1 ≤ budget) × (budget ≤ 100000) }
-    requires each { length marks.old ≡ length plant.now.deliveries }
-    requires none { NoPlan (left_plant plant.now marks.old) }
-    ensures { IfOk result (λ changed. IsPassed plant.now budget marks.old marks.new changed (length marks.old)) }
+    requires each { length marks.old.items ≡ length plant.now.deliveries }
+    requires none { NoPlan (left_plant plant.now marks.old.items) }
+    ensures { IfOk result (λ changed. IsPassed plant.now budget marks.old.items marks.new.items changed (length marks.old.items)) }
 {
     let mut changed = false;
     for place in 0..marks.len() {
@@ -103,19 +105,27 @@ fn settle(
     alloc: Global,
     plant: &Plant,
     budget: u32,
-    marks: &mut [Mark],
+    marks: &mut Vec<Mark>,
     place: usize,
 ) -> Result<bool, AllocError>
     requires sound { Sound plant.now }
     requires budget { (1 ≤ budget) × (budget ≤ 100000) }
-    requires each { length marks.old ≡ length plant.now.deliveries }
-    requires within { place < length marks.old }
-    ensures { IfOk result (IsSettled plant.now budget place marks.old marks.new) }
+    requires each { length marks.old.items ≡ length plant.now.deliveries }
+    requires within { place < length marks.old.items }
+    ensures { IfOk result (IsSettled plant.now budget place marks.old.items marks.new.items) }
 {
-    if !marks[place].is_left() {
+    if !is_left_at(marks.as_slice(), place) {
         return Ok(false);
     }
-    let mark = trial(alloc, plant, budget, marks, place)?;
+    let mark = trial(alloc, plant, budget, marks.as_slice(), place)?;
     marks[place] = mark;
     Ok(!mark.is_left())
+}
+
+// Whether the delivery at a place is left.
+fn is_left_at(marks: &[Mark], place: usize) -> bool
+    requires { place < length marks.now }
+    ensures { result ≡ is_left (slice_index_or marks.now place Out) }
+{
+    marks[place].is_left()
 }
