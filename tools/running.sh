@@ -1,8 +1,8 @@
 # Runs the program on the words, and what belongs to a run: its files are kept, its sums told, its answer explained. Sourced by `stn`.
 #
 # The program's output streams through byte for byte, and its status is the wrapper's. Where tools/speak can be executed it is
-# run after statuses 1 to 9, as `tools/speak STATUS STDOUT STDERR -- WORDS ..`: the files have what the program put (its first
-# 65,536 bytes) and what it said; what speak puts goes to standard error.
+# run after statuses 1 to 9, and after each `conflict`, as `tools/speak STATUS STDOUT STDERR -- WORDS ..`: the files have what the
+# program put (its first 65,536 bytes) and what it said; what speak puts goes to standard error. STN_PROGRAM is then the program.
 
 child=""
 copier=""
@@ -128,8 +128,8 @@ end_run() {
     tell_sums "$sums" "$@"
     if [ $# -eq 0 ]; then
         [ -n "$quiet" ] || short_help >&2
-    elif [ "$status" -ne 0 ] && [ "$status" -le 9 ] && is_explained; then
-        "$here/tools/speak" "$status" "$room/stdout" "$room/stderr" -- "$@" </dev/null >&2
+    elif { [ "$status" -ne 0 ] || [ "$1" = conflict ]; } && [ "$status" -le 9 ] && is_explained; then
+        STN_PROGRAM="$program" "$here/tools/speak" "$status" "$room/stdout" "$room/stderr" -- "$@" </dev/null >&2
     fi
     exit "$status"
 }

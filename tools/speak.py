@@ -1,7 +1,7 @@
 """Says in a sentence or two what a run of stn came to; tools/speak calls it, and says less where it can't."""
 import sys
 
-from speaking import answers, faults, files, logs, plans, words as forms
+from speaking import answers, faults, files, logs, orders, plans, words as forms
 from speaking.plant import Plant
 from speaking.texts import do, listed, meant, row, sentences, short
 from speaking.toml_places import Document
@@ -40,10 +40,14 @@ class Run:
     def said(self):
         """The sentences, or nothing."""
         teller = getattr(self, f"status_{self.status}", None)
-        return (teller() if teller else None) or row("status", self.status)
+        return ((teller() if teller else None) or row("status", self.status)).strip()
 
     def status_0(self):
-        return ""
+        return self.conflict() if self.line[:2] == ["#", "conflict"] else " "
+
+    def conflict(self):
+        """Deliveries that can't be met together, and whether outages are to blame."""
+        return orders.said(whole_lines(self.out), self.form["PLANT"], self.form["BUDGET"])
 
     def broken(self, words, before=None):
         """What a plan breaks, of which these words speak."""
@@ -63,6 +67,8 @@ class Run:
     def no(self):
         """A log that is not valid: of the words, of a horizon or of a part."""
         numbers = [int(it) for it in self.line[1:]]
+        if self.command == "check-conflict":
+            return orders.objection(self.form["STEM"], *numbers)
         file = f"{self.form['STEM']}.{numbers.pop(0)}" if "STEM" in self.form else self.form["LOG"]
         return logs.said(file, *numbers, None if self.command == "check-least" else self.root())
 
@@ -93,6 +99,10 @@ class Run:
         budget = self.form.get("BUDGET", "")
         if self.line[:2] == ["#", "budget-spent"]:
             return answers.spent(self.line[2:4], budget)
+        if self.line[:2] == ["#", "conflict"]:
+            return self.conflict()
+        if self.line == ["#", "open"]:
+            return row("answer", "not settled")
         if self.line[:2] == ["#", "open"]:
             return sentences(f"no plan is feasible within fewer than {self.line[2]} periods, and at {self.line[2]} the budget was spent before a plan was found",
                              do("answer", "open"))

@@ -63,10 +63,11 @@ def faults(words, form):
 
 def stem_faults(words, form):
     """A file of a stem that another word names."""
+    few = words[0] in ("conflict", "check-conflict")
     for name in ("PLANT", "LOG") if "STEM" in form else ():
         word = form.get(name, "")
         stem, _, number = word.rpartition(".")
-        if stem == form["STEM"] and number.isdigit() and not (name == "PLANT" and words[0] == "join"):
+        if stem == form["STEM"] and number.isdigit() and not (name == "PLANT" and words[0] == "join") and not (few and number not in ("0", "1")):
             yield f"{name}, `{short(word, 60)}`, is one of the files of STEM: it needs a name of its own"
 
 
@@ -90,16 +91,18 @@ def read_files(words, form):
     for name in ("PLANT", "PLAN", "LOG"):
         if name in form and not (name == "LOG" and "LOG" in WRITES.get(words[0], ())):
             yield name, form[name]
-    if "STEM" in form and words[0] in ("join", "check-least", "merge"):
+    if "STEM" in form and words[0] in ("join", "check-least", "merge", "check-conflict"):
         first, last = stem_ends(words, form)
         for number in range(first, last):
-            yield f"the log {number} of STEM", f"{form['STEM']}.{number}"
+            yield f"the {'text' if words[0] == 'check-conflict' and number == 0 else 'log'} {number} of STEM", f"{form['STEM']}.{number}"
 
 
 def stem_ends(words, form):
     """The numbers of the files of a stem that are read."""
     if words[0] == "check-least":
         return 1, int(form["H"])
+    if words[0] == "check-conflict":
+        return 0, 2
     return 0, 2 ** int(form["LEVELS"]) if words[0] == "join" else int(form["COUNT"])
 
 

@@ -7,7 +7,7 @@ use Rattle.std.specs.Prelude.{Option, Some, None, MatchOption}
 use Rattle.command_words.specs.declared.command.Command.{Command}
 use Rattle.command_words.specs.declared.command.PlanUse.TheVariants.{Simulate, Report, Picture, Table, Violations}
 use Rattle.plan_tables.specs.declared.kind.TableKind.{TableKind}
-use Rattle.command_words.specs.Words.{texts, Request, Says, HasNoForm, Solving, Logging, Simulating, Checking, Telling, Numbering, Upgrading, Showing, Replanning, ReplanLogging, CheckingReplan, Improving, Estimating, Seeking, Tracing, Auditing, Parting, PartSolving, Joining, NoListing, NoHorizons, NoParts, meaning}
+use Rattle.command_words.specs.Words.{texts, Request, Says, HasNoForm, Solving, Logging, Simulating, Checking, Telling, Numbering, Upgrading, Showing, Replanning, ReplanLogging, CheckingReplan, Improving, Estimating, Seeking, Tracing, Auditing, Parting, PartSolving, Joining, NoListing, NoHorizons, NoParts, meaning, NoConflicts, Conflicting, ConflictLogging, CheckingConflict}
 
 -- three words are the list of their texts
 pub three_texts : (words : List (Bor (List ℕ))) (d : Bor (List ℕ)) → 3 ≤ length words → length words < 4 → texts words ≡ (get_or words 0 d).now ∷ (get_or words 1 d).now ∷ (get_or words 2 d).now ∷ []
@@ -116,36 +116,39 @@ abbrev NoOther : List (List ℕ) → Type 0
 NoOther words = ((plant : List ℕ) → ¬ Says words (Upgrading plant)) × ((seed : ℕ) → ¬ Says words (Showing seed)) × NoTables words
 
 -- words that have none of the forms
-pub has_no_form : (words : List (List ℕ)) → NoPlanning words → NoFiles words (Simulating Simulate) → NoFiles words (Simulating Report) → NoFiles words (Simulating Picture) → NoFiles words (Simulating Violations) → NoFiles words Checking → NoReplanning words → NoEstimate words → NoListing words → NoOther words → NoHorizons words → NoParts words → HasNoForm words
-has_no_form words solve simulate report picture violations check replan estimate list other least parts (Solving plant budget) = solve.0 plant budget
-has_no_form words solve simulate report picture violations check replan estimate list other least parts (Logging plant budget log) = solve.1 plant log budget
-has_no_form words solve simulate report picture violations check replan estimate list other least parts (Simulating Simulate plant plan) = simulate plant plan
-has_no_form words solve simulate report picture violations check replan estimate list other least parts (Simulating Report plant plan) = report plant plan
-has_no_form words solve simulate report picture violations check replan estimate list other least parts (Simulating Picture plant plan) = picture plant plan
-has_no_form words solve simulate report picture violations check replan estimate list other least parts (Simulating Violations plant plan) = violations plant plan
-has_no_form words solve simulate report picture violations check replan estimate list other least parts (Simulating (Table kind) plant plan) = other.2 kind plant plan
-has_no_form words solve simulate report picture violations check replan estimate list other least parts (Checking plant log) = check plant log
-has_no_form words solve simulate report picture violations check replan estimate list other least parts (Telling plant log) = list.telling plant log
-has_no_form words solve simulate report picture violations check replan estimate list other least parts (Numbering plant) = list.numbering plant
-has_no_form words solve simulate report picture violations check replan estimate list other least parts (Upgrading plant) = other.0 plant
-has_no_form words solve simulate report picture violations check replan estimate list other least parts (Showing seed) = other.1 seed
-has_no_form words solve simulate report picture violations check replan estimate list other least parts (Replanning plant plan period budget) = replan.replan plant plan period budget
-has_no_form words solve simulate report picture violations check replan estimate list other least parts (ReplanLogging plant plan period budget log) = replan.log plant plan log period budget
-has_no_form words solve simulate report picture violations check replan estimate list other least parts (CheckingReplan plant plan period log) = replan.check plant plan log period
-has_no_form words solve simulate report picture violations check replan estimate list other least parts (Improving plant plan budget log) = replan.improve plant plan budget log
-has_no_form words solve simulate report picture violations check replan estimate list other least parts (Estimating plant log state step count) = estimate plant log state step count
-has_no_form words solve simulate report picture violations check replan estimate list other least parts (Seeking plant budget) = least.seeking plant budget
-has_no_form words solve simulate report picture violations check replan estimate list other least parts (Tracing plant budget stem) = least.tracing plant stem budget
-has_no_form words solve simulate report picture violations check replan estimate list other least parts (Auditing plant horizon stem) = least.auditing plant stem horizon
-has_no_form words solve simulate report picture violations check replan estimate list other least parts (Parting plant levels) = parts.parting plant levels
-has_no_form words solve simulate report picture violations check replan estimate list other least parts (PartSolving plant levels part budget log) = parts.solving plant log levels part budget
-has_no_form words solve simulate report picture violations check replan estimate list other least parts (Joining plant levels stem log) = parts.joining plant stem log levels
+pub has_no_form : (words : List (List ℕ)) → NoPlanning words → NoFiles words (Simulating Simulate) → NoFiles words (Simulating Report) → NoFiles words (Simulating Picture) → NoFiles words (Simulating Violations) → NoFiles words Checking → NoReplanning words → NoEstimate words → NoListing words → NoOther words → NoHorizons words → NoConflicts words → NoParts words → HasNoForm words
+has_no_form words solve simulate report picture violations check replan estimate list other least conflict parts (Solving plant budget) = solve.0 plant budget
+has_no_form words solve simulate report picture violations check replan estimate list other least conflict parts (Logging plant budget log) = solve.1 plant log budget
+has_no_form words solve simulate report picture violations check replan estimate list other least conflict parts (Simulating Simulate plant plan) = simulate plant plan
+has_no_form words solve simulate report picture violations check replan estimate list other least conflict parts (Simulating Report plant plan) = report plant plan
+has_no_form words solve simulate report picture violations check replan estimate list other least conflict parts (Simulating Picture plant plan) = picture plant plan
+has_no_form words solve simulate report picture violations check replan estimate list other least conflict parts (Simulating Violations plant plan) = violations plant plan
+has_no_form words solve simulate report picture violations check replan estimate list other least conflict parts (Simulating (Table kind) plant plan) = other.2 kind plant plan
+has_no_form words solve simulate report picture violations check replan estimate list other least conflict parts (Checking plant log) = check plant log
+has_no_form words solve simulate report picture violations check replan estimate list other least conflict parts (Telling plant log) = list.telling plant log
+has_no_form words solve simulate report picture violations check replan estimate list other least conflict parts (Numbering plant) = list.numbering plant
+has_no_form words solve simulate report picture violations check replan estimate list other least conflict parts (Upgrading plant) = other.0 plant
+has_no_form words solve simulate report picture violations check replan estimate list other least conflict parts (Showing seed) = other.1 seed
+has_no_form words solve simulate report picture violations check replan estimate list other least conflict parts (Replanning plant plan period budget) = replan.replan plant plan period budget
+has_no_form words solve simulate report picture violations check replan estimate list other least conflict parts (ReplanLogging plant plan period budget log) = replan.log plant plan log period budget
+has_no_form words solve simulate report picture violations check replan estimate list other least conflict parts (CheckingReplan plant plan period log) = replan.check plant plan log period
+has_no_form words solve simulate report picture violations check replan estimate list other least conflict parts (Improving plant plan budget log) = replan.improve plant plan budget log
+has_no_form words solve simulate report picture violations check replan estimate list other least conflict parts (Estimating plant log state step count) = estimate plant log state step count
+has_no_form words solve simulate report picture violations check replan estimate list other least conflict parts (Seeking plant budget) = least.seeking plant budget
+has_no_form words solve simulate report picture violations check replan estimate list other least conflict parts (Tracing plant budget stem) = least.tracing plant stem budget
+has_no_form words solve simulate report picture violations check replan estimate list other least conflict parts (Auditing plant horizon stem) = least.auditing plant stem horizon
+has_no_form words solve simulate report picture violations check replan estimate list other least conflict parts (Conflicting plant budget) = conflict.finding plant budget
+has_no_form words solve simulate report picture violations check replan estimate list other least conflict parts (ConflictLogging plant budget stem) = conflict.logging plant stem budget
+has_no_form words solve simulate report picture violations check replan estimate list other least conflict parts (CheckingConflict plant stem) = conflict.checking plant stem
+has_no_form words solve simulate report picture violations check replan estimate list other least conflict parts (Parting plant levels) = parts.parting plant levels
+has_no_form words solve simulate report picture violations check replan estimate list other least conflict parts (PartSolving plant levels part budget log) = parts.solving plant log levels part budget
+has_no_form words solve simulate report picture violations check replan estimate list other least conflict parts (Joining plant levels stem log) = parts.joining plant stem log levels
 
 -- the last form decides
-pub last_form : (words : List (List ℕ)) (command : Option Command) → NoPlanning words → NoFiles words (Simulating Simulate) → NoFiles words (Simulating Report) → NoFiles words (Simulating Picture) → NoFiles words (Simulating Violations) → NoFiles words Checking → NoReplanning words → NoEstimate words → NoListing words → NoOther words → NoHorizons words
+pub last_form : (words : List (List ℕ)) (command : Option Command) → NoPlanning words → NoFiles words (Simulating Simulate) → NoFiles words (Simulating Report) → NoFiles words (Simulating Picture) → NoFiles words (Simulating Violations) → NoFiles words Checking → NoReplanning words → NoEstimate words → NoListing words → NoOther words → NoHorizons words → NoConflicts words
     → MatchOption command (NoParts words) (λ c. Says words (meaning c)) → MatchOption command (HasNoForm words) (λ c. Says words (meaning c))
-last_form words None solve simulate report picture violations check replan estimate list other least parts = has_no_form words solve simulate report picture violations check replan estimate list other least parts
-last_form words (Some command) solve simulate report picture violations check replan estimate list other least parts = parts
+last_form words None solve simulate report picture violations check replan estimate list other least conflict parts = has_no_form words solve simulate report picture violations check replan estimate list other least conflict parts
+last_form words (Some command) solve simulate report picture violations check replan estimate list other least conflict parts = parts
 
 -- the last form of those that list what a log or a plant holds
 pub last_listing_form : (words : List (List ℕ)) (command : Option Command) → ((plant log : List ℕ) → ¬ Says words (Telling plant log))
@@ -171,3 +174,9 @@ pub last_improve_form : (words : List (List ℕ)) (command : Option Command) →
     → MatchOption command ((plant plan : List ℕ) (budget : ℕ) (log : Option (List ℕ)) → ¬ Says words (Improving plant plan budget log)) (λ c. Says words (meaning c))
 last_improve_form words None plain logged = no_improving words plain logged
 last_improve_form words (Some command) plain logged = logged
+
+-- the last form of those on deliveries that can't be met together
+pub last_conflict_form : (words : List (List ℕ)) (command : Option Command) → ((plant : List ℕ) (budget : ℕ) → ¬ Says words (Conflicting plant budget)) → ((plant stem : List ℕ) (budget : ℕ) → ¬ Says words (ConflictLogging plant budget stem))
+    → MatchOption command ((plant stem : List ℕ) → ¬ Says words (CheckingConflict plant stem)) (λ c. Says words (meaning c)) → MatchOption command (NoConflicts words) (λ c. Says words (meaning c))
+last_conflict_form words None find log check = record { finding = find; logging = log; checking = check }
+last_conflict_form words (Some command) find log check = check

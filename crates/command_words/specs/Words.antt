@@ -29,6 +29,9 @@ pub data Request : Type 0 where
   Seeking : (plant : List ℕ) (budget : ℕ) → Request
   Tracing : (plant : List ℕ) (budget : ℕ) (stem : List ℕ) → Request
   Auditing : (plant : List ℕ) (horizon : ℕ) (stem : List ℕ) → Request
+  Conflicting : (plant : List ℕ) (budget : ℕ) → Request
+  ConflictLogging : (plant : List ℕ) (budget : ℕ) (stem : List ℕ) → Request
+  CheckingConflict : (plant stem : List ℕ) → Request
   Parting : (plant : List ℕ) (levels : ℕ) → Request
   PartSolving : (plant : List ℕ) (levels part budget : ℕ) (log : List ℕ) → Request
   Joining : (plant : List ℕ) (levels : ℕ) (stem log : List ℕ) → Request
@@ -98,6 +101,10 @@ pub record IsHorizon (word : List ℕ) (horizon : ℕ) : Type 0 where
 abbrev pub IsNoLog : List ℕ → List ℕ → Type 0
 IsNoLog file stem = (g : ℕ) → 1 ≤ g → g ≤ 336 → file ≢ log_name stem g
 
+-- the file is neither STEM.0 nor STEM.1
+abbrev pub IsNeither : List ℕ → List ℕ → Type 0
+IsNeither file stem = (number : ℕ) → number < 2 → file ≢ log_name stem number
+
 -- the word is a number of levels in decimal digits, without sign and leading zeros
 pub record IsLevels (word : List ℕ) (levels : ℕ) : Type 0 where
   pub digits : word ≡ decimal levels
@@ -151,6 +158,10 @@ Says words (Tracing plant budget stem) =
     (word : List ℕ) × ((words ≡ codes "least" ∷ plant ∷ word ∷ stem ∷ []) × (plant ≢ []) × (stem ≢ []) × IsNoLog plant stem × IsBudget word budget)
 Says words (Auditing plant horizon stem) =
     (word : List ℕ) × ((words ≡ codes "check-least" ∷ plant ∷ word ∷ stem ∷ []) × (plant ≢ []) × (stem ≢ []) × IsNoLog plant stem × IsHorizon word horizon)
+Says words (Conflicting plant budget) = (word : List ℕ) × ((words ≡ codes "conflict" ∷ plant ∷ word ∷ []) × (plant ≢ []) × IsBudget word budget)
+Says words (ConflictLogging plant budget stem) =
+    (word : List ℕ) × ((words ≡ codes "conflict" ∷ plant ∷ word ∷ stem ∷ []) × (plant ≢ []) × (stem ≢ []) × IsNeither plant stem × IsBudget word budget)
+Says words (CheckingConflict plant stem) = (words ≡ codes "check-conflict" ∷ plant ∷ stem ∷ []) × (plant ≢ []) × (stem ≢ []) × IsNeither plant stem
 Says words (Parting plant levels) = (word : List ℕ) × ((words ≡ codes "parts" ∷ plant ∷ word ∷ []) × (plant ≢ []) × IsLevels word levels)
 Says words (PartSolving plant levels part budget log) =
     (parts : List ℕ) × ((number : List ℕ) × ((most : List ℕ) × ((words ≡ codes "solve-part" ∷ plant ∷ parts ∷ number ∷ most ∷ log ∷ [])
@@ -173,6 +184,12 @@ pub record NoHorizons (words : List (List ℕ)) : Type 0 where
   pub seeking : (plant : List ℕ) (budget : ℕ) → ¬ Says words (Seeking plant budget)
   pub tracing : (plant stem : List ℕ) (budget : ℕ) → ¬ Says words (Tracing plant budget stem)
   pub auditing : (plant stem : List ℕ) (horizon : ℕ) → ¬ Says words (Auditing plant horizon stem)
+
+-- the words say no request for deliveries that can't be met together
+pub record NoConflicts (words : List (List ℕ)) : Type 0 where
+  pub finding : (plant : List ℕ) (budget : ℕ) → ¬ Says words (Conflicting plant budget)
+  pub logging : (plant stem : List ℕ) (budget : ℕ) → ¬ Says words (ConflictLogging plant budget stem)
+  pub checking : (plant stem : List ℕ) → ¬ Says words (CheckingConflict plant stem)
 
 -- the words say no request that speaks of the parts of a plant
 pub record NoParts (words : List (List ℕ)) : Type 0 where
@@ -202,6 +219,9 @@ meaning (variants.Estimate plant log state steps) = Estimating plant.now log.now
 meaning (variants.Least plant budget) = Seeking plant.now budget.boxes
 meaning (variants.LeastLogs plant budget stem) = Tracing plant.now budget.boxes stem.now
 meaning (variants.CheckLeast plant horizon stem) = Auditing plant.now horizon stem.now
+meaning (variants.Conflict plant budget) = Conflicting plant.now budget.boxes
+meaning (variants.ConflictLogs plant budget stem) = ConflictLogging plant.now budget.boxes stem.now
+meaning (variants.CheckConflict plant stem) = CheckingConflict plant.now stem.now
 meaning (variants.Parts plant levels) = Parting plant.now levels.number
 meaning (variants.SolvePart plant part budget log) = PartSolving plant.now part.levels.number part.number budget.boxes log.now
 meaning (variants.Join plant levels stem log) = Joining plant.now levels.number stem.now log.now

@@ -5,6 +5,7 @@ ghost use Rattle.command_words.specs.Words.{Says, HasNoForm, IsBudget, IsPeriod,
 
 use crate::budget::{Budget, MAX_BUDGET};
 use crate::improve_words::improve_form;
+use crate::conflict_words::conflict_form;
 use crate::levels::{Levels, Part};
 use crate::listing_words::listing_form;
 use crate::part_words::part_form;
@@ -127,6 +128,22 @@ pub enum Command<'a> {
         horizon: u32,
         stem: &'a str,
     },
+    /// `conflict PLANT BUDGET`: find deliveries that can't be met together, with at most this many boxes for each step.
+    Conflict {
+        plant: &'a str,
+        budget: Budget,
+    },
+    /// `conflict PLANT BUDGET STEM`: the same, and write the answer and the log that shows it.
+    ConflictLogs {
+        plant: &'a str,
+        budget: Budget,
+        stem: &'a str,
+    },
+    /// `check-conflict PLANT STEM`: check such an answer and its log.
+    CheckConflict {
+        plant: &'a str,
+        stem: &'a str,
+    },
     /// `parts PLANT LEVELS`: print the parts of the plant.
     Parts {
         plant: &'a str,
@@ -202,6 +219,9 @@ pub fn command_of<'a>(words: &[&'a str]) -> Option<Command<'a>>
         return Some(command);
     }
     if let Some(command) = horizon_form(words) {
+        return Some(command);
+    }
+    if let Some(command) = conflict_form(words) {
         return Some(command);
     }
     part_form(words)

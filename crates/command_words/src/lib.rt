@@ -7,6 +7,7 @@
 pub mod budget;
 pub mod command;
 mod improve_words;
+mod conflict_words;
 pub mod levels;
 mod listing_words;
 mod part_words;

@@ -12,14 +12,14 @@ use Rattle.proof_log.specs.LogNames.{log_name}
 use Rattle.least_horizon.specs.LogNames.{logs_in, OthersStayBelow}
 use Rattle.least_horizon.specs.Least.{AreInfeasible}
 
--- two horizons have two names
-log_name-injective : (stem : List ℕ) (g h : ℕ) → g < 2 ^ 64 → h < 2 ^ 64 → log_name stem g ≡ log_name stem h → g ≡ h
+-- two numbers of a stem have two names
+pub log_name-injective : (stem : List ℕ) (g h : ℕ) → g < 2 ^ 64 → h < 2 ^ 64 → log_name stem g ≡ log_name stem h → g ≡ h
 unfolding log_name
 log_name-injective stem g h small_g small_h same =
     decimal_injective g h small_g small_h (append_cancel_left (codes ".") (decimal g) (decimal h) (append_cancel_left stem (codes "." ++ decimal g) (codes "." ++ decimal h) same))
 
 -- a file that stays has the same bytes
-bytes_same : (name : List ℕ) (old new : Option FileMap) → option_map (λ files. get files name) new ≡ option_map (λ files. get files name) old → bytes_in name new ≡ bytes_in name old
+pub bytes_same : (name : List ℕ) (old new : Option FileMap) → option_map (λ files. get files name) new ≡ option_map (λ files. get files name) old → bytes_in name new ≡ bytes_in name old
 bytes_same name None None same = refl
 bytes_same name None (Some new) same = absurd cc
 bytes_same name (Some old) None same = absurd cc

@@ -10,4 +10,4 @@ mod stem;
 
 pub use answer::LeastAnswer;
 pub use horizons::{least, least_to};
-pub use stem::{StemVerdict, check_least};
+pub use stem::{StemVerdict, check_least, speaks_against};

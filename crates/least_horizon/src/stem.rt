@@ -93,7 +93,31 @@ fn judge<F: Shelf>(
 {
     let short = plant_at(alloc, plant, horizon)?;
     let name = log_name(alloc, stem, horizon)?;
-    let verdict = check_stream(alloc, &short, files, name.as_str())?;
+    speaks_against(alloc, &short, files, name.as_str())
+}
+
+/// What speaks against the log in a file as one that shows that no plan is feasible: its first defect, or that it claims something
+/// else, as line 0 and kind 19. The files are as before. `Fault` comes only where a read failed.
+pub fn speaks_against<F: Shelf>(
+    alloc: Global,
+    plant: &Plant,
+    files: &mut F,
+    name: &str,
+) -> Result<Option<Defect>, CheckStop>
+    requires sound { Sound plant.now }
+    requires allowed { IsTrue (F.may_read files.old name.now) }
+    ensures judged { IfOk result (λ found. IfSome (F.files files.old)
+        (λ m. IsJudged plant.now (file_of m name.now) found)) }
+    ensures says { IfOk result (λ found. found ≡ None → NoPlan plant.now) }
+    ensures fault { result ≡ Err CheckStop.Fault
+        → Rose (F.read_faults files.old) (F.read_faults files.new) }
+    ensures same { F.files files.new ≡ F.files files.old }
+    ensures readable { F.may_read files.new ≡ F.may_read files.old }
+    ensures writable { F.may_write files.new ≡ F.may_write files.old }
+    ensures later { F.read_faults files.old ≤ F.read_faults files.new }
+    ensures no_write { F.write_faults files.new ≡ F.write_faults files.old }
+{
+    let verdict = check_stream(alloc, plant, files, name)?;
     Ok(objection(verdict))
 }
 

@@ -1,5 +1,5 @@
 -- The plant within a shorter horizon is sound.
-use Rattle.std.proofs.Common.{◌≡◌, ◌≢◌, ℕ, ◌+◌, ◌<◌, ◌≤◌, Bool, ltb, leb, List, [], length, map, filter, get_or, refl, inl, inr, arith, All, AllPairs}
+use Rattle.std.proofs.Common.{◌≢◌, ℕ, ◌+◌, ◌<◌, ◌≤◌, Bool, ltb, leb, List, [], length, map, filter, get_or, refl, inl, inr, arith, All, AllPairs}
 use Rattle.std.proofs.lemmas.Bool.{leb-true, ltb-true}
 use Rattle.std.proofs.lemmas.List.{length-map, length-take-le, get_or-map, take_all}
 use Rattle.std.proofs.lemmas.List.Elements.{All-map, All-filter, All-take, filter_passes}
@@ -7,23 +7,13 @@ use Rattle.std.proofs.lemmas.List.Sums.{length-filter, count_by-le-length}
 use Rattle.stn_model.specs.declared.plant.Plant.{Plant}
 use Rattle.stn_model.specs.declared.plant.State.{State}
 use Rattle.stn_model.specs.declared.plant.Utility.{Utility}
-use Rattle.stn_model.specs.declared.plant.Task.{Task}
-use Rattle.stn_model.specs.declared.plant.Input.{Input}
-use Rattle.stn_model.specs.declared.plant.Output.{Output}
-use Rattle.stn_model.specs.declared.plant.Draw.{Draw}
-use Rattle.stn_model.specs.declared.plant.Run.{Run}
-use Rattle.stn_model.specs.declared.plant.Gap.{Gap}
 use Rattle.stn_model.specs.declared.plant.Receipt.{Receipt}
 use Rattle.stn_model.specs.declared.plant.Delivery.{Delivery}
 use Rattle.stn_model.specs.declared.plant.Outage.{Outage}
-use Rattle.stn_model.specs.Plant.{duration_of}
-use Rattle.stn_model.specs.Sound.{Within, Sound, SoundState, SoundUtility, SoundInput, SoundOutput, SoundDraw, SoundTask, SoundRun, SoundGap, SoundReceipt, SoundDelivery, SoundOutage, SoundCounts, SoundNames}
+use Rattle.stn_model.specs.Sound.{Within, Sound, SoundState, SoundUtility, SoundTask, SoundRun, SoundGap, SoundReceipt, SoundDelivery, SoundOutage, SoundCounts, SoundNames}
+use Rattle.plant_copies.proofs.Alike.{All-each, AreAlike, task_sound, run_sound, gap_sound}
 use Rattle.shorter_plant.specs.PlantAt.{plant_at, state_until, utility_until, receipts_until, delivered_at, outage_until, outages_until}
 use Rattle.shorter_plant.proofs.Longer.{fewer_slots, fewer_pairs}
-
--- what follows of each item holds of all
-All-each : {X : Type 0} (P Q : X → Type 0) (xs : List X) → ((x : X) → P x → Q x) → All P xs → All Q xs
-All-each P Q xs follows all = λ k d within. follows (get_or xs k d) (all k d within)
 
 AllPairs-map : {X : Type 0} (R : X → X → Type 0) (f : X → X) (xs : List X) → ((a b : X) → R a b → R (f a) (f b)) → AllPairs R xs → AllPairs R (map f xs)
 AllPairs-map R f xs keeps all = λ i j d less within.
@@ -55,51 +45,9 @@ utility_sound periods horizon utility less sound = record {
   rate = sound.rate;
 }
 
--- a plant with as many states and utilities
-pub record AreAlike (a b : Plant) : Type 0 where
-  pub states : length a.states ≡ length b.states
-  pub utilities : length a.utilities ≡ length b.utilities
-  pub units : a.units ≡ b.units
-  pub tasks : a.tasks ≡ b.tasks
-
 alike : (plant : Plant) (horizon : ℕ) → AreAlike (plant_at plant horizon) plant
 unfolding plant_at
 alike plant horizon = record { states = length-map plant.states (state_until horizon); utilities = length-map plant.utilities (utility_until horizon); units = refl; tasks = refl }
-
-input_sound : (a b : Plant) (quantum : ℕ) (input : Input) → AreAlike a b → SoundInput b quantum input → SoundInput a quantum input
-input_sound a b quantum input same sound = record { state = omega (arith, same.states, sound.state); part = sound.part }
-
-output_sound : (a b : Plant) (quantum : ℕ) (output : Output) → AreAlike a b → SoundOutput b quantum output → SoundOutput a quantum output
-output_sound a b quantum output same sound = record { state = omega (arith, same.states, sound.state); part = sound.part; delay = sound.delay }
-
-draw_sound : (a b : Plant) (duration : ℕ) (draw : Draw) → AreAlike a b → SoundDraw b duration draw → SoundDraw a duration draw
-draw_sound a b duration draw same sound = record {
-  utility = omega (arith, same.utilities, sound.utility);
-  fixed = sound.fixed;
-  each = sound.each;
-  fixed_small = sound.fixed_small;
-  each_small = sound.each_small;
-}
-
-task_sound : (a b : Plant) (task : Task) → AreAlike a b → SoundTask b task → SoundTask a task
-task_sound a b task same sound = record {
-  name = sound.name;
-  quantum = sound.quantum;
-  inputs = sound.inputs;
-  outputs = sound.outputs;
-  draws = sound.draws;
-  input = All-each (SoundInput b task.quantum) (SoundInput a task.quantum) task.inputs (λ input. input_sound a b task.quantum input same) sound.input;
-  output = All-each (SoundOutput b task.quantum) (SoundOutput a task.quantum) task.outputs (λ output. output_sound a b task.quantum output same) sound.output;
-  draw = All-each (SoundDraw b (duration_of task)) (SoundDraw a (duration_of task)) task.draws (λ draw. draw_sound a b (duration_of task) draw same) sound.draw;
-  taken = sound.taken;
-  given = sound.given;
-}
-
-run_sound : (a b : Plant) (run : Run) → AreAlike a b → SoundRun b run → SoundRun a run
-run_sound a b run same sound = record { task = rw same.tasks sound.task; unit = rw same.units sound.unit; least = sound.least; range = sound.range; most = sound.most; cost = sound.cost }
-
-gap_sound : (a b : Plant) (gap : Gap) → AreAlike a b → SoundGap b gap → SoundGap a gap
-gap_sound a b gap same sound = record { unit = rw same.units sound.unit; from = rw same.tasks sound.from; to = rw same.tasks sound.to; periods = sound.periods; cost = sound.cost }
 
 receipts_sound : (plant : Plant) (horizon : ℕ) (receipts : List Receipt) → All (SoundReceipt plant) receipts → All (SoundReceipt (plant_at plant horizon)) (receipts_until horizon receipts)
 unfolding plant_at

@@ -11,7 +11,7 @@ ghost use Rattle.shorter_plant.specs.PlantAt.{
   outages_until,
 };
 
-use crate::copies::{copied, first, tasks, units};
+use plant_copies::{copied, first, state_copy, tasks, units, utility_copy};
 use std::alloc::{AllocError, Global};
 use stn_model::{Delivery, List, Outage, Plant, Receipt, State, Utility};
 
@@ -51,13 +51,9 @@ fn states_until(alloc: Global, states: &[State], horizon: u32) -> Result<List<St
 {
     let mut list = List::new(alloc);
     for state in states {
-        list.push(State {
-            name: copied(alloc, state.name.as_slice())?,
-            initial: state.initial,
-            limits: first(alloc, state.limits.as_slice(), horizon as usize + 1)?,
-            price: state.price,
-            holding: state.holding,
-        })?;
+        let mut copy = state_copy(alloc, state)?;
+        copy.limits = first(alloc, state.limits.as_slice(), horizon as usize + 1)?;
+        list.push(copy)?;
     }
     Ok(list)
 }
@@ -72,11 +68,9 @@ fn utilities_until(
 {
     let mut list = List::new(alloc);
     for utility in utilities {
-        list.push(Utility {
-            name: copied(alloc, utility.name.as_slice())?,
-            limits: first(alloc, utility.limits.as_slice(), horizon as usize)?,
-            rate: utility.rate,
-        })?;
+        let mut copy = utility_copy(alloc, utility)?;
+        copy.limits = first(alloc, utility.limits.as_slice(), horizon as usize)?;
+        list.push(copy)?;
     }
     Ok(list)
 }

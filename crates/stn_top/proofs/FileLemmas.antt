@@ -6,10 +6,11 @@ use Rattle.std.specs.FinMap.{get}
 use Rattle.std.proofs.lemmas.Fmt.{decimal_injective}
 use Rattle.stn_edge.specs.Files.{FileMap, OthersStay}
 use Rattle.least_horizon.specs.LogNames.{OthersStayBelow}
-use Rattle.command_words.specs.Words.{Request, Solving, Logging, Simulating, Checking, Telling, Numbering, Upgrading, Showing, Replanning, ReplanLogging, CheckingReplan, Improving, Estimating, Seeking, Tracing, Auditing, Parting, PartSolving, Joining, Says}
+use Rattle.command_words.specs.Words.{Request, Solving, Logging, Simulating, Checking, Telling, Numbering, Upgrading, Showing, Replanning, ReplanLogging, CheckingReplan, Improving, Estimating, Seeking, Tracing, Auditing, Parting, PartSolving, Joining, Says, Conflicting, ConflictLogging, CheckingConflict}
 use Rattle.planning_commands.specs.NamedLog.{LogLeft}
 use Rattle.stn_top.specs.Requests.{IsLeft, OthersKept}
 use Rattle.command_words.specs.Words.{IsLevels, IsPart}
+use Rattle.conflict_commands.specs.Logging.{OthersStayPair}
 use Rattle.horizon_commands.proofs.Horizons.{each_log}
 use Rattle.command_words.proofs.PartWords.{same_levels, same_part}
 use Rattle.command_words.proofs.UseWords.{no_use}
@@ -39,6 +40,9 @@ left_same (Estimating plant log state step count) old new same = same
 left_same (Seeking plant budget) old new same = same
 left_same (Tracing plant budget stem) old new same = inl same
 left_same (Auditing plant horizon stem) old new same = same
+left_same (Conflicting plant budget) old new same = same
+left_same (ConflictLogging plant budget stem) old new same = inl same
+left_same (CheckingConflict plant stem) old new same = same
 left_same (Parting plant levels) old new same = same
 left_same (PartSolving plant levels part budget log) old new same = inl same
 left_same (Joining plant levels stem log) old new same = inl same
@@ -70,6 +74,10 @@ kept_joined plant levels stem log old new stay = λ name others. stay name (othe
 pub kept_logs : (plant : List ℕ) (budget : ℕ) (stem : List ℕ) (old new : Option FileMap) → OthersStayBelow stem 337 old new → OthersKept (Tracing plant budget stem) old new
 kept_logs plant budget stem old new stay = λ name others. stay name (λ g some below. each_log (λ written. name ≢ written) stem 337 others g some below)
 
+-- every file but STEM.0 and STEM.1 is as before
+pub kept_conflict : (plant : List ℕ) (budget : ℕ) (stem : List ℕ) (old new : Option FileMap) → OthersStayPair stem old new → OthersKept (ConflictLogging plant budget stem) old new
+kept_conflict plant budget stem old new stay = λ name others. stay name (others 0 [] (omega arith)) (others 1 [] (omega arith))
+
 -- what a request leaves
 record Leaves (request : Request) (old new : Option FileMap) : Type 0 where
   kept : OthersKept request old new
@@ -78,6 +86,10 @@ record Leaves (request : Request) (old new : Option FileMap) : Type 0 where
 -- where all files are as before
 leaves_same : (request : Request) (old new : Option FileMap) → new ≡ old → Leaves request old new
 leaves_same request old new same = record { kept = kept_same request old new same; left = left_same request old new same }
+
+-- how long the first word is
+abbrev first_length : List (List ℕ) → ℕ
+first_length words = length (get_or words 0 [])
 
 -- the first byte of the first word
 abbrev first_byte : List (List ℕ) → ℕ
@@ -101,6 +113,9 @@ leaves_log words plant budget log (Estimating plant2 log2 state step count) old 
 leaves_log words plant budget log (Seeking plant2 budget2) old new says also is = (let same = ap length (sym says.1.0 ∙ also.1.0) in absurd (omega (arith, same)))
 leaves_log words plant budget log (Tracing plant2 budget2 stem2) old new says also is = (let same = ap first_byte (sym says.1.0 ∙ also.1.0) in absurd (omega (arith, same)))
 leaves_log words plant budget log (Auditing plant2 horizon2 stem2) old new says also is = (let same = ap first_byte (sym says.1.0 ∙ also.1.0) in absurd (omega (arith, same)))
+leaves_log words plant budget log (Conflicting plant2 budget2) old new says also is = (let same = ap length (sym says.1.0 ∙ also.1.0) in absurd (omega (arith, same)))
+leaves_log words plant budget log (ConflictLogging plant2 budget2 stem2) old new says also is = (let same = ap first_byte (sym says.1.0 ∙ also.1.0) in absurd (omega (arith, same)))
+leaves_log words plant budget log (CheckingConflict plant2 stem2) old new says also is = (let same = ap length (sym says.1.0 ∙ also.0) in absurd (omega (arith, same)))
 leaves_log words plant budget log (Parting plant2 levels2) old new says also is = (let same = ap length (sym says.1.0 ∙ also.1.0) in absurd (omega (arith, same)))
 leaves_log words plant budget log (PartSolving plant2 levels2 part2 budget2 log2) old new says also is = (let same = ap length (sym says.1.0 ∙ also.1.1.1.0) in absurd (omega (arith, same)))
 leaves_log words plant budget log (Joining plant2 levels2 stem2 log2) old new says also is = (let same = ap length (sym says.1.0 ∙ also.1.0) in absurd (omega (arith, same)))
@@ -130,6 +145,9 @@ leaves_replan words plant plan period budget log (Improving plant2 plan2 budget2
 leaves_replan words plant plan period budget log (Seeking plant2 budget2) old new says also is = (let same = ap length (sym says.1.1.0 ∙ also.1.0) in absurd (omega (arith, same)))
 leaves_replan words plant plan period budget log (Tracing plant2 budget2 stem2) old new says also is = (let same = ap length (sym says.1.1.0 ∙ also.1.0) in absurd (omega (arith, same)))
 leaves_replan words plant plan period budget log (Auditing plant2 horizon2 stem2) old new says also is = (let same = ap length (sym says.1.1.0 ∙ also.1.0) in absurd (omega (arith, same)))
+leaves_replan words plant plan period budget log (Conflicting plant2 budget2) old new says also is = (let same = ap length (sym says.1.1.0 ∙ also.1.0) in absurd (omega (arith, same)))
+leaves_replan words plant plan period budget log (ConflictLogging plant2 budget2 stem2) old new says also is = (let same = ap length (sym says.1.1.0 ∙ also.1.0) in absurd (omega (arith, same)))
+leaves_replan words plant plan period budget log (CheckingConflict plant2 stem2) old new says also is = (let same = ap length (sym says.1.1.0 ∙ also.0) in absurd (omega (arith, same)))
 leaves_replan words plant plan period budget log (Parting plant2 levels2) old new says also is = (let same = ap length (sym says.1.1.0 ∙ also.1.0) in absurd (omega (arith, same)))
 leaves_replan words plant plan period budget log (PartSolving plant2 levels2 part2 budget2 log2) old new says also is = (let same = ap first_byte (sym says.1.1.0 ∙ also.1.1.1.0) in absurd (omega (arith, same)))
 leaves_replan words plant plan period budget log (Joining plant2 levels2 stem2 log2) old new says also is = (let same = ap length (sym says.1.1.0 ∙ also.1.0) in absurd (omega (arith, same)))
@@ -166,6 +184,9 @@ leaves_logs words plant budget stem (Improving plant2 plan2 budget2 log2) old ne
 leaves_logs words plant budget stem (Estimating plant2 log2 state step count) old new says also is = (let same = ap length (sym says.1.0 ∙ also.1.1.0) in absurd (omega (arith, same)))
 leaves_logs words plant budget stem (Seeking plant2 budget2) old new says also is = (let same = ap length (sym says.1.0 ∙ also.1.0) in absurd (omega (arith, same)))
 leaves_logs words plant budget stem (Auditing plant2 horizon2 stem2) old new says also is = (let same = ap first_byte (sym says.1.0 ∙ also.1.0) in absurd (omega (arith, same)))
+leaves_logs words plant budget stem (Conflicting plant2 budget2) old new says also is = (let same = ap length (sym says.1.0 ∙ also.1.0) in absurd (omega (arith, same)))
+leaves_logs words plant budget stem (ConflictLogging plant2 budget2 stem2) old new says also is = (let same = ap first_byte (sym says.1.0 ∙ also.1.0) in absurd (omega (arith, same)))
+leaves_logs words plant budget stem (CheckingConflict plant2 stem2) old new says also is = (let same = ap length (sym says.1.0 ∙ also.0) in absurd (omega (arith, same)))
 leaves_logs words plant budget stem (Parting plant2 levels2) old new says also is = (let same = ap length (sym says.1.0 ∙ also.1.0) in absurd (omega (arith, same)))
 leaves_logs words plant budget stem (PartSolving plant2 levels2 part2 budget2 log2) old new says also is = (let same = ap length (sym says.1.0 ∙ also.1.1.1.0) in absurd (omega (arith, same)))
 leaves_logs words plant budget stem (Joining plant2 levels2 stem2 log2) old new says also is = (let same = ap length (sym says.1.0 ∙ also.1.0) in absurd (omega (arith, same)))
@@ -180,6 +201,42 @@ leaves_logs words plant budget stem (Tracing plant2 budget2 stem2) old new says 
       kept = subst (λ (s : List ℕ). OthersKept (Tracing plant2 budget2 s) old new) same_stem is.kept;
       left = subst (λ (s : List ℕ). IsLeft (Tracing plant2 budget2 s) old new) same_stem
           (subst (λ (b : ℕ). IsLeft (Tracing plant2 b stem) old new) same_budget (subst (λ (p : List ℕ). IsLeft (Tracing p budget stem) old new) same_plant is.left));
+    }
+
+-- the words of finding a conflict with its log say no other request
+leaves_conflict : (words : List (List ℕ)) (plant : List ℕ) (budget : ℕ) (stem : List ℕ) (other : Request) (old new : Option FileMap) → Says words (ConflictLogging plant budget stem) → Says words other
+    → Leaves (ConflictLogging plant budget stem) old new → Leaves other old new
+leaves_conflict words plant budget stem (Solving plant2 budget2) old new says also is = (let same = ap length (sym says.1.0 ∙ also.1.0) in absurd (omega (arith, same)))
+leaves_conflict words plant budget stem (Logging plant2 budget2 log2) old new says also is = (let same = ap first_byte (sym says.1.0 ∙ also.1.0) in absurd (omega (arith, same)))
+leaves_conflict words plant budget stem (Simulating usage plant2 plan2) old new says also is = absurd (no_use words usage plant2 plan2 also.0 (let long = ap length says.1.0 in omega (arith, long)) (λ t. let first = ap first_byte says.1.0 in omega (arith, t, first)))
+leaves_conflict words plant budget stem (Checking plant2 log2) old new says also is = (let same = ap length (sym says.1.0 ∙ also.0) in absurd (omega (arith, same)))
+leaves_conflict words plant budget stem (Telling plant2 log2) old new says also is = (let same = ap length (sym says.1.0 ∙ also.0) in absurd (omega (arith, same)))
+leaves_conflict words plant budget stem (Upgrading plant2) old new says also is = (let same = ap length (sym says.1.0 ∙ also.0) in absurd (omega (arith, same)))
+leaves_conflict words plant budget stem (Numbering plant2) old new says also is = (let same = ap length (sym says.1.0 ∙ also.0) in absurd (omega (arith, same)))
+leaves_conflict words plant budget stem (Showing seed) old new says also is = (let same = ap length (sym says.1.0 ∙ also.1.0) in absurd (omega (arith, same)))
+leaves_conflict words plant budget stem (Replanning plant2 plan2 period2 budget2) old new says also is = (let same = ap length (sym says.1.0 ∙ also.1.1.0) in absurd (omega (arith, same)))
+leaves_conflict words plant budget stem (ReplanLogging plant2 plan2 period2 budget2 log2) old new says also is = (let same = ap length (sym says.1.0 ∙ also.1.1.0) in absurd (omega (arith, same)))
+leaves_conflict words plant budget stem (CheckingReplan plant2 plan2 period2 log2) old new says also is = (let same = ap length (sym says.1.0 ∙ also.1.0) in absurd (omega (arith, same)))
+leaves_conflict words plant budget stem (Estimating plant2 log2 state step count) old new says also is = (let same = ap length (sym says.1.0 ∙ also.1.1.0) in absurd (omega (arith, same)))
+leaves_conflict words plant budget stem (Seeking plant2 budget2) old new says also is = (let same = ap length (sym says.1.0 ∙ also.1.0) in absurd (omega (arith, same)))
+leaves_conflict words plant budget stem (Auditing plant2 horizon2 stem2) old new says also is = (let same = ap first_length (sym says.1.0 ∙ also.1.0) in absurd (omega (arith, same)))
+leaves_conflict words plant budget stem (Conflicting plant2 budget2) old new says also is = (let same = ap length (sym says.1.0 ∙ also.1.0) in absurd (omega (arith, same)))
+leaves_conflict words plant budget stem (CheckingConflict plant2 stem2) old new says also is = (let same = ap length (sym says.1.0 ∙ also.0) in absurd (omega (arith, same)))
+leaves_conflict words plant budget stem (Parting plant2 levels2) old new says also is = (let same = ap length (sym says.1.0 ∙ also.1.0) in absurd (omega (arith, same)))
+leaves_conflict words plant budget stem (PartSolving plant2 levels2 part2 budget2 log2) old new says also is = (let same = ap length (sym says.1.0 ∙ also.1.1.1.0) in absurd (omega (arith, same)))
+leaves_conflict words plant budget stem (Joining plant2 levels2 stem2 log2) old new says also is = (let same = ap length (sym says.1.0 ∙ also.1.0) in absurd (omega (arith, same)))
+leaves_conflict words plant budget stem (Tracing plant2 budget2 stem2) old new says also is = (let same = ap first_byte (sym says.1.0 ∙ also.1.0) in absurd (omega (arith, same)))
+leaves_conflict words plant budget stem (ConflictLogging plant2 budget2 stem2) old new says also is =
+    let same : codes "conflict" ∷ plant ∷ says.0 ∷ stem ∷ [] ≡ codes "conflict" ∷ plant2 ∷ also.0 ∷ stem2 ∷ [] = sym says.1.0 ∙ also.1.0 in
+    let same_plant : plant ≡ plant2 = ap (λ (ws : List (List ℕ)). get_or ws 1 []) same in
+    let same_word : says.0 ≡ also.0 = ap (λ (ws : List (List ℕ)). get_or ws 2 []) same in
+    let same_stem : stem ≡ stem2 = ap (λ (ws : List (List ℕ)). get_or ws 3 []) same in
+    let same_budget : budget ≡ budget2 =
+    decimal_injective budget budget2 (omega (arith, says.1.4.most)) (omega (arith, also.1.4.most)) (sym says.1.4.digits ∙ (same_word ∙ also.1.4.digits)) in
+    record {
+      kept = subst (λ (s : List ℕ). OthersKept (ConflictLogging plant2 budget2 s) old new) same_stem is.kept;
+      left = subst (λ (s : List ℕ). IsLeft (ConflictLogging plant2 budget2 s) old new) same_stem
+          (subst (λ (b : ℕ). IsLeft (ConflictLogging plant2 b stem) old new) same_budget (subst (λ (p : List ℕ). IsLeft (ConflictLogging p budget stem) old new) same_plant is.left));
     }
 
 -- the words of planning a part say no other request
@@ -201,6 +258,9 @@ leaves_part words plant levels part budget log (Estimating plant2 log2 state ste
 leaves_part words plant levels part budget log (Seeking plant2 budget2) old new says also is = (let same = ap length (sym says.1.1.1.0 ∙ also.1.0) in absurd (omega (arith, same)))
 leaves_part words plant levels part budget log (Tracing plant2 budget2 stem2) old new says also is = (let same = ap length (sym says.1.1.1.0 ∙ also.1.0) in absurd (omega (arith, same)))
 leaves_part words plant levels part budget log (Auditing plant2 horizon2 stem2) old new says also is = (let same = ap length (sym says.1.1.1.0 ∙ also.1.0) in absurd (omega (arith, same)))
+leaves_part words plant levels part budget log (Conflicting plant2 budget2) old new says also is = (let same = ap length (sym says.1.1.1.0 ∙ also.1.0) in absurd (omega (arith, same)))
+leaves_part words plant levels part budget log (ConflictLogging plant2 budget2 stem2) old new says also is = (let same = ap length (sym says.1.1.1.0 ∙ also.1.0) in absurd (omega (arith, same)))
+leaves_part words plant levels part budget log (CheckingConflict plant2 stem2) old new says also is = (let same = ap length (sym says.1.1.1.0 ∙ also.0) in absurd (omega (arith, same)))
 leaves_part words plant levels part budget log (Parting plant2 levels2) old new says also is = (let same = ap length (sym says.1.1.1.0 ∙ also.1.0) in absurd (omega (arith, same)))
 leaves_part words plant levels part budget log (Joining plant2 levels2 stem2 log2) old new says also is = (let same = ap length (sym says.1.1.1.0 ∙ also.1.0) in absurd (omega (arith, same)))
 leaves_part words plant levels part budget log (PartSolving plant2 levels2 part2 budget2 log2) old new says also is =
@@ -234,6 +294,9 @@ leaves_join words plant levels stem log (Estimating plant2 log2 state step count
 leaves_join words plant levels stem log (Seeking plant2 budget2) old new says also is = (let same = ap length (sym says.1.0 ∙ also.1.0) in absurd (omega (arith, same)))
 leaves_join words plant levels stem log (Tracing plant2 budget2 stem2) old new says also is = (let same = ap length (sym says.1.0 ∙ also.1.0) in absurd (omega (arith, same)))
 leaves_join words plant levels stem log (Auditing plant2 horizon2 stem2) old new says also is = (let same = ap length (sym says.1.0 ∙ also.1.0) in absurd (omega (arith, same)))
+leaves_join words plant levels stem log (Conflicting plant2 budget2) old new says also is = (let same = ap length (sym says.1.0 ∙ also.1.0) in absurd (omega (arith, same)))
+leaves_join words plant levels stem log (ConflictLogging plant2 budget2 stem2) old new says also is = (let same = ap length (sym says.1.0 ∙ also.1.0) in absurd (omega (arith, same)))
+leaves_join words plant levels stem log (CheckingConflict plant2 stem2) old new says also is = (let same = ap length (sym says.1.0 ∙ also.0) in absurd (omega (arith, same)))
 leaves_join words plant levels stem log (Parting plant2 levels2) old new says also is = (let same = ap length (sym says.1.0 ∙ also.1.0) in absurd (omega (arith, same)))
 leaves_join words plant levels stem log (PartSolving plant2 levels2 part2 budget2 log2) old new says also is = (let same = ap length (sym says.1.0 ∙ also.1.1.1.0) in absurd (omega (arith, same)))
 leaves_join words plant levels stem log (Joining plant2 levels2 stem2 log2) old new says also is =
@@ -297,6 +360,9 @@ leaves words (Estimating plant log state step count) other old new says also is 
 leaves words (Seeking plant budget) other old new says also is = leaves_same other old new is.left
 leaves words (Tracing plant budget stem) other old new says also is = leaves_logs words plant budget stem other old new says also is
 leaves words (Auditing plant horizon stem) other old new says also is = leaves_same other old new is.left
+leaves words (Conflicting plant budget) other old new says also is = leaves_same other old new is.left
+leaves words (ConflictLogging plant budget stem) other old new says also is = leaves_conflict words plant budget stem other old new says also is
+leaves words (CheckingConflict plant stem) other old new says also is = leaves_same other old new is.left
 leaves words (Parting plant levels) other old new says also is = leaves_same other old new is.left
 leaves words (PartSolving plant levels part budget log) other old new says also is = leaves_part words plant levels part budget log other old new says also is
 leaves words (Joining plant levels stem log) other old new says also is = leaves_join words plant levels stem log other old new says also is

@@ -11,7 +11,7 @@ use Rattle.plan_told.specs.Proofs.{bytes_in}
 use Rattle.least_horizon.specs.LogNames.{logs_in, OthersStayBelow}
 use Rattle.time_grid.specs.Slots.{slots}
 use Rattle.log_parts.specs.PartLogs.{AllAreValid}
-use Rattle.command_words.specs.Words.{Request, IsNoPartLog, Solving, Logging, Simulating, Checking, Telling, Numbering, Upgrading, Showing, Replanning, ReplanLogging, CheckingReplan, Improving, Estimating, Seeking, Tracing, Auditing, Parting, PartSolving, Joining, log_words}
+use Rattle.command_words.specs.Words.{Request, IsNoPartLog, Solving, Logging, Simulating, Checking, Telling, Numbering, Upgrading, Showing, Replanning, ReplanLogging, CheckingReplan, Improving, Estimating, Seeking, Tracing, Auditing, Parting, PartSolving, Joining, log_words, Conflicting, ConflictLogging, CheckingConflict}
 use Rattle.command_replies.specs.Answers.{IsAnswerOver, content}
 use Rattle.command_replies.specs.Sources.{IsReadOf, OnPlant, OnPlan}
 use Rattle.answer_texts.specs.Levels.{OnLevels}
@@ -31,11 +31,15 @@ use Rattle.planning_commands.specs.PartSolving.{HoldsPart, PartSolved}
 use Rattle.demo_commands.specs.Demo.{Shown}
 use Rattle.horizon_commands.specs.Seeking.{HoldsLogs, Sought, log_names}
 use Rattle.horizon_commands.specs.Auditing.{Audited}
+use Rattle.proof_log.specs.LogNames.{log_name}
+use Rattle.conflict_commands.specs.Finding.{Found}
+use Rattle.conflict_commands.specs.Logging.{FoundWithLog, HoldsConflict}
+use Rattle.conflict_commands.specs.Checking.{ConflictChecked}
 use Rattle.part_commands.specs.Parting.{Parted}
 use Rattle.part_commands.specs.JoiningParts.{HoldsJoined, JoinAnswered, part_names}
 
 -- the names of the files that a request reads, in the order of its words: the plant, then the plan, or the log to check or to list, or the
--- logs of the shorter horizons or of the parts
+-- logs of the shorter horizons or of the parts, or the text of a conflict and its log
 abbrev pub read_names : Request → List (List ℕ)
 read_names (Solving plant budget) = plant ∷ []
 read_names (Logging plant budget log) = plant ∷ []
@@ -53,11 +57,15 @@ read_names (Estimating plant log state step count) = plant ∷ log ∷ []
 read_names (Seeking plant budget) = plant ∷ []
 read_names (Tracing plant budget stem) = plant ∷ []
 read_names (Auditing plant horizon stem) = plant ∷ log_names stem horizon
+read_names (Conflicting plant budget) = plant ∷ []
+read_names (ConflictLogging plant budget stem) = plant ∷ []
+read_names (CheckingConflict plant stem) = plant ∷ log_name stem 0 ∷ log_name stem 1 ∷ []
 read_names (Parting plant levels) = plant ∷ []
 read_names (PartSolving plant levels part budget log) = plant ∷ []
 read_names (Joining plant levels stem log) = plant ∷ part_names stem levels
 
--- the names of the files that a request writes: the log of a planning or of a joining, or those of all horizons that a plant may have
+-- the names of the files that a request writes: the log of a planning or of a joining, those of all horizons that a plant may have, or the
+-- text of a conflict and its log
 abbrev pub written_names : Request → List (List ℕ)
 written_names (Solving plant budget) = []
 written_names (Logging plant budget log) = log ∷ []
@@ -75,6 +83,9 @@ written_names (Estimating plant log state step count) = []
 written_names (Seeking plant budget) = []
 written_names (Tracing plant budget stem) = log_names stem 337
 written_names (Auditing plant horizon stem) = []
+written_names (Conflicting plant budget) = []
+written_names (ConflictLogging plant budget stem) = log_name stem 0 ∷ log_name stem 1 ∷ []
+written_names (CheckingConflict plant stem) = []
 written_names (Parting plant levels) = []
 written_names (PartSolving plant levels part budget log) = log ∷ []
 written_names (Joining plant levels stem log) = log ∷ []
@@ -116,6 +127,9 @@ AnswersTo old new contents (Estimating plant log state step count) status text =
 AnswersTo old new contents (Seeking plant budget) status text = OnPlant (reading (content contents 0)) (λ p. Sought budget p (λ _. None) (λ _. Unit {0})) status text
 AnswersTo old new contents (Tracing plant budget stem) status text = OnPlant (reading (content contents 0)) (λ p. Sought budget p (logs_in stem new) (λ horizon. OthersStayBelow stem horizon old new)) status text
 AnswersTo old new contents (Auditing plant horizon stem) status text = OnPlant (reading (content contents 0)) (Audited old horizon stem) status text
+AnswersTo old new contents (Conflicting plant budget) status text = OnPlant (reading (content contents 0)) (Found budget) status text
+AnswersTo old new contents (ConflictLogging plant budget stem) status text = OnPlant (reading (content contents 0)) (FoundWithLog budget stem old new) status text
+AnswersTo old new contents (CheckingConflict plant stem) status text = OnPlant (reading (content contents 0)) (ConflictChecked old stem) status text
 AnswersTo old new contents (Parting plant levels) status text = OnPlant (reading (content contents 0)) (Parted levels) status text
 AnswersTo old new contents (PartSolving plant levels part budget log) status text =
     OnPlant (reading (content contents 0)) (λ p. OnLevels p levels (PartSolved budget p levels part (bytes_in log new))) status text
@@ -146,6 +160,9 @@ IsLeft (Estimating plant log state step count) old new = new ≡ old
 IsLeft (Seeking plant budget) old new = new ≡ old
 IsLeft (Tracing plant budget stem) old new = (new ≡ old) ⊎ HoldsLogs budget old new plant stem
 IsLeft (Auditing plant horizon stem) old new = new ≡ old
+IsLeft (Conflicting plant budget) old new = new ≡ old
+IsLeft (ConflictLogging plant budget stem) old new = (new ≡ old) ⊎ HoldsConflict budget old new plant stem
+IsLeft (CheckingConflict plant stem) old new = new ≡ old
 IsLeft (Parting plant levels) old new = new ≡ old
 IsLeft (PartSolving plant levels part budget log) old new = (new ≡ old) ⊎ HoldsPart old new plant levels part log
 IsLeft (Joining plant levels stem log) old new = (new ≡ old) ⊎ HoldsJoined old new plant levels stem log
@@ -169,6 +186,9 @@ GetsToWriting files (Estimating plant log state step count) = ⊥
 GetsToWriting files (Seeking plant budget) = ⊥
 GetsToWriting files (Tracing plant budget stem) = (p : Plant) × IsReadOf reading files plant (Ok p)
 GetsToWriting files (Auditing plant horizon stem) = ⊥
+GetsToWriting files (Conflicting plant budget) = ⊥
+GetsToWriting files (ConflictLogging plant budget stem) = (p : Plant) × IsReadOf reading files plant (Ok p)
+GetsToWriting files (CheckingConflict plant stem) = ⊥
 GetsToWriting files (Parting plant levels) = ⊥
 GetsToWriting files (PartSolving plant levels part budget log) = (p : Plant) × (IsReadOf reading files plant (Ok p) × (levels ≤ length (slots p)))
 GetsToWriting files (Joining plant levels stem log) =

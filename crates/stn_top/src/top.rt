@@ -13,6 +13,7 @@ ghost use Rattle.stn_top.specs.Done.{IsDone};
 
 use command_replies::{Reply, Stopped};
 use command_words::{Command, command_of};
+use conflict_commands::{check_conflict_file, find_file, find_log_file};
 use demo_commands::show;
 use horizon_commands::{audit_file, seek_file, trace_file};
 use listing_commands::{list_file, show_file};
@@ -50,6 +51,9 @@ use tank_commands::estimate_file;
 /// | `least PLANT BUDGET` | finds the least horizon within which all deliveries can be met, with at most BUDGET boxes for each |
 /// | `least PLANT BUDGET STEM` | the same, and writes the log of each horizon g that it tries to the file STEM.g; none of STEM.1 to STEM.336 is PLANT |
 /// | `check-least PLANT H STEM` | checks the logs STEM.1, STEM.2 and so on of the horizons below H (1 to 337), and says that none of these has a feasible plan, or what speaks against the first log that doesn't show it |
+/// | `conflict PLANT BUDGET` | finds deliveries that can't be met together, each of which is needed for that, with at most BUDGET boxes for each step |
+/// | `conflict PLANT BUDGET STEM` | the same, and writes the answer to STEM.0 and the log that shows it to STEM.1; neither is PLANT |
+/// | `check-conflict PLANT STEM` | checks such an answer and its log, and says how many deliveries can't be met together, or what speaks against either; neither is PLANT |
 /// | `parts PLANT LEVELS` | prints the parts that LEVELS (1 to 8) cut the plant into, two to the power of LEVELS, and the slots that tell them apart: in each of the first LEVELS slots, a part has a batch or has none |
 /// | `solve-part PLANT LEVELS PART BUDGET LOG` | plans the part of this number as `solve` does, and writes the log of the proof; LOG is not the word PLANT |
 /// | `join PLANT LEVELS STEM LOG` | checks the logs STEM.0, STEM.1 and so on of all parts, and writes the log of the plant that they make up, or says what speaks against the first that is not valid; LOG is neither the word PLANT nor the name of one of these logs |
@@ -231,6 +235,13 @@ fn reply_to<F: Shelf>(alloc: Global, command: Command, files: &mut F) -> Result<
             horizon,
             stem,
         } => audit_file(alloc, files, plant, horizon, stem),
+        Command::Conflict { plant, budget } => find_file(alloc, files, plant, budget),
+        Command::ConflictLogs {
+            plant,
+            budget,
+            stem,
+        } => find_log_file(alloc, files, plant, budget, stem),
+        Command::CheckConflict { plant, stem } => check_conflict_file(alloc, files, plant, stem),
         Command::Parts { plant, levels } => parts_file(alloc, files, plant, levels),
         Command::SolvePart {
             plant,

@@ -1,9 +1,9 @@
 -- Each command's work comes to what its call promises.
-use Rattle.std.proofs.Common.{ap, refl}
-use Rattle.command_words.specs.Words.{meaning, Solving, Logging, Simulating, Checking, Telling, Numbering, Upgrading, Replanning, ReplanLogging, CheckingReplan, Improving, named_log, Estimating, Seeking, Tracing, Auditing, Parting, PartSolving, Joining}
+use Rattle.std.proofs.Common.{ap, refl, [], arith}
+use Rattle.command_words.specs.Words.{meaning, Solving, Logging, Simulating, Checking, Telling, Numbering, Upgrading, Replanning, ReplanLogging, CheckingReplan, Improving, named_log, Estimating, Seeking, Tracing, Auditing, Parting, PartSolving, Joining, Conflicting, ConflictLogging, CheckingConflict}
 use Rattle.horizon_commands.proofs.Horizons.{logs_allowed, all_logs_allowed}
 use Rattle.part_commands.proofs.JoinLemmas.{parts_allowed}
-use Rattle.stn_top.proofs.FileLemmas.{kept_log, kept_replan, kept_improve, kept_logs, kept_part, kept_joined}
+use Rattle.stn_top.proofs.FileLemmas.{kept_log, kept_replan, kept_improve, kept_logs, kept_part, kept_joined, kept_conflict}
 use Rattle.stn_top.proofs.DoneLemmas.{only_read, wrote, demonstrated}
 use Rattle.stn_top.proofs.top.reply_to.Goals as goal
 
@@ -73,6 +73,18 @@ returns-in-CheckLeast-clause-done g c =
     (g.F.Shelf.write_faults c.args.files.now) (g.F.Shelf.write_faults c.audit_file.new.files) c.audit_file.result
     c.audit_file.ensures.answer c.audit_file.ensures.fault c.audit_file.ensures.unwritten c.audit_file.ensures.same c.audit_file.ensures.later c.audit_file.ensures.no_write)
 
+pub returns-in-Conflict-clause-done : goal.returns-in-Conflict-clause-done
+returns-in-Conflict-clause-done g c =
+    rw c.in-Conflict.is (only_read (Conflicting c.in-Conflict.plant.now c.in-Conflict.budget.boxes) (g.F.Shelf.files c.args.files.now) (g.F.Shelf.files c.find_file.new.files) (g.F.Shelf.read_faults c.args.files.now) (g.F.Shelf.read_faults c.find_file.new.files)
+    (g.F.Shelf.write_faults c.args.files.now) (g.F.Shelf.write_faults c.find_file.new.files) c.find_file.result
+    c.find_file.ensures.answer c.find_file.ensures.fault c.find_file.ensures.unwritten c.find_file.ensures.same c.find_file.ensures.later c.find_file.ensures.no_write)
+
+pub returns-in-CheckConflict-clause-done : goal.returns-in-CheckConflict-clause-done
+returns-in-CheckConflict-clause-done g c =
+    rw c.in-CheckConflict.is (only_read (CheckingConflict c.in-CheckConflict.plant.now c.in-CheckConflict.stem.now) (g.F.Shelf.files c.args.files.now) (g.F.Shelf.files c.check_conflict_file.new.files) (g.F.Shelf.read_faults c.args.files.now) (g.F.Shelf.read_faults c.check_conflict_file.new.files)
+    (g.F.Shelf.write_faults c.args.files.now) (g.F.Shelf.write_faults c.check_conflict_file.new.files) c.check_conflict_file.result
+    c.check_conflict_file.ensures.answer c.check_conflict_file.ensures.fault c.check_conflict_file.ensures.unwritten c.check_conflict_file.ensures.same c.check_conflict_file.ensures.later c.check_conflict_file.ensures.no_write)
+
 pub returns-in-Parts-clause-done : goal.returns-in-Parts-clause-done
 returns-in-Parts-clause-done g c =
     rw c.in-Parts.is (only_read (Parting c.in-Parts.plant.now c.in-Parts.levels.number) (g.F.Shelf.files c.args.files.now) (g.F.Shelf.files c.parts_file.new.files) (g.F.Shelf.read_faults c.args.files.now) (g.F.Shelf.read_faults c.parts_file.new.files)
@@ -112,6 +124,13 @@ returns-in-LeastLogs-clause-done g c =
     c.trace_file.ensures.answer c.trace_file.ensures.refused c.trace_file.ensures.fault (λ is _. c.trace_file.ensures.unread is) c.trace_file.ensures.write_fault c.trace_file.ensures.begun
     (kept_logs c.in-LeastLogs.plant.now c.in-LeastLogs.budget.boxes c.in-LeastLogs.stem.now (g.F.Shelf.files c.args.files.now) (g.F.Shelf.files c.trace_file.new.files) c.trace_file.ensures.others) c.trace_file.ensures.left c.trace_file.ensures.later c.trace_file.ensures.writes)
 
+pub returns-in-ConflictLogs-clause-done : goal.returns-in-ConflictLogs-clause-done
+returns-in-ConflictLogs-clause-done g c =
+    rw c.in-ConflictLogs.is (wrote (ConflictLogging c.in-ConflictLogs.plant.now c.in-ConflictLogs.budget.boxes c.in-ConflictLogs.stem.now) (g.F.Shelf.files c.args.files.now) (g.F.Shelf.files c.find_log_file.new.files) (g.F.Shelf.read_faults c.args.files.now) (g.F.Shelf.read_faults c.find_log_file.new.files)
+    (g.F.Shelf.write_faults c.args.files.now) (g.F.Shelf.write_faults c.find_log_file.new.files) c.find_log_file.result
+    c.find_log_file.ensures.answer c.find_log_file.ensures.refused c.find_log_file.ensures.fault (λ is _. c.find_log_file.ensures.unread is) c.find_log_file.ensures.write_fault c.find_log_file.ensures.begun
+    (kept_conflict c.in-ConflictLogs.plant.now c.in-ConflictLogs.budget.boxes c.in-ConflictLogs.stem.now (g.F.Shelf.files c.args.files.now) (g.F.Shelf.files c.find_log_file.new.files) c.find_log_file.ensures.others) c.find_log_file.ensures.left c.find_log_file.ensures.later c.find_log_file.ensures.writes)
+
 pub returns-in-SolvePart-clause-done : goal.returns-in-SolvePart-clause-done
 returns-in-SolvePart-clause-done g c =
     rw c.in-SolvePart.is (wrote (PartSolving c.in-SolvePart.plant.now c.in-SolvePart.part.levels.number c.in-SolvePart.part.number c.in-SolvePart.budget.boxes c.in-SolvePart.log.now) (g.F.Shelf.files c.args.files.now) (g.F.Shelf.files c.solve_part_file.new.files) (g.F.Shelf.read_faults c.args.files.now) (g.F.Shelf.read_faults c.solve_part_file.new.files)
@@ -146,3 +165,15 @@ join_file-requires-clause-logs_readable g c =
 
 pub join_file-requires-clause-apart : goal.join_file-requires-clause-apart
 join_file-requires-clause-apart g c = c.requires.apart c.in-Join.plant.now c.in-Join.levels.number c.in-Join.stem.now c.in-Join.log.now (ap meaning c.in-Join.is)
+
+pub find_log_file-requires-clause-text_writable : goal.find_log_file-requires-clause-text_writable
+find_log_file-requires-clause-text_writable g c = let is = c.in-ConflictLogs.is in let all = rw is at c.requires.may_write in all 0 [] (omega arith)
+
+pub find_log_file-requires-clause-log_writable : goal.find_log_file-requires-clause-log_writable
+find_log_file-requires-clause-log_writable g c = let is = c.in-ConflictLogs.is in let all = rw is at c.requires.may_write in all 1 [] (omega arith)
+
+pub check_conflict_file-requires-clause-text_readable : goal.check_conflict_file-requires-clause-text_readable
+check_conflict_file-requires-clause-text_readable g c = let is = c.in-CheckConflict.is in let all = rw is at c.requires.may_read in all 1 [] (omega arith)
+
+pub check_conflict_file-requires-clause-log_readable : goal.check_conflict_file-requires-clause-log_readable
+check_conflict_file-requires-clause-log_readable g c = let is = c.in-CheckConflict.is in let all = rw is at c.requires.may_read in all 2 [] (omega arith)

@@ -1,0 +1,50 @@
+//! `conflict PLANT BUDGET`: finding deliveries that can't be met together.
+ghost use Rattle.std.specs.Prelude.{◌≡◌, ◌≢◌, ◌≤◌, [], Err, IsTrue, IfOk};
+ghost use Rattle.stn_edge.specs.Count.{Rose};
+ghost use Rattle.stn_model.specs.Sound.{Sound};
+ghost use Rattle.command_replies.specs.Answers.{IsPlantAnswer};
+ghost use Rattle.command_replies.specs.Sources.{IfReplied};
+ghost use Rattle.conflict_commands.specs.Finding.{Found};
+
+use crate::texts::reply_of;
+use best_first::BestFirst;
+use command_replies::{Reply, Stopped, plant_in};
+use command_words::Budget;
+use order_conflict::conflict;
+use std::alloc::{AllocError, Global};
+use stn_edge::Shelf;
+use stn_model::Plant;
+
+/// Finds deliveries of the plant in a file that can't be met together, with at most so many boxes for each step. The files are as
+/// before.
+pub fn find_file<F: Shelf>(
+    alloc: Global,
+    files: &mut F,
+    name: &str,
+    budget: Budget,
+) -> Result<Reply, Stopped>
+    requires { IsTrue (F.may_read files.old name.now) }
+    ensures answer { IfReplied result (λ reply. IsPlantAnswer (F.files files.old) (F.files files.new)
+        name.now [] (λ _. Found budget.boxes) reply.status reply.text.items) }
+    ensures fault { result ≡ Err Stopped.ReadFault
+        → Rose (F.read_faults files.old) (F.read_faults files.new) }
+    ensures unwritten { result ≢ Err Stopped.WriteFault }
+    ensures same { F.files files.new ≡ F.files files.old }
+    ensures readable { F.may_read files.new ≡ F.may_read files.old }
+    ensures writable { F.may_write files.new ≡ F.may_write files.old }
+    ensures later { F.read_faults files.old ≤ F.read_faults files.new }
+    ensures no_write { F.write_faults files.new ≡ F.write_faults files.old }
+{
+    let plant = plant_in(alloc, files, name)?;
+    Ok(find_plant(alloc, &plant, budget)?)
+}
+
+// The answer of finding a conflict of a plant.
+fn find_plant(alloc: Global, plant: &Plant, budget: Budget) -> Result<Reply, AllocError>
+    requires { Sound plant.now }
+    ensures { IfOk result
+        (λ reply. Found budget.boxes plant.now reply.status reply.text.items) }
+{
+    let said = conflict::<BestFirst>(alloc, plant, budget.boxes)?;
+    reply_of(alloc, plant, &said)
+}

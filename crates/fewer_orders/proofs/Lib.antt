@@ -1,0 +1,2 @@
+pub mod FewerSound
+pub mod Picked

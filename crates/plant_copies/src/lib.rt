@@ -1,0 +1,6 @@
+//! Copies of a plant and of its parts.
+#![tactic(auto)]
+
+mod items;
+
+pub use items::{copied, first, plant_copy, state_copy, tasks, units, utility_copy};

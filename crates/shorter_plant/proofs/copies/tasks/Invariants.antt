@@ -1,5 +1,0 @@
-use Rattle.std.proofs.Common.{◌≡◌, take}
-use Rattle.shorter_plant.proofs.copies.tasks.Given as goal
-
-abbrev pub invariant-loop-task : goal.invariant-loop-task
-invariant-loop-task l = l.list ≡ take l.task-index l.tasks
