@@ -61,10 +61,7 @@ impl Advisers for BestFirst {
         given: u32,
     ) -> Result<(SearchGuide, SearchHinter), AllocError> {
         let hinter = PlanHinter::new(alloc, program, given)?;
-        Ok((
-            SearchGuide::Plain(PlainGuide),
-            SearchHinter::Depth(hinter),
-        ))
+        Ok((SearchGuide::Plain(PlainGuide), SearchHinter::Depth(hinter)))
     }
 }
 
