@@ -157,4 +157,5 @@ def main():
     print(answer(Plant(plant), read_plan(plan)), end="")
 
 
-main()
+if __name__ == "__main__":
+    main()

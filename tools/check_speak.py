@@ -496,6 +496,7 @@ def of_plans():
     yield case("load", "0 U make 2\n0 V make 2\n", "broken load steam 0", "`steam` in period 0 is 8, 3 above its limit of 5", "4 by `make` on `V` in period 0")
     yield case("replan: places of what is kept", "2 U make 1\n1 V make 1\n", "broken unfit 1", "(1 quantum, line 2)", "outage",
                words=("replan", "plant.toml", "a.plan", "2", "9"))
+    yield case("improve", "1 U make 1\n0 U rest 1\n", "broken busy 1 2", "meet on `U`", words=("improve", "plant.toml", "a.plan", "9"))
     yield Case("violations", ["violations", "plant.toml", "a.plan"], "violations 3", "a.plan: the plan is not feasible, 3 violations", "takes 1 to 4",
                "`U` is not clean", "1 period too early", "`steam` in period 0 is 7, 2 above its limit of 5",
                files={"plant.toml": TINY, "a.plan": "0 U make 5\n1 U rest 1\n"}, says=("answer", "violations"), lines=5)
@@ -576,6 +577,7 @@ def of_words():
     yield case("H", ["check-least", "plant.toml", "338", "s"], "H is `338`", "1 to 337")
     yield case("LOG is PLANT", ["solve", "plant.toml", "1", "plant.toml"], "LOG and PLANT are the same file, `plant.toml`")
     yield case("LOG is PLAN", ["replan", "plant.toml", "a.log", "1", "1", "a.log"], "LOG and PLAN are the same file")
+    yield case("LOG is PLAN, improve", ["improve", "plant.toml", "a.log", "1", "a.log"], "LOG and PLAN are the same file")
     yield case("a file of STEM", ["least", "s.1", "1", "s"], "`s.1`, is one of the files of STEM")
     yield case("LOG of STEM", ["join", "plant.toml", "1", "s", "s.1"], "`s.1`, is one of the files of STEM")
     yield case("an empty word", ["check", "", "a.log"], "PLANT is an empty word")

@@ -15,6 +15,8 @@ class Solution:
     profit: what the plan earns; nothing where there is no plan.
     cap: no feasible plan earns more than this; nothing where no plan is feasible.
     boxes: how many boxes of the proof were counted.
+    changed: how many starts of the plan at hand the answer's plan does not have, for `replan` those from the period on; nothing of
+        `solve`.
     plan: the plan, or nothing.
     log: the log of the proof, where it was asked for.
     """
@@ -25,6 +27,7 @@ class Solution:
     boxes: int
     plan: Plan | None
     log: Log | None = None
+    changed: int | None = None
 
     @property
     def gap(self):
@@ -37,7 +40,8 @@ class Solution:
         status, *numbers = lines[0].removeprefix("# ").split(" ")
         profit, cap = ([whole(it) for it in numbers] * 2 + [None, None])[:2]
         plan = None if profit is None else Plan.of("\n".join(lines[2:]), plant)
-        return cls(status, profit, cap, int(lines[1].removeprefix("# boxes ")), plan, log)
+        counted = [int(it.removeprefix("# changed ")) for it in lines[2:3] if it.startswith("# changed ")]
+        return cls(status, profit, cap, int(lines[1].removeprefix("# boxes ")), plan, log, *counted)
 
 
 def whole(word):

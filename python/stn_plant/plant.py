@@ -216,7 +216,7 @@ class Plant:
             return Solution.of(ran.lines(), self, kept(question, log))
 
     def improve(self, plan, boxes=1000, *, log=None, timeout=None):
-        """Plans the plant from a feasible plan on: the answer earns at least as much. Needs a program with the command `improve`."""
+        """Plans the plant from a feasible plan on: the answer earns at least as much."""
         if log is not None:
             look_for_room(log)
         with Question(self, timeout) as question:

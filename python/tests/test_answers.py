@@ -135,10 +135,13 @@ class Asking(unittest.TestCase):
                                                "changeover": 0})
         self.assertEqual([it["running"] for it in five.table(plan, "units")], [1, 5, 0, 2])
         answer = five.replan(plan, 3, boxes=2000)
-        self.assertEqual((answer.status, answer.profit), ("optimal", 1248))
+        self.assertEqual((answer.status, answer.profit, answer.changed), ("optimal", 1248, 0))
         self.assertEqual(five.check_replan(plan, 3, answer.log).profit, 1248)
         with self.assertRaises(BrokenPlan):
             five.replan([(0, "heater", "heat", 11)], 1)
+        self.assertGreaterEqual(five.improve(plan, boxes=1).profit, five.simulate(plan).profit)
+        with self.assertRaises(BrokenPlan):
+            five.improve([(0, "heater", "heat", 11)])
 
     def test_other_tanks(self):
         tank = Plant.read(EXAMPLES / "tank.toml")
