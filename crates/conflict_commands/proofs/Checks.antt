@@ -1,6 +1,6 @@
 -- What the text and the log of a conflict come to.
 use Rattle.std.proofs.Common.{◌≡◌, ℕ, ◌<◌, Bool, true, List, length, Option, Some, None, nat_lt, refl, ap, sym, subst, ◌∙◌, arith}
-use Rattle.std.specs.Prelude.{Ok, Err, IfSome}
+use Rattle.std.specs.Prelude.{Ok, IfSome}
 use Rattle.std.proofs.lemmas.Bool.Decides.{nat_tests}
 use Rattle.stn_edge.specs.Files.{FileMap, file_of}
 use Rattle.stn_model.specs.declared.plant.Plant.{Plant}

@@ -4,7 +4,6 @@ use Rattle.std.specs.Global.{Global}
 use Rattle.stn_edge.specs.Files.{FileMap, file_of}
 use Rattle.stn_model.specs.declared.plant.Plant.{Plant}
 use Rattle.stn_model.specs.Best.{NoPlan}
-use Rattle.log_lines.specs.declared.defect.Defect.{Defect}
 use Rattle.proof_log.specs.LogNames.{log_name}
 use Rattle.fewer_orders.specs.Alone.{alone}
 use Rattle.least_horizon.specs.Stems.{IsJudged}

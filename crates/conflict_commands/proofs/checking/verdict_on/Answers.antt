@@ -1,12 +1,7 @@
 -- What the text says, and then the log.
-use Rattle.std.proofs.Common.{ℕ, List, ◌∙◌, subst}
-use Rattle.std.specs.Prelude.{IfSome, Ok, Err}
+use Rattle.std.proofs.Common.{◌∙◌}
 use Rattle.std.proofs.lemmas.Result.{IfOk-weaker}
-use Rattle.stn_edge.specs.Files.{file_of}
 use Rattle.proof_log.specs.LogNames.{log_name}
-use Rattle.order_text.specs.ReadConflict.{conflict_read}
-use Rattle.conflict_commands.specs.declared.checking.TextStop.{TextStop}
-use Rattle.conflict_commands.specs.Checking.{IsTextStop}
 use Rattle.conflict_commands.proofs.Checks.{kept_right, kept_says}
 use Rattle.conflict_commands.proofs.checking.verdict_on.Goals as goal
 
@@ -20,9 +15,3 @@ returns-in-Ok-clause-right g c =
 pub returns-in-Ok-clause-says : goal.returns-in-Ok-clause-says
 returns-in-Ok-clause-says g c =
     IfOk-weaker c.check_kept.result _ _ (λ verdict is. kept_says c.args.plant.now (g.F.Shelf.files c.read_text.new.files) (log_name c.args.stem.now 1) c.in-Ok.kept.items verdict is) c.check_kept.ensures.checked
-
-pub returns-in-Err-Bad-clause-right : goal.returns-in-Err-Bad-clause-right
-returns-in-Err-Bad-clause-right g c =
-    let named = c.as_str.ensures.value ∙ c.in_ok-name.ensures in
-    let reads = rw named at c.in-Err-Bad.ensures.reads in
-    subst (λ (stop : TextStop). IsTextStop c.args.plant.now (g.F.Shelf.files c.args.files.now) (log_name c.args.stem.now 0) stop) c.in-Err-Bad.field-0-is reads

@@ -1,5 +1,5 @@
 -- The log of the answer, and then its text.
-use Rattle.std.proofs.Common.{ℕ, List, ◌∙◌}
+use Rattle.std.proofs.Common.{◌∙◌}
 use Rattle.std.proofs.lemmas.Result.{IfOk-weaker}
 use Rattle.conflict_commands.proofs.Conflicts.{printable_log, left_log, left_text, found_log, pair_both}
 use Rattle.conflict_commands.proofs.logging.find_log_plant.Goals as goal
