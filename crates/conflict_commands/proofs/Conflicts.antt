@@ -1,14 +1,10 @@
 -- Conflicts, their texts, and their files.
-use Rattle.std.proofs.Common.{◌≡◌, ◌≢◌, ℕ, ◌<◌, ◌^◌, Bool, true, false, cond, List, ◌++◌, length, take, codes, Option, Some, None, inl, inr, refl, ap, sym, subst, ◌∙◌, arith, append_assoc}
+use Rattle.std.proofs.Common.{◌≡◌, ◌≢◌, ℕ, Bool, true, false, cond, List, ◌++◌, codes, Option, Some, None, inl, inr, ap, sym, subst, ◌∙◌, arith, append_assoc}
 use Rattle.std.specs.Prelude.{ℤ, Result, Ok, Err, IfOk, IfSome}
 use Rattle.std.specs.Fmt.{signed_decimal}
-use Rattle.std.specs.Option.{option_map}
-use Rattle.std.specs.FinMap.{get}
-use Rattle.std.proofs.lemmas.List.{take_all}
 use Rattle.stn_edge.specs.Files.{FileMap, file_of, OthersStay}
 use Rattle.stn_model.specs.declared.plant.Plant.{Plant}
 use Rattle.stn_model.specs.declared.start.Start.{Start}
-use Rattle.stn_model.specs.declared.answer.Answer.{Answer}
 use Rattle.stn_model.specs.declared.answer.Answer.TheVariants.{Infeasible}
 use Rattle.stn_model.specs.Sound.{Sound}
 use Rattle.plan_text.specs.PlanLines.{plan_lines}
@@ -24,7 +20,7 @@ use Rattle.order_conflict.specs.declared.answer.ConflictAnswer.TheVariants.{Plan
 use Rattle.order_conflict.specs.Conflict.{IsConflict}
 use Rattle.order_conflict.specs.Logged.{FileStays, HoldsLogOf, IsLogOf, LeavesLog}
 use Rattle.conflict_commands.specs.Finding.{answer_status, answer_text, has_open, IsPrintable, Found}
-use Rattle.conflict_commands.specs.Logging.{FoundWithLog, IsTextBegun, LeavesConflict, OthersStayPair}
+use Rattle.conflict_commands.specs.Logging.{FoundWithLog, IsPut, IsTextBegun, LeavesConflict, OthersStayPair}
 use Rattle.conflict_commands.proofs.PutText.{stays_same}
 
 -- a right answer can be printed
@@ -87,35 +83,21 @@ left_none plant budget stem old new same = inl (inl (stays_same (log_name stem 1
 pub left_log : (plant : Plant) (budget : ℕ) (stem : List ℕ) (old new : Option FileMap) → LeavesLog plant budget (log_name stem 1) old new → OthersStay (log_name stem 1) old new → LeavesConflict plant budget stem old new
 left_log plant budget stem old new left others = inl (left, others (log_name stem 0) (two_names stem))
 
--- where the answer was not put
-pub left_unput : (plant : Plant) (budget : ℕ) (stem : List ℕ) (old new : Option FileMap) (said : ConflictAnswer) → IsLogOf plant budget (log_name stem 1) old new said → OthersStay (log_name stem 1) old new → LeavesConflict plant budget stem old new
-left_unput plant budget stem old new said log others = inr (said, (log, inl (others (log_name stem 0) (two_names stem))))
-
 text_moved : (name bytes : List ℕ) (old mid new : Option FileMap) → FileStays name old mid → IsTextBegun name bytes mid new → IsTextBegun name bytes old new
 text_moved name bytes old mid new stays (inl same) = inl (same ∙ stays)
 text_moved name bytes old mid new stays (inr begun) = inr begun
 
--- where the text was stopped
-pub left_text : (plant : Plant) (budget : ℕ) (stem bytes : List ℕ) (old mid new : Option FileMap) (said : ConflictAnswer) → bytes ≡ answer_text plant said
-    → IsLogOf plant budget (log_name stem 1) old mid said → OthersStay (log_name stem 1) old mid → OthersStay (log_name stem 0) mid new → IsTextBegun (log_name stem 0) bytes mid new → LeavesConflict plant budget stem old new
-left_text plant budget stem bytes old mid new said is log before after begun =
+-- where the text was stopped, or is whole
+pub left_text : (plant : Plant) (budget : ℕ) (stem : List ℕ) (old mid new : Option FileMap) (said : ConflictAnswer)
+    → IsLogOf plant budget (log_name stem 1) old mid said → OthersStay (log_name stem 1) old mid → OthersStay (log_name stem 0) mid new → IsTextBegun (log_name stem 0) (answer_text plant said) mid new → LeavesConflict plant budget stem old new
+left_text plant budget stem old mid new said log before after begun =
     inr (
       said,
       (
         log_stays plant budget (log_name stem 1) old mid new said (after (log_name stem 1) (two_names_back stem)) log,
-        subst (λ (b : List ℕ). IsTextBegun (log_name stem 0) b old new) is (text_moved (log_name stem 0) bytes old mid new (before (log_name stem 0) (two_names stem)) begun),
+        text_moved (log_name stem 0) (answer_text plant said) old mid new (before (log_name stem 0) (two_names stem)) begun,
       ),
     )
-
-whole_begun : (name bytes : List ℕ) (files : Option FileMap) → IfSome files (λ m. file_of m name ≡ bytes) → IfSome (bytes_in name files) (λ own. own ≡ take (length bytes) bytes)
-whole_begun name bytes None is = tt
-whole_begun name bytes (Some m) is = is ∙ sym (take_all (length bytes) bytes (omega arith))
-
--- and where it is whole
-pub left_whole : (plant : Plant) (budget : ℕ) (stem bytes : List ℕ) (old mid new : Option FileMap) (said : ConflictAnswer) → bytes ≡ answer_text plant said
-    → IsLogOf plant budget (log_name stem 1) old mid said → OthersStay (log_name stem 1) old mid → OthersStay (log_name stem 0) mid new → IfSome new (λ m. file_of m (log_name stem 0) ≡ bytes) → LeavesConflict plant budget stem old new
-left_whole plant budget stem bytes old mid new said is log before after whole =
-    left_text plant budget stem bytes old mid new said is log before after (inr (length bytes, whole_begun (log_name stem 0) bytes new whole))
 
 -- every file but the two is as before
 pub pair_log : (stem : List ℕ) (old new : Option FileMap) → OthersStay (log_name stem 1) old new → OthersStayPair stem old new
@@ -133,11 +115,11 @@ told_text name bytes (Some m) is = is
 
 -- the answer with its log
 pub found_log : (plant : Plant) (budget : ℕ) (stem : List ℕ) (old mid new : Option FileMap) (said : ConflictAnswer) (reply : Reply) → IsLogOf plant budget (log_name stem 1) old mid said → OthersStay (log_name stem 0) mid new
-    → IfSome new (λ m. file_of m (log_name stem 0) ≡ reply.text.items) → (reply.status ≡ answer_status said) × (reply.text.items ≡ answer_text plant said) → FoundWithLog budget stem old new plant reply.status reply.text.items
-found_log plant budget stem old mid new said reply log after whole is = record {
+    → IsPut plant said stem new reply → FoundWithLog budget stem old new plant reply.status reply.text.items
+found_log plant budget stem old mid new said reply log after put = record {
   said = said;
   right = log_stays plant budget (log_name stem 1) old mid new said (after (log_name stem 1) (two_names_back stem)) log;
-  written = told_text (log_name stem 0) reply.text.items new whole;
-  status_is = is.0;
-  text_is = is.1;
+  written = told_text (log_name stem 0) reply.text.items new put.told;
+  status_is = put.status_is;
+  text_is = put.text_is;
 }

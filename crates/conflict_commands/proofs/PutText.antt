@@ -1,6 +1,6 @@
 -- A text that is put in the place of a file.
-use Rattle.std.proofs.Common.{◌≡◌, ◌≢◌, ℕ, List, [], ◌++◌, length, take, Option, Some, None, inl, inr, refl, ap, sym, subst, ◌∙◌, arith}
-use Rattle.std.specs.Prelude.{IfSome}
+use Rattle.std.proofs.Common.{◌≡◌, ◌≢◌, ℕ, List, ◌++◌, length, take, Option, Some, None, inl, inr, refl, ap, sym, subst, ◌∙◌, arith}
+use Rattle.std.specs.Prelude.{IfSome, Result, Ok, Err, OnOk, OnErr}
 use Rattle.std.specs.Option.{option_map}
 use Rattle.std.specs.FinMap.{get}
 use Rattle.std.proofs.lemmas.List.{take_all}
@@ -70,3 +70,18 @@ appended_others name bytes old new is = λ other differs. stays_same other (opti
 -- two steps that leave every other file leave it
 pub others_both : (name : List ℕ) (old mid new : Option FileMap) → OthersStay name old mid → OthersStay name mid new → OthersStay name old new
 others_both name old mid new first second = λ other differs. second other differs ∙ first other differs
+
+whole_begun : (name bytes : List ℕ) (files : Option FileMap) → IfSome files (λ m. file_of m name ≡ bytes) → IfSome (bytes_in name files) (λ own. own ≡ take (length bytes) bytes)
+whole_begun name bytes None is = tt
+whole_begun name bytes (Some m) is = is ∙ sym (take_all (length bytes) bytes (omega arith))
+
+-- what an appending leaves, whole or not
+pub put_begun : {X E : Type 0} (name bytes : List ℕ) (old mid new : Option FileMap) (r : Result X E) → mid ≡ option_map (cleared name) old → OnOk r (new ≡ option_map (appended name bytes) mid) → OnErr r (MayAppend name bytes mid new)
+    → IsTextBegun name bytes old new
+put_begun name bytes old mid new (Ok x) clear ok err = inr (length bytes, whole_begun name bytes new (put_ok name bytes old mid new clear ok))
+put_begun name bytes old mid new (Err e) clear ok err = append_failed name bytes old mid new clear err
+
+pub put_others : {X E : Type 0} (name bytes : List ℕ) (old mid new : Option FileMap) (r : Result X E) → mid ≡ option_map (cleared name) old → OnOk r (new ≡ option_map (appended name bytes) mid) → OnErr r (MayAppend name bytes mid new)
+    → OthersStay name old new
+put_others name bytes old mid new (Ok x) clear ok err = others_both name old mid new (cleared_others name old mid clear) (appended_others name bytes mid new ok)
+put_others name bytes old mid new (Err e) clear ok err = others_both name old mid new (cleared_others name old mid clear) (append_others name bytes mid new err)

@@ -4,7 +4,6 @@ use Rattle.std.specs.Global.{Global}
 use Rattle.stn_edge.specs.Files.{FileMap, file_of}
 use Rattle.stn_model.specs.declared.plant.Plant.{Plant}
 use Rattle.stn_model.specs.Best.{NoPlan}
-use Rattle.log_lines.specs.declared.defect.Defect.{Defect}
 use Rattle.proof_log.specs.LogNames.{log_name}
 use Rattle.fewer_orders.specs.Alone.{alone}
 use Rattle.least_horizon.specs.Stems.{IsJudged}
@@ -22,6 +21,10 @@ abbrev pub IsVerdictOn : Plant → List ℕ → List ℕ → ConflictVerdict →
 IsVerdictOn plant text log (Yes kept) = (conflict_read plant text ≡ Ok kept.items) × IsJudged (alone plant kept.items) log None
 IsVerdictOn plant text log (NoText defect) = conflict_read plant text ≡ Err defect
 IsVerdictOn plant text log (NoLog kept defect) = (conflict_read plant text ≡ Ok kept.items) × IsJudged (alone plant kept.items) log (Some defect)
+
+-- the verdict is right of STEM.0 and STEM.1, where the files are told
+abbrev pub IsRightOn : Plant → Option FileMap → List ℕ → ConflictVerdict → Type 0
+IsRightOn plant files stem verdict = IfSome files (λ m. IsVerdictOn plant (file_of m (log_name stem 0)) (file_of m (log_name stem 1)) verdict)
 
 -- a yes says that no plan meets the deliveries that the text names, whether the files are told or not
 abbrev pub YesSays : Plant → ConflictVerdict → Type 0
@@ -60,7 +63,7 @@ check_status (NoLog kept defect) = 1
 -- The answer of `check-conflict`: a verdict, with its status and its text. Where the files are told, it is the right one on STEM.0 and STEM.1.
 pub record ConflictChecked (files : Option FileMap) (stem : List ℕ) (plant : Plant) (status : ℕ) (text : List ℕ) : Type 0 where
   pub verdict : ConflictVerdict
-  pub right : IfSome files (λ m. IsVerdictOn plant (file_of m (log_name stem 0)) (file_of m (log_name stem 1)) verdict)
+  pub right : IsRightOn plant files stem verdict
   pub says : YesSays plant verdict
   pub status_is : status ≡ check_status verdict
   pub text_is : text ≡ check_text verdict

@@ -1,12 +1,11 @@
 -- The answer of `conflict` that is written with its log, and what is left of it.
 use Rattle.std.specs.Prelude.{◌≡◌, ◌≢◌, ◌⊎◌, ℕ, List, take, Option, IfSome, Ok}
-use Rattle.std.specs.Option.{option_map}
-use Rattle.std.specs.FinMap.{get}
-use Rattle.stn_edge.specs.Files.{FileMap}
+use Rattle.stn_edge.specs.Files.{FileMap, file_of}
 use Rattle.stn_model.specs.declared.plant.Plant.{Plant}
 use Rattle.plant_text.specs.Reading.{reading}
 use Rattle.plan_told.specs.Proofs.{bytes_in}
 use Rattle.proof_log.specs.LogNames.{log_name}
+use Rattle.command_replies.specs.declared.reply.Reply.{Reply}
 use Rattle.command_replies.specs.Sources.{IsReadOf}
 use Rattle.order_conflict.specs.declared.answer.ConflictAnswer.{ConflictAnswer}
 use Rattle.order_conflict.specs.Logged.{FileStays, IsLogOf, LeavesLog}
@@ -28,6 +27,12 @@ pub record FoundWithLog (budget : ℕ) (stem : List ℕ) (old new : Option FileM
 -- the file is as it was, or a first part of these bytes
 abbrev pub IsTextBegun : List ℕ → List ℕ → Option FileMap → Option FileMap → Type 0
 IsTextBegun name bytes old new = FileStays name old new ⊎ ((count : ℕ) × IfSome (bytes_in name new) (λ own. own ≡ take count bytes))
+
+-- the reply is that of the answer, and STEM.0 holds its text
+pub record IsPut (plant : Plant) (said : ConflictAnswer) (stem : List ℕ) (files : Option FileMap) (reply : Reply) : Type 0 where
+  pub status_is : reply.status ≡ answer_status said
+  pub text_is : reply.text.items ≡ answer_text plant said
+  pub told : IfSome files (λ m. file_of m (log_name stem 0) ≡ reply.text.items)
 
 -- What is left of an answer: the log as it was, or begun, while STEM.0 is as it was; or the log of an answer, while STEM.0 is as it was, or
 -- a first part of its text, or the whole.

@@ -6,7 +6,15 @@ ghost use Rattle.proof_log.specs.LogNames.{log_name};
 ghost use Rattle.command_replies.specs.Answers.{IsPlantAnswer};
 ghost use Rattle.command_replies.specs.Sources.{IfReplied, IfRefused};
 ghost use Rattle.order_text.specs.Marks.{kept_count};
-ghost use Rattle.conflict_commands.specs.Checking.{check_status, check_text, ConflictChecked, IsKeptChecked, ReadsText};
+ghost use Rattle.conflict_commands.specs.Checking.{
+  check_status,
+  check_text,
+  ConflictChecked,
+  IsKeptChecked,
+  IsRightOn,
+  ReadsText,
+  YesSays,
+};
 
 use answer_texts::numbered_defect;
 use command_replies::{Reply, Stopped, plant_in};
@@ -79,14 +87,39 @@ fn check_plant<F: Shelf>(
     ensures later { F.read_faults files.old ≤ F.read_faults files.new }
     ensures no_write { F.write_faults files.new ≡ F.write_faults files.old }
 {
-    let text_name = log_name(alloc, stem, 0)?;
-    let verdict = match read_text(alloc, files, plant, text_name.as_str()) {
-        Ok(kept) => check_kept(alloc, files, plant, stem, kept)?,
-        Err(TextStop::Bad(defect)) => ConflictVerdict::NoText { defect },
-        Err(TextStop::Fault) => return Err(Stopped::ReadFault),
-        Err(TextStop::Memory) => return Err(Stopped::Memory),
-    };
+    let verdict = verdict_on(alloc, files, plant, stem)?;
     Ok(checked(alloc, &verdict)?)
+}
+
+// What the text and the log come to.
+fn verdict_on<F: Shelf>(
+    alloc: Global,
+    files: &mut F,
+    plant: &Plant,
+    stem: &str,
+) -> Result<ConflictVerdict, Stopped>
+    requires sound { Sound plant.now }
+    requires text_readable { IsTrue (F.may_read files.old (log_name stem.now 0)) }
+    requires log_readable { IsTrue (F.may_read files.old (log_name stem.now 1)) }
+    ensures right { IfOk result (IsRightOn plant.now (F.files files.old) stem.now) }
+    ensures says { IfOk result (YesSays plant.now) }
+    ensures none { IfRefused result (λ _. ⊥) }
+    ensures fault { result ≡ Err Stopped.ReadFault
+        → Rose (F.read_faults files.old) (F.read_faults files.new) }
+    ensures unwritten { result ≢ Err Stopped.WriteFault }
+    ensures same { F.files files.new ≡ F.files files.old }
+    ensures readable { F.may_read files.new ≡ F.may_read files.old }
+    ensures writable { F.may_write files.new ≡ F.may_write files.old }
+    ensures later { F.read_faults files.old ≤ F.read_faults files.new }
+    ensures no_write { F.write_faults files.new ≡ F.write_faults files.old }
+{
+    let name = log_name(alloc, stem, 0)?;
+    match read_text(alloc, files, plant, name.as_str()) {
+        Ok(kept) => check_kept(alloc, files, plant, stem, kept),
+        Err(TextStop::Bad(defect)) => Ok(ConflictVerdict::NoText { defect }),
+        Err(TextStop::Fault) => Err(Stopped::ReadFault),
+        Err(TextStop::Memory) => Err(Stopped::Memory),
+    }
 }
 
 // Why no text was read.

@@ -1,5 +1,5 @@
 //! `conflict PLANT BUDGET STEM`: finding deliveries that can't be met together, with the answer and its log in files.
-ghost use Rattle.std.specs.Prelude.{◌≡◌, ◌≢◌, ◌≤◌, ◌⊎◌, [], Ok, Err, IsTrue, IfOk, IfSome, OnOk, OnErr};
+ghost use Rattle.std.specs.Prelude.{◌≡◌, ◌≢◌, ◌≤◌, ◌⊎◌, [], Ok, Err, IsTrue, IfOk, IfSome, OnOk};
 ghost use Rattle.stn_edge.specs.Count.{Rose};
 ghost use Rattle.stn_edge.specs.Files.{OthersStay, file_of};
 ghost use Rattle.stn_model.specs.Sound.{Sound};
@@ -8,9 +8,11 @@ ghost use Rattle.plant_text.specs.Reading.{reading};
 ghost use Rattle.proof_log.specs.LogNames.{log_name};
 ghost use Rattle.command_replies.specs.Answers.{IsPlantAnswer, IsUnwritten};
 ghost use Rattle.command_replies.specs.Sources.{IfReplied, IfRefused, IsReadOf};
+ghost use Rattle.conflict_commands.specs.Finding.{answer_text, IsPrintable};
 ghost use Rattle.conflict_commands.specs.Logging.{
   FoundWithLog,
   HoldsConflict,
+  IsPut,
   IsTextBegun,
   LeavesConflict,
   OthersStayPair,
@@ -20,7 +22,7 @@ use crate::texts::reply_of;
 use best_first::BestFirst;
 use command_replies::{Reply, Stopped, plant_in};
 use command_words::Budget;
-use order_conflict::conflict_to;
+use order_conflict::{ConflictAnswer, conflict_to};
 use proof_log::log_name;
 use std::alloc::Global;
 use stn_edge::{Shelf, Stop};
@@ -87,17 +89,42 @@ fn find_log_plant<F: Shelf>(
     ensures no_read { F.read_faults files.new ≡ F.read_faults files.old }
     ensures writes { F.write_faults files.old ≤ F.write_faults files.new }
 {
-    let text_name = log_name(alloc, stem, 0)?;
     let name = log_name(alloc, stem, 1)?;
     match conflict_to::<BestFirst, _>(alloc, plant, budget.boxes, files, name.as_str()) {
-        Ok(said) => {
-            let reply = reply_of(alloc, plant, &said)?;
-            match put_text(files, text_name.as_str(), reply.text.as_slice()) {
-                Ok(()) => Ok(reply),
-                Err(Stop::Failed) => Err(Stopped::WriteFault),
-                Err(Stop::Memory) => Err(Stopped::Memory),
-            }
-        }
+        Ok(said) => put_answer(alloc, files, plant, stem, &said),
+        Err(Stop::Failed) => Err(Stopped::WriteFault),
+        Err(Stop::Memory) => Err(Stopped::Memory),
+    }
+}
+
+// The reply to an answer, whose text is written to STEM.0.
+fn put_answer<F: Shelf>(
+    alloc: Global,
+    files: &mut F,
+    plant: &Plant,
+    stem: &str,
+    said: &ConflictAnswer,
+) -> Result<Reply, Stopped>
+    requires sound { Sound plant.now }
+    requires printable { IsPrintable plant.now said.now }
+    requires writable { IsTrue (F.may_write files.old (log_name stem.now 0)) }
+    ensures put { IfOk result (IsPut plant.now said.now stem.now (F.files files.new)) }
+    ensures begun { IsTextBegun (log_name stem.now 0) (answer_text plant.now said.now)
+        (F.files files.old) (F.files files.new) }
+    ensures none { IfRefused result (λ _. ⊥) }
+    ensures no_fault { result ≢ Err Stopped.ReadFault }
+    ensures write_fault { result ≡ Err Stopped.WriteFault
+        → Rose (F.write_faults files.old) (F.write_faults files.new) }
+    ensures others { OthersStay (log_name stem.now 0) (F.files files.old) (F.files files.new) }
+    ensures readable { F.may_read files.new ≡ F.may_read files.old }
+    ensures writable { F.may_write files.new ≡ F.may_write files.old }
+    ensures no_read { F.read_faults files.new ≡ F.read_faults files.old }
+    ensures writes { F.write_faults files.old ≤ F.write_faults files.new }
+{
+    let name = log_name(alloc, stem, 0)?;
+    let reply = reply_of(alloc, plant, said)?;
+    match put_text(files, name.as_str(), reply.text.as_slice()) {
+        Ok(()) => Ok(reply),
         Err(Stop::Failed) => Err(Stopped::WriteFault),
         Err(Stop::Memory) => Err(Stopped::Memory),
     }
@@ -107,8 +134,7 @@ fn find_log_plant<F: Shelf>(
 fn put_text<F: Shelf>(files: &mut F, name: &str, bytes: &[u8]) -> Result<(), Stop>
     requires { IsTrue (F.may_write files.old name.now) }
     ensures ok { OnOk result (IfSome (F.files files.new) (λ m. file_of m name.now ≡ bytes.now)) }
-    ensures err { OnErr result (IsTextBegun name.now bytes.now
-        (F.files files.old) (F.files files.new)) }
+    ensures begun { IsTextBegun name.now bytes.now (F.files files.old) (F.files files.new) }
     ensures others { OthersStay name.now (F.files files.old) (F.files files.new) }
     ensures failed { result ≡ Err Stop.Failed
         → Rose (F.write_faults files.old) (F.write_faults files.new) }
