@@ -1,6 +1,7 @@
 """The lines that README.md and the package's own page have one paste: they run, and print what stands beside them."""
-import contextlib, io, os, re, tempfile, unittest
+import contextlib, io, os, re, sys, tempfile, unittest
 from pathlib import Path
+from unittest import mock
 
 from tests.here import needs_program
 
@@ -24,7 +25,8 @@ class Pages(unittest.TestCase):
         with tempfile.TemporaryDirectory() as room, contextlib.chdir(room), contextlib.redirect_stdout(put):
             for name in ("python", "examples"):
                 os.symlink(TOP / name, name)
-            exec("\n".join(lines), {})
+            with mock.patch.object(sys, "path", [*sys.path]):
+                exec("\n".join(lines), {})
         printed = put.getvalue().splitlines()
         self.assertEqual([it for it in printed if it in said], said)
         return lines
