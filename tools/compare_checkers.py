@@ -19,7 +19,9 @@ import tempfile
 from collections import Counter
 from pathlib import Path
 
-from check_log import Defect, Judge, LogText, answer
+from check_log import Answer
+from log_judge import Judge
+from log_text import Defect, LogText
 from plant_program import Refused, program_of, read_plant
 
 TOP = Path(__file__).resolve().parent.parent
@@ -175,7 +177,7 @@ def mended(lines, program):
 def cap_of(text, program):
     """The cap of a log's tree."""
     log = LogText(text, program).read()
-    return Judge(program, log.head).tree_cap(log.nodes)
+    return Judge(program, log).tree_cap(log.nodes)
 
 
 def random_head(dice, program):
@@ -235,9 +237,10 @@ class Comparison:
 
     def ask(self, what, plant, log):
         """One question: the bytes of a plant and of a log."""
-        for name, text in (("plant", plant), ("log", log)):
-            (self.room / name).write_bytes(text)
-        theirs, own = self.run("check", self.room / "plant", self.room / "log"), answer(lambda: plant, lambda: log)
+        files = {str(self.room / "plant"): plant, str(self.room / "log"): log}
+        for name, text in files.items():
+            Path(name).write_bytes(text)
+        theirs, own = self.run("check", *files), Answer(files.__getitem__).of(["check", *files])
         self.asked += 1
         self.seen[kind_of(own[0])] += 1
         if theirs != own:

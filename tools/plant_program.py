@@ -23,6 +23,7 @@ class Refused(Exception):
 
 @dataclass
 class State:
+    name: str
     initial: int
     limits: list | None  # what may be in stock at each time 0 to H, None where there is no limit
     price: int
@@ -191,11 +192,10 @@ class PlantFile:
 
     def read_state(self):
         for table in self.tables("state", 40, "name initial limit price holding", "limits"):
-            table.own_name(self.names["state"])
-            initial = table.whole("initial", 0, BILLION, 0)
+            name, initial = table.own_name(self.names["state"]), table.whole("initial", 0, BILLION, 0)
             limits = table.limits(self.plant.periods + 1, False)
             money = [table.whole(key, -MILLION, MILLION, 0) for key in ("price", "holding")]
-            self.plant.states.append(State(initial, limits, *money))
+            self.plant.states.append(State(name, initial, limits, *money))
 
     def read_utility(self):
         for table in self.tables("utility", 8, "name limit rate", "limits"):

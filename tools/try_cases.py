@@ -5,11 +5,13 @@
 
 PROGRAM is the built `stn`, else the environment's STN, else crates/stn/out/stn. A line says each difference, the last
 one how many cases were run and how many want a store in memory, which the program has not: calls that fail, pieces of
-reads and calls below the commands. Those, and all others too, are carried out by crates/command_cases. It ends with 1
-where something differs.
+reads and calls below the commands. Those, and all others too, are carried out by crates/command_cases. The second
+checker (check_log.py) is asked what the program is asked of logs. It ends with 1 where something differs.
 """
 import os, shutil, subprocess, sys, tempfile
 from concurrent.futures import ThreadPoolExecutor
+
+from check_log import FORMS, Answer
 
 TOP = os.path.dirname(os.path.dirname(os.path.abspath(__file__)))
 CASES = os.path.join(TOP, "crates", "command_cases", "data")
@@ -157,6 +159,8 @@ def try_step(step, files, folder, bad):
         if differs(word, wanted, ran.stdout, files):
             bad(step, f"{word}: wanted {wanted[:200]!r}, came {ran.stdout[:200]!r}")
     after = files_in(folder)
+    if step["words"][:1] and step["words"][0] in FORMS:
+        try_second(step, files, (ran.stdout, ran.returncode, after), bad)
     for name in sorted({*files, *after}):
         why = left_otherwise(step["left"].get(name), files.get(name), after.get(name))
         if why:
@@ -164,6 +168,18 @@ def try_step(step, files, folder, bad):
     if step["keep"]:
         after[step["keep"]] = ran.stdout
     return after
+
+
+def try_second(step, files, came, bad):
+    """Asks the second checker what the program was asked, of which it also has to leave the files."""
+    after = dict(files)
+    try:
+        text, status = Answer(files.__getitem__, after.__setitem__).of(step["words"])
+        own = f"{text}\n".encode(), status, after
+    except KeyError:
+        own = b"", 7, after
+    if own != came:
+        bad(step, f"the second checker answers {own[:2]!r}, came {came[:2]!r}")
 
 
 def try_case(case):
