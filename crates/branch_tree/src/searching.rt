@@ -4,7 +4,7 @@ ghost use Rattle.proof_tree.specs.Taker.{Rose};
 ghost use Rattle.proof_tree.specs.Tree.{tree_of};
 ghost use Rattle.proof_tree.specs.Items.{tree_items};
 ghost use Rattle.proof_tree.specs.Built.{HoldsItems};
-ghost use Rattle.branch_tree.specs.Searched.{IsExact, IsSearch, IsSearchedTo, IsBrokenOff, IsWorth, ended_of};
+ghost use Rattle.branch_tree.specs.Searched.{IsExact, IsSearch, IsSearchable, IsSearchedTo, IsBrokenOff, IsWorth, ended_of};
 ghost use Rattle.row_relax.specs.RowProofs.{RowTree};
 ghost use Rattle.branch_tree.specs.laws.Grounds.{IsGround, IsOffered, IsStart, program_of};
 
@@ -120,6 +120,7 @@ pub fn search_guided_to<H: Hinter, G: Guide, O, T: NodeTaker<Rows, O>>(
     taker: &mut T,
     out: &mut O,
 ) -> Result<Guided, TakeStop>
+    requires searchable { IsSearchable rows.now.program }
     requires budget { (1 ≤ budget) × (budget ≤ 100000) }
     requires ready { T.ready taker.old out.old }
     ensures ready { OnOk result (T.ready taker.new out.new) }
@@ -166,6 +167,7 @@ pub fn search_to<H: Hinter, O, T: NodeTaker<Rows, O>>(
     taker: &mut T,
     out: &mut O,
 ) -> Result<Ended, TakeStop>
+    requires searchable { IsSearchable rows.now.program }
     requires budget { (1 ≤ budget) × (budget ≤ 100000) }
     requires ready { T.ready taker.old out.old }
     ensures ready { OnOk result (T.ready taker.new out.new) }
@@ -202,7 +204,8 @@ pub fn search_guided<H: Hinter, G: Guide>(
     hinter: &mut H,
     guide: &mut G,
 ) -> Result<(Searched, bool), AllocError>
-    requires { (1 ≤ budget) × (budget ≤ 100000) }
+    requires searchable { IsSearchable rows.now.program }
+    requires budget { (1 ≤ budget) × (budget ≤ 100000) }
     ensures ok { IfOk result (λ found. IsSearch rows.now.program given budget
         (tree_of found.0.tree) (ended_of found.0)) }
     ensures begun { IfOk result (λ found. IsWorth rows.now.program start.now found.0.best) }
@@ -241,7 +244,8 @@ pub fn search<H: Hinter>(
     start: &[u8],
     hinter: &mut H,
 ) -> Result<Searched, AllocError>
-    requires { (1 ≤ budget) × (budget ≤ 100000) }
+    requires searchable { IsSearchable rows.now.program }
+    requires budget { (1 ≤ budget) × (budget ≤ 100000) }
     ensures ok { IfOk result (λ searched. IsSearch rows.now.program given budget
         (tree_of searched.tree) (ended_of searched)) }
     ensures begun { IfOk result
