@@ -2,7 +2,7 @@
 ghost use Rattle.std.specs.Prelude.{◌≡◌, ◌≢◌, ◌≤◌, IfOk, OnOk, OnErr, IsErrOf, false, true};
 ghost use Rattle.proof_tree.specs.Taker.{Rose};
 ghost use Rattle.proof_tree.specs.Tree.{tree_of};
-ghost use Rattle.branch_tree.specs.Searched.{IsExact, IsSearch, IsSearchedTo, IsBrokenOff, IsWorth, ended_of};
+ghost use Rattle.branch_tree.specs.Searched.{IsExact, IsSearch, IsSearchable, IsSearchedTo, IsBrokenOff, IsWorth, ended_of};
 
 use box_advice::Advisers;
 use branch_tree::{Ended, Guided, Searched, search, search_guided, search_guided_to, search_to};
@@ -22,6 +22,7 @@ pub fn search_advised<A: Advisers, O, T: NodeTaker<Rows, O>>(
     taker: &mut T,
     out: &mut O,
 ) -> Result<Guided, TakeStop>
+    requires searchable { IsSearchable rows.now.program }
     requires budget { (1 ≤ budget) × (budget ≤ 100000) }
     requires ready { T.ready taker.old out.old }
     ensures ready { OnOk result (T.ready taker.new out.new) }
@@ -63,6 +64,7 @@ pub fn search_hinted<A: Advisers, O, T: NodeTaker<Rows, O>>(
     taker: &mut T,
     out: &mut O,
 ) -> Result<Ended, TakeStop>
+    requires searchable { IsSearchable rows.now.program }
     requires budget { (1 ≤ budget) × (budget ≤ 100000) }
     requires ready { T.ready taker.old out.old }
     ensures ready { OnOk result (T.ready taker.new out.new) }
@@ -97,7 +99,8 @@ pub fn build_advised<A: Advisers>(
     budget: u32,
     start: &[u8],
 ) -> Result<(Searched, bool), AllocError>
-    requires { (1 ≤ budget) × (budget ≤ 100000) }
+    requires searchable { IsSearchable rows.now.program }
+    requires budget { (1 ≤ budget) × (budget ≤ 100000) }
     ensures ok { IfOk result (λ found. IsSearch rows.now.program given budget
         (tree_of found.0.tree) (ended_of found.0)) }
     ensures begun { IfOk result (λ found. IsWorth rows.now.program start.now found.0.best) }
@@ -126,7 +129,8 @@ pub fn build_hinted<A: Advisers>(
     budget: u32,
     start: &[u8],
 ) -> Result<Searched, AllocError>
-    requires { (1 ≤ budget) × (budget ≤ 100000) }
+    requires searchable { IsSearchable rows.now.program }
+    requires budget { (1 ≤ budget) × (budget ≤ 100000) }
     ensures ok { IfOk result (λ searched. IsSearch rows.now.program given budget
         (tree_of searched.tree) (ended_of searched)) }
     ensures begun { IfOk result

@@ -185,9 +185,8 @@ spared_sum : (ds : List Domain) → sum_by splits_of ds + sum_by spared ds ≤ 9
 spared_sum [] = omega arith
 spared_sum (d ∷ ds) = omega (arith, sum_by-cons splits_of d ds, sum_by-cons spared d ds, spared_most d, spared_sum ds)
 
-pub splits-root : (program : Program) → view_splits (view_of program.root) + sum_by spared program.root ≤ 4608
-splits-root program =
-    let few : length program.root ≤ 512 = program.few_slots in
+pub splits-root : (program : Program) → length program.root ≤ 512 → view_splits (view_of program.root) + sum_by spared program.root ≤ 4608
+splits-root program few =
     let sum = spared_sum program.root in
     let same = ap (λ (ds : List Domain). sum_by splits_of ds) (domains_of-view_of program.root) in
     omega (arith, few, sum, same)

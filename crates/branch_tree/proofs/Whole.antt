@@ -31,7 +31,7 @@ use Rattle.branch_tree.specs.declared.ended.Ended.{Ended}
 use Rattle.branch_tree.specs.declared.reached.Reached.{Reached}
 use Rattle.row_relax.specs.RowProofs.{RowItem, RowTree}
 use Rattle.branch_tree.specs.Justified.{IsGroup}
-use Rattle.branch_tree.specs.Searched.{IsBest, IsBrokenOff, IsExact, IsFitItem, IsSearch, IsSearchedTo, IsSettled, IsWorth}
+use Rattle.branch_tree.specs.Searched.{IsBest, IsBrokenOff, IsExact, IsFitItem, IsSearch, IsSearchable, IsSearchedTo, IsSettled, IsWorth}
 use Rattle.branch_tree.specs.laws.Ends.{NodeDone, is_over}
 use Rattle.range_prop.specs.Cuts.{HaveRoomBut}
 use Rattle.branch_tree.specs.declared.reached.Ground.{Ground}
@@ -108,13 +108,14 @@ root-stands ground point marks start indexed is begun = subst (λ (ms : List (Li
       indexed = indexed;
       fits = root_fits (program_of ground);
       places = begun.places;
-      deep = omega (arith, splits-root (program_of ground));
+      deep = omega (arith, splits-root (program_of ground) indexed.searchable.few_slots);
       room = subst (λ o. IfSome o (λ slot. (slot < length (program_of ground).root) × HaveRoomBut (program_of ground).rows (slot ∷ []) (domains_of (view_of (program_of ground).root)))) (sym begun.changed) tt;
       own = own_at start.own begun.own.group;
     }
 
 -- what is known of the search of the root
 pub record RootSearched {T O : Type 0} (took : T → O → List RowItem → T → O → Type 0) (program : Program) (point : List ℕ) (given budget : ℕ) (may_leave : Bool) (cap : Capped) (start new : Reached) (left_open : Bool) (t : T) (o : O) (t2 : T) (o2 : O) : Type 0 where
+  pub searchable : IsSearchable program
   pub box : BoxHanded took (λ parent. ⊤) program given budget may_leave (view_of program.root) cap start t o new t2 o2
   pub begun : IsStart program point start
   pub own : IsOwnBest start.own new.best
@@ -137,7 +138,7 @@ module _ {T O : Type 0} (took : T → O → List RowItem → T → O → Type 0)
   -- the boxes of the proof
   boxes : counted root.box.tree + opens root.box.tree + 1 ≤ 2 * points_of program.root
   boxes =
-      let some : 0 < points_in (view_of program.root) = subst (λ n. 0 < n) (sym (root_points program)) (points-open program.root program.root_open) in
+      let some : 0 < points_in (view_of program.root) = subst (λ n. 0 < n) (sym (root_points program)) (points-open program.root root.searchable.each_open) in
       subst (λ n. counted root.box.tree + opens root.box.tree + 1 ≤ 2 * n) (root_points program) (tree-boxes program given root.box.tree None [] (view_of program.root) (root_fits program) some nodes)
 
   spent_is : new.spent ≡ counted root.box.tree
@@ -168,7 +169,7 @@ module _ {T O : Type 0} (took : T → O → List RowItem → T → O → Type 0)
     justified = tree-justified program given root.box.tree None [] (view_of program.root) nodes;
     writable = record {
       fit = root.box.fit;
-      shallow = omega (arith, tree-depth program given root.box.tree None [] (view_of program.root) (root_fits program) nodes, splits-root program);
+      shallow = omega (arith, tree-depth program given root.box.tree None [] (view_of program.root) (root_fits program) nodes, splits-root program root.searchable.few_slots);
     };
     best = best;
     spent = spent_is;
@@ -208,9 +209,10 @@ module _ {T O : Type 0} (took : T → O → List RowItem → T → O → Type 0)
 
 -- what the search of the root comes to
 pub root-searched : {T O : Type 0} (took : T → O → List RowItem → T → O → Type 0) (program : Program) (point : List ℕ) (given budget : ℕ) (may_leave : Bool) (cap : Capped) (start new : Reached) (left_open : Bool) (t : T) (o : O) (t2 : T) (o2 : O)
-    (marks : List (List Domain)) (worth : Option ℤ) → marks ≡ program.root ∷ [] → BoxHanded took (λ parent. ⊤) program given budget may_leave (seen marks) cap start t o new t2 o2 → IsStart program point start → IsOwnBest start.own new.best
+    (marks : List (List Domain)) (worth : Option ℤ) → IsSearchable program → marks ≡ program.root ∷ [] → BoxHanded took (λ parent. ⊤) program given budget may_leave (seen marks) cap start t o new t2 o2 → IsStart program point start → IsOwnBest start.own new.best
     → new.spent ≤ budget → worth ≡ option_map (λ f. f.value) new.best → left_open ≡ is_over cap worth → RootSearched took program point given budget may_leave cap start new left_open t o t2 o2
-root-searched took program point given budget may_leave cap start new left_open t o t2 o2 marks worth is box begun own within worth_is over = record {
+root-searched took program point given budget may_leave cap start new left_open t o t2 o2 marks worth searchable is box begun own within worth_is over = record {
+  searchable = searchable;
   box = subst (λ (ms : List (List Domain)). BoxHanded took (λ parent. ⊤) program given budget may_leave (seen ms) cap start t o new t2 o2) is box;
   begun = begun;
   own = own;
@@ -219,16 +221,16 @@ root-searched took program point given budget may_leave cap start new left_open 
 }
 
 -- a search that broke off
-pub root-stopped : {T O : Type 0} (took broke : T → O → List RowItem → T → O → Type 0) (program : Program) (t : T) (o : O) (t2 : T) (o2 : O) → took t o [] t o → BoxStopped took broke program (view_of program.root) t o t2 o2 → IsBrokenOff took broke program t o t2 o2
-root-stopped took broke program t o t2 o2 none s = record {
+pub root-stopped : {T O : Type 0} (took broke : T → O → List RowItem → T → O → Type 0) (program : Program) (t : T) (o : O) (t2 : T) (o2 : O) → IsSearchable program → took t o [] t o → BoxStopped took broke program (view_of program.root) t o t2 o2 → IsBrokenOff took broke program t o t2 o2
+root-stopped took broke program t o t2 o2 searchable none s = record {
   tree = s.tree;
   items = s.stopped.items;
   later = s.stopped.later;
   first = s.stopped.first;
   handed = elim s.stopped.grows [ inl grown ↦ inl (grown t o [] none) | inr grown ↦ inr (grown t o [] none) ];
-  writable = record { fit = s.fit; shallow = omega (arith, s.deep, splits-root program) };
+  writable = record { fit = s.fit; shallow = omega (arith, s.deep, splits-root program searchable.few_slots) };
 }
 
 -- a search that broke off before its first item
-pub root-before : {T O : Type 0} (took broke : T → O → List RowItem → T → O → Type 0) (program : Program) (t : T) (o : O) → took t o [] t o → IsBrokenOff took broke program t o t o
-root-before took broke program t o none = root-stopped took broke program t o t o none (box_before took broke program (view_of program.root) t o)
+pub root-before : {T O : Type 0} (took broke : T → O → List RowItem → T → O → Type 0) (program : Program) (t : T) (o : O) → IsSearchable program → took t o [] t o → IsBrokenOff took broke program t o t o
+root-before took broke program t o searchable none = root-stopped took broke program t o t o searchable none (box_before took broke program (view_of program.root) t o)

@@ -5,6 +5,7 @@ use Rattle.std.specs.Option.{IsSomeAnd}
 use Rattle.row_kit.specs.declared.domain.Domain.{Domain}
 use Rattle.row_kit.specs.declared.found.Found.{Found}
 use Rattle.row_kit.specs.declared.program.Program.{Program}
+use Rattle.row_kit.specs.Domain.{IsOpen}
 use Rattle.row_kit.specs.Point.{IsLawful, LiesIn, worth_of}
 use Rattle.row_kit.specs.Points.{points_of}
 use Rattle.dual_bound.specs.Total.{is_fit}
@@ -34,6 +35,13 @@ IsFitItem program (Dual cert) = is_fit (length program.rows) cert ≡ true
 IsFitItem program Point = ⊤
 IsFitItem program (Pending cert) = is_fit (length program.rows) cert ≡ true
 IsFitItem program (Split pick cert) = (pick.slot < length program.root) × (pick.max ≤ 254) × (is_fit (length program.rows) cert ≡ true)
+
+-- a program that a search takes up: each slot of the root has a value, there are no more slots than splits can go below, and no
+-- more rows than can have factors
+pub record IsSearchable (program : Program) : Type 0 where
+  pub each_open : All IsOpen program.root
+  pub few_slots : length program.root ≤ 512
+  pub few_rows : length program.rows ≤ 50000
 
 -- 1 for a domain that lacks 0 or holds 0 alone, which is split once less
 abbrev pub spared : Domain → ℕ

@@ -13,6 +13,7 @@ ghost use Rattle.branch_tree.specs.laws.Grounds.{program_of};
 use crate::reached::Ground;
 use box_advice::Hinter;
 use row_kit::{Area, Domain, Found, List, Program, is_lawful, worth};
+use row_relax::put_values;
 use std::alloc::{AllocError, Global};
 
 // The point as a found point, where it is lawful.
@@ -50,16 +51,6 @@ pub(crate) fn put_least(domains: &[Domain], point: &mut [u8])
     }
 }
 
-// Fills in the least point of an area.
-fn put_least_of(area: &Area, point: &mut [u8])
-    requires { length point.old ≡ length (present area.now) }
-    ensures { point.new ≡ only_point (present area.now) }
-{
-    for slot in 0..area.slot_count() {
-        point[slot as usize] = least_value(area.domain(slot));
-    }
-}
-
 // The only point of an area, where it has one and that is lawful.
 fn only_found(ground: &Ground, area: &Area, point: &mut [u8]) -> Result<Option<Found>, AllocError>
     requires slots { length (present area.now) ≡ length (program_of ground.now).root }
@@ -71,7 +62,7 @@ fn only_found(ground: &Ground, area: &Area, point: &mut [u8]) -> Result<Option<F
     if !area.is_point() {
         return Ok(None);
     }
-    put_least_of(area, point);
+    put_values(area, point);
     tested(ground.alloc, &ground.rows.program, point)
 }
 

@@ -6,7 +6,7 @@ ghost use Rattle.row_kit.specs.Domain.{IsOpen, IsSingle};
 ghost use Rattle.dual_bound.specs.Cap.{cert_cap};
 ghost use Rattle.dual_simplex.specs.Solved.{plain_cert, IsNoWorseThanPlain};
 ghost use Rattle.branch_tree.specs.laws.Ends.{is_over, says_more, IsVerdict};
-ghost use Rattle.branch_tree.specs.laws.Grounds.{program_of};
+ghost use Rattle.branch_tree.specs.laws.Grounds.{IsGround, program_of};
 
 use crate::picking::pick_of;
 use crate::reached::Ground;
@@ -74,6 +74,7 @@ fn chosen(
     advised: Option<Cert>,
     held: Option<Cert>,
 ) -> Result<Cert, AllocError>
+    requires ground { IsGround ground.now }
     requires slots { length (present area.now) ≡ length (program_of ground.now).root }
     requires each_open { All IsOpen (present area.now) }
     ensures { IfOk result (IsNoWorseThanPlain (program_of ground.now) (present area.now)) }
@@ -99,6 +100,7 @@ pub(crate) fn judge(
     held: Option<Cert>,
     best: Option<i128>,
 ) -> Result<Item<Rows>, AllocError>
+    requires ground { IsGround ground.now }
     requires slots { length (present area.now) ≡ length (program_of ground.now).root }
     requires each_open { All IsOpen (present area.now) }
     ensures { IfOk result (IsVerdict (program_of ground.now) ground.now.given
@@ -124,6 +126,7 @@ fn settle_or_split(
     max: Option<u8>,
     best: Option<i128>,
 ) -> Result<Item<Rows>, AllocError>
+    requires ground { IsGround ground.now }
     requires slots { length (present area.now) ≡ length (program_of ground.now).root }
     requires each_open { All IsOpen (present area.now) }
     requires more { ¬ All IsSingle (present area.now) }

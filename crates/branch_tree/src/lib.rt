@@ -13,8 +13,10 @@ mod judging;
 mod picking;
 mod putting;
 mod reached;
+mod searchable;
 mod searching;
 
 pub use box_advice::{Advice, Guide, Hinter};
 pub use ended::{Ended, Guided, Searched};
+pub use searchable::is_searchable;
 pub use searching::{search, search_guided, search_guided_to, search_to};

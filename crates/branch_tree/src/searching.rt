@@ -4,7 +4,7 @@ ghost use Rattle.proof_tree.specs.Taker.{Rose};
 ghost use Rattle.proof_tree.specs.Tree.{tree_of};
 ghost use Rattle.proof_tree.specs.Items.{tree_items};
 ghost use Rattle.proof_tree.specs.Built.{HoldsItems};
-ghost use Rattle.branch_tree.specs.Searched.{IsExact, IsSearch, IsSearchedTo, IsBrokenOff, IsWorth, ended_of};
+ghost use Rattle.branch_tree.specs.Searched.{IsExact, IsSearch, IsSearchable, IsSearchedTo, IsBrokenOff, IsWorth, ended_of};
 ghost use Rattle.row_relax.specs.RowProofs.{RowTree};
 ghost use Rattle.branch_tree.specs.laws.Grounds.{IsGround, IsOffered, IsStart, program_of};
 
@@ -119,6 +119,7 @@ pub fn search_guided_to<H: Hinter, G: Guide, O, T: NodeTaker<Rows, O>>(
     taker: &mut T,
     out: &mut O,
 ) -> Result<Guided, TakeStop>
+    requires searchable { IsSearchable rows.now.program }
     requires budget { (1 ≤ budget) × (budget ≤ 100000) }
     requires ready { T.ready taker.old out.old }
     ensures ready { OnOk result (T.ready taker.new out.new) }
@@ -167,6 +168,7 @@ pub fn search_to<H: Hinter, G: Guide, O, T: NodeTaker<Rows, O>>(
     taker: &mut T,
     out: &mut O,
 ) -> Result<Ended, TakeStop>
+    requires searchable { IsSearchable rows.now.program }
     requires budget { (1 ≤ budget) × (budget ≤ 100000) }
     requires ready { T.ready taker.old out.old }
     ensures ready { OnOk result (T.ready taker.new out.new) }
@@ -203,7 +205,8 @@ pub fn search_guided<H: Hinter, G: Guide>(
     hinter: &mut H,
     guide: &mut G,
 ) -> Result<(Searched, bool), AllocError>
-    requires { (1 ≤ budget) × (budget ≤ 100000) }
+    requires searchable { IsSearchable rows.now.program }
+    requires budget { (1 ≤ budget) × (budget ≤ 100000) }
     ensures ok { IfOk result (λ found. IsSearch rows.now.program given budget
         (tree_of found.0.tree) (ended_of found.0)) }
     ensures begun { IfOk result (λ found. IsWorth rows.now.program start.now found.0.best) }
@@ -243,7 +246,8 @@ pub fn search<H: Hinter, G: Guide>(
     hinter: &mut H,
     guide: &mut G,
 ) -> Result<Searched, AllocError>
-    requires { (1 ≤ budget) × (budget ≤ 100000) }
+    requires searchable { IsSearchable rows.now.program }
+    requires budget { (1 ≤ budget) × (budget ≤ 100000) }
     ensures ok { IfOk result (λ searched. IsSearch rows.now.program given budget
         (tree_of searched.tree) (ended_of searched)) }
     ensures begun { IfOk result

@@ -1,15 +1,15 @@
 -- Lines: one entry more, the opposite, and bounds on their parts.
 use Rattle.std.proofs.Common.{◌≡◌, ℕ, zero, suc, ◌+◌, ◌<◌, ◌≤◌, eqb, List, length, get_or, set, drop, replicate, refl, sym, ap, ◌∙◌, ⊎_elim, arith, ℤ, pos, neg_ℤ, ◌+ℤ◌, ◌-ℤ◌, ◌*ℤ◌}
 use Rattle.std.specs.List.{All}
-use Rattle.std.proofs.lemmas.Bool.{cond-true, cond-false, eq-eqb, ne_eqb, cases_eq, cases_lt}
-use Rattle.std.proofs.lemmas.List.{at_drop_more, get_or-set_same, get_or-set_other, get_or-replicate, get_or_past, length-replicate}
+use Rattle.std.proofs.lemmas.Bool.{cond-true, cond-false, eq-eqb, ne_eqb, cases_eq}
+use Rattle.std.proofs.lemmas.List.{at_drop_more, get_or-set_same, get_or-set_other}
 use Rattle.std.proofs.lemmas.List.Elements.{All-set, All-weaker, All-replicate}
 use Rattle.std.proofs.lemmas.Int.{ints}
 use Rattle.std.proofs.Math.IntN.{*ℤ-zero, +ℤ_idl}
 use Rattle.row_kit.specs.declared.row.Entry.{Entry}
 use Rattle.row_kit.specs.Row.{counted, entry_at}
 use Rattle.row_kit.proofs.Ascending.{no_entry}
-use Rattle.row_kit.proofs.Values.{part_above}
+use Rattle.row_kit.proofs.Values.{part_above, part_at-nothing}
 use Rattle.dual_bound.specs.declared.line.Line.{Line}
 use Rattle.dual_bound.specs.Line.{line_at, slot_line, IsWithin}
 use Rattle.dual_bound.proofs.Signed.{mul_add, mul_assoc, add_mul, neg_mul}
@@ -80,11 +80,14 @@ row_moved n r o c d w p q s = omega (arith, ints)
 pub combined : (x t a b r e : ℤ) → x ≡ t +ℤ e → t ≡ neg_ℤ a → a ≡ b +ℤ r → b ≡ pos 0 → x ≡ e -ℤ r
 combined x t a b r e p q s z = omega (arith, ints)
 
-pub bare_at : (n k : ℕ) → get_or (replicate n no_line) k no_line ≡ no_line
-bare_at n k =
-    ⊎_elim (λ (h : k < n). get_or-replicate n k no_line no_line h)
-    (λ (h : n ≤ k). get_or_past (replicate n no_line) k no_line (omega (arith, length-replicate n no_line)))
-    (cases_lt k n)
+-- a line without parts counts nothing
+pub nothing_at : (line : Line) (v : ℕ) → IsWithin 0 line → line_at line v ≡ pos 0
+nothing_at line v bare =
+    let fixed : line.fixed ≡ pos 0 = omega (arith, ints, bare.fixed) in
+    let per : line.per ≡ pos 0 = omega (arith, ints, bare.per) in
+    ap (λ (x : ℤ). line_at (record { fixed = x; per = line.per }) v) fixed
+    ∙ ap (λ (x : ℤ). line_at (record { fixed = pos 0; per = x }) v) per
+    ∙ part_at-nothing v
 
 pub bare_within : (n : ℕ) → All (IsWithin 0) (replicate n no_line)
 bare_within n = All-replicate (IsWithin 0) n no_line (record { fixed = omega arith; per = omega arith })

@@ -1,11 +1,12 @@
 -- Totals of usable certificates are small, and so are the caps that they give.
-use Rattle.std.proofs.Common.{◌≡◌, ℕ, zero, suc, ◌+◌, ◌*◌, ◌<◌, ◌≤◌, ◌^◌, Bool, true, false, cond, eqb, List, [], ◌∷◌, length, map, get_or, refl, sym, subst, Some, ⊎_elim, arith, ℤ, pos, negsuc, ◌+ℤ◌, ◌-ℤ◌, ◌*ℤ◌, unsigned_abs}
+use Rattle.std.proofs.Common.{◌≡◌, ℕ, zero, suc, ◌+◌, ◌*◌, ◌<◌, ◌≤◌, ◌^◌, Bool, true, false, cond, eqb, List, [], ◌∷◌, length, map, get_or, refl, sym, subst, Some, ap, ⊎_elim, arith, ℤ, pos, negsuc, ◌+ℤ◌, ◌-ℤ◌, ◌*ℤ◌, unsigned_abs}
 use Rattle.std.specs.Int.{int_div_euclid}
 use Rattle.std.specs.Prelude.{int_lt}
 use Rattle.std.specs.List.{All, Contains}
 use Rattle.std.proofs.Math.Nat.{mul-le-mul, div-le_self}
 use Rattle.std.proofs.lemmas.Bool.{cond-true, cond-false, eq-eqb, ne_eqb, cases_eq}
 use Rattle.std.proofs.lemmas.Int.{ints, unsigned_abs-mul, fold-int_max_reached}
+use Rattle.std.proofs.lemmas.List.{get_or_default}
 use Rattle.std.proofs.lemmas.List.Elements.{All-head, All-tail}
 use Rattle.proof_tree.specs.declared.capped.Capped.TheVariants.{AtMost, NoPoint, Bad}
 use Rattle.row_kit.specs.declared.domain.Domain.{Domain}
@@ -21,7 +22,9 @@ use Rattle.row_kit.proofs.Parts.{held_byte}
 use Rattle.row_kit.proofs.Values.{part_above, reached_at}
 use Rattle.dual_bound.specs.declared.cert.Cert.{Cert}
 use Rattle.dual_bound.specs.declared.cert.Mult.{Mult}
+use Rattle.dual_bound.specs.declared.line.Line.{Line}
 use Rattle.dual_bound.specs.Cap.{IsBelow, scaled_cap}
+use Rattle.dual_bound.specs.Line.{line_at, slot_line, IsWithin}
 use Rattle.dual_bound.specs.Total.{rows_at, limits_sum, gain, greatest, slots_total, total_of, IsFitMult, IsUsable}
 
 pub abs_sum : (x y : ℤ) (m n : ℕ) → unsigned_abs x ≤ m → unsigned_abs y ≤ n → unsigned_abs (x +ℤ y) ≤ m + n
@@ -97,12 +100,37 @@ limits_small slots rows (m ∷ ms) bounded fit =
     omega (arith, ints, times_abs m.factor 1099511627776 1000000000000 (row_at rows m.row).limit first.factor (bounded m.row no_row first.row).limit, limits_small slots rows ms bounded (All-tail (IsFitMult (length rows)) m ms fit))
 
 -- what a slot gains at a value
-pub gain_small : (program : Program) (cert : Cert) (slot v : ℕ) → IsUsable (length program.rows) cert → v ≤ 255 → unsigned_abs (gain program cert slot v) ≤ 2 ^ 88
+pub gain_small : (program : Program) (cert : Cert) (slot v : ℕ) → IsUsable (length program.rows) cert → v ≤ 255 → unsigned_abs (gain program cert slot v) ≤ 142000000000000000000000000
 gain_small program cert slot v usable h =
     let profit = bounded_small (length program.root) 2000000000000000 slot v program.profit program.profit_bounded h in
     let scaled = times_abs cert.scale 1048576 (2000000000000000 + 2000000000000000 * 255) (entry_at program.profit slot v) usable.scale profit in
     let rows = rows_small (length program.root) program.rows cert.mults slot v program.rows_bounded usable.fit h in
     omega (arith, abs_less (pos cert.scale *ℤ entry_at program.profit slot v) (rows_at program.rows cert.mults slot v) _ _ scaled rows, usable.few)
+
+by_two : (f p one two : ℤ) (k : ℕ) → one ≡ f +ℤ p → two ≡ f +ℤ (p +ℤ p) → unsigned_abs one ≤ k → unsigned_abs two ≤ k → (unsigned_abs f ≤ k + k + k) × (unsigned_abs p ≤ k + k)
+by_two f p one two k a b h l = (omega (arith, ints), omega (arith, ints))
+
+twice : (p : ℤ) → p *ℤ pos 2 ≡ p +ℤ p
+twice p = omega (arith, ints)
+
+once : (p : ℤ) → p *ℤ pos 1 ≡ p
+once p = omega (arith, ints)
+
+-- a line is as small as what it counts at 1 and 2
+line_small : (line : Line) (k : ℕ) → unsigned_abs (line_at line 1) ≤ k → unsigned_abs (line_at line 2) ≤ k → IsWithin (k + k + k) line
+line_small line k h l =
+    let both = by_two line.fixed line.per (line_at line 1) (line_at line 2) k (ap (λ (x : ℤ). line.fixed +ℤ x) (once line.per)) (ap (λ (x : ℤ). line.fixed +ℤ x) (twice line.per)) h l in
+    record { fixed = both.0; per = omega (arith, both.1) }
+
+-- the lines of what slots gain
+pub lines_small : (program : Program) (cert : Cert) (lines : List Line) → IsUsable (length program.rows) cert → ((slot v : ℕ) → slot < length lines → line_at (slot_line lines slot) v ≡ gain program cert slot v) → All (IsWithin (2 ^ 89)) lines
+lines_small program cert lines usable exact k d lt =
+    let most : ℕ = 142000000000000000000000000 in
+    let small : (v : ℕ) → v ≤ 2 → unsigned_abs (line_at (slot_line lines k) v) ≤ most =
+    λ v h. subst (λ (x : ℤ). unsigned_abs x ≤ most) (sym (exact k v lt)) (gain_small program cert k v usable (omega (arith, h))) in
+    let line = line_small (slot_line lines k) most (small 1 (omega arith)) (small 2 (omega arith)) in
+    let here : IsWithin (2 ^ 89) (slot_line lines k) = record { fixed = omega (arith, line.fixed); per = omega (arith, line.per) } in
+    subst (IsWithin (2 ^ 89)) (get_or_default lines k (record { fixed = pos 0; per = pos 0 }) d lt) here
 
 pub greatest_small : (f : ℕ → ℤ) (vs : List ℕ) (k : ℕ) → ((v : ℕ) → Contains vs v → unsigned_abs (f v) ≤ k) → unsigned_abs (greatest f vs) ≤ k
 greatest_small f [] k h = omega arith
@@ -125,7 +153,7 @@ pub total_small : (program : Program) (ds : List Domain) (cert : Cert) → IsUsa
 total_small program ds cert usable normal same =
     let base = times_abs cert.scale 1048576 10000000000000000000000 program.base usable.scale program.base_bounded in
     let limits = limits_small (length program.root) program.rows cert.mults program.rows_bounded usable.fit in
-    let slots = slots_small (gain program cert) (2 ^ 88) 0 ds normal (λ slot v h. gain_small program cert slot v usable h) in
+    let slots = slots_small (gain program cert) 142000000000000000000000000 0 ds normal (λ slot v h. gain_small program cert slot v usable h) in
     omega (arith, ints, base, limits, slots, usable.few, same, program.few_slots)
 
 quotient_small : (n : ℕ) (t : ℤ) → unsigned_abs (int_div_euclid t (pos n)) ≤ unsigned_abs t

@@ -23,4 +23,4 @@ pub use line::Line;
 #[doc(hidden)]
 pub use lines::{add_entries, turn};
 #[doc(hidden)]
-pub use totals::{gain_lines, greatest_in, scaled_limit, usable_total};
+pub use totals::{fill_gains, greatest_in, scaled_limit, usable_total};

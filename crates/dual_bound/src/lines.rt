@@ -15,7 +15,7 @@ pub fn add_entries(lines: &mut [Line], entries: &[Entry], factor: u64)
     requires named { All (λ e. e.slot < length lines.old) entries.now }
     requires light { All (IsLight factor) entries.now }
     requires within { All (IsWithin (2 ^ 110)) lines.old }
-    requires few { length entries.now ≤ 512 }
+    requires few { length entries.now ≤ 4096 }
     ensures value { (slot v : ℕ) → slot < length lines.new
         → line_at (slot_line lines.new slot) v
         ≡ line_at (slot_line lines.old slot) v +ℤ (pos factor *ℤ entry_at entries.now slot v) }
@@ -42,15 +42,15 @@ pub fn turn(lines: &mut [Line])
 
 // Adds each factor times the entries of its row.
 pub fn add_rows(lines: &mut [Line], rows: &[Row], mults: &[Mult])
-    requires slots { length lines.old ≡ 512 }
+    requires slots { length lines.old ≤ 4096 }
     requires fit { All (IsFitMult (length rows.now)) mults.now }
     requires few { length mults.now ≤ 50000 }
-    requires bounded { All (IsBoundedRow 512) rows.now }
+    requires bounded { All (IsBoundedRow (length lines.old)) rows.now }
     requires bare { All (IsWithin 0) lines.old }
     ensures value { (slot v : ℕ) → slot < length lines.new
         → line_at (slot_line lines.new slot) v
         ≡ line_at (slot_line lines.old slot) v +ℤ rows_at rows.now mults.now slot v }
-    ensures within { All (IsWithin (2 ^ 96)) lines.new }
+    ensures within { All (IsWithin (2 ^ 99)) lines.new }
 {
     for mult in mults {
         add_row(lines, &rows[mult.row as usize], mult.factor);
@@ -59,15 +59,15 @@ pub fn add_rows(lines: &mut [Line], rows: &[Row], mults: &[Mult])
 
 // Adds a factor times the entries of a row.
 fn add_row(lines: &mut [Line], row: &Row, factor: u64)
-    requires slots { length lines.old ≡ 512 }
+    requires slots { length lines.old ≤ 4096 }
     requires factor { factor ≤ 2 ^ 40 }
-    requires bounded { IsBoundedRow 512 row.now }
+    requires bounded { IsBoundedRow (length lines.old) row.now }
     requires within { All (IsWithin (2 ^ 110)) lines.old }
     ensures value { (slot v : ℕ) → slot < length lines.new
         → line_at (slot_line lines.new slot) v
         ≡ line_at (slot_line lines.old slot) v +ℤ (pos factor *ℤ entry_at row.now.entries slot v) }
     ensures within { (most : ℕ) → All (IsWithin most) lines.old
-        → All (IsWithin (most + 2 ^ 80)) lines.new }
+        → All (IsWithin (most + 2 ^ 83)) lines.new }
 {
     add_entries(lines, row.entries.as_slice(), factor);
 }

@@ -13,6 +13,9 @@ use crate::line::Line;
 use crate::lines::{add_entries, add_rows, turn};
 use row_kit::{Area, Domain, MOST_SLOTS, Program, Row};
 
+// The most slots of a program of few.
+const FEW_SLOTS: usize = 512;
+
 /// The total of a certificate over an area. None comes exactly where a domain is empty, or the certificate breaks a limit or
 /// names rows that are not there or do not ascend. Scale times the value of each point of the area that keeps every row is at
 /// most the total. It takes no memory, and costs the entries of the rows with factors and the slots.
@@ -99,7 +102,7 @@ fn are_fit(rows: usize, mults: &[Mult]) -> bool
 // The sum of factor times row limit.
 fn limits_sum(rows: &[Row], mults: &[Mult]) -> i128
     requires fit { All (IsFitMult (length rows.now)) mults.now }
-    requires bounded { All (IsBoundedRow 512) rows.now }
+    requires bounded { All (IsBoundedRow 4096) rows.now }
     requires few { length mults.now ≤ 50000 }
     ensures value { result ≡ limits_sum rows.now mults.now }
     ensures small { unsigned_abs result ≤ 2 ^ 100 }
@@ -114,14 +117,14 @@ fn limits_sum(rows: &[Row], mults: &[Mult]) -> i128
 /// A factor times the limit of a row.
 pub fn scaled_limit(row: &Row, factor: u64) -> i128
     requires factor { factor ≤ 1099511627776 }
-    requires bounded { IsBoundedRow 512 row.now }
+    requires bounded { IsBoundedRow 4096 row.now }
     ensures value { result ≡ pos factor *ℤ row.now.limit }
     ensures small { unsigned_abs result ≤ 2 ^ 80 }
 {
     i128::from(factor) * row.limit
 }
 
-// The sum over slots of the greatest gain.
+// The sum over slots of the greatest gain. A program of few slots does not pay for lines of many.
 fn gains(program: &Program, area: &Area, cert: &Cert) -> i128
     requires slots { length (present area.now) ≡ length program.now.root }
     requires usable { IsUsable (length program.now.rows) cert.now }
@@ -129,39 +132,75 @@ fn gains(program: &Program, area: &Area, cert: &Cert) -> i128
     ensures value { result ≡ slots_total (gain program.now cert.now) 0 (present area.now) }
     ensures small { unsigned_abs result ≤ 2 ^ 117 }
 {
-    let lines = gain_lines(program, cert);
-    slots_sum(&lines, area)
+    if program.root.len() <= FEW_SLOTS {
+        few_gains(program, area, cert)
+    } else {
+        many_gains(program, area, cert)
+    }
 }
 
-/// What each slot gains, as lines. It costs the entries of the rows with factors and the slots.
-pub fn gain_lines(program: &Program, cert: &Cert) -> [Line; MOST_SLOTS]
-    requires { IsUsable (length program.now.rows) cert.now }
-    ensures length { length result ≡ 512 }
-    ensures value { (slot v : ℕ) → slot < 512
-        → line_at (slot_line result slot) v ≡ gain program.now cert.now slot v }
-    ensures within { All (IsWithin (2 ^ 98)) result }
+// The sum over few slots of the greatest gain. Its lines are to be no part of the frame of a caller.
+#[inline(never)]
+fn few_gains(program: &Program, area: &Area, cert: &Cert) -> i128
+    requires slots { length (present area.now) ≡ length program.now.root }
+    requires few { length program.now.root ≤ 512 }
+    requires usable { IsUsable (length program.now.rows) cert.now }
+    requires open_ { All IsOpen (present area.now) }
+    ensures value { result ≡ slots_total (gain program.now cert.now) 0 (present area.now) }
+    ensures small { unsigned_abs result ≤ 2 ^ 117 }
 {
-    let mut lines = bare_lines();
-    add_rows(&mut lines, program.rows.as_slice(), cert.mults.as_slice());
-    turn(&mut lines);
-    add_entries(&mut lines, program.profit.as_slice(), u64::from(cert.scale));
-    lines
+    let mut lines = [Line { fixed: 0, per: 0 }; FEW_SLOTS];
+    gains_in(&mut lines, program, area, cert)
 }
 
-// A line that counts nothing for each slot that there may be.
-fn bare_lines() -> [Line; MOST_SLOTS]
-    ensures length { length result ≡ 512 }
-    ensures bare { (slot : ℕ) → slot_line result slot ≡ record { fixed = pos 0; per = pos 0 } }
-    ensures within { All (IsWithin 0) result }
+// The sum over as many slots as a program can have of the greatest gain. Its lines are to be no part of the frame of a caller.
+#[inline(never)]
+fn many_gains(program: &Program, area: &Area, cert: &Cert) -> i128
+    requires slots { length (present area.now) ≡ length program.now.root }
+    requires usable { IsUsable (length program.now.rows) cert.now }
+    requires open_ { All IsOpen (present area.now) }
+    ensures value { result ≡ slots_total (gain program.now cert.now) 0 (present area.now) }
+    ensures small { unsigned_abs result ≤ 2 ^ 117 }
 {
-    [Line { fixed: 0, per: 0 }; MOST_SLOTS]
+    let mut lines = [Line { fixed: 0, per: 0 }; MOST_SLOTS];
+    gains_in(&mut lines, program, area, cert)
+}
+
+// The sum over slots of the greatest gain, by lines that count nothing before.
+fn gains_in(lines: &mut [Line], program: &Program, area: &Area, cert: &Cert) -> i128
+    requires slots { length (present area.now) ≡ length program.now.root }
+    requires there { length program.now.root ≤ length lines.old }
+    requires few { length lines.old ≤ 4096 }
+    requires bare { All (IsWithin 0) lines.old }
+    requires usable { IsUsable (length program.now.rows) cert.now }
+    requires open_ { All IsOpen (present area.now) }
+    ensures value { result ≡ slots_total (gain program.now cert.now) 0 (present area.now) }
+    ensures small { unsigned_abs result ≤ 2 ^ 117 }
+{
+    fill_gains(lines, program, cert);
+    slots_sum(lines, area)
+}
+
+/// Makes lines that count nothing into what each slot gains. It costs the entries of the rows with factors and the slots.
+pub fn fill_gains(lines: &mut [Line], program: &Program, cert: &Cert)
+    requires there { length program.now.root ≤ length lines.old }
+    requires few { length lines.old ≤ 4096 }
+    requires bare { All (IsWithin 0) lines.old }
+    requires usable { IsUsable (length program.now.rows) cert.now }
+    ensures value { (slot v : ℕ) → slot < length lines.new
+        → line_at (slot_line lines.new slot) v ≡ gain program.now cert.now slot v }
+    ensures within { All (IsWithin (2 ^ 94)) lines.new }
+{
+    add_rows(lines, program.rows.as_slice(), cert.mults.as_slice());
+    turn(lines);
+    add_entries(lines, program.profit.as_slice(), u64::from(cert.scale));
 }
 
 // The sum over slots of the greatest of their lines.
 fn slots_sum(lines: &[Line], area: &Area) -> i128
     requires slots { length (present area.now) ≤ length lines.now }
-    requires few { length lines.now ≡ 512 }
-    requires within { All (IsWithin (2 ^ 98)) lines.now }
+    requires few { length lines.now ≤ 4096 }
+    requires within { All (IsWithin (2 ^ 94)) lines.now }
     requires open_ { All IsOpen (present area.now) }
     ensures value { result ≡ slots_total
         (λ slot. line_at (slot_line lines.now slot)) 0 (present area.now) }
@@ -176,11 +215,11 @@ fn slots_sum(lines: &[Line], area: &Area) -> i128
 
 /// The greatest of a line over the values of a domain.
 pub fn greatest_in(line: &Line, domain: Domain) -> i128
-    requires within { IsWithin (2 ^ 98) line.now }
+    requires within { IsWithin (2 ^ 94) line.now }
     requires normal { IsNormal domain }
     requires open_ { IsOpen domain }
     ensures value { result ≡ greatest (line_at line.now) (values_of domain) }
-    ensures small { unsigned_abs result ≤ 2 ^ 107 }
+    ensures small { unsigned_abs result ≤ 2 ^ 103 }
 {
     if domain.lo > domain.hi {
         return 0;
@@ -202,17 +241,17 @@ fn best_end(line: &Line, lo: u8, hi: u8) -> u8
 
 // What a line counts at a value of 1 or more.
 fn at_value(line: &Line, value: u8) -> i128
-    requires within { IsWithin (2 ^ 98) line.now }
+    requires within { IsWithin (2 ^ 94) line.now }
     requires positive { 1 ≤ value }
     ensures value { result ≡ line_at line.now value }
-    ensures small { unsigned_abs result ≤ 2 ^ 107 }
+    ensures small { unsigned_abs result ≤ 2 ^ 103 }
 {
     line.fixed + times(line.per, value)
 }
 
 // A part for each unit of a value.
 fn times(per: i128, value: u8) -> i128
-    requires { unsigned_abs per ≤ 2 ^ 98 }
+    requires { unsigned_abs per ≤ 2 ^ 94 }
     ensures value { result ≡ per *ℤ pos value }
     ensures small { unsigned_abs result ≤ unsigned_abs per * value }
 {

@@ -52,10 +52,10 @@ fell_to : (t l f o : ℤ) (n : ℕ) → t ≡ l → f ≡ o → (l +ℤ pos n) �
 fell_to t l f o n p q h = omega (arith, ints)
 
 -- where some factor changed
-pub done_changed : (p : Program) (ds : List Domain) (old : Cert) (stop : Option ℤ) (ms new list : List Mult) (first last : ℤ) → Descended p ds old stop ms new first last → IsSome (total_at p ds old) → (last +ℤ pos old.scale) ≤ℤ first → are_fit (length p.rows) 0 list ≡ true → length list ≤ length p.rows → HaveSameSums list new → IsDone p ds old (cert_of old.scale list) stop
-done_changed p ds old stop ms new list first last d some fell fit few same =
+pub done_changed : (p : Program) (ds : List Domain) (old : Cert) (stop : Option ℤ) (ms new list : List Mult) (first last : ℤ) → Descended p ds old stop ms new first last → IsSome (total_at p ds old) → (last +ℤ pos old.scale) ≤ℤ first → are_fit (length p.rows) 0 list ≡ true → length list ≤ length p.rows → length p.rows ≤ 50000 → HaveSameSums list new → IsDone p ds old (cert_of old.scale list) stop
+done_changed p ds old stop ms new list first last d some fell fit few few_rows same =
     let k = keeps p ds old some in
-    let has = has_other p ds old list k fit few in
+    let has = has_other p ds old list k fit few few_rows in
     let sum : total_of p ds (cert_of old.scale list) ≡ last = total_same p ds old.scale list new same ∙ sym d.is_total in
     let total : total_at p ds (cert_of old.scale list) ≡ Some last = total_is p ds (cert_of old.scale list) has ∙ ap (λ (x : ℤ). Some x) sum in
     record {

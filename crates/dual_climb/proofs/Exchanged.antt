@@ -135,8 +135,8 @@ freed_back : (g a x r o : ℤ) → g ≡ a -ℤ (o +ℤ r) → x ≡ o → g +�
 freed_back g a x r o p q = omega (arith, ints)
 
 -- the total with a factor in the place of a row's own is the part that stays and the part along the row
-pub total_along : (p : Program) (ds : List Domain) (n row : ℕ) (ms : List Mult) (lines : List Line) → length ds ≡ length p.root → length ds ≤ 512 → IsFull (length p.rows) ms → row < length p.rows → IsBoundedRow (length p.root) (row_at p.rows row) → ((slot v : ℕ) → slot < 512 → line_at (slot_line lines slot) v ≡ gain p (cert_of n ms) slot v) → (factor : ℕ) → total_of p ds (with_factor (cert_of n ms) row factor) ≡ staying p ds n ms row +ℤ part_along lines ds (row_at p.rows row) (get_or ms row no_mult).factor factor
-total_along p ds n row ms lines same few full there bounded exact factor =
+pub total_along : (p : Program) (ds : List Domain) (n row : ℕ) (ms : List Mult) (lines : List Line) → length ds ≡ length p.root → IsFull (length p.rows) ms → row < length p.rows → IsBoundedRow (length p.root) (row_at p.rows row) → ((slot v : ℕ) → slot < length p.root → line_at (slot_line lines slot) v ≡ gain p (cert_of n ms) slot v) → (factor : ℕ) → total_of p ds (with_factor (cert_of n ms) row factor) ≡ staying p ds n ms row +ℤ part_along lines ds (row_at p.rows row) (get_or ms row no_mult).factor factor
+total_along p ds n row ms lines same full there bounded exact factor =
     let r = row_at p.rows row in
     let es = r.entries in
     let f = others_gain p n ms row in
@@ -149,7 +149,7 @@ total_along p ds n row ms lines same few full there bounded exact factor =
     let held : (k v : ℕ) → k < length es → freed lines own (get_or es k no_entry) v ≡ f (get_or es k no_entry).slot v =
     λ k v lt.
     let e = get_or es k no_entry in
-    let in_lines : e.slot < 512 = omega (arith, named k no_entry lt) in
+    let in_lines : e.slot < length p.root = omega (arith, named k no_entry lt, same) in
     let rows : rows_at p.rows ms e.slot v ≡ (pos own *ℤ entry_at es e.slot v) +ℤ rows_at p.rows (without row ms) e.slot v = sym (rows_same p.rows ((record { row = row; factor = own }) ∷ without row ms) ms (own_same ms row full.numbered (omega (arith, full.all))) e.slot v) in
     freed_back (line_at (slot_line lines e.slot) v) (pos n *ℤ entry_at p.profit e.slot v) (pos own *ℤ counted e v) (rows_at p.rows (without row ms) e.slot v) (pos own *ℤ entry_at es e.slot v)
     (exact e.slot v in_lines ∙ ap (λ (x : ℤ). (pos n *ℤ entry_at p.profit e.slot v) -ℤ x) rows)

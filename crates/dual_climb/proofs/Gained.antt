@@ -18,14 +18,14 @@ use Rattle.dual_bound.proofs.LineSums.{no_line}
 use Rattle.dual_bound.proofs.Signed.{mul_add}
 use Rattle.dual_climb.specs.laws.Held.{AreMost}
 
-pub exact_most : (g : ℤ) → unsigned_abs g ≤ 2 ^ 107 → to_z w128 (of_z w128 g) ≡ g
+pub exact_most : (g : ℤ) → unsigned_abs g ≤ 2 ^ 103 → to_z w128 (of_z w128 g) ≡ g
 exact_most g h = omega (arith, ints)
 
 -- the most of a slot's new line is held
-pub most_set : (ds : List Domain) (lines : List Line) (most : List ℤ) (k : ℕ) (line : Line) (g : ℤ) → AreMost ds lines most → k < 512 → length lines ≡ 512 → g ≡ greatest (line_at line) (values_of (domain_at ds k)) → unsigned_abs g ≤ 2 ^ 107 → AreMost ds (set lines k line) (set most k g)
+pub most_set : (ds : List Domain) (lines : List Line) (most : List ℤ) (k : ℕ) (line : Line) (g : ℤ) → AreMost ds lines most → k < length ds → length lines ≡ length ds → g ≡ greatest (line_at line) (values_of (domain_at ds k)) → unsigned_abs g ≤ 2 ^ 103 → AreMost ds (set lines k line) (set most k g)
 most_set ds lines most k line g are lt few is small = record {
   slots = length-set most k g ∙ are.slots;
-  small = All-set (λ (x : ℤ). unsigned_abs x ≤ 2 ^ 107) most k g small are.small;
+  small = All-set (λ (x : ℤ). unsigned_abs x ≤ 2 ^ 103) most k g small are.small;
   each = λ slot h.
       ⊎_elim
       (λ (here : slot ≡ k).

@@ -35,9 +35,9 @@ held_part p ds ms lines k = part_along lines ds (row_at p.rows k) (own_of ms k)
 
 pub can_vary : (p : Program) (ds : List Domain) (n : ℕ) (ms : List Mult) (lines : List Line) (k : ℕ) → CanMove p ds n → AreLines p n ms lines → k < length p.rows → IsAlong lines ds (row_at p.rows k) (own_of ms k)
 can_vary p ds n ms lines k can held lt = record {
-  slots = omega (arith, can.slots, p.few_slots, held.slots);
+  slots = omega (arith, can.slots, held.slots);
   few = omega (arith, can.slots, p.few_slots);
-  within = lines_small p n ms lines can.most held.full held.slots held.gains;
+  within = lines_small p n ms lines can.most held.full can.few_rows held.slots held.gains;
   each_open = can.each_open;
   bounded = subst (λ (s : ℕ). IsBoundedRow s (row_at p.rows k)) (sym can.slots) (p.rows_bounded k no_row lt);
   range = (held.full.fit k no_mult (omega (arith, held.full.all))).factor;
@@ -46,7 +46,7 @@ can_vary p ds n ms lines k can held lt = record {
 -- the total with a factor in the place of a row's own
 total_at_factor : (p : Program) (ds : List Domain) (n : ℕ) (ms : List Mult) (lines : List Line) (k : ℕ) → CanMove p ds n → AreLines p n ms lines → k < length p.rows → (f : ℕ) → total_of p ds (with_factor (cert_of n ms) k f) ≡ staying p ds n ms k +ℤ held_part p ds ms lines k f
 total_at_factor p ds n ms lines k can held lt f =
-    total_along p ds n k ms lines can.slots (omega (arith, can.slots, p.few_slots)) held.full lt (p.rows_bounded k no_row lt) held.gains f
+    total_along p ds n k ms lines can.slots held.full lt (p.rows_bounded k no_row lt) held.gains f
 
 total_now : (p : Program) (ds : List Domain) (n : ℕ) (ms : List Mult) (lines : List Line) (k : ℕ) → CanMove p ds n → AreLines p n ms lines → k < length p.rows → total_of p ds (cert_of n ms) ≡ staying p ds n ms k +ℤ held_part p ds ms lines k (own_of ms k)
 total_now p ds n ms lines k can held lt =
@@ -93,8 +93,8 @@ total_moved : (t s o f x : ℤ) → t ≡ s +ℤ o → x ≡ s +ℤ f → t -ℤ
 total_moved t s o f x p q = omega (arith, ints)
 
 -- the lines after a row has been given a factor
-pub moved_lines : (p : Program) (n : ℕ) (ms : List Mult) (lines new_lines : List Line) (k : ℕ) (new : Mult) → AreLines p n ms lines → length new_lines ≡ 512 → k < length p.rows → new.row ≡ k → new.factor ≤ 1099511627776
-    → ((slot v : ℕ) → slot < 512 → line_at (slot_line new_lines slot) v ≡ (line_at (slot_line lines slot) v +ℤ (pos (own_of ms k) *ℤ entry_at (row_at p.rows k).entries slot v)) -ℤ (pos new.factor *ℤ entry_at (row_at p.rows k).entries slot v))
+pub moved_lines : (p : Program) (n : ℕ) (ms : List Mult) (lines new_lines : List Line) (k : ℕ) (new : Mult) → AreLines p n ms lines → length new_lines ≡ length p.root → k < length p.rows → new.row ≡ k → new.factor ≤ 1099511627776
+    → ((slot v : ℕ) → slot < length p.root → line_at (slot_line new_lines slot) v ≡ (line_at (slot_line lines slot) v +ℤ (pos (own_of ms k) *ℤ entry_at (row_at p.rows k).entries slot v)) -ℤ (pos new.factor *ℤ entry_at (row_at p.rows k).entries slot v))
     → AreLines p n (set ms k new) new_lines
 moved_lines p n ms lines new_lines k new held few lt row range moved =
     let in_ms : k < length ms = omega (arith, held.full.all) in
@@ -165,8 +165,8 @@ read_row p ds n ms lines k rows row mult can held lt read same own =
     }
 
 -- the lines move as a row is read
-pub moved_read : (p : Program) (ds : List Domain) (n : ℕ) (ms : List Mult) (lines new_lines : List Line) (k : ℕ) (row : Row) (own : ℕ) (new : Mult) → IsRead p ds ms lines k row own → AreLines p n ms lines → length new_lines ≡ 512 → k < length p.rows → new.row ≡ k → new.factor ≤ 1099511627776
-    → ((slot v : ℕ) → slot < 512 → line_at (slot_line new_lines slot) v ≡ (line_at (slot_line lines slot) v +ℤ (pos own *ℤ entry_at row.entries slot v)) -ℤ (pos new.factor *ℤ entry_at row.entries slot v))
+pub moved_read : (p : Program) (ds : List Domain) (n : ℕ) (ms : List Mult) (lines new_lines : List Line) (k : ℕ) (row : Row) (own : ℕ) (new : Mult) → IsRead p ds ms lines k row own → AreLines p n ms lines → length new_lines ≡ length p.root → k < length p.rows → new.row ≡ k → new.factor ≤ 1099511627776
+    → ((slot v : ℕ) → slot < length p.root → line_at (slot_line new_lines slot) v ≡ (line_at (slot_line lines slot) v +ℤ (pos own *ℤ entry_at row.entries slot v)) -ℤ (pos new.factor *ℤ entry_at row.entries slot v))
     → AreLines p n (set ms k new) new_lines
 moved_read p ds n ms lines new_lines k row own new read held few lt same range moved =
     moved_lines p n ms lines new_lines k new held few lt same range

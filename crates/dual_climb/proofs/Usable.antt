@@ -50,10 +50,10 @@ all_three : (a b c d : Bool) → a ≡ true → b ≡ true → c ≡ true → d 
 all_three a b c d p q r s = ap (λ (x : Bool). (x && b && c) && d) p ∙ ap (λ (x : Bool). (true && x && c) && d) q ∙ ap (λ (x : Bool). (true && true && x) && d) r ∙ s
 
 -- other factors that are fit have a total too
-pub has_other : (p : Program) (ds : List Domain) (cert : Cert) (ms : List Mult) → Keeps p ds cert → are_fit (length p.rows) 0 ms ≡ true → length ms ≤ length p.rows → has_total p ds (cert_of cert.scale ms) ≡ true
-has_other p ds cert ms k fit few =
+pub has_other : (p : Program) (ds : List Domain) (cert : Cert) (ms : List Mult) → Keeps p ds cert → are_fit (length p.rows) 0 ms ≡ true → length ms ≤ length p.rows → length p.rows ≤ 50000 → has_total p ds (cert_of cert.scale ms) ≡ true
+has_other p ds cert ms k fit few few_rows =
     all_three (leb cert.scale 1048576) (leb (length ms) 50000) (are_fit (length p.rows) 0 ms) (list_all (λ (d : Domain). ltb 0 (count_of d)) ds)
-    (le-leb cert.scale 1048576 k.scale) (le-leb (length ms) 50000 (omega (arith, few, p.few_rows))) fit k.open_test
+    (le-leb cert.scale 1048576 k.scale) (le-leb (length ms) 50000 (omega (arith, few, few_rows))) fit k.open_test
 
 pub never_rises : (before after : Option ℤ) (x y : ℤ) → before ≡ Some x → after ≡ Some y → y ≤ℤ x → NeverRises before after
 never_rises before after x y e f h = subst (λ (b : Option ℤ). NeverRises b after) (sym e) (subst (NeverRises (Some x)) (sym f) h)

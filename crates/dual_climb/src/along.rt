@@ -15,11 +15,11 @@ use row_kit::{Area, Domain, Entry, Row};
 
 // How far the total falls from a row's own factor to another one. It costs the entries of the row.
 pub fn fall_to(gains: &Gains, area: &Area, row: &Row, own: u64, factor: u64) -> i128
-    requires along { IsAlong gains.now.lines (present area.now) row.now own }
-    requires most { AreMost (present area.now) gains.now.lines gains.now.most }
+    requires along { IsAlong gains.now.lines.items (present area.now) row.now own }
+    requires most { AreMost (present area.now) gains.now.lines.items gains.now.most.items }
     requires factor { factor ≤ 2 ^ 40 }
-    ensures value { let part = part_along gains.now.lines (present area.now) row.now own in result
-        ≡ part own -ℤ part factor }
+    ensures value { let part = part_along gains.now.lines.items (present area.now) row.now own in
+        result ≡ part own -ℤ part factor }
     ensures small { unsigned_abs result ≤ 2 ^ 118 }
 {
     let mut sum = scaled_limit(row, own) - scaled_limit(row, factor);
@@ -36,19 +36,19 @@ pub fn fall_to(gains: &Gains, area: &Area, row: &Row, own: u64, factor: u64) -> 
 
 // How far the most that a slot gains falls where it gains another line.
 fn fall_at(most: &i128, line: &Line, domain: Domain) -> i128
-    requires small { unsigned_abs most.now ≤ 2 ^ 107 }
-    requires within { IsWithin (2 ^ 98) line.now }
+    requires small { unsigned_abs most.now ≤ 2 ^ 103 }
+    requires within { IsWithin (2 ^ 94) line.now }
     requires normal { IsNormal domain }
     requires open_ { IsOpen domain }
     ensures value { result ≡ most.now -ℤ greatest (line_at line.now) (values_of domain) }
-    ensures small { unsigned_abs result ≤ 2 ^ 108 }
+    ensures small { unsigned_abs result ≤ 2 ^ 104 }
 {
     *most - greatest_in(line, domain)
 }
 
 // The line of an entry's slot with another factor of the row than its own.
 pub fn with_other(line: &Line, entry: &Entry, own: u64, factor: u64) -> Line
-    requires within { IsWithin (2 ^ 97 + 2 ^ 81) line.now }
+    requires within { IsWithin (2 ^ 93 + 2 ^ 84) line.now }
     requires fixed { unsigned_abs entry.now.fixed ≤ 10000000 }
     requires per { unsigned_abs entry.now.per ≤ 10000000 }
     requires own { own ≤ 2 ^ 40 }

@@ -22,8 +22,8 @@ const MOST_STEPS: u32 = 1_000;
 /// Where none are better than those of `start`, the factors of the rows are given one after another the least total along the
 /// row.
 ///
-/// A step costs the entries of all rows and the slots, and no memory. The climb takes memory for three numbers of each row, and
-/// for the certificate.
+/// A step costs the entries of all rows and the slots, and no memory. The climb takes memory for three numbers of each row, of
+/// which there are no more than may have a factor, for what each slot gains, and for the certificate.
 pub fn climb(
     alloc: Global,
     program: &Program,
@@ -32,6 +32,7 @@ pub fn climb(
 ) -> Result<Cert, AllocError>
     requires slots { length (present area.now) ≡ length program.now.root }
     requires total { IsSome (total_at program.now (present area.now) start.now) }
+    requires few_rows { length program.now.rows ≤ 50000 }
     ensures total { IfOk result (λ cert. IsSome (total_at program.now (present area.now) cert)) }
     ensures scale { IfOk result (λ cert. cert.scale ≡ start.now.scale) }
     ensures never { IfOk result (λ cert. 1 ≤ start.now.scale → IsNoWorse program.now
@@ -70,6 +71,7 @@ fn certificate(
     factors: &[Mult],
 ) -> Result<Cert, AllocError>
     requires total { IsSome (total_at program.now (present area.now) start.now) }
+    requires few_rows { length program.now.rows ≤ 50000 }
     requires full { IsFull (length program.now.rows) factors.now }
     ensures scale { IfOk result (λ cert. cert.scale ≡ start.now.scale) }
     ensures defined { IfOk result (λ cert. IsSome (total_at program.now (present area.now) cert)) }
@@ -88,6 +90,7 @@ fn eased(alloc: Global, program: &Program, area: &Area, start: &Cert) -> Result<
     requires slots { length (present area.now) ≡ length program.now.root }
     requires scale { 1 ≤ start.now.scale }
     requires total { IsSome (total_at program.now (present area.now) start.now) }
+    requires few_rows { length program.now.rows ≤ 50000 }
     ensures scale { IfOk result (λ cert. cert.scale ≡ start.now.scale) }
     ensures defined { IfOk result (λ cert. IsSome (total_at program.now (present area.now) cert)) }
     ensures never { IfOk result (IsNoWorse program.now (present area.now) start.now) }
@@ -104,6 +107,7 @@ fn eased(alloc: Global, program: &Program, area: &Area, start: &Cert) -> Result<
 fn ascend(alloc: Global, program: &Program, area: &Area, start: &Cert) -> Result<Cert, AllocError>
     requires slots { length (present area.now) ≡ length program.now.root }
     requires total { IsSome (total_at program.now (present area.now) start.now) }
+    requires few_rows { length program.now.rows ≤ 50000 }
     ensures scale { IfOk result (λ cert. cert.scale ≡ start.now.scale) }
     ensures defined { IfOk result (λ cert. IsSome (total_at program.now (present area.now) cert)) }
 {

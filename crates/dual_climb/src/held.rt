@@ -35,9 +35,9 @@ pub fn improve(
     requires fall { least_fall ≤ 2 ^ 20 }
     requires number { number < length program.now.rows }
     requires held { IsHeld program.now (present area.now) scale held.old.mults.items
-        held.old.gains.lines held.old.gains.most held.old.total }
+        held.old.gains.lines.items held.old.gains.most.items held.old.total }
     ensures held { IsHeld program.now (present area.now) scale held.new.mults.items
-        held.new.gains.lines held.new.gains.most held.new.total }
+        held.new.gains.lines.items held.new.gains.most.items held.new.total }
     ensures fell { IsTrue result → (held.new.total +ℤ pos least_fall) ≤ℤ held.old.total }
     ensures changes { IsLoweredBy least_fall program.now (present area.now) scale
         held.old.mults.items held.new.mults.items }

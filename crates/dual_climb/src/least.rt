@@ -13,11 +13,11 @@ use row_kit::{Area, Row};
 // costs the entries of the row once where it has no factor and twice where it has one, and twice more on a side where the total
 // falls.
 pub fn is_near(gains: &Gains, area: &Area, row: &Row, own: u64, least_fall: u32) -> bool
-    requires along { IsAlong gains.now.lines (present area.now) row.now own }
-    requires most { AreMost (present area.now) gains.now.lines gains.now.most }
+    requires along { IsAlong gains.now.lines.items (present area.now) row.now own }
+    requires most { AreMost (present area.now) gains.now.lines.items gains.now.most.items }
     requires some { 1 ≤ least_fall }
-    ensures { let part = part_along gains.now.lines (present area.now) row.now own in IsTrue result
-        → (f : ℕ) → f ≤ 2 ^ 40 → (part own -ℤ pos least_fall) <ℤ part f }
+    ensures { let part = part_along gains.now.lines.items (present area.now) row.now own in
+        IsTrue result → (f : ℕ) → f ≤ 2 ^ 40 → (part own -ℤ pos least_fall) <ℤ part f }
 {
     is_near_above(gains, area, row, own, least_fall)
         && is_near_below(gains, area, row, own, least_fall)
@@ -25,11 +25,11 @@ pub fn is_near(gains: &Gains, area: &Area, row: &Row, own: u64, least_fall: u32)
 
 // Whether no factor above a row's own lowers the total by so much or more, by two looks.
 fn is_near_above(gains: &Gains, area: &Area, row: &Row, own: u64, least_fall: u32) -> bool
-    requires along { IsAlong gains.now.lines (present area.now) row.now own }
-    requires most { AreMost (present area.now) gains.now.lines gains.now.most }
+    requires along { IsAlong gains.now.lines.items (present area.now) row.now own }
+    requires most { AreMost (present area.now) gains.now.lines.items gains.now.most.items }
     requires some { 1 ≤ least_fall }
-    ensures { let part = part_along gains.now.lines (present area.now) row.now own in IsTrue result
-        → (f : ℕ) → own ≤ f → f ≤ 2 ^ 40 → (part own -ℤ pos least_fall) <ℤ part f }
+    ensures { let part = part_along gains.now.lines.items (present area.now) row.now own in
+        IsTrue result → (f : ℕ) → own ≤ f → f ≤ 2 ^ 40 → (part own -ℤ pos least_fall) <ℤ part f }
 {
     if own >= MOST_FACTOR {
         return true;
@@ -41,11 +41,11 @@ fn is_near_above(gains: &Gains, area: &Area, row: &Row, own: u64, least_fall: u3
 
 // Whether no factor below a row's own lowers the total by so much or more, by two looks.
 fn is_near_below(gains: &Gains, area: &Area, row: &Row, own: u64, least_fall: u32) -> bool
-    requires along { IsAlong gains.now.lines (present area.now) row.now own }
-    requires most { AreMost (present area.now) gains.now.lines gains.now.most }
+    requires along { IsAlong gains.now.lines.items (present area.now) row.now own }
+    requires most { AreMost (present area.now) gains.now.lines.items gains.now.most.items }
     requires some { 1 ≤ least_fall }
-    ensures { let part = part_along gains.now.lines (present area.now) row.now own in IsTrue result
-        → (f : ℕ) → f ≤ own → (part own -ℤ pos least_fall) <ℤ part f }
+    ensures { let part = part_along gains.now.lines.items (present area.now) row.now own in
+        IsTrue result → (f : ℕ) → f ≤ own → (part own -ℤ pos least_fall) <ℤ part f }
 {
     if own == 0 {
         return true;
@@ -72,11 +72,11 @@ fn steps(first: &i128, least_fall: u32) -> u64
 // A factor of a row at which the total is least. It costs the entries of the row some four times for each time that its distance
 // from the row's own can be halved.
 pub fn least(gains: &Gains, area: &Area, row: &Row, own: u64) -> u64
-    requires along { IsAlong gains.now.lines (present area.now) row.now own }
-    requires most { AreMost (present area.now) gains.now.lines gains.now.most }
+    requires along { IsAlong gains.now.lines.items (present area.now) row.now own }
+    requires most { AreMost (present area.now) gains.now.lines.items gains.now.most.items }
     ensures range { result ≤ 2 ^ 40 }
-    ensures least { let part = part_along gains.now.lines (present area.now) row.now own in (f : ℕ)
-        → f ≤ 2 ^ 40 → part result ≤ℤ part f }
+    ensures least { let part = part_along gains.now.lines.items (present area.now) row.now own in
+        (f : ℕ) → f ≤ 2 ^ 40 → part result ≤ℤ part f }
 {
     if rises_after(gains, area, row, own) {
         between(gains, area, row, own, 0, own)
@@ -87,12 +87,12 @@ pub fn least(gains: &Gains, area: &Area, row: &Row, own: u64) -> u64
 
 // Whether the total does not fall after a row's own factor.
 fn rises_after(gains: &Gains, area: &Area, row: &Row, own: u64) -> bool
-    requires along { IsAlong gains.now.lines (present area.now) row.now own }
-    requires most { AreMost (present area.now) gains.now.lines gains.now.most }
-    ensures yes { let part = part_along gains.now.lines (present area.now) row.now own
+    requires along { IsAlong gains.now.lines.items (present area.now) row.now own }
+    requires most { AreMost (present area.now) gains.now.lines.items gains.now.most.items }
+    ensures yes { let part = part_along gains.now.lines.items (present area.now) row.now own
         in IsTrue result → own < 2 ^ 40 → part own ≤ℤ part (own + 1) }
-    ensures no_ { let part = part_along gains.now.lines (present area.now) row.now own in result
-        ≡ false → (own < 2 ^ 40) × (part (own + 1) ≤ℤ part own) }
+    ensures no_ { let part = part_along gains.now.lines.items (present area.now) row.now own in
+        result ≡ false → (own < 2 ^ 40) × (part (own + 1) ≤ℤ part own) }
 {
     own >= MOST_FACTOR || fall_to(gains, area, row, own, own + 1) <= 0
 }
@@ -100,17 +100,17 @@ fn rises_after(gains: &Gains, area: &Area, row: &Row, own: u64) -> bool
 // The factor from `low` to `high` at which the total is least, where it falls up to `low` and not past `high`: by steps away from
 // the row's own factor, each twice the one before, and by halving.
 fn between(gains: &Gains, area: &Area, row: &Row, own: u64, low: u64, high: u64) -> u64
-    requires along { IsAlong gains.now.lines (present area.now) row.now own }
-    requires most { AreMost (present area.now) gains.now.lines gains.now.most }
+    requires along { IsAlong gains.now.lines.items (present area.now) row.now own }
+    requires most { AreMost (present area.now) gains.now.lines.items gains.now.most.items }
     requires ordered { low ≤ high }
     requires range { high ≤ 2 ^ 40 }
-    requires falls { let part = part_along gains.now.lines (present area.now) row.now own in 0 < low
-        → part low ≤ℤ part (low - 1) }
-    requires rises { let part = part_along gains.now.lines (present area.now) row.now own in high
-        < 2 ^ 40 → part high ≤ℤ part (high + 1) }
+    requires falls { let part = part_along gains.now.lines.items (present area.now) row.now own in
+        0 < low → part low ≤ℤ part (low - 1) }
+    requires rises { let part = part_along gains.now.lines.items (present area.now) row.now own in
+        high < 2 ^ 40 → part high ≤ℤ part (high + 1) }
     ensures range { result ≤ 2 ^ 40 }
-    ensures least { let part = part_along gains.now.lines (present area.now) row.now own in (f : ℕ)
-        → f ≤ 2 ^ 40 → part result ≤ℤ part f }
+    ensures least { let part = part_along gains.now.lines.items (present area.now) row.now own in
+        (f : ℕ) → f ≤ 2 ^ 40 → part result ≤ℤ part f }
 {
     let mut low = low;
     let mut high = high;
@@ -156,11 +156,11 @@ fn doubled(reach: u64) -> u64
 
 // Whether the total is no greater at a factor than at the next one.
 fn rises(gains: &Gains, area: &Area, row: &Row, own: u64, factor: u64) -> bool
-    requires along { IsAlong gains.now.lines (present area.now) row.now own }
-    requires most { AreMost (present area.now) gains.now.lines gains.now.most }
+    requires along { IsAlong gains.now.lines.items (present area.now) row.now own }
+    requires most { AreMost (present area.now) gains.now.lines.items gains.now.most.items }
     requires factor { factor < 2 ^ 40 }
-    ensures { let part = part_along gains.now.lines (present area.now) row.now own in IsTrue result
-        ↔ (part factor ≤ℤ part (factor + 1)) }
+    ensures { let part = part_along gains.now.lines.items (present area.now) row.now own in
+        IsTrue result ↔ (part factor ≤ℤ part (factor + 1)) }
 {
     fall_to(gains, area, row, own, factor + 1) <= fall_to(gains, area, row, own, factor)
 }

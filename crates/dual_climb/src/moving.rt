@@ -11,7 +11,7 @@ use crate::factors::spread;
 use crate::gains::{Gains, gains_under, move_gains};
 use crate::pace::Pace;
 use dual_bound::{Cert, Line, MOST_FACTOR, Mult};
-use row_kit::{Area, Domain, Entry, MOST_SLOTS, Program, Row};
+use row_kit::{Area, Domain, Entry, Program, Row};
 use std::alloc::{AllocError, Global};
 
 // The factors of all rows with what the slots gain under them, what each row has left, and the best factors so far.
@@ -20,6 +20,7 @@ pub struct Climbing {
     factors: Vec<Mult>,
     gains: Gains,
     slacks: Vec<i128>,
+    point: Vec<u8>,
     pub best: Vec<Mult>,
 }
 
@@ -33,6 +34,7 @@ impl Climbing {
     ) -> Result<Climbing, AllocError>
         requires slots { length (present area.now) ≡ length program.now.root }
         requires total { IsSome (total_at program.now (present area.now) start.now) }
+        requires few_rows { length program.now.rows ≤ 50000 }
         ensures area { CanMove program.now (present area.now) start.now.scale }
         ensures climbing { IfOk result (IsClimbing program.now (present area.now) start.now.scale) }
     {
@@ -40,11 +42,13 @@ impl Climbing {
         let factors = spread(alloc, program.rows.len(), start.mults.as_slice())?;
         let best = Vec::from_slice(alloc, factors.as_slice())?;
         let slacks = vec![in alloc; 0i128; program.rows.len()]?;
-        let gains = gains_under(program, area, start);
+        let point = vec![in alloc; 0u8; program.root.len()]?;
+        let gains = gains_under(alloc, program, area, start)?;
         Ok(Climbing {
             factors,
             gains,
             slacks,
+            point,
             best,
         })
     }
@@ -61,8 +65,12 @@ impl Climbing {
                 .as_mut_slice()
                 .copy_from_slice(self.factors.as_slice());
         }
-        let point = best_point(&self.gains.lines, area);
-        note_slacks(program.rows.as_slice(), &point, &mut self.slacks);
+        put_best(self.gains.lines.as_slice(), area, self.point.as_mut_slice());
+        note_slacks(
+            program.rows.as_slice(),
+            self.point.as_slice(),
+            &mut self.slacks,
+        );
         let norm = norm(self.slacks.as_slice(), self.factors.as_slice());
         self.move_factors(program, area, scale, &pace.excess(&total), &norm);
     }
@@ -76,7 +84,7 @@ impl Climbing {
             .base
             .saturating_mul(i128::from(scale))
             .saturating_add(limits(program.rows.as_slice(), self.factors.as_slice()))
-            .saturating_add(sum_of(&self.gains.most[..area.slot_count() as usize]))
+            .saturating_add(sum_of(self.gains.most.as_slice()))
     }
 
     // Moves each factor against what its row has left, as far as the total is to fall by an excess.
@@ -140,15 +148,14 @@ fn sum_of(numbers: &[i128]) -> i128 {
     sum
 }
 
-// The values at which the slots gain most.
-fn best_point(lines: &[Line; MOST_SLOTS], area: &Area) -> [u8; MOST_SLOTS]
-    requires { length (present area.now) ≤ 512 }
+// Fills in the values at which the slots gain most.
+fn put_best(lines: &[Line], area: &Area, point: &mut [u8])
+    requires slots { length (present area.now) ≡ length lines.now }
+    requires places { length point.old ≡ length lines.now }
 {
-    let mut point = [0; MOST_SLOTS];
     for slot in 0..area.slot_count() {
         point[slot as usize] = best_value(&lines[slot as usize], area.domain(slot));
     }
-    point
 }
 
 // The value of a domain at which a line counts most.
@@ -164,8 +171,8 @@ fn best_value(line: &Line, domain: Domain) -> u8 {
 }
 
 // Notes what each row has left at a point.
-fn note_slacks(rows: &[Row], point: &[u8; MOST_SLOTS], slacks: &mut Vec<i128>)
-    requires bounded { All (IsBoundedRow 512) rows.now }
+fn note_slacks(rows: &[Row], point: &[u8], slacks: &mut Vec<i128>)
+    requires bounded { All (IsBoundedRow (length point.now)) rows.now }
     requires all { length slacks.old.items ≡ length rows.now }
     ensures { length slacks.new.items ≡ length rows.now }
 {
@@ -175,8 +182,8 @@ fn note_slacks(rows: &[Row], point: &[u8; MOST_SLOTS], slacks: &mut Vec<i128>)
 }
 
 // What a row has left at a point: its limit less what its entries sum to.
-fn slack(row: &Row, point: &[u8; MOST_SLOTS]) -> i128
-    requires { IsBoundedRow 512 row.now }
+fn slack(row: &Row, point: &[u8]) -> i128
+    requires { IsBoundedRow (length point.now) row.now }
 {
     let mut left = row.limit;
     for entry in row.entries.as_slice() {

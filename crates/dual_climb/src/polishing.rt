@@ -26,7 +26,7 @@ use std::alloc::{AllocError, Global};
 /// A pass looks at the entries of each row once, or twice where the row has a factor, and twice more on a side where the total
 /// falls by less than the scale. A row that changes costs its entries some four times for each time that the distance between
 /// the two factors can be halved. There are at most as many changes as the fall of the total has scales. It takes memory for a
-/// factor of each row.
+/// factor of each row, of which there are no more than may have a factor, and for what each slot gains.
 pub fn polish(
     alloc: Global,
     program: &Program,
@@ -37,6 +37,7 @@ pub fn polish(
     requires slots { length (present area.now) ≡ length program.now.root }
     requires scale { 1 ≤ cert.old.scale }
     requires total { IsSome (total_at program.now (present area.now) cert.old) }
+    requires few_rows { length program.now.rows ≤ 50000 }
     ensures scale { cert.new.scale ≡ cert.old.scale }
     ensures total { NeverRises (total_at program.now (present area.now) cert.old)
         (total_at program.now (present area.now) cert.new) }
@@ -58,15 +59,16 @@ pub fn hold(alloc: Global, program: &Program, area: &Area, cert: &Cert) -> Resul
     requires slots { length (present area.now) ≡ length program.now.root }
     requires scale { 1 ≤ cert.now.scale }
     requires total { IsSome (total_at program.now (present area.now) cert.now) }
+    requires few_rows { length program.now.rows ≤ 50000 }
     ensures area { CanMove program.now (present area.now) cert.now.scale }
     ensures held { IfOk result (λ held. IsHeld program.now (present area.now) cert.now.scale
-        held.mults.items held.gains.lines held.gains.most held.total) }
+        held.mults.items held.gains.lines.items held.gains.most.items held.total) }
     ensures total { IfOk result (λ held. total_at program.now (present area.now) cert.now
         ≡ Some held.total) }
     ensures same { IfOk result (λ held. HaveSameSums held.mults.items cert.now.mults) }
 {
     let _ = area.slot_count();
-    let gains = gains_under(program, area, cert);
+    let gains = gains_under(alloc, program, area, cert)?;
     let total = usable_total(program, area, cert);
     let mults = spread(alloc, program.rows.len(), cert.mults.as_slice())?;
     Ok(Held {
@@ -81,9 +83,9 @@ fn descend(program: &Program, area: &Area, scale: u32, stop: Option<i128>, held:
     requires area { CanMove program.now (present area.now) scale }
     requires scale { 1 ≤ scale }
     requires held { IsHeld program.now (present area.now) scale held.old.mults.items
-        held.old.gains.lines held.old.gains.most held.old.total }
+        held.old.gains.lines.items held.old.gains.most.items held.old.total }
     ensures held { IsHeld program.now (present area.now) scale held.new.mults.items
-        held.new.gains.lines held.new.gains.most held.new.total }
+        held.new.gains.lines.items held.new.gains.most.items held.new.total }
     ensures never { held.new.total ≤ℤ held.old.total }
     ensures fell { IsTrue result → (held.new.total +ℤ pos scale) ≤ℤ held.old.total }
     ensures same { result ≡ false → held.new.mults.items ≡ held.old.mults.items }
@@ -114,9 +116,9 @@ pub fn pass(
     requires some { 1 ≤ least_fall }
     requires fall { least_fall ≤ 2 ^ 20 }
     requires held { IsHeld program.now (present area.now) scale held.old.mults.items
-        held.old.gains.lines held.old.gains.most held.old.total }
+        held.old.gains.lines.items held.old.gains.most.items held.old.total }
     ensures held { IsHeld program.now (present area.now) scale held.new.mults.items
-        held.new.gains.lines held.new.gains.most held.new.total }
+        held.new.gains.lines.items held.new.gains.most.items held.new.total }
     ensures never { held.new.total ≤ℤ held.old.total }
     ensures fell { IsTrue result → (held.new.total +ℤ pos least_fall) ≤ℤ held.old.total }
     ensures changes { IsLoweredBy least_fall program.now (present area.now) scale
@@ -151,9 +153,9 @@ fn step(
     requires fall { least_fall ≤ 2 ^ 20 }
     requires number { number < length program.now.rows }
     requires held { IsHeld program.now (present area.now) scale held.old.mults.items
-        held.old.gains.lines held.old.gains.most held.old.total }
+        held.old.gains.lines.items held.old.gains.most.items held.old.total }
     ensures held { IsHeld program.now (present area.now) scale held.new.mults.items
-        held.new.gains.lines held.new.gains.most held.new.total }
+        held.new.gains.lines.items held.new.gains.most.items held.new.total }
     ensures fell { IsTrue result → (held.new.total +ℤ pos least_fall) ≤ℤ held.old.total }
     ensures changes { IsLoweredBy least_fall program.now (present area.now) scale
         held.old.mults.items held.new.mults.items }

@@ -3,7 +3,7 @@ ghost use Rattle.std.specs.Prelude.{◌≡◌, ◌+◌, ◌≤◌, ◌⊎◌, []
 ghost use Rattle.dual_bound.specs.Total.{are_fit};
 
 use chain_simplex::Simplex;
-use dual_bound::{MOST_FACTOR, Mult};
+use dual_bound::{MOST_FACTOR, MOST_MULTS, Mult};
 use row_chains::Chains;
 use row_kit::Program;
 use sparse_basis::numbered;
@@ -17,7 +17,7 @@ pub enum Source {
     Ray(i32),
 }
 
-/// Lists the factors of rows.
+/// Lists the factors of rows, no more than a certificate may have.
 pub fn list_mults(
     simplex: &Simplex,
     chains: &Chains,
@@ -26,7 +26,7 @@ pub fn list_mults(
     mults: &mut Vec<Mult>,
 )
     ensures fit { are_fit (length program.now.rows) 0 mults.new.items ≡ true }
-    ensures few { length mults.new.items ≤ length program.now.rows }
+    ensures few { length mults.new.items ≤ 50000 }
 {
     mults.clear();
     for row in 0..numbered(program.rows.len()) {
@@ -40,7 +40,7 @@ fn put_factor(mults: &mut Vec<Mult>, row: u32, factor: u64)
     requires factor { factor ≤ MOST_FACTOR }
     requires fit { are_fit row 0 mults.old.items ≡ true }
     ensures fit { are_fit (row + 1) 0 mults.new.items ≡ true }
-    ensures few { length mults.new.items ≤ length mults.old.items + 1 }
+    ensures few { length mults.old.items ≤ 50000 → length mults.new.items ≤ 50000 }
 {
     if factor != 0 {
         put_last(mults, Mult { row, factor });
@@ -71,11 +71,12 @@ fn factor(weight: &i128) -> u64
     }
 }
 
-// Puts a factor at the end where there is room.
+// Puts a factor at the end where there is room, and a certificate may have one more.
 fn put_last(mults: &mut Vec<Mult>, mult: Mult)
-    ensures { (mults.new.items ≡ mults.old.items) ⊎ (mults.new.items ≡ mults.old.items ++ mult ∷ []) }
+    ensures put { (mults.new.items ≡ mults.old.items) ⊎ (mults.new.items ≡ mults.old.items ++ mult ∷ []) }
+    ensures few { length mults.old.items ≤ 50000 → length mults.new.items ≤ 50000 }
 {
-    if mults.len() < mults.capacity() {
+    if mults.len() < mults.capacity() && mults.len() < MOST_MULTS {
         mults.push_reserved(mult);
     }
 }

@@ -47,11 +47,10 @@ pub frozen-bounds : (plant : Plant) (period : ℕ) (kept : List Start) (whole : 
     root ≡ frozen_root plant period kept → KeepsBounds whole.rows whole.profit whole.base root whole.tags whole.changes
 frozen-bounds plant period kept whole root sound has own_is root_is =
     let same = same-slots plant period kept whole.root root own_is root_is in
-    let few : length whole.root ≤ 512 = whole.few_slots in
+    let few : length whole.root ≤ 4096 = whole.few_slots in
     record {
       few_slots = omega arith;
       root_normal = subst (All IsNormal) (sym root_is) (frozen-normal plant period kept sound has);
-      root_open = subst (All IsOpen) (sym root_is) (frozen-open plant period kept);
       few_rows = whole.few_rows;
       rows_bounded = subst (λ (n : ℕ). All (IsBoundedRow n) whole.rows) (sym same) whole.rows_bounded;
       profit_bounded = subst (λ (n : ℕ). AreBounded n 2000000000000000 whole.profit) (sym same) whole.profit_bounded;

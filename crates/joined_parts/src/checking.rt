@@ -145,6 +145,8 @@ fn read_front<F: Shelf>(
     name: &str,
 ) -> Result<Front, Stop>
     requires most { levels ≤ 8 }
+    requires few_slots { length program.now.root ≤ 512 }
+    requires few_rows { length program.now.rows ≤ 45904 }
     requires allowed { IsTrue (F.may_read files.old name.now) }
     ensures front { IfOk result (λ front. IfSome (F.files files.old)
         (λ m. IsFront (limits_of program.now (4608 - levels)) (file_of m name.now) front)) }

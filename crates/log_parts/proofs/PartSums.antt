@@ -11,7 +11,7 @@ use Rattle.row_kit.specs.declared.row.Entry.{Entry}
 use Rattle.row_kit.specs.declared.row.Row.{Row}
 use Rattle.row_kit.specs.declared.row.Tag.{Tag}
 use Rattle.row_kit.specs.Bounds.{AreBounded, IsBoundedRow}
-use Rattle.row_kit.specs.Domain.{IsNormal, IsOpen, domain_at, no_values}
+use Rattle.row_kit.specs.Domain.{IsNormal, domain_at, no_values}
 use Rattle.row_kit.specs.Point.{IsLawful, worth_of}
 use Rattle.row_kit.specs.Row.{row_at}
 use Rattle.row_set.specs.Parts.{IsButRoot, IsWithin}
@@ -89,7 +89,6 @@ larger-whole whole part larger ranges sums but same added =
     let long = long-larger whole part larger ranges sums same added in
     let own = domains-same part whole ranges sums but.rows in
     let normal : All IsNormal domains = subst (All IsNormal) own (All-second IsNormal part.root (map (sum_domain part ranges) sums) (subst (All IsNormal) added.root larger.root_normal)) in
-    let opens : All IsOpen domains = subst (All IsOpen) own (All-second IsOpen part.root (map (sum_domain part ranges) sums) (subst (All IsOpen) added.root larger.root_open)) in
     let few = larger.few_slots in
     let wide : Program = record {
       rows = larger.rows;
@@ -100,7 +99,6 @@ larger-whole whole part larger ranges sums but same added =
       changes = larger.changes;
       few_slots = (omega (arith, few, long));
       root_normal = All-append IsNormal whole.root domains whole.root_normal normal;
-      root_open = All-append IsOpen whole.root domains whole.root_open opens;
       few_rows = larger.few_rows;
       rows_bounded = subst (λ (n : ℕ). All (IsBoundedRow n) larger.rows) long larger.rows_bounded;
       profit_bounded = subst (λ (n : ℕ). AreBounded n 2000000000000000 larger.profit) long larger.profit_bounded;

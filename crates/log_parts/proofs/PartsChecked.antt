@@ -5,11 +5,13 @@ use Rattle.std.proofs.lemmas.Bool.{cases_eq}
 use Rattle.std.proofs.lemmas.List.{get_or_append_left, length-map}
 use Rattle.std.specs.Prelude.{◌↔◌}
 use Rattle.stn_edge.specs.Files.{FileMap, file_of}
+use Rattle.stn_model.specs.Sound.{Sound}
 use Rattle.stn_model.specs.declared.plant.Plant.{Plant}
 use Rattle.stn_model.specs.declared.start.Start.{Start}
 use Rattle.stn_model.specs.Profit.{profit}
 use Rattle.time_grid.specs.Slots.{slots}
 use Rattle.row_kit.specs.declared.program.Program.{Program}
+pub use Rattle.row_set.proofs.Limits.{part-rows, part-slots}
 use Rattle.row_set.specs.Parts.{IsPartOf, IsAdmitted, plan_of_values}
 use Rattle.row_set.specs.PlantProgram.{plant_rows, slot_domain}
 use Rattle.log_lines.specs.declared.grammar.Limits.{Limits}
@@ -150,11 +152,11 @@ may_declare plant levels limits (front.Headed head) sums same few_slots few_rows
 may_declare plant levels limits (front.Bad defect) sums same few_slots few_rows keeps clear is = absurd clear
 
 -- the sums that a front declares can be declared
-pub may_be_declared : (plant : Plant) (levels part : ℕ) (program : Program) (own : Front) (said : Declared) → IsPartOf plant program → program.root ≡ part_root plant levels part → KeepsLimits (limits_of program (4608 - levels)) own → IsDeclaredBy own said
+pub may_be_declared : (plant : Plant) → Sound plant → (levels part : ℕ) (program : Program) (own : Front) (said : Declared) → IsPartOf plant program → program.root ≡ part_root plant levels part → KeepsLimits (limits_of program (4608 - levels)) own → IsDeclaredBy own said
     → MayBeDeclared plant levels said
-may_be_declared plant levels part program own (declared.Sums sums) of_plant root keeps is =
-    may_declare plant levels (limits_of program (4608 - levels)) own sums (head_same plant levels part program (record { is_part = of_plant; root = root })) program.few_slots program.few_rows keeps is.0 is.1
-may_be_declared plant levels part program own (declared.Bad defect) of_plant root keeps is = tt
+may_be_declared plant sound levels part program own (declared.Sums sums) of_plant root keeps is =
+    may_declare plant levels (limits_of program (4608 - levels)) own sums (head_same plant levels part program (record { is_part = of_plant; root = root })) (part-slots plant program sound of_plant) (part-rows plant program sound of_plant) keeps is.0 is.1
+may_be_declared plant sound levels part program own (declared.Bad defect) of_plant root keeps is = tt
 
 -- where its head has a defect no log was valid
 pub first_refused : (plant : Plant) (levels : ℕ) (stem : List ℕ) (files : Option FileMap) (said : Declared) (defect : Defect) → said ≡ declared.Bad defect → IfSome files (λ m. AreSumsOf plant levels 0 (logs_of m stem 0) said)

@@ -63,7 +63,7 @@ module _ (plant : Plant) (part : Program) (sound : Sound plant) (is : IsPartOf p
   pub least-point : plan_point plant (least_plan plant part) ≡ only_point part.root
   unfolding plan_of_values
   least-point =
-      let lies : LiesIn part.root (only_point part.root) = least_lies part.root part.root_normal part.root_open in
+      let lies : LiesIn part.root (only_point part.root) = least_lies part.root part.root_normal is.each_open in
       let whole : LiesIn (map (slot_domain plant) (slots plant)) (only_point part.root)
       = subst (λ (ds : List Domain). LiesIn ds (only_point part.root)) is.made.root_is (lies-within part.root is.whole.root (only_point part.root) is.within lies) in
       (starts-of_point plant (only_point part.root) sound (point-of_root plant (only_point part.root) whole)).1

@@ -24,6 +24,7 @@ use Rattle.row_kit.specs.Points.{points_of}
 use Rattle.row_relax.specs.Settle.{only_point}
 use Rattle.row_set.specs.Parts.{IsAdmitted, IsPartOf, IsWithin, plan_of_values}
 use Rattle.row_set.specs.PlantProgram.{IsMadeOf, IsProgramOf, slot_domain}
+use Rattle.row_set.proofs.Limits.{made-open}
 use Rattle.plan_told.specs.Outcomes.{IsPartOutcome, least_plan, whole_count}
 
 within_itself : (ds : List Domain) → AllZip IsWithin ds ds
@@ -38,7 +39,7 @@ whole-is_part plant program made means = record {
   means = means;
   but_root = record { rows = refl; profit = refl; base = refl; tags = refl; changes = refl };
   within = within_itself program.root;
-  each_open = program.root_open;
+  each_open = made-open plant program made;
 }
 
 -- the least values of a plant's slots start nothing

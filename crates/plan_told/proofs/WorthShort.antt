@@ -75,15 +75,15 @@ few_started (tag ∷ tags) (zero ∷ values) = omega (arith, few_started tags va
 few_started (tag ∷ tags) (suc value ∷ values) = grind (arith, few_started tags values)
 
 -- what the changeovers of a point cost
-changeovers_small : (changes : List Change) (tags : List Tag) (point : List ℕ) → length tags ≤ 512 → All IsBoundedChange changes → changeovers changes tags point ≤ 512 * 512000000
+changeovers_small : (changes : List Change) (tags : List Tag) (point : List ℕ) → length tags ≤ 4096 → All IsBoundedChange changes → changeovers changes tags point ≤ 4096 * 4096000000
 changeovers_small changes tags point few bounded =
     let starts = started tags point in
     let count = few_started tags point in
     let each = λ (a : Tag). sum_by-le (pair_cost changes starts a) 1000000 starts (λ k d within. pair_small changes starts a (get_or starts k d) bounded) in
     let after = λ (a : Tag). bounded_by (costs_after changes starts a) (each a) in
-    omega (arith, sum_by-le (costs_after changes starts) 512000000 starts (λ k d within. after (get_or starts k d)))
+    omega (arith, sum_by-le (costs_after changes starts) 4096000000 starts (λ k d within. after (get_or starts k d)))
   where
-    bounded_by : (n : ℕ) → n ≤ length (started tags point) * 1000000 → n ≤ 512000000
+    bounded_by : (n : ℕ) → n ≤ length (started tags point) * 1000000 → n ≤ 4096000000
     bounded_by n low = omega (arith, low, few_started tags point, few)
 
 -- the worth of a lawful point has at most 30 digits

@@ -13,8 +13,8 @@ IfPoint claim.Infeasible P = ⊤
 IfPoint (claim.Between profit most point) P = P point
 IfPoint (claim.Below most) P = ⊤
 
--- sums have values at a point that are bytes: they are declared over its slots, of which there are at most 512
+-- sums have values at a point that are bytes: they are declared over its slots, of which there are at most 4,096
 pub record HaveBytes (sums : List Sum) (point : List ℕ) : Type 0 where
-  pub few : length point ≤ 512
+  pub few : length point ≤ 4096
   pub declared : All (IsDeclared (length point)) sums
   pub bytes : All (λ sum. IsByte (sum_value sum point)) sums

@@ -37,7 +37,8 @@ fn limits_with(program: &Program, depth: u32, sums: usize) -> Limits
 }
 
 /// Checks the log of any version that lies in a file of the shelf, over the program, with at most so many splits one in another.
-/// Its sums are to be shown by domains in which the program's points lie.
+/// Its sums are to be shown by domains in which the program's points lie. The program has no more slots and rows than a log may
+/// declare sums over.
 /// A log of version 3 is read in two passes: its head, and what follows. It takes memory as `check_rows` does, and for the
 /// declared sums and the larger program.
 ///
@@ -53,6 +54,8 @@ pub fn check_any<F: Shelf>(
     name: &str,
 ) -> Result<LogVerdict, CheckStop>
     requires ranges { AreRanges program ranges.now }
+    requires few_slots { length program.root ≤ 512 }
+    requires few_rows { length program.rows ≤ 45904 }
     requires allowed { IsTrue (F.may_read files.old name.now) }
     ensures verdict { IfOk result (λ verdict. IfSome (F.files files.old)
         (λ m. IsAnyVerdict program ranges.now depth (file_of m name.now) verdict)) }

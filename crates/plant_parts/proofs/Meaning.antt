@@ -48,12 +48,11 @@ pub part-bounds : (plant : Plant) (levels part : ℕ) (whole : Program) (root : 
     root ≡ cut_root levels part whole.root → KeepsBounds whole.rows whole.profit whole.base root whole.tags whole.changes
 part-bounds plant levels part whole root sound own_is root_is =
     let same : length root ≡ length whole.root = ap length root_is ∙ length-cut levels part whole.root in
-    let few : length whole.root ≤ 512 = whole.few_slots in
+    let few : length whole.root ≤ 4096 = whole.few_slots in
     let are : AreOfSlots whole.root = subst AreOfSlots (sym own_is) (plant-slots plant sound) in
     record {
       few_slots = omega arith;
       root_normal = subst (All IsNormal) (sym root_is) (root-normal levels part whole.root are);
-      root_open = subst (All IsOpen) (sym root_is) (root-open levels part whole.root are);
       few_rows = whole.few_rows;
       rows_bounded = subst (λ (n : ℕ). All (IsBoundedRow n) whole.rows) (sym same) whole.rows_bounded;
       profit_bounded = subst (λ (n : ℕ). AreBounded n 2000000000000000 whole.profit) (sym same) whole.profit_bounded;

@@ -95,11 +95,11 @@ look_quiet rows index number a b x y h old new is normal' before kept woken own 
     (cases_eq r number)
 
 -- a look that cuts takes a value away, whatever rows it lets wait
-pub look_less : (rows : List Row) (a b : List (List Domain)) (x y : List RowCut) (queued before : ℕ) → HasCut rows a b x y → All IsNormal (present a) → (length y ≡ length x → ⊥) → length x ≤ length y → queued ≤ 65535 → 65536 * sum_by count_of (present b) + queued ≤ 65536 * sum_by count_of (present a) + before
+pub look_less : (rows : List Row) (a b : List (List Domain)) (x y : List RowCut) (queued before : ℕ) → HasCut rows a b x y → All IsNormal (present a) → (length y ≡ length x → ⊥) → length x ≤ length y → queued ≤ 524287 → 524288 * sum_by count_of (present b) + queued ≤ 524288 * sum_by count_of (present a) + before
 look_less rows a b x y queued before h normal' apart longer few =
     let less = HasCut-fewer rows a b x y h normal' in
     let some : 1 ≤ length y - length x = omega (arith, apart, longer) in
     omega (arith, less, some, few)
 
-pub few_wait : (queued rows : ℕ) (waiting : List Bool) → queued ≤ count_by (λ b. b) waiting → length waiting ≡ rows → rows ≤ 45904 → queued ≤ 65535
+pub few_wait : (queued rows : ℕ) (waiting : List Bool) → queued ≤ count_by (λ b. b) waiting → length waiting ≡ rows → rows ≤ 400000 → queued ≤ 524287
 few_wait queued rows waiting few many small = omega (arith, few, many, small, count_by-le-length (λ (b : Bool). b) waiting)

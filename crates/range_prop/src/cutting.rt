@@ -45,7 +45,7 @@ pub fn cut(program: &Program, area: &mut Area, row: u32, slot: u32) -> bool
 // Cuts a row at a slot, where no domain is empty.
 fn cut_open(area: &mut Area, row: &Row, slot: u32) -> bool
     requires slot { slot < length (present area.old) }
-    requires few { length (present area.old) ≤ 512 }
+    requires few { length (present area.old) ≤ 4096 }
     requires bounded { IsBoundedRow (length (present area.old)) row.now }
     requires normal { All IsNormal (present area.old) }
     requires open_ { list_any is_bare (present area.old) ≡ false }

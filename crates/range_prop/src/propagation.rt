@@ -40,8 +40,8 @@ fn look_at(
     ensures open_ { IfOk result (λ more. more ≡ true → All IsOpen (present area.new)) }
     ensures quiet { IfOk result (λ more. more ≡ true
         → AreQuiet program.now.rows (present area.new) queue.new.waiting.items) }
-    ensures less { OnOk result (65536 * sum_by count_of (present area.new)
-        + length queue.new.rows.items ≤ 65536 * sum_by count_of (present area.old)
+    ensures less { OnOk result (524288 * sum_by count_of (present area.new)
+        + length queue.new.rows.items ≤ 524288 * sum_by count_of (present area.old)
         + length queue.old.rows.items) }
     ensures count { length queue.new.waiting.items ≡ length queue.old.waiting.items }
     ensures keeps { take (length area.old) area.new ≡ area.old }
@@ -82,9 +82,9 @@ fn step(
     ensures open_ { IfOk result (λ more. more ≡ true → All IsOpen (present area.new)) }
     ensures quiet { IfOk result (λ more. more ≡ true
         → AreQuiet program.now.rows (present area.new) queue.new.waiting.items) }
-    ensures less { IfOk result (λ more. 65536 * sum_by count_of (present area.new)
+    ensures less { IfOk result (λ more. 524288 * sum_by count_of (present area.new)
         + length queue.new.rows.items + (if more then 1 else 0)
-        ≤ 65536 * sum_by count_of (present area.old) + length queue.old.rows.items) }
+        ≤ 524288 * sum_by count_of (present area.old) + length queue.old.rows.items) }
     ensures count { length queue.new.waiting.items ≡ length queue.old.waiting.items }
     ensures keeps { take (length area.old) area.new ≡ area.old }
     ensures lists { take (length cuts.old.items) cuts.new.items ≡ cuts.old.items }

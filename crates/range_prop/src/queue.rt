@@ -30,7 +30,7 @@ impl Queue {
 
     // So many rows, all of which wait.
     pub fn full(alloc: Global, count: usize) -> Result<Queue, AllocError>
-        requires { count ≤ 45904 }
+        requires { count ≤ 400000 }
         ensures count { IfOk result (λ queue. length queue.waiting.items ≡ count) }
         ensures waits { IfOk result (λ queue. (row : ℕ) → row < count
             → waits queue.waiting.items row ≡ true) }

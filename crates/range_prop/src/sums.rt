@@ -24,9 +24,9 @@ fn least_counted(entry: &Entry, area: &Area) -> i128
 pub fn least_sum(entries: &[Entry], area: &Area) -> i128
     requires named { All (λ e. e.slot < length (present area.now)) entries.now }
     requires light { All IsLight entries.now }
-    requires few { length entries.now ≤ 512 }
+    requires few { length entries.now ≤ 4096 }
     ensures value { result ≡ least_sum entries.now (present area.now) }
-    ensures small { unsigned_abs result ≤ 2 ^ 42 }
+    ensures small { unsigned_abs result ≤ 2 ^ 45 }
 {
     let mut sum = 0i128;
     for entry in entries {
@@ -39,9 +39,9 @@ pub fn least_sum(entries: &[Entry], area: &Area) -> i128
 pub fn least_others(entries: &[Entry], slot: u32, area: &Area) -> i128
     requires named { All (λ e. e.slot < length (present area.now)) entries.now }
     requires light { All IsLight entries.now }
-    requires few { length entries.now ≤ 512 }
+    requires few { length entries.now ≤ 4096 }
     ensures value { result ≡ least_others entries.now slot (present area.now) }
-    ensures small { unsigned_abs result ≤ 2 ^ 42 }
+    ensures small { unsigned_abs result ≤ 2 ^ 45 }
 {
     let mut sum = 0i128;
     for entry in entries {

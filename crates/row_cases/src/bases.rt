@@ -1,6 +1,9 @@
 //! Bounds of the dual simplex step by step, over a program or over the larger one with the sums that are chosen for it.
+ghost use Rattle.std.specs.Prelude.{◌≤◌, length};
+
 use crate::areas::narrow;
 use crate::caps::aim_of;
+use crate::sums::has_room;
 use crate::tried::{put_outcome, round, trial};
 use case_programs::{is_part, program_of};
 use case_tables::{Sheet, Step};
@@ -37,13 +40,20 @@ fn answer_larger<'a>(
     steps: &'a [Step<'a>],
     sheet: &mut Sheet<'a>,
 ) -> Result<(), AllocError> {
+    if !has_room(&program) {
+        sheet.refuse();
+        return Ok(());
+    }
     let given = slot_count(&program);
     let larger = larger(alloc, program)?;
     answer_over(alloc, &larger, given, steps, sheet)
 }
 
 // The program with the sums that are chosen for it.
-fn larger(alloc: Global, program: Program) -> Result<Program, AllocError> {
+fn larger(alloc: Global, program: Program) -> Result<Program, AllocError>
+    requires slots { length program.root ≤ 512 }
+    requires rows { length program.rows ≤ 45904 }
+{
     let sums = choose_sums(alloc, &program, program.root.as_slice())?;
     let ranges = List::from_slice(alloc, program.root.as_slice())?;
     with_sums(alloc, program, ranges.as_slice(), sums.as_slice())

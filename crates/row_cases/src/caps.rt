@@ -5,7 +5,7 @@ ghost use Rattle.row_kit.specs.Area.{present};
 use crate::certs::cert_of;
 use case_programs::put_cap;
 use case_tables::Sheet;
-use dual_bound::{Cert, cap, total};
+use dual_bound::{Cert, MOST_MULTS, cap, total};
 use dual_climb::{climb, polish};
 use dual_simplex::solve_dual;
 use proof_tree::Capped;
@@ -99,7 +99,7 @@ fn polished(
 ) -> Result<Capped, AllocError>
     requires { length (present area.now) ≡ length program.now.root }
 {
-    if cert.scale == 0 || total(program, area, cert).is_none() {
+    if cert.scale == 0 || program.rows.len() > MOST_MULTS || total(program, area, cert).is_none() {
         return Ok(Capped::Bad);
     }
     polish(alloc, program, area, cert, stop)?;
@@ -137,7 +137,7 @@ fn put_between(least: i128, most: i128, sheet: &mut Sheet) {
 fn climbed(alloc: Global, program: &Program, area: &Area, cert: &Cert) -> Result<Capped, AllocError>
     requires { length (present area.now) ≡ length program.now.root }
 {
-    if total(program, area, cert).is_none() {
+    if program.rows.len() > MOST_MULTS || total(program, area, cert).is_none() {
         return Ok(Capped::Bad);
     }
     let better = climb(alloc, program, area, cert)?;

@@ -1,4 +1,6 @@
 //! Sums that are chosen for a program.
+ghost use Rattle.std.specs.Prelude.{◌≤◌, length, IsTrue};
+
 use crate::points::put_entries;
 use case_tables::Sheet;
 use row_kit::Program;
@@ -8,11 +10,23 @@ use sum_slots::Sum;
 
 /// `sums`: the sums that are chosen over the program's domains, a line each.
 pub fn answer(alloc: Global, program: &Program, sheet: &mut Sheet) -> Result<(), AllocError> {
+    if !has_room(program) {
+        sheet.refuse();
+        return Ok(());
+    }
     let sums = choose_sums(alloc, program, program.root.as_slice())?;
     put_sums(sums.as_slice(), sheet);
     sheet.show(sums.len());
     sheet.line(" sums");
     Ok(())
+}
+
+/// Whether a program has no more slots and rows than a log that declares sums.
+pub fn has_room(program: &Program) -> bool
+    ensures { IsTrue result → (length program.now.root ≤ 512)
+        × (length program.now.rows ≤ 45904) }
+{
+    program.root.len() <= 512 && program.rows.len() <= 45_904
 }
 
 fn put_sums(sums: &[Sum], sheet: &mut Sheet) {

@@ -38,7 +38,7 @@ LeavesRoom marks room =
 
 -- an area's domains are normal and few, and its trail has room for each change that can come
 pub record IsSound (domains : List Domain) (trail : List Former) (room : ℕ) : Type 0 where
-  pub few : length domains ≤ 512
+  pub few : length domains ≤ 4096
   pub normal : All IsNormal domains
   pub in_range : All (λ change. change.slot < length domains) trail
   pub trail_normal : All (λ change. IsNormal change.domain) trail

@@ -7,7 +7,7 @@ use Rattle.row_kit.specs.declared.row.Row.{Row}
 use Rattle.row_kit.specs.declared.domain.Domain.{Domain}
 use Rattle.row_kit.specs.declared.row.Change.{Change}
 use Rattle.row_kit.specs.declared.row.Tag.{Tag}
-use Rattle.row_kit.specs.Domain.{IsNormal, IsOpen}
+use Rattle.row_kit.specs.Domain.{IsNormal}
 
 -- the entries name slots of a root with this many, in ascending order, and neither of their parts exceeds a bound
 pub record AreBounded (slots most : ℕ) (entries : List Entry) : Type 0 where
@@ -28,10 +28,9 @@ pub record IsBoundedChange (change : Change) : Type 0 where
 
 -- the parts of a program keep every bound
 pub record KeepsBounds (rows : List Row) (profit : List Entry) (base : ℤ) (root : List Domain) (tags : List Tag) (changes : List Change) : Type 0 where
-  pub few_slots : length root ≤ 512
+  pub few_slots : length root ≤ 4096
   pub root_normal : All IsNormal root
-  pub root_open : All IsOpen root
-  pub few_rows : length rows ≤ 45904
+  pub few_rows : length rows ≤ 400000
   pub rows_bounded : All (IsBoundedRow (length root)) rows
   pub profit_bounded : AreBounded (length root) 2000000000000000 profit
   pub base_bounded : unsigned_abs base ≤ 10000000000000000000000

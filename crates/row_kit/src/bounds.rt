@@ -3,7 +3,7 @@ ghost use Rattle.std.specs.Prelude.{◌≡◌, ◌≤◌, ◌<◌, ◌+◌, ◌�
 ghost use Rattle.std.specs.List.{All};
 ghost use Rattle.std.specs.List.Sorted.{IsStrictlyIncreasing};
 ghost use Rattle.row_kit.specs.Bounds.{AreBounded, IsBoundedRow, IsBoundedChange, KeepsBounds};
-ghost use Rattle.row_kit.specs.Domain.{IsNormal, IsOpen};
+ghost use Rattle.row_kit.specs.Domain.{IsNormal};
 
 use crate::domain::Domain;
 use crate::limits::{
@@ -32,12 +32,11 @@ pub fn keeps_bounds(
     rows_kept(rows, root.len()) && entries_kept(profit, root.len(), MOST_PROFIT_ENTRY)
 }
 
-// Whether each domain is normal and holds a value.
+// Whether each domain is normal.
 fn root_kept(root: &[Domain]) -> bool
-    ensures { IsTrue result ↔ All (λ domain. IsNormal domain × IsOpen domain) root.now }
+    ensures { IsTrue result ↔ All IsNormal root.now }
 {
-    root.iter()
-        .all(|domain| domain.is_normal() && domain.count() != 0)
+    root.iter().all(|domain| domain.is_normal())
 }
 
 // Whether each change has a cost in its range.

@@ -25,11 +25,11 @@ pub fn worth(program: &Program, point: &[u8]) -> i128
 
 // What the changeovers of a point cost.
 fn changeovers(changes: &[Change], tags: &[Tag], point: &[u8]) -> u64
-    requires few { length tags.now ≤ 512 }
+    requires few { length tags.now ≤ 4096 }
     requires same_length { length point.now ≡ length tags.now }
     requires bounded { All IsBoundedChange changes.now }
     ensures cost { result ≡ changeovers changes.now tags.now point.now }
-    ensures small { result ≤ 512000000 * length tags.now }
+    ensures small { result ≤ 4096000000 * length tags.now }
 {
     if changes.is_empty() {
         return 0;
@@ -45,7 +45,7 @@ fn changeovers(changes: &[Change], tags: &[Tag], point: &[u8]) -> u64
 
 // What the changeovers from one start to those that come next after it cost.
 fn costs_after(changes: &[Change], tags: &[Tag], point: &[u8], start: &Tag) -> u64
-    requires few { length tags.now ≤ 512 }
+    requires few { length tags.now ≤ 4096 }
     requires same_length { length point.now ≡ length tags.now }
     requires bounded { All IsBoundedChange changes.now }
     ensures cost { result ≡ costs_after changes.now (started tags.now point.now) start.now }

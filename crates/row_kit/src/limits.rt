@@ -1,10 +1,10 @@
 //! The bounds that each program keeps by its type.
 
 /// The most slots of a root.
-pub const MOST_SLOTS: usize = 512;
+pub const MOST_SLOTS: usize = 4_096;
 
 /// The most rows.
-pub const MOST_ROWS: usize = 45_904;
+pub const MOST_ROWS: usize = 400_000;
 
 /// The most that either part of a row's entry is, in absolute value.
 pub const MOST_ROW_ENTRY: u64 = 10_000_000;

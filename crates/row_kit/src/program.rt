@@ -1,7 +1,7 @@
 //! The constraint model over slots.
 ghost use Rattle.std.specs.Prelude.{◌≡◌, ◌≤◌, ◌↔◌, length, unsigned_abs, IsSome, IfSome};
 ghost use Rattle.std.specs.List.{All};
-ghost use Rattle.row_kit.specs.Domain.{IsNormal, IsOpen};
+ghost use Rattle.row_kit.specs.Domain.{IsNormal};
 ghost use Rattle.row_kit.specs.Bounds.{AreBounded, IsBoundedRow, IsBoundedChange};
 
 use crate::bounds::keeps_bounds;
@@ -19,10 +19,9 @@ pub struct Program {
     pub root: List<Domain>,
     pub tags: List<Tag>,
     pub changes: List<Change>,
-    pub ghost few_slots: { length root ≤ 512 },
+    pub ghost few_slots: { length root ≤ 4096 },
     pub ghost root_normal: { All IsNormal root },
-    pub ghost root_open: { All IsOpen root },
-    pub ghost few_rows: { length rows ≤ 45904 },
+    pub ghost few_rows: { length rows ≤ 400000 },
     pub ghost rows_bounded: { All (IsBoundedRow (length root)) rows },
     pub ghost profit_bounded: { AreBounded (length root) 2000000000000000 profit },
     pub ghost base_bounded: { unsigned_abs base ≤ 10000000000000000000000 },

@@ -10,7 +10,7 @@ use std::alloc::{AllocError, Global};
 
 // An empty trail with room for as many changes as the domains have values.
 pub fn reserve_trail(alloc: Global, domains: &[Domain]) -> Result<Vec<Former>, AllocError>
-    requires { length domains.now ≤ 512 }
+    requires { length domains.now ≤ 4096 }
     ensures items { IfOk result (λ trail. trail.items ≡ []) }
     ensures room { IfOk result (λ trail. vec_capacity trail ≡ sum_by count_of domains.now) }
     ensures small { IfOk result (λ trail. vec_capacity trail ≤ 257 * length domains.now) }

@@ -9,4 +9,4 @@ mod settling;
 
 pub use pick::RowPick;
 pub use rows::{RowProof, Rows};
-pub use settling::{cap_at, values_of};
+pub use settling::{FEW_SLOTS, cap_at, put_values};

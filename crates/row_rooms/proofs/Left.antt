@@ -58,7 +58,7 @@ small_rooms program held is row d lt =
     subst (λ (z : ℤ). unsigned_abs z ≤ 2 ^ 64) (sym room)
     (less (row_at program.rows row).limit (entries_sum es held.point.items) (length es) (length program.root) bounded.limit sum few program.few_slots)
   where
-    less : (a b : ℤ) (n m : ℕ) → unsigned_abs a ≤ 1000000000000 → unsigned_abs b ≤ 2 ^ 32 * n → n ≤ m → m ≤ 512 → unsigned_abs (a -ℤ b) ≤ 2 ^ 64
+    less : (a b : ℤ) (n m : ℕ) → unsigned_abs a ≤ 1000000000000 → unsigned_abs b ≤ 2 ^ 32 * n → n ≤ m → m ≤ 4096 → unsigned_abs (a -ℤ b) ≤ 2 ^ 64
     less a b n m limit sum few slots = omega (arith, ints, limit, sum, few, slots)
 
 -- the rows that a column names are rows

@@ -28,7 +28,7 @@ use Rattle.unit_rows.specs.Gaps.{gap_rows}
 use Rattle.unit_rows.proofs.RowCounts.{busy_rows-bounded, gap_rows-bounded, length-busy_rows, length-gap_rows}
 use Rattle.row_set.specs.ProfitParts.{profit_part}
 use Rattle.row_set.specs.PlantProgram.{plant_rows, slot_domain, slot_tag, gap_change, has_cost, plant_changes}
-use Rattle.row_set.proofs.Roots.{root-normal, root-open}
+use Rattle.row_set.proofs.Roots.{root-normal}
 use Rattle.row_set.proofs.Meaning.{all_rows}
 use Rattle.row_set.proofs.Small.{profit-small}
 
@@ -40,7 +40,7 @@ joined start one two three four a b c d s e f g h =
     ∙ append_assoc (a ++ b) c d ∙ append_assoc a b (c ++ d)
 
 -- how many rows a plant has at most
-length-plant_rows : (plant : Plant) → Sound plant → length (plant_rows plant) ≤ 45904
+pub length-plant_rows : (plant : Plant) → Sound plant → length (plant_rows plant) ≤ 45904
 unfolding plant_rows
 length-plant_rows plant sound =
     omega (
@@ -74,10 +74,9 @@ parts-bounded : (plant : Plant) → Sound plant →
 parts-bounded plant sound =
     let long : length (map (slot_domain plant) (slots plant)) ≡ length (slots plant) = length-map (slots plant) (slot_domain plant) in
     record {
-      few_slots = omega (arith, long, few-slots plant sound);
+      few_slots = (let few = few-slots plant sound in omega (arith, long, few));
       root_normal = root-normal plant sound;
-      root_open = root-open plant;
-      few_rows = length-plant_rows plant sound;
+      few_rows = (let few = length-plant_rows plant sound in omega (arith, few));
       rows_bounded = subst (λ (n : ℕ). All (IsBoundedRow n) (plant_rows plant)) (sym long)
           (all_rows plant (IsBoundedRow (length (slots plant))) (busy_rows-bounded plant) (stock_rows-bounded plant sound) (load_rows-bounded plant sound) (gap_rows-bounded plant));
       profit_bounded = subst (λ (n : ℕ). AreBounded n 2000000000000000 (entries_from 0 (map (profit_part plant) (slots plant)))) (sym long) (profit-bounded plant sound);

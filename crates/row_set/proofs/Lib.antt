@@ -7,3 +7,4 @@ pub mod PartPoints
 pub mod Changeovers
 pub mod Meaning
 pub mod Bounds
+pub mod Limits

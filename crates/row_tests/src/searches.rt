@@ -1,6 +1,9 @@
 //! Searches with a hinter that counts, a taker that refuses, and a guide that dives.
+ghost use Rattle.std.specs.Prelude.{IfSome};
+ghost use Rattle.branch_tree.specs.Searched.{IsSearchable};
+
 use crate::tables::{CHAIN, CHAIN_ROWS, WIDE, over_rows, program};
-use branch_tree::{Advice, Guide, Hinter, search_guided, search_to};
+use branch_tree::{Advice, Guide, Hinter, is_searchable, search_guided, search_to};
 use dual_bound::{Cert, Mult};
 use proof_tree::{Capped, Item, NodeTaker, TakeStop};
 use row_kit::{Area, Entry, List, Program, Row};
@@ -91,8 +94,20 @@ fn slot_count(rows: &Rows) -> u32 {
     rows.program.root.len() as u32
 }
 
+// The rows of a program that can be searched.
+fn searchable(program: Option<Program>) -> Option<Rows>
+    ensures { IfSome result (λ rows. IsSearchable rows.program) }
+{
+    match program {
+        Some(program) if is_searchable(&program) => Some(Rows { program }),
+        _ => None,
+    }
+}
+
 // Searches a chain with a taker that takes so many items: why it broke off, and how often the hinter was asked.
-fn searched(alloc: Global, rows: &Rows, left: u32) -> (Option<TakeStop>, u32) {
+fn searched(alloc: Global, rows: &Rows, left: u32) -> (Option<TakeStop>, u32)
+    requires { IsSearchable rows.now.program }
+{
     let mut hinter = Silent { asked: 0 };
     let mut taker = Cutoff { left };
     let ended = search_to(
@@ -112,9 +127,7 @@ fn searched(alloc: Global, rows: &Rows, left: u32) -> (Option<TakeStop>, u32) {
 #[test]
 fn items_are_put_while_the_search_runs(rt: HostRuntime) -> Result<(), Fail> {
     let alloc = rt.alloc();
-    let rows = Rows {
-        program: program(alloc, CHAIN, CHAIN_ROWS)?.ok_or("bounds")?,
-    };
+    let rows = searchable(program(alloc, CHAIN, CHAIN_ROWS)?).ok_or("bounds")?;
     let (broken, asked) = searched(alloc, &rows, 1);
     assert!(rt; broken == Some(TakeStop::Memory) && asked <= 1);
     let (broken, asked) = searched(alloc, &rows, 1_000);
@@ -146,7 +159,9 @@ fn wide_program(alloc: Global) -> Result<Option<Program>, AllocError> {
 }
 
 // Dives: whether a box is left open and the count is not exact, the cap, and the boxes that were counted.
-fn dived(alloc: Global, rows: &Rows) -> Result<(bool, Capped, u32), AllocError> {
+fn dived(alloc: Global, rows: &Rows) -> Result<(bool, Capped, u32), AllocError>
+    requires { IsSearchable rows.now.program }
+{
     let mut hinter = Silent { asked: 0 };
     let given = slot_count(rows);
     let (found, exact) = search_guided(alloc, rows, given, 100_000, &[], &mut hinter, &mut Diver)?;
@@ -156,9 +171,7 @@ fn dived(alloc: Global, rows: &Rows) -> Result<(bool, Capped, u32), AllocError> 
 #[test]
 fn a_deep_path_fits_the_stack(rt: HostRuntime) -> Result<(), Fail> {
     let alloc = rt.alloc();
-    let rows = Rows {
-        program: wide_program(alloc)?.ok_or("bounds")?,
-    };
+    let rows = searchable(wide_program(alloc)?).ok_or("bounds")?;
     let (open, cap, spent) = dived(alloc, &rows)?;
     assert!(rt; open && cap == Capped::AtMost(130_559) && spent > 4_000);
     Ok(())

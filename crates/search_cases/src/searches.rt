@@ -1,9 +1,10 @@
 //! Searches of a small program.
 ghost use Rattle.std.specs.Prelude.{◌≤◌};
+ghost use Rattle.branch_tree.specs.Searched.{IsSearchable};
 
 use crate::advisers::{Liar, Silent, Splitter, Teller};
 use crate::told::{put_best, put_search, put_split};
-use branch_tree::{Hinter, Searched, search, search_guided};
+use branch_tree::{Hinter, Searched, is_searchable, search, search_guided};
 use case_programs::{bytes_of, put_cap};
 use case_tables::Sheet;
 use row_relax::Rows;
@@ -17,6 +18,10 @@ pub fn answer_step(
     verb: &str,
     sheet: &mut Sheet,
 ) -> Result<(), AllocError> {
+    if !is_searchable(&rows.program) {
+        sheet.refuse();
+        return Ok(());
+    }
     match verb {
         "search" | "hint" => plain(alloc, rows, sheet),
         "begin" => begun(alloc, rows, sheet),
@@ -49,7 +54,9 @@ fn slot_count(rows: &Rows) -> u32 {
 
 // `search BUDGET` with a hinter that says of points outside of every box that they are lawful, and `hint BUDGET VALUE ..` with
 // one that tells this point: the cap, the worth of the best point, and whether a box is left open.
-fn plain(alloc: Global, rows: &Rows, sheet: &mut Sheet) -> Result<(), AllocError> {
+fn plain(alloc: Global, rows: &Rows, sheet: &mut Sheet) -> Result<(), AllocError>
+    requires { IsSearchable rows.now.program }
+{
     let budget = budget_of(sheet);
     let mut hinter = Teller {
         point: bytes_of(alloc, sheet)?,
@@ -67,14 +74,17 @@ fn search_plain<H: Hinter>(
     start: &[u8],
     hinter: &mut H,
 ) -> Result<Searched, AllocError>
-    requires { (1 ≤ budget) × (budget ≤ 100000) }
+    requires searchable { IsSearchable rows.now.program }
+    requires budget { (1 ≤ budget) × (budget ≤ 100000) }
 {
     let given = slot_count(rows);
     search(alloc, rows, given, budget, start, hinter, &mut PlainGuide)
 }
 
 // `begin BUDGET VALUE ..`, without plans that are offered: a search that begins with this point, which may not be lawful.
-fn begun(alloc: Global, rows: &Rows, sheet: &mut Sheet) -> Result<(), AllocError> {
+fn begun(alloc: Global, rows: &Rows, sheet: &mut Sheet) -> Result<(), AllocError>
+    requires { IsSearchable rows.now.program }
+{
     let budget = budget_of(sheet);
     let start = bytes_of(alloc, sheet)?;
     let found = search_plain(alloc, rows, budget, &start, &mut Silent)?;
@@ -84,7 +94,9 @@ fn begun(alloc: Global, rows: &Rows, sheet: &mut Sheet) -> Result<(), AllocError
 
 // `lie BUDGET` and `leave BUDGET`, with a guide that advises what is not there, and may leave every part open: the best point,
 // whether a box is left open, whether the count is exact, and the cap where none is open.
-fn guided(alloc: Global, rows: &Rows, leaves: bool, sheet: &mut Sheet) -> Result<(), AllocError> {
+fn guided(alloc: Global, rows: &Rows, leaves: bool, sheet: &mut Sheet) -> Result<(), AllocError>
+    requires { IsSearchable rows.now.program }
+{
     let budget = budget_of(sheet);
     let (found, exact) = search_lying(alloc, rows, budget, leaves)?;
     put_guided(&found, exact, sheet);
@@ -97,7 +109,8 @@ fn search_lying(
     budget: u32,
     leaves: bool,
 ) -> Result<(Searched, bool), AllocError>
-    requires { (1 ≤ budget) × (budget ≤ 100000) }
+    requires searchable { IsSearchable rows.now.program }
+    requires budget { (1 ≤ budget) × (budget ≤ 100000) }
 {
     let mut hinter = Teller {
         point: Vec::new(alloc),
@@ -124,7 +137,9 @@ fn put_guided(found: &Searched, exact: bool, sheet: &mut Sheet) {
 
 // `split GIVEN VALUE`, with a guide that advises to split the first slot there, where the slots from GIVEN on are sums: the cap,
 // the best point, and where the root is split.
-fn split(alloc: Global, rows: &Rows, sheet: &mut Sheet) -> Result<(), AllocError> {
+fn split(alloc: Global, rows: &Rows, sheet: &mut Sheet) -> Result<(), AllocError>
+    requires { IsSearchable rows.now.program }
+{
     let given = sheet.number();
     let max = sheet.number();
     let (found, _) = search_splitting(alloc, rows, given, max)?;
@@ -138,7 +153,9 @@ fn search_splitting(
     rows: &Rows,
     given: u32,
     max: u8,
-) -> Result<(Searched, bool), AllocError> {
+) -> Result<(Searched, bool), AllocError>
+    requires { IsSearchable rows.now.program }
+{
     search_guided(
         alloc,
         rows,

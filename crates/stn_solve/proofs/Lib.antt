@@ -4,3 +4,4 @@ pub mod LogsLeft
 pub mod SearchTold
 pub mod SumsChosen
 pub mod BegunTold
+pub mod Searchable

@@ -1,7 +1,7 @@
 //! Searches whose proof is written to a log behind a head while they go on.
 ghost use Rattle.std.specs.Prelude.{◌≡◌, ◌≤◌, ◌↔◌, true, Err, IsTrue, IfOk, OnErr};
 ghost use Rattle.stn_edge.specs.Count.{Rose};
-ghost use Rattle.branch_tree.specs.Searched.{IsExact, IsWorth};
+ghost use Rattle.branch_tree.specs.Searched.{IsExact, IsSearchable, IsWorth};
 ghost use Rattle.proof_log.specs.Writer.{Keeps, writing};
 ghost use Rattle.stn_solve.specs.laws.Logging.{IsLogged, LeavesBegun, stored};
 
@@ -33,6 +33,7 @@ pub fn search_logged<A: Advisers, F: Shelf>(
     files: &mut F,
     name: &str,
 ) -> Result<Logged, Stop>
+    requires searchable { IsSearchable rows.now.program }
     requires budget { (1 ≤ budget) × (budget ≤ 100000) }
     requires allowed { IsTrue (F.may_write files.old name.now) }
     ensures logged { IfOk result (λ logged. IsLogged rows.now.program given budget head.now name.now
@@ -67,6 +68,7 @@ fn log_advised<A: Advisers, F: Shelf>(
     files: &mut F,
     name: &str,
 ) -> Result<(Logged, bool), Stop>
+    requires searchable { IsSearchable rows.now.program }
     requires budget { (1 ≤ budget) × (budget ≤ 100000) }
     requires allowed { IsTrue (F.may_write files.old name.now) }
     ensures logged { IfOk result (λ found. IsLogged rows.now.program given budget head.now name.now
@@ -108,6 +110,7 @@ fn log_hinted<A: Advisers, F: Shelf>(
     files: &mut F,
     name: &str,
 ) -> Result<Logged, Stop>
+    requires searchable { IsSearchable rows.now.program }
     requires budget { (1 ≤ budget) × (budget ≤ 100000) }
     requires allowed { IsTrue (F.may_write files.old name.now) }
     ensures logged { IfOk result (λ logged. IsLogged rows.now.program given budget head.now name.now

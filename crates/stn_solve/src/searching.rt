@@ -1,7 +1,7 @@
 //! Searches with the advice on plans, and where that leaves boxes open though budget is left, anew without it.
 ghost use Rattle.std.specs.Prelude.{◌≡◌, ◌≤◌, IfOk, length};
 ghost use Rattle.proof_tree.specs.Tree.{tree_of};
-ghost use Rattle.branch_tree.specs.Searched.{IsWorth, ended_of};
+ghost use Rattle.branch_tree.specs.Searched.{IsSearchable, IsWorth, ended_of};
 ghost use Rattle.plan_told.specs.Ended.{IsSearchOf, IsSearched};
 
 use crate::item_dropper::ItemDropper;
@@ -26,6 +26,7 @@ pub fn search_only<A: Advisers>(
     budget: u32,
     start: &[u8],
 ) -> Result<Ended, AllocError>
+    requires searchable { IsSearchable rows.now.program }
     requires budget { (1 ≤ budget) × (budget ≤ 100000) }
     ensures ended { IfOk result (IsSearched rows.now.program given budget) }
     ensures begun { IfOk result (λ ended. IsWorth rows.now.program start.now ended.best) }
@@ -58,6 +59,7 @@ pub fn search_built<A: Advisers>(
     given: u32,
     budget: u32,
 ) -> Result<Searched, AllocError>
+    requires searchable { IsSearchable rows.now.program }
     requires budget { (1 ≤ budget) × (budget ≤ 100000) }
     ensures { IfOk result (λ searched. IsSearchOf rows.now.program given budget
         (ended_of searched) (tree_of searched.tree)) }

@@ -4,9 +4,15 @@ ghost use Rattle.std.specs.List.{All};
 ghost use Rattle.sum_slots.specs.Shown.{IsShown};
 ghost use Rattle.sum_slots.specs.Sum.{IsDeclared};
 
-use row_kit::{Domain, List, MOST_ROWS, MOST_SLOTS, Program};
+use row_kit::{Domain, List, Program};
 use std::alloc::{AllocError, Global};
 use sum_slots::{Sum, is_declared, is_shown};
+
+// The most slots of a program with sums that a log can declare.
+const MOST_SLOTS: usize = 512;
+
+// The most rows of a program with sums that a log can declare.
+const MOST_ROWS: usize = 45_904;
 
 // Those of the offered sums that are declared and shown, as far as there is room.
 pub fn admitted(
@@ -15,7 +21,9 @@ pub fn admitted(
     ranges: &[Domain],
     offered: Vec<Sum>,
 ) -> Result<List<Sum>, AllocError>
-    requires { length ranges.now ≡ length program.now.root }
+    requires ranges { length ranges.now ≡ length program.now.root }
+    requires few_slots { length program.now.root ≤ 512 }
+    requires few_rows { length program.now.rows ≤ 45904 }
     ensures declared { IfOk result (λ sums. All (IsDeclared (length program.now.root)) sums) }
     ensures shown { IfOk result (λ sums. All (IsShown program.now ranges.now) sums) }
     ensures few { IfOk result (λ sums. length program.now.root + length sums ≤ 512) }
@@ -42,6 +50,8 @@ fn is_admitted(program: &Program, ranges: &[Domain], sum: &Sum) -> bool
 
 // How many sums a program has room for.
 pub fn room_of(program: &Program) -> usize
+    requires few_slots { length program.now.root ≤ 512 }
+    requires few_rows { length program.now.rows ≤ 45904 }
     ensures slots { length program.now.root + result ≤ 512 }
     ensures rows { length program.now.rows + 2 * result ≤ 45904 }
 {

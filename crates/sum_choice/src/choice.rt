@@ -21,7 +21,9 @@ pub fn choose_sums(
     program: &Program,
     ranges: &[Domain],
 ) -> Result<List<Sum>, AllocError>
-    requires { length ranges.now ≡ length program.now.root }
+    requires ranges { length ranges.now ≡ length program.now.root }
+    requires few_slots { length program.now.root ≤ 512 }
+    requires few_rows { length program.now.rows ≤ 45904 }
     ensures declared { IfOk result (λ sums. All (IsDeclared (length program.now.root)) sums) }
     ensures shown { IfOk result (λ sums. All (IsShown program.now ranges.now) sums) }
     ensures few { IfOk result (λ sums. length program.now.root + length sums ≤ 512) }

@@ -1,5 +1,7 @@
 //! Whether a part of a plant is searched with sums.
 ghost use Rattle.std.specs.Prelude.{◌≤◌, ◌<◌, ◌*◌, IsTrue};
+ghost use Rattle.std.specs.List.{All};
+ghost use Rattle.row_kit.specs.Domain.{IsOpen};
 ghost use Rattle.row_kit.specs.Points.{points_of};
 
 use row_kit::{Domain, Program};
@@ -10,6 +12,7 @@ const MOST_POINTS: u64 = 50_000;
 /// Whether the slots from the number `levels` on have more than 50,000 points. Parts of a plant that are told apart by as many first
 /// slots all have, or none.
 pub fn has_many(part: &Program, levels: u32) -> bool
+    requires { All IsOpen part.now.root }
     ensures { IsTrue result → 50000 < points_of part.now.root }
 {
     let root = part.root.as_slice();

@@ -14,7 +14,7 @@ use Rattle.row_kit.specs.declared.row.Tag.{Tag}
 use Rattle.row_kit.specs.Bounds.{AreBounded, IsBoundedRow, KeepsBounds}
 use Rattle.row_kit.specs.Domain.{IsNormal, IsOpen}
 use Rattle.sum_slots.specs.declared.sum.Sum.{Sum}
-use Rattle.sum_slots.specs.Larger.{row_above, row_below, slot_entry, sum_domain, sum_rows, sum_tag}
+use Rattle.sum_slots.specs.Larger.{IsWithSums, row_above, row_below, slot_entry, sum_domain, sum_rows, sum_tag}
 use Rattle.sum_slots.specs.Shown.{IsShown, opposites, turned}
 use Rattle.sum_slots.specs.Sum.{IsDeclared}
 use Rattle.sum_slots.proofs.Ranges.{most_byte}
@@ -82,7 +82,7 @@ bounded_rows n m slot (sum ∷ sums) late few declared =
     (All-cons (IsBoundedRow m) (row_above slot sum) (sum_rows (slot + 1) sums) (bounded_above n m slot sum late (omega arith) first)
     (bounded_rows n m (slot + 1) sums (omega arith) (omega arith) (All-tail (IsDeclared n) sum sums declared)))
 
-two_rows : (slot : ℕ) (sums : List Sum) → length (sum_rows slot sums) ≡ 2 * length sums
+pub two_rows : (slot : ℕ) (sums : List Sum) → length (sum_rows slot sums) ≡ 2 * length sums
 two_rows slot [] = refl
 two_rows slot (sum ∷ sums) = omega (arith, two_rows (slot + 1) sums)
 
@@ -90,8 +90,13 @@ two_rows slot (sum ∷ sums) = omega (arith, two_rows (slot + 1) sums)
 domain_normal : (program : Program) (ranges : List Domain) (sum : Sum) → IsShown program ranges sum → IsNormal (sum_domain program ranges sum)
 domain_normal program ranges sum shown = record { positive = omega arith; byte = most_byte program ranges sum shown; bare = λ less. (refl, omega arith) }
 
+-- where each slot of the program has a value, each slot of the larger one has
+pub larger_open : (program larger : Program) (ranges : List Domain) (sums : List Sum) → IsWithSums program ranges sums larger → All IsOpen program.root → All IsOpen larger.root
+larger_open program larger ranges sums made own =
+    subst (All IsOpen) (sym made.root) (All-append IsOpen program.root (map (sum_domain program ranges) sums) own (All-map IsOpen (sum_domain program ranges) sums (λ k d lt. omega arith)))
+
 -- the larger program keeps the bounds
-pub keeps_bounds : (program : Program) (ranges : List Domain) (sums : List Sum) (lane : ℕ) (rows : List Row) (root : List Domain) (tags : List Tag) → length program.root + length sums ≤ 512 → length program.rows + 2 * length sums ≤ 45904 → All (IsDeclared (length program.root)) sums → All (IsShown program ranges) sums →
+pub keeps_bounds : (program : Program) (ranges : List Domain) (sums : List Sum) (lane : ℕ) (rows : List Row) (root : List Domain) (tags : List Tag) → length program.root + length sums ≤ 4096 → length program.rows + 2 * length sums ≤ 400000 → All (IsDeclared (length program.root)) sums → All (IsShown program ranges) sums →
     rows ≡ program.rows ++ sum_rows (length program.root) sums → root ≡ program.root ++ map (sum_domain program ranges) sums → tags ≡ program.tags ++ map (λ sum. sum_tag lane) sums → KeepsBounds rows program.profit program.base root tags program.changes
 keeps_bounds program ranges sums lane rows root tags few_slots few_rows declared shown are_rows are_slots are_tags =
     let n = length program.root in
@@ -101,7 +106,6 @@ keeps_bounds program ranges sums lane rows root tags few_slots few_rows declared
     record {
       few_slots = omega (arith, slots);
       root_normal = subst (All IsNormal) (sym are_slots) (All-append IsNormal program.root domains program.root_normal (All-map IsNormal (sum_domain program ranges) sums (λ k d lt. domain_normal program ranges (get_or sums k d) (shown k d lt))));
-      root_open = subst (All IsOpen) (sym are_slots) (All-append IsOpen program.root domains program.root_open (All-map IsOpen (sum_domain program ranges) sums (λ k d lt. omega arith)));
       few_rows = omega (arith, ap length are_rows, length-append program.rows (sum_rows n sums), two_rows n sums);
       rows_bounded = subst (All (IsBoundedRow (length root))) (sym are_rows) (All-append (IsBoundedRow (length root)) program.rows (sum_rows n sums)
           (λ k d lt. let row = program.rows_bounded k d lt in record { entries = AreBounded-more n (length root) 10000000 (get_or program.rows k d).entries more row.entries; limit = row.limit })

@@ -13,7 +13,7 @@ use std::alloc::{AllocError, Global};
 /// A point followed by the value of each sum there. At a lawful point of a program over which the sums are shown, each is a
 /// byte, as `sums_law` says. It takes memory for the larger point, and costs the terms of the sums.
 pub fn complete(alloc: Global, sums: &[Sum], point: &[u8]) -> Result<List<u8>, AllocError>
-    requires few { length point.now ≤ 512 }
+    requires few { length point.now ≤ 4096 }
     requires declared { All (IsDeclared (length point.now)) sums.now }
     requires bytes { All (λ sum. IsByte (sum_value sum point.now)) sums.now }
     ensures { IfOk result (λ whole. whole ≡ completed sums.now point.now) }
@@ -27,7 +27,7 @@ pub fn complete(alloc: Global, sums: &[Sum], point: &[u8]) -> Result<List<u8>, A
 
 // The value of a sum at a point where it is a byte.
 fn byte_at(sum: &Sum, point: &[u8]) -> u8
-    requires few { length point.now ≤ 512 }
+    requires few { length point.now ≤ 4096 }
     requires declared { IsDeclared (length point.now) sum.now }
     requires byte { IsByte (sum_value sum.now point.now) }
     ensures { result ≡ unsigned_abs (sum_value sum.now point.now) }

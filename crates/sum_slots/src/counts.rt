@@ -32,10 +32,10 @@ fn turned_part(turn: bool, part: i64) -> i64
 
 // The greatest that terms, or their opposites, count over domains.
 pub fn greatest_sum(turn: bool, terms: &[Entry], domains: &[Domain]) -> i128
-    requires few { length domains.now ≤ 512 }
+    requires few { length domains.now ≤ 4096 }
     requires bounded { AreBounded (length domains.now) 10000000 terms.now }
     ensures value { result ≡ greatest_sum (map (turned turn) terms.now) domains.now }
-    ensures small { unsigned_abs result ≤ 2 ^ 41 }
+    ensures small { unsigned_abs result ≤ 2 ^ 44 }
 {
     let mut sum = 0i128;
     for term in terms {
@@ -72,10 +72,10 @@ fn greater_end(entry: &Entry, domain: &Domain) -> i128
 
 // What entries sum to at a point.
 pub fn entries_sum(entries: &[Entry], point: &[u8]) -> i128
-    requires few { length point.now ≤ 512 }
+    requires few { length point.now ≤ 4096 }
     requires bounded { AreBounded (length point.now) 10000000 entries.now }
     ensures value { result ≡ entries_sum entries.now point.now }
-    ensures small { unsigned_abs result ≤ 2 ^ 41 }
+    ensures small { unsigned_abs result ≤ 2 ^ 44 }
 {
     let mut sum = 0i128;
     for entry in entries {

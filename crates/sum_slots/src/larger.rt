@@ -24,8 +24,8 @@ pub fn with_sums(
     sums: &[Sum],
 ) -> Result<Program, AllocError>
     requires ranges { AreRanges program ranges.now }
-    requires slots { length program.root + length sums.now ≤ 512 }
-    requires rows { length program.rows + 2 * length sums.now ≤ 45904 }
+    requires slots { length program.root + length sums.now ≤ 4096 }
+    requires rows { length program.rows + 2 * length sums.now ≤ 400000 }
     requires declared { All (IsDeclared (length program.root)) sums.now }
     requires shown { All (IsShown program ranges.now) sums.now }
     ensures made { IfOk result (IsWithSums program ranges.now sums.now) }

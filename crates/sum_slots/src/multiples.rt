@@ -15,7 +15,7 @@ pub fn most_by_row(turn: bool, terms: &[Entry], row: &Row) -> Option<i128>
     requires counts { All (λ term. is_nothing (term.fixed, term.per) ≡ false) terms.now }
     requires limit { unsigned_abs row.now.limit ≤ 1000000000000 }
     ensures most { result ≡ most_by_row (map (turned turn) terms.now) row.now }
-    ensures small { IfSome result (λ most. unsigned_abs most ≤ 2 ^ 41) }
+    ensures small { IfSome result (λ most. unsigned_abs most ≤ 2 ^ 44) }
 {
     let entries = row.entries.as_slice();
     let factor = factor_of(turn, terms, entries);

@@ -17,7 +17,7 @@ pub fn add_rows(
     slots: u32,
     sums: &[Sum],
 ) -> Result<(), AllocError>
-    requires few { slots + length sums.now ≤ 512 }
+    requires few { slots + length sums.now ≤ 4096 }
     requires declared { All (IsDeclared slots) sums.now }
     ensures { OnOk result (rows.new ≡ rows.old ++ sum_rows slots sums.now) }
 {

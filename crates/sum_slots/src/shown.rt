@@ -87,7 +87,7 @@ fn high_count(program: &Program, ranges: &[Domain], sum: &Sum) -> Option<i128>
     requires same_slots { length ranges.now ≡ length program.now.root }
     requires declared { IsDeclared (length program.now.root) sum.now }
     ensures most { result ≡ high_count program.now ranges.now sum.now }
-    ensures small { IfSome result (λ most. unsigned_abs most ≤ 2 ^ 41) }
+    ensures small { IfSome result (λ most. unsigned_abs most ≤ 2 ^ 44) }
 {
     most_count(program, ranges, sum.high, false, sum.terms.as_slice())
 }
@@ -97,7 +97,7 @@ fn low_count(program: &Program, ranges: &[Domain], sum: &Sum) -> Option<i128>
     requires same_slots { length ranges.now ≡ length program.now.root }
     requires declared { IsDeclared (length program.now.root) sum.now }
     ensures most { result ≡ low_count program.now ranges.now sum.now }
-    ensures small { IfSome result (λ most. unsigned_abs most ≤ 2 ^ 41) }
+    ensures small { IfSome result (λ most. unsigned_abs most ≤ 2 ^ 44) }
 {
     most_count(program, ranges, sum.low, true, sum.terms.as_slice())
 }
@@ -115,7 +115,7 @@ fn most_count(
     requires some { 1 ≤ length terms.now }
     requires counts { All (λ term. is_nothing (term.fixed, term.per) ≡ false) terms.now }
     ensures most { result ≡ most_count program.now ranges.now by (map (turned turn) terms.now) }
-    ensures small { IfSome result (λ most. unsigned_abs most ≤ 2 ^ 41) }
+    ensures small { IfSome result (λ most. unsigned_abs most ≤ 2 ^ 44) }
 {
     match by {
         None => Some(greatest_sum(turn, terms, ranges)),
@@ -130,7 +130,7 @@ fn most_by_number(program: &Program, number: u32, turn: bool, terms: &[Entry]) -
     requires counts { All (λ term. is_nothing (term.fixed, term.per) ≡ false) terms.now }
     ensures most { result ≡ most_by_row (map (turned turn) terms.now)
         (row_at program.now.rows number) }
-    ensures small { IfSome result (λ most. unsigned_abs most ≤ 2 ^ 41) }
+    ensures small { IfSome result (λ most. unsigned_abs most ≤ 2 ^ 44) }
 {
     if (number as usize) < program.rows.len() {
         most_by_row(turn, terms, program.rows.get(number as usize))
@@ -143,7 +143,7 @@ fn most_by_number(program: &Program, number: u32, turn: bool, terms: &[Entry]) -
 pub fn value_at(sum: &Sum, count: i128) -> i128
     requires offset { unsigned_abs sum.now.offset ≤ 900000000000 }
     requires width { 1 ≤ sum.now.width }
-    requires count { unsigned_abs count ≤ 2 ^ 41 }
+    requires count { unsigned_abs count ≤ 2 ^ 44 }
     ensures { result ≡ value_at sum.now count }
 {
     (i128::from(sum.offset) + count).div_euclid(i128::from(sum.width))

@@ -9,7 +9,7 @@ use std::alloc::AllocError;
 
 // A lane that no tag has: the least.
 pub fn free_lane(tags: &[Tag]) -> u32
-    requires { length tags.now ≤ 512 }
+    requires { length tags.now ≤ 4096 }
     ensures { All (λ tag. tag.lane ≡ result → ⊥) tags.now }
 {
     let mut lane = 0u32;

@@ -7,7 +7,7 @@ use mathlib.Core.HLevel.{is_prop→PathP}
 use Rattle.row_kit.specs.declared.domain.Domain.{Domain}
 use Rattle.row_kit.specs.declared.program.Program.{Program}
 use Rattle.row_kit.specs.Bounds.{AreBounded, IsBoundedChange, IsBoundedRow}
-use Rattle.row_kit.specs.Domain.{IsNormal, IsOpen}
+use Rattle.row_kit.specs.Domain.{IsNormal}
 use Rattle.proof_log.specs.declared.claim.Claim.{Claim}
 use Rattle.valid_log.specs.declared.verdict.LogVerdict.{LogVerdict}
 use Rattle.valid_log.specs.declared.verdict.LogVerdict.TheVariants.{Yes}
@@ -23,10 +23,9 @@ same-program a b rows profit base root tags changes = λ i. record {
   root = root i;
   tags = tags i;
   changes = changes i;
-  few_slots = is_prop→PathP (λ j. length (root j) ≤ 512) (λ j. hlevel props) a.few_slots b.few_slots i;
+  few_slots = is_prop→PathP (λ j. length (root j) ≤ 4096) (λ j. hlevel props) a.few_slots b.few_slots i;
   root_normal = is_prop→PathP (λ j. All IsNormal (root j)) (λ j. hlevel props) a.root_normal b.root_normal i;
-  root_open = is_prop→PathP (λ j. All IsOpen (root j)) (λ j. hlevel props) a.root_open b.root_open i;
-  few_rows = is_prop→PathP (λ j. length (rows j) ≤ 45904) (λ j. hlevel props) a.few_rows b.few_rows i;
+  few_rows = is_prop→PathP (λ j. length (rows j) ≤ 400000) (λ j. hlevel props) a.few_rows b.few_rows i;
   rows_bounded = is_prop→PathP (λ j. All (IsBoundedRow (length (root j))) (rows j)) (λ j. hlevel props) a.rows_bounded b.rows_bounded i;
   profit_bounded = is_prop→PathP (λ j. AreBounded (length (root j)) 2000000000000000 (profit j)) (λ j. hlevel props) a.profit_bounded b.profit_bounded i;
   base_bounded = is_prop→PathP (λ j. unsigned_abs (base j) ≤ 10000000000000000000000) (λ j. hlevel props) a.base_bounded b.base_bounded i;

@@ -71,22 +71,22 @@ or_else-same (AtMost n) = refl
 open_not_bare : (domain : Domain) → IsOpen domain → is_bare domain ≡ false
 open_not_bare domain some = ne_eqb (count_of domain) 0 (λ none. omega (arith, some, none))
 
--- no domain of a program's root is empty
-root_open : (program : Program) → (row_steps program).empty (view_of program.root) ≡ false
+-- no domain of a root is empty of which each holds a value
+root_open : (program : Program) → All IsOpen program.root → (row_steps program).empty (view_of program.root) ≡ false
 unfolding row_steps
-root_open program =
+root_open program open' =
     ap (list_any is_bare) (domains_of-view_of program.root)
-    ∙ list_any_none is_bare program.root (All-weaker IsOpen (λ domain. is_bare domain ≡ false) open_not_bare program.root program.root_open)
+    ∙ list_any_none is_bare program.root (All-weaker IsOpen (λ domain. is_bare domain ≡ false) open_not_bare program.root open')
 
 -- so the proof that says nothing gives the cap of scale 1 without multipliers
-plain_root : (program : Program) → loosened program (view_of program.root) ((row_steps program).cap (view_of program.root) no_mults) ≡ (row_steps program).cap (view_of program.root) no_mults
-plain_root program = rw (root_open program) (or_else-same ((row_steps program).cap (view_of program.root) no_mults))
+plain_root : (program : Program) → All IsOpen program.root → loosened program (view_of program.root) ((row_steps program).cap (view_of program.root) no_mults) ≡ (row_steps program).cap (view_of program.root) no_mults
+plain_root program open' = rw (root_open program open') (or_else-same ((row_steps program).cap (view_of program.root) no_mults))
 
 -- which serves where the sums cannot be taken
-pub plain_without : {E : Type 0} (program : Program) (ranges : List Domain) (sums : List Sum) (proof : RowTree) (r : Result (Option ℤ) E) → ¬ AreSumsOf program ranges sums → IfOk r (IsRootCap program plain_proof)
+pub plain_without : {E : Type 0} (program : Program) (ranges : List Domain) (sums : List Sum) (proof : RowTree) (r : Result (Option ℤ) E) → All IsOpen program.root → ¬ AreSumsOf program ranges sums → IfOk r (IsRootCap program plain_proof)
     → IfOk r (IsCapOver program ranges sums proof)
-plain_without program ranges sums proof (Ok cap) untaken root = inr (record { untaken = untaken; is = root.is ∙ plain_root program })
-plain_without program ranges sums proof (Err e) untaken root = tt
+plain_without program ranges sums proof (Ok cap) each untaken root = inr (record { untaken = untaken; is = root.is ∙ plain_root program each })
+plain_without program ranges sums proof (Err e) each untaken root = tt
 
 -- a cap for the plant's program is an estimate
 pub is_estimate : {E : Type 0} (plant : Plant) (program : Program) (ranges : List Domain) (sums : List Sum) (proof : RowTree) (r : Result (Option ℤ) E) → IsMadeOf plant program → IsProgramOf plant program → ranges ≡ plant_root plant

@@ -1,7 +1,6 @@
 -- An estimate of the plant that a valid log is of is the cap of the log's own proof.
 use Rattle.std.proofs.Common.{◌≡◌, ◌≢◌, ℕ, ◌+◌, ◌*◌, ◌≤◌, List, [], ◌∷◌, ◌++◌, length, map, refl, sym, ap, ◌∙◌, subst, inl, inr, arith, ℤ, Option}
 use Rattle.std.specs.List.{All}
-use Rattle.std.proofs.lemmas.List.{length-append, length-map}
 use Rattle.std.proofs.lemmas.List.Elements.{All-nil}
 use Rattle.stn_model.specs.declared.plant.Plant.{Plant}
 use Rattle.row_kit.specs.declared.area.Area.{Area}
@@ -19,9 +18,11 @@ use Rattle.row_relax.specs.declared.rows.Rows.{Rows}
 use Rattle.row_relax.specs.RowProofs.{RowTree}
 use Rattle.row_relax.specs.Steps.{row_steps}
 use Rattle.row_relax.specs.View.{view_of}
+use Rattle.stn_model.specs.Sound.{Sound}
 use Rattle.row_set.specs.PlantProgram.{IsMadeOf, plant_root}
+use Rattle.row_set.proofs.Limits.{made-rows, made-slots}
 use Rattle.sum_slots.specs.declared.sum.Sum.{Sum}
-use Rattle.sum_slots.specs.Larger.{IsWithSums, sum_domain, sum_rows}
+use Rattle.sum_slots.specs.Larger.{IsWithSums}
 use Rattle.sum_slots.specs.Sum.{IsDeclared}
 use Rattle.proof_log.specs.declared.claim.Claim.{Claim}
 use Rattle.sum_lines.specs.declared.head.Front.{Front}
@@ -44,10 +45,13 @@ declared_in program depth bytes (Headed head) sums stands is =
     subst (All (IsDeclared (length program.root))) (sym is) (subst (λ (n : ℕ). All (IsDeclared n) head.sums) slots stands.kept.sums.declared)
 declared_in program depth bytes (BadFront defect) sums stands is = subst (All (IsDeclared (length program.root))) (sym is) (All-nil (IsDeclared (length program.root)))
 
--- two rows for each sum
-two_rows : (slot : ℕ) (sums : List Sum) → length (sum_rows slot sums) ≡ 2 * length sums
-two_rows slot [] = refl
-two_rows slot (sum ∷ sums) = let rest = two_rows (slot + 1) sums in omega (arith, rest)
+-- and there is room for them
+room_in : (program : Program) (depth : ℕ) (bytes : List ℕ) (front : Front) (sums : List Sum) → length program.root ≤ 512 → length program.rows ≤ 45904 → IsFront (limits_with program depth 0) bytes front → sums ≡ front_sums front → (length program.root + length sums ≤ 512) × (length program.rows + 2 * length sums ≤ 45904)
+room_in program depth bytes Plain sums slots rows stands is = (omega (arith, slots, ap length is), omega (arith, rows, ap length is))
+room_in program depth bytes (Headed head) sums slots rows stands is =
+    let kept = stands.kept.sums in
+    (omega (arith, kept.slots, ap length is), omega (arith, kept.rows, ap length is))
+room_in program depth bytes (BadFront defect) sums slots rows stands is = (omega (arith, slots, ap length is), omega (arith, rows, ap length is))
 
 -- programs that are made of one plant are the same
 same_made : (plant : Plant) (a b : Program) → IsMadeOf plant a → IsMadeOf plant b → a ≡ b
@@ -56,20 +60,16 @@ same_made plant a b one other = same-program a b
     (one.root_is ∙ sym other.root_is) (one.tags_are ∙ sym other.tags_are) (one.changes_are ∙ sym other.changes_are)
 
 -- the sums of a valid log can be taken over its program
-taken : (plant : Plant) (bytes : List ℕ) (sums : List Sum) (proof : RowTree) (claim : Claim) (valid : IsValidFor plant bytes sums proof claim) → AreSumsOf valid.checked.program (plant_root plant) sums
-taken plant bytes sums proof claim valid =
+taken : (plant : Plant) → Sound plant → (bytes : List ℕ) (sums : List Sum) (proof : RowTree) (claim : Claim) (valid : IsValidFor plant bytes sums proof claim) → AreSumsOf valid.checked.program (plant_root plant) sums
+taken plant sound bytes sums proof claim valid =
     let program = valid.checked.program in
-    let larger = valid.is_log.larger in
-    let added = valid.is_log.enlarged in
+    let made = valid.checked.of_plant.made in
     let declared = declared_in program 0 bytes valid.is_log.front sums valid.is_log.stands valid.is_log.declares in
-    let root = ap length added.root ∙ length-append program.root (map (sum_domain program (plant_root plant)) sums) in
-    let more = length-map sums (sum_domain program (plant_root plant)) in
-    let rows = ap length added.rows ∙ length-append program.rows (sum_rows (length program.root) sums) in
-    let two = two_rows (length program.root) sums in
+    let room = room_in program 0 bytes valid.is_log.front sums (made-slots plant program sound made) (made-rows plant program sound made) valid.is_log.stands valid.is_log.declares in
     record {
       each = λ i d lt. (declared i d lt, valid.is_log.shown i d lt);
-      slots = let few = larger.few_slots in omega (arith, root, more, few);
-      rows = let few = larger.few_rows in omega (arith, rows, two, few);
+      slots = room.0;
+      rows = room.1;
     }
 
 -- ---- its proof has a cap there
@@ -85,11 +85,11 @@ defined program tree proof_cap proved =
     (sym (walked-whole Rows Area Found (row_steps program) tree (view_of program.root)) ∙ proved.led)
 
 -- an estimate of the plant is the cap of the log's proof
-pub own_cap : (plant : Plant) (bytes : List ℕ) (sums : List Sum) (proof : RowTree) (claim : Claim) (cap : Option ℤ) → IsValidFor plant bytes sums proof claim → IsEstimate plant sums proof cap → IsProofCap plant sums proof cap
-own_cap plant bytes sums proof claim cap valid estimate =
+pub own_cap : (plant : Plant) → Sound plant → (bytes : List ℕ) (sums : List Sum) (proof : RowTree) (claim : Claim) (cap : Option ℤ) → IsValidFor plant bytes sums proof claim → IsEstimate plant sums proof cap → IsProofCap plant sums proof cap
+own_cap plant sound bytes sums proof claim cap valid estimate =
     elim estimate.is [
       | inl loose ↦ loosely loose
-      | inr plain ↦ absurd (plain.untaken (subst (λ (p : Program). AreSumsOf p (plant_root plant) sums) same (taken plant bytes sums proof claim valid)))
+      | inr plain ↦ absurd (plain.untaken (subst (λ (p : Program). AreSumsOf p (plant_root plant) sums) same (taken plant sound bytes sums proof claim valid)))
     ]
   where
     same : valid.checked.program ≡ estimate.program

@@ -3,6 +3,7 @@ ghost use Rattle.std.specs.Prelude.{◌≡◌, ◌↔◌, ◌+◌, ◌*◌, ◌�
 ghost use Rattle.std.specs.List.{All};
 ghost use Rattle.stn_model.specs.Sound.{Sound};
 ghost use Rattle.proof_tree.specs.Tree.{tree_of};
+ghost use Rattle.row_kit.specs.Domain.{IsOpen};
 ghost use Rattle.sum_slots.specs.Shown.{AreRanges};
 ghost use Rattle.what_if.specs.Estimate.{AreSumsOf, IsCapOver, IsEstimate, IsSumOf};
 ghost use Rattle.what_if.specs.laws.Rooted.{BoundsRoot, IsRootCap, plain_proof};
@@ -15,6 +16,12 @@ use row_set::{plant_root, program_of};
 use std::alloc::{AllocError, Global};
 use stn_model::Plant;
 use sum_slots::{Sum, is_declared, is_shown, with_sums};
+
+// The most slots of a program with sums that a log can declare.
+const MOST_SLOTS: usize = 512;
+
+// The most rows of a program with sums that a log can declare.
+const MOST_ROWS: usize = 45_904;
 
 /// What no plan of a plant earns more than, by a proof over the rows of another plant with these sums: none says that no plan is
 /// feasible. The sums are looked at anew over the plant's own program. Where they can be taken there, it is the loose cap of the
@@ -42,7 +49,8 @@ fn cap_over(
     sums: &[Sum],
     proof: &RowProof,
 ) -> Result<Option<i128>, AllocError>
-    requires { AreRanges program ranges.now }
+    requires ranges { AreRanges program ranges.now }
+    requires open_ { All IsOpen program.root }
     ensures is { IfOk result (IsCapOver program ranges.now sums.now (tree_of proof.now)) }
     ensures bounds { IfOk result (BoundsRoot program) }
 {
@@ -67,7 +75,9 @@ fn has_room(program: &Program, sums: usize) -> bool
     ensures { IsTrue result ↔ ((length program.now.root + sums ≤ 512)
         × (length program.now.rows + 2 * sums ≤ 45904)) }
 {
-    sums <= 512 - program.root.len() && 2 * sums <= 45_904 - program.rows.len()
+    sums <= MOST_SLOTS
+        && program.root.len() + sums <= MOST_SLOTS
+        && program.rows.len() + 2 * sums <= MOST_ROWS
 }
 
 // Whether a sum is declared and shown over a program.

@@ -1,5 +1,5 @@
 //! What stands at the front of the bytes of a log.
-ghost use Rattle.std.specs.Prelude.{◌≡◌, ◌≤◌, IfOk};
+ghost use Rattle.std.specs.Prelude.{◌≡◌, ◌≤◌, IfOk, length};
 ghost use Rattle.sum_lines.specs.Front.{IsFront, KeepsLimits};
 ghost use Rattle.valid_log.specs.Verdict.{limits_of};
 ghost use Rattle.valid_log.specs.AnyVersion.{limits_with};
@@ -25,6 +25,8 @@ pub(crate) fn limits_with(program: &Program, sums: usize) -> Limits
 
 // What stands at the front of the bytes.
 pub(crate) fn front_of(alloc: Global, program: &Program, bytes: &[u8]) -> Result<Front, AllocError>
+    requires few_slots { length program.now.root ≤ 512 }
+    requires few_rows { length program.now.rows ≤ 45904 }
     ensures front { IfOk result (IsFront (limits_with program.now 4608 0) bytes.now) }
     ensures kept { IfOk result (λ front. KeepsLimits (limits_of program.now 4608) front) }
 {

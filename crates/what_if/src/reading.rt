@@ -1,5 +1,5 @@
 //! An old log of any version, read of its bytes.
-ghost use Rattle.std.specs.Prelude.{◌≡◌, [], Err, IfOk};
+ghost use Rattle.std.specs.Prelude.{◌≡◌, ◌≤◌, [], Err, IfOk, length};
 ghost use Rattle.stn_model.specs.Sound.{Sound};
 ghost use Rattle.proof_tree.specs.Tree.{tree_of};
 ghost use Rattle.sum_slots.specs.Shown.{AreRanges};
@@ -44,7 +44,9 @@ fn any_log(
     ranges: &[Domain],
     bytes: &[u8],
 ) -> Result<ValidLog, LogStop>
-    requires { AreRanges program ranges.now }
+    requires ranges { AreRanges program ranges.now }
+    requires few_slots { length program.root ≤ 512 }
+    requires few_rows { length program.rows ≤ 45904 }
     ensures log { IfOk result (IsAnyOwnLog program ranges.now bytes.now) }
     ensures defect { (defect : Defect) → result ≡ Err (LogStop.Defect defect)
         → IsAnyVerdict program ranges.now 4608 bytes.now (No defect) }

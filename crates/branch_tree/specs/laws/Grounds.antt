@@ -16,7 +16,7 @@ use Rattle.row_relax.specs.View.{Fits, IsIn, domains_of, view_of}
 use Rattle.branch_tree.specs.declared.reached.Ground.{Ground}
 use Rattle.branch_tree.specs.declared.reached.Reached.{Reached}
 use Rattle.branch_tree.specs.Justified.{IsGroup, IsPolished, IsParted}
-use Rattle.branch_tree.specs.Searched.{IsWorth}
+use Rattle.branch_tree.specs.Searched.{IsSearchable, IsWorth}
 use Rattle.branch_tree.specs.laws.Ends.{view_splits}
 
 -- the view that an area shows
@@ -27,8 +27,9 @@ seen marks = present (map view_of marks)
 abbrev pub program_of : Ground → Program
 program_of ground = ground.rows.now.program
 
--- the index is that of the program's rows
+-- the program can be searched, and the index is that of its rows
 pub record IsGround (ground : Ground) : Type 0 where
+  pub searchable : IsSearchable (program_of ground)
   pub index : IsIndex (program_of ground).rows ground.index
   pub lists : length ground.index ≡ length (program_of ground).root
 

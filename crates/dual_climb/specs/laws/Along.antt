@@ -30,8 +30,8 @@ part_along lines domains row own factor = (pos factor *ℤ row.limit) +ℤ entri
 -- lines and domains along which the factor of a row may be varied
 pub record IsAlong (lines : List Line) (domains : List Domain) (row : Row) (own : ℕ) : Type 0 where
   pub slots : length domains ≤ length lines
-  pub few : length domains ≤ 512
-  pub within : All (IsWithin (2 ^ 97)) lines
+  pub few : length domains ≤ 4096
+  pub within : All (IsWithin (2 ^ 93)) lines
   pub each_open : All IsOpen domains
   pub bounded : IsBoundedRow (length domains) row
   pub range : own ≤ 2 ^ 40

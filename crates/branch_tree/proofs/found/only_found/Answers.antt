@@ -7,4 +7,4 @@ use Rattle.branch_tree.proofs.found.only_found.Goals as goal
 
 pub returns-clause-only : goal.returns-clause-only
 returns-clause-only c =
-    IfOk-weaker c.tested.result _ _ (λ found is all. settled-reached (program_of c.args.ground.now) (present c.args.area.now) _ found c.put_least_of.ensures is all) c.tested.ensures
+    IfOk-weaker c.tested.result _ _ (λ found is all. settled-reached (program_of c.args.ground.now) (present c.args.area.now) _ found c.put_values.ensures is all) c.tested.ensures

@@ -30,6 +30,6 @@ loop-mult-preserved c =
           let before = c.loop-mult.invariant.whole slot v (omega (arith, h, c.add_row.auto.lines)) in
           row_moved (line_at (slot_line c.add_row.new.lines slot) v) (rows_at rows (drop (i + 1) mults) slot v) (line_at (slot_line lines slot) v) (pos m.factor *ℤ entry_at (row_at rows m.row).entries slot v) (rows_at rows (drop i mults) slot v) _ one more before;
       within =
-          let bound : 2 ^ 80 * i + 2 ^ 80 ≡ 2 ^ 80 * (i + 1) = omega arith in
-          subst (λ (n : ℕ). All (IsWithin n) c.add_row.new.lines) bound (c.add_row.ensures.within (2 ^ 80 * i) c.loop-mult.invariant.within);
+          let bound : 2 ^ 83 * i + 2 ^ 83 ≡ 2 ^ 83 * (i + 1) = omega arith in
+          subst (λ (n : ℕ). All (IsWithin n) c.add_row.new.lines) bound (c.add_row.ensures.within (2 ^ 83 * i) c.loop-mult.invariant.within);
     }

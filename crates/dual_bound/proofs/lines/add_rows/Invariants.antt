@@ -8,5 +8,5 @@ use Rattle.dual_bound.proofs.lines.add_rows.Given as goal
 abbrev pub invariant-loop-mult : goal.invariant-loop-mult
 invariant-loop-mult l = record {
   whole : (slot v : ℕ) → slot < length l.lines → line_at (slot_line l.lines slot) v +ℤ rows_at l.rows (drop l.mult-index l.mults) slot v ≡ line_at (slot_line l.initial.lines slot) v +ℤ rows_at l.rows l.mults slot v;
-  within : All (IsWithin (2 ^ 80 * l.mult-index)) l.lines;
+  within : All (IsWithin (2 ^ 83 * l.mult-index)) l.lines;
 }

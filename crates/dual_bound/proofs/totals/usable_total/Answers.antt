@@ -31,6 +31,9 @@ returns-clause-below c =
     subst (λ (x : ℤ). unsigned_abs x < 10 ^ 30) (sym (returns-clause-value c))
     (total_small c.args.program.now (present c.args.area.now) c.args.cert.now c.requires.usable c.slot_count-slots.ensures.normal c.requires.slots)
 
+pub returns-clause-small : goal.returns-clause-small
+returns-clause-small c = omega (arith, returns-clause-below c)
+
 pub returns-clause-duality : goal.returns-clause-duality
 returns-clause-duality c =
     let program = c.args.program.now in

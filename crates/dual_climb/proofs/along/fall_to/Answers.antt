@@ -1,14 +1,15 @@
 -- One entry more is added.
 use Rattle.std.proofs.Common.{◌≡◌, ◌∙◌, ◌+◌, ◌^◌, ◌<◌, ℕ, List, length, get_or, drop, ap, sym, subst, ℤ, pos, ◌+ℤ◌, ◌-ℤ◌, ◌*ℤ◌, to_z, of_z, arith}
 use Rattle.std.proofs.lemmas.Int.{ints}
-use Rattle.std.proofs.lemmas.List.{at_drop_more}
+use Rattle.std.proofs.lemmas.List.{at_drop_more, get_or_read}
 use Rattle.row_kit.specs.Area.{present}
 use Rattle.row_kit.specs.declared.domain.Domain.{Domain}
 use Rattle.row_kit.specs.declared.row.Entry.{Entry}
 use Rattle.row_kit.specs.Domain.{domain_at, values_of}
 use Rattle.row_kit.specs.Row.{counted}
 use Rattle.row_kit.proofs.Ascending.{no_entry}
-use Rattle.dual_bound.specs.Line.{line_at, slot_line}
+use Rattle.dual_bound.specs.declared.line.Line.{Line}
+use Rattle.dual_bound.specs.Line.{line_at, slot_line, IsWithin}
 use Rattle.dual_bound.specs.Total.{greatest}
 use Rattle.dual_bound.proofs.Fit.{few_entries}
 use Rattle.dual_bound.proofs.Greatest.{greatest_same}
@@ -24,7 +25,7 @@ pub loop-entry-init : goal.loop-entry-init
 loop-entry-init c =
     let row = c.args.row.now in
     let ds = present c.args.area.now in
-    let part = entries_part (freed c.args.gains.now.lines c.args.own) ds in
+    let part = entries_part (freed c.args.gains.now.lines.items c.args.own) ds in
     let a = c.scaled_limit.result in
     let b = c.scaled_limit-2.result in
     let exact : to_z w128 (of_z w128 (to_z w128 (of_z w128 a) -ℤ to_z w128 (of_z w128 b))) ≡ a -ℤ b = omega (arith, ints, c.scaled_limit.ensures.small, c.scaled_limit-2.ensures.small) in
@@ -44,8 +45,11 @@ fall_at-sum-requires-clause-within c =
     let in_row : i < length c.args.row.now.entries = omega (arith, ap length c.loop-entry.invariant.items, c.loop-entry-test.true) in
     let named : e.slot < length (present c.args.area.now) =
     subst (λ (es : List Entry). (get_or es i no_entry).slot < length (present c.args.area.now)) (sym c.loop-entry.invariant.items) (c.requires.along.bounded.entries.named i no_entry in_row) in
-    within_le (2 ^ 97 + 2 ^ 72) (2 ^ 98) c.with_other-line.result
-    (c.with_other-line.ensures.within (2 ^ 97) (c.requires.along.within e.slot no_line (omega (arith, named, c.requires.along.slots)))) (omega arith)
+    let lines = c.args.gains.now.lines.items in
+    let lt : e.slot < length lines = omega (arith, named, c.requires.along.slots) in
+    let read : c.index.result.now ≡ slot_line lines e.slot = get_or_read lines e.slot c.index.result.now lt c.index.ensures no_line in
+    within_le (2 ^ 93 + 2 ^ 72) (2 ^ 94) c.with_other-line.result
+    (c.with_other-line.ensures.within (2 ^ 93) (subst (IsWithin (2 ^ 93)) (sym read) (c.requires.along.within e.slot no_line lt))) (omega arith)
 
 pub overflow_add-sum : goal.overflow_add-sum
 overflow_add-sum c = omega (arith, ints, c.loop-entry.invariant.small, c.loop-entry.invariant.few, c.loop-entry-test.true, c.fall_at-sum.ensures.small)
@@ -64,7 +68,7 @@ loop-entry-preserved c =
     let i = c.loop-entry.entry-index in
     let es = c.as_slice-entry-items.result.now in
     let ds = present c.args.area.now in
-    let lines = c.args.gains.now.lines in
+    let lines = c.args.gains.now.lines.items in
     let own = c.args.own in
     let factor = c.args.factor in
     let e = get_or es i no_entry in
@@ -77,12 +81,14 @@ loop-entry-preserved c =
     subst (λ (xs : List Entry). (get_or xs i no_entry).slot < length ds) (sym c.loop-entry.invariant.items) (c.requires.along.bounded.entries.named i no_entry in_row) in
     let exact : to_z w128 (of_z w128 (to_z w128 c.loop-entry.sum-bits +ℤ to_z w128 (of_z w128 g))) ≡ to_z w128 c.loop-entry.sum-bits +ℤ g =
     omega (arith, ints, c.loop-entry.invariant.small, c.loop-entry.invariant.few, c.fall_at-sum.ensures.small, c.loop-entry-test.true) in
-    let most : get_or c.args.gains.now.most e.slot (pos 0) ≡ at own =
-    c.requires.most.each e.slot named
+    let read : c.index.result.now ≡ slot_line lines e.slot = get_or_read lines e.slot c.index.result.now (omega (arith, named, c.requires.along.slots)) c.index.ensures no_line in
+    let most : c.index-in-loop-entry.result.now ≡ at own =
+    get_or_read c.args.gains.now.most.items e.slot c.index-in-loop-entry.result.now (omega (arith, named, c.requires.most.slots)) c.index-in-loop-entry.ensures (pos 0)
+    ∙ c.requires.most.each e.slot named
     ∙ greatest_same (line_at (slot_line lines e.slot)) (λ v. freed lines own e v -ℤ (pos own *ℤ counted e v)) (λ v. back (line_at (slot_line lines e.slot) v) (pos own *ℤ counted e v)) vs in
     let new : greatest (line_at c.with_other-line.result) (values_of c.domain.result) ≡ at factor =
     ap (λ (d : Domain). greatest (line_at c.with_other-line.result) (values_of d)) c.domain.ensures.value
-    ∙ greatest_same (line_at c.with_other-line.result) (λ v. freed lines own e v -ℤ (pos factor *ℤ counted e v)) c.with_other-line.ensures.value vs in
+    ∙ greatest_same (line_at c.with_other-line.result) (λ v. freed lines own e v -ℤ (pos factor *ℤ counted e v)) (λ v. c.with_other-line.ensures.value v ∙ ap (λ (l : Line). (line_at l v +ℤ (pos own *ℤ counted e v)) -ℤ (pos factor *ℤ counted e v)) read) vs in
     let one : g ≡ at own -ℤ at factor = fallen g _ _ (at own) (at factor) c.fall_at-sum.ensures.value most new in
     let more = at_drop_more (part own) es i no_entry c.loop-entry-test.true in
     let less = at_drop_more (part factor) es i no_entry c.loop-entry-test.true in

@@ -13,9 +13,9 @@ invariant-loop-entry l =
     let other = λ (slot v : ℕ). pos l.factor *ℤ entry_at (drop l.entry-index l.entry-items) slot v in
     record {
       items : l.entry-items ≡ l.row.entries;
-      few : length l.entry-items ≤ 512;
-      slots : length l.gains.lines ≡ 512;
-      within : All (IsWithin (2 ^ 97 + 2 ^ 72 * l.entry-index)) l.gains.lines;
-      most : AreMost (present l.area) l.gains.lines l.gains.most;
-      whole : (slot v : ℕ) → slot < 512 → (line_at (slot_line l.gains.lines slot) v +ℤ own slot v) -ℤ other slot v ≡ (line_at (slot_line l.initial.gains.lines slot) v +ℤ (pos l.own *ℤ entry_at l.row.entries slot v)) -ℤ (pos l.factor *ℤ entry_at l.row.entries slot v);
+      few : length l.entry-items ≤ 4096;
+      slots : length l.gains.lines.items ≡ length (present l.area);
+      within : All (IsWithin (2 ^ 93 + 2 ^ 72 * l.entry-index)) l.gains.lines.items;
+      most : AreMost (present l.area) l.gains.lines.items l.gains.most.items;
+      whole : (slot v : ℕ) → slot < length (present l.area) → (line_at (slot_line l.gains.lines.items slot) v +ℤ own slot v) -ℤ other slot v ≡ (line_at (slot_line l.initial.gains.lines.items slot) v +ℤ (pos l.own *ℤ entry_at l.row.entries slot v)) -ℤ (pos l.factor *ℤ entry_at l.row.entries slot v);
     }

@@ -8,7 +8,7 @@ use Rattle.dual_climb.proofs.least.between.Goals.{then-rises, else-rises}
 
 pub loop-low-preserved : goal.loop-low-preserved
 loop-low-preserved c =
-    let h = part_along c.args.gains.now.lines (present c.args.area.now) c.args.row.now c.args.own in
+    let h = part_along c.args.gains.now.lines.items (present c.args.area.now) c.args.row.now c.args.own in
     let middle = c.probe-middle.result in
     let inv = c.loop-low.invariant in
     elim c.if-rises.branch [
@@ -36,9 +36,9 @@ loop-low-preserved c =
 
 pub returns-clause-least : goal.returns-clause-least
 returns-clause-least c =
-    let h = part_along c.args.gains.now.lines (present c.args.area.now) c.args.row.now c.args.own in
+    let h = part_along c.args.gains.now.lines.items (present c.args.area.now) c.args.row.now c.args.own in
     let low = c.loop-low.low in
     let met : c.loop-low.high ≡ low = omega (arith, c.loop-low-test.false, c.loop-low.invariant.ordered) in
-    least_by_neighbours h (part_convex c.args.gains.now.lines (present c.args.area.now) c.args.row.now c.args.own) low (2 ^ 40)
+    least_by_neighbours h (part_convex c.args.gains.now.lines.items (present c.args.area.now) c.args.row.now c.args.own) low (2 ^ 40)
     (subst (λ (n : ℕ). n < 2 ^ 40 → h n ≤ℤ h (n + 1)) met c.loop-low.invariant.rises)
     c.loop-low.invariant.falls

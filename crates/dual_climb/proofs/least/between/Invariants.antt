@@ -9,7 +9,7 @@ decreases-loop-low l = l.high - l.low
 
 abbrev pub invariant-loop-low : goal.invariant-loop-low
 invariant-loop-low l =
-    let part = part_along l.gains.lines (present l.area) l.row l.own in
+    let part = part_along l.gains.lines.items (present l.area) l.row l.own in
     record {
       ordered : l.low ≤ l.high;
       range : l.high ≤ 2 ^ 40;

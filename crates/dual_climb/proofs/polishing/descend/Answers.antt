@@ -12,7 +12,7 @@ pub loop-changed-smaller : goal.loop-changed-smaller
 loop-changed-smaller c =
     let p = c.args.program.now in
     let held = c.pass.new.held in
-    let small = total_small p (present c.args.area.now) c.args.scale held.mults.items c.requires.area.most c.pass.ensures.held.gained.full c.requires.area.normal (omega (arith, c.requires.area.slots, p.few_slots)) in
+    let small = total_small p (present c.args.area.now) c.args.scale held.mults.items c.requires.area.most c.pass.ensures.held.gained.full c.requires.area.few_rows c.requires.area.normal c.requires.area.slots in
     falls_far held.total c.loop-changed.held.total c.args.scale (c.pass.ensures.fell c.loop-changed-test.true) c.requires.scale
     (subst (λ (x : ℤ). unsigned_abs x < 2 ^ 117) (sym c.pass.ensures.held.is_total) small)
 

@@ -10,7 +10,7 @@ decreases-loop-changed l = unsigned_abs (l.held.total +ℤ pos (2 ^ 127))
 
 abbrev pub invariant-loop-changed : goal.invariant-loop-changed
 invariant-loop-changed l = record {
-  held : IsHeld l.program (present l.area) l.scale l.held.mults.items l.held.gains.lines l.held.gains.most l.held.total;
+  held : IsHeld l.program (present l.area) l.scale l.held.mults.items l.held.gains.lines.items l.held.gains.most.items l.held.total;
   never : l.held.total ≤ℤ l.initial.held.total;
   fell : l.changed ≡ true → (l.held.total +ℤ pos l.scale) ≤ℤ l.initial.held.total;
   same : l.changed ≡ false → l.held.mults.items ≡ l.initial.held.mults.items;

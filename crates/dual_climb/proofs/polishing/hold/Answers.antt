@@ -8,11 +8,11 @@ use Rattle.dual_climb.proofs.Usable.{keeps, total_is}
 use Rattle.dual_climb.proofs.polishing.hold.Goals as goal
 use mir.Syntax.{w128}
 
-pub gains_under-gains-requires-clause-usable : goal.gains_under-gains-requires-clause-usable
-gains_under-gains-requires-clause-usable c = (keeps c.args.program.now (present c.args.area.now) c.args.cert.now c.requires.total).usable
+pub gains_under-requires-clause-usable : goal.gains_under-requires-clause-usable
+gains_under-requires-clause-usable c = (keeps c.args.program.now (present c.args.area.now) c.args.cert.now c.requires.total).usable
 
-pub gains_under-gains-requires-clause-open_ : goal.gains_under-gains-requires-clause-open_
-gains_under-gains-requires-clause-open_ c = (keeps c.args.program.now (present c.args.area.now) c.args.cert.now c.requires.total).each_open
+pub gains_under-requires-clause-open_ : goal.gains_under-requires-clause-open_
+gains_under-requires-clause-open_ c = (keeps c.args.program.now (present c.args.area.now) c.args.cert.now c.requires.total).each_open
 
 pub usable_total-total-requires-clause-usable : goal.usable_total-total-requires-clause-usable
 usable_total-total-requires-clause-usable c = (keeps c.args.program.now (present c.args.area.now) c.args.cert.now c.requires.total).usable
@@ -23,7 +23,7 @@ usable_total-total-requires-clause-open_ c = (keeps c.args.program.now (present 
 pub returns-clause-area : goal.returns-clause-area
 returns-clause-area c =
     let k = keeps c.args.program.now (present c.args.area.now) c.args.cert.now c.requires.total in
-    record { slots = c.requires.slots; normal = c.slot_count.ensures.normal; each_open = k.each_open; most = k.scale }
+    record { slots = c.requires.slots; normal = c.slot_count.ensures.normal; each_open = k.each_open; few_rows = c.requires.few_rows; most = k.scale }
 
 pub returns-clause-held : goal.returns-clause-held
 returns-clause-held c =
@@ -36,10 +36,10 @@ returns-clause-held c =
     record {
       gained = record {
         full = subst (λ (n : ℕ). IsFull n all) c.len.ensures c.in_ok-mults.ensures.full;
-        slots = c.gains_under-gains.ensures.length;
-        gains = λ slot v h. c.gains_under-gains.ensures.value slot v h ∙ sym (gain_same p cert.scale all cert.mults same slot v);
+        slots = c.in_ok-gains.ensures.length;
+        gains = λ slot v h. c.in_ok-gains.ensures.value slot v h ∙ sym (gain_same p cert.scale all cert.mults same slot v);
       };
-      greatest_gains = c.gains_under-gains.ensures.most;
+      greatest_gains = c.in_ok-gains.ensures.most;
       is_total = exact ∙ c.usable_total-total.ensures.value ∙ sym (total_same p ds cert.scale all cert.mults same);
     }
 

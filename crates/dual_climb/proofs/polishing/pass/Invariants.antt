@@ -11,7 +11,7 @@ use Rattle.dual_climb.proofs.polishing.pass.Given as goal
 
 abbrev pub invariant-loop-number : goal.invariant-loop-number
 invariant-loop-number l = record {
-  held : IsHeld l.program (present l.area) l.scale l.held.mults.items l.held.gains.lines l.held.gains.most l.held.total;
+  held : IsHeld l.program (present l.area) l.scale l.held.mults.items l.held.gains.lines.items l.held.gains.most.items l.held.total;
   never : l.held.total ≤ℤ l.initial.held.total;
   fell : l.changed ≡ true → (l.held.total +ℤ pos l.least_fall) ≤ℤ l.initial.held.total;
   changes : IsLoweredBy l.least_fall l.program (present l.area) l.scale l.initial.held.mults.items l.held.mults.items;

@@ -24,7 +24,7 @@ returns c =
           let rows : length w.as_slice.result.now ≡ length p.rows = ap length w.as_slice.ensures.value ∙ c.descend.ensures.held.gained.full.all in
           subst (λ (x : Cert). IsDone p ds cert x c.args.stop) (sym w.cert-is)
           (done_changed p ds cert c.args.stop held.mults.items new.mults.items list held.total new.total d c.requires.total (c.descend.ensures.fell w.if-descend.true)
-          (subst (λ (n : ℕ). are_fit n 0 list ≡ true) rows w.in_ok-cert.ensures.fit) (omega (arith, rows, w.in_ok-cert.ensures.few)) (λ worth. w.in_ok-cert.ensures.same worth ∙ ap (weighted worth) w.as_slice.ensures.value))
+          (subst (λ (n : ℕ). are_fit n 0 list ≡ true) rows w.in_ok-cert.ensures.fit) (omega (arith, rows, w.in_ok-cert.ensures.few)) c.requires.few_rows (λ worth. w.in_ok-cert.ensures.same worth ∙ ap (weighted worth) w.as_slice.ensures.value))
       | else-descend w ↦
           subst (λ (x : Cert). IsDone p ds cert x c.args.stop) (sym w.cert-is)
           (done_kept p ds cert c.args.stop held.mults.items new.mults.items held.total new.total d c.requires.total (c.descend.ensures.same w.if-descend.false))

@@ -10,7 +10,6 @@ invariant_of-program c =
     record {
       few_slots = bounds.few_slots;
       root_normal = bounds.root_normal;
-      root_open = bounds.root_open;
       few_rows = bounds.few_rows;
       rows_bounded = bounds.rows_bounded;
       profit_bounded = bounds.profit_bounded;

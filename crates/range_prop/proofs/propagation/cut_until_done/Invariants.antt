@@ -17,4 +17,4 @@ invariant-loop-more l = record {
 }
 
 abbrev pub decreases-loop-more : goal.decreases-loop-more
-decreases-loop-more l = 65536 * sum_by count_of (present l.area) + length l.queue.rows.items + cond l.more 1 0
+decreases-loop-more l = 524288 * sum_by count_of (present l.area) + length l.queue.rows.items + cond l.more 1 0

@@ -7,5 +7,5 @@ use Rattle.row_kit.proofs.changeover.changeovers.Given as goal
 abbrev pub invariant-loop-slot : goal.invariant-loop-slot
 invariant-loop-slot l = record {
   whole : l.sum + sum_by (costs_after l.changes (started l.tags l.point)) (started (drop l.slot l.tags) (drop l.slot l.point)) ≡ changeovers l.changes l.tags l.point;
-  small : l.sum ≤ 512000000 * l.slot;
+  small : l.sum ≤ 4096000000 * l.slot;
 }

@@ -10,7 +10,6 @@ invariant_of-result c =
     record {
       few_slots = kept.few_slots;
       root_normal = kept.root_normal;
-      root_open = kept.root_open;
       few_rows = kept.few_rows;
       rows_bounded = kept.rows_bounded;
       profit_bounded = kept.profit_bounded;

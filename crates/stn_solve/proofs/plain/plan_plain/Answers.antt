@@ -3,7 +3,11 @@ use Rattle.std.proofs.Common.{None}
 use Rattle.plan_told.proofs.Texts.{plain-has}
 use Rattle.stn_solve.proofs.BegunTold.{told-earns}
 use Rattle.stn_solve.proofs.SearchTold.{plain-places, plain-right}
+use Rattle.stn_solve.proofs.Searchable.{part-searchable}
 use Rattle.stn_solve.proofs.plain.plan_plain.Goals as goal
+
+pub search_only-requires-clause-searchable : goal.search_only-requires-clause-searchable
+search_only-requires-clause-searchable c = part-searchable c.args.plant.now c.args.rows.now.program c.requires.sound c.requires.part
 
 pub told_of-requires-clause-places : goal.told_of-requires-clause-places
 told_of-requires-clause-places g c =

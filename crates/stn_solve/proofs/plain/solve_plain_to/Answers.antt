@@ -9,7 +9,11 @@ use Rattle.plan_told.proofs.Texts.{plain-has}
 use Rattle.stn_solve.proofs.LogsLeft.{logged-begun, logged-broke, logged-whole, plain-left, plain-text, plain-told, told-bytes}
 use Rattle.stn_solve.proofs.BegunTold.{told-earns}
 use Rattle.stn_solve.proofs.SearchTold.{plain-places, plain-right}
+use Rattle.stn_solve.proofs.Searchable.{part-searchable}
 use Rattle.stn_solve.proofs.plain.solve_plain_to.Goals as goal
+
+pub search_logged-requires-clause-searchable : goal.search_logged-requires-clause-searchable
+search_logged-requires-clause-searchable g c = part-searchable c.args.plant.now c.args.rows.now.program c.requires.sound c.requires.part
 
 pub told_of-requires-clause-places : goal.told_of-requires-clause-places
 told_of-requires-clause-places g c =

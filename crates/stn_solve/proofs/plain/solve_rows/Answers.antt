@@ -2,7 +2,11 @@
 use Rattle.proof_tree.specs.Tree.{tree_of}
 use Rattle.branch_tree.specs.Searched.{ended_of}
 use Rattle.stn_solve.proofs.SearchTold.{plain-places, plain-right}
+use Rattle.stn_solve.proofs.Searchable.{part-searchable}
 use Rattle.stn_solve.proofs.plain.solve_rows.Goals as goal
+
+pub search_built-requires-clause-searchable : goal.search_built-requires-clause-searchable
+search_built-requires-clause-searchable c = part-searchable c.args.plant.now c.args.rows.now.program c.requires.sound c.requires.part
 
 pub told_of-requires-clause-places : goal.told_of-requires-clause-places
 told_of-requires-clause-places g c =

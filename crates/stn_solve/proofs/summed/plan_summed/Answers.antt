@@ -6,7 +6,11 @@ use Rattle.plan_told.specs.Claims.{HaveBytes}
 use Rattle.plan_told.proofs.Texts.{sums-has}
 use Rattle.stn_solve.proofs.BegunTold.{begun-bytes, begun-given, told-earns}
 use Rattle.stn_solve.proofs.SearchTold.{sums-places, sums-right}
+use Rattle.stn_solve.proofs.Searchable.{summed-searchable}
 use Rattle.stn_solve.proofs.summed.plan_summed.Goals as goal
+
+pub search_only-requires-clause-searchable : goal.search_only-requires-clause-searchable
+search_only-requires-clause-searchable c = summed-searchable c.args.plant.now c.args.part c.in_ok-rows.field-0 c.requires.part c.in_ok-rows.ensures
 
 pub told_of-requires-clause-places : goal.told_of-requires-clause-places
 told_of-requires-clause-places g c =

@@ -15,7 +15,11 @@ use Rattle.plan_told.proofs.Texts.{sums-has}
 use Rattle.stn_solve.proofs.BegunTold.{begun-bytes, begun-given, told-earns}
 use Rattle.stn_solve.proofs.LogsLeft.{logged-begun, logged-broke, logged-whole, sums-left, sums-told, told-bytes}
 use Rattle.stn_solve.proofs.SearchTold.{sums-places, sums-right}
+use Rattle.stn_solve.proofs.Searchable.{summed-searchable}
 use Rattle.stn_solve.proofs.summed.solve_summed_to.Goals as goal
+
+pub search_logged-requires-clause-searchable : goal.search_logged-requires-clause-searchable
+search_logged-requires-clause-searchable g c = summed-searchable c.args.plant.now c.args.part c.in_ok-rows.field-0 c.requires.part c.in_ok-rows.ensures
 
 pub told_of-requires-clause-places : goal.told_of-requires-clause-places
 told_of-requires-clause-places g c =

@@ -9,7 +9,14 @@ use Rattle.sum_slots.specs.Shown.{AreRanges, IsShown}
 use Rattle.sum_lines.specs.Head.{head_text}
 use Rattle.valid_log.proofs.PlantRanges.{part-ranges}
 use Rattle.stn_solve.proofs.SumsChosen.{may-head}
+use Rattle.row_set.proofs.Limits.{part-rows, part-slots}
 use Rattle.stn_solve.proofs.summing.with_chosen.Goals as goal
+
+pub choose_sums-requires-clause-few_slots : goal.choose_sums-requires-clause-few_slots
+choose_sums-requires-clause-few_slots c = part-slots c.args.plant.now c.args.part c.requires.sound c.requires.part
+
+pub choose_sums-requires-clause-few_rows : goal.choose_sums-requires-clause-few_rows
+choose_sums-requires-clause-few_rows c = part-rows c.args.plant.now c.args.part c.requires.sound c.requires.part
 
 pub with_sums-requires-clause-ranges : goal.with_sums-requires-clause-ranges
 with_sums-requires-clause-ranges c =

@@ -10,7 +10,7 @@ pub returns : goal.returns
 returns c =
     let part = c.args.part.now in
     let fewer : points_of (take (length c.as_slice-root.result.now - c.args.levels) (drop c.args.levels part.root)) ≤ points_of part.root =
-    points-part c.args.levels (length c.as_slice-root.result.now - c.args.levels) part.root part.root_open in
+    points-part c.args.levels (length c.as_slice-root.result.now - c.args.levels) part.root c.requires in
     let counted : c.count_points.result ≤ points_of (take (length c.as_slice-root.result.now - c.args.levels) (drop c.args.levels part.root)) =
     subst (λ (root : List Domain). c.count_points.result ≤ points_of (take (length c.as_slice-root.result.now - c.args.levels) (drop c.args.levels root))) c.as_slice-root.ensures c.count_points.ensures in
     λ many. grind (arith, nat_tests, many, fewer, counted)

@@ -7,4 +7,4 @@ abbrev pub invariant-loop-lane : goal.invariant-loop-lane
 invariant-loop-lane l = l.lane ≤ count_by (λ tag. ltb tag.lane l.lane) l.tags
 
 abbrev pub decreases-loop-lane : goal.decreases-loop-lane
-decreases-loop-lane l = 513 - l.lane
+decreases-loop-lane l = 4097 - l.lane

@@ -17,7 +17,7 @@ pub estimate_plants-requires-clause-own : goal.estimate_plants-requires-clause-o
 estimate_plants-requires-clause-own c cap estimate =
     let log = c.in-Valid.log in
     let valid = subst (IsOldLog c.args.plant c.args.bytes.now) c.in-Valid.is c.in_ok-log.ensures in
-    own_cap c.args.plant c.args.bytes.now log.sums (tree_of log.tree) log.claim cap valid estimate
+    own_cap c.args.plant c.requires.sound c.args.bytes.now log.sums (tree_of log.tree) log.claim cap valid estimate
 
 pub returns-in-Valid : goal.returns-in-Valid
 returns-in-Valid c =

@@ -15,4 +15,4 @@ returns-in_ok-larger-clause-bounds c =
 
 pub returns-else-are_sums_of-clause-is : goal.returns-else-are_sums_of-clause-is
 returns-else-are_sums_of-clause-is c =
-    plain_without c.args.program c.args.ranges.now c.args.sums.now (tree_of c.args.proof.now) c.plain_cap.result (λ is. false≢true (sym c.if-are_sums_of.false ∙ c.are_sums_of.ensures.1 is)) c.plain_cap.ensures
+    plain_without c.args.program c.args.ranges.now c.args.sums.now (tree_of c.args.proof.now) c.plain_cap.result c.requires.open_ (λ is. false≢true (sym c.if-are_sums_of.false ∙ c.are_sums_of.ensures.1 is)) c.plain_cap.ensures

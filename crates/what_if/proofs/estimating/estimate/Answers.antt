@@ -1,8 +1,12 @@
 -- A cap for the plant's program is an estimate.
 use Rattle.proof_tree.specs.Tree.{tree_of}
 use Rattle.std.proofs.Common.{◌∙◌}
+use Rattle.row_set.proofs.Limits.{made-open}
 use Rattle.what_if.proofs.Capping.{is_estimate}
 use Rattle.what_if.proofs.estimating.estimate.Goals as goal
+
+pub cap_over-requires-clause-open_ : goal.cap_over-requires-clause-open_
+cap_over-requires-clause-open_ c = made-open c.args.plant.now c.in_ok-program.program c.in_ok-program.ensures.made
 
 pub returns : goal.returns
 returns c =

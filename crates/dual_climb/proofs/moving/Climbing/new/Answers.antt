@@ -6,8 +6,8 @@ use Rattle.dual_climb.proofs.Sums.{gain_same}
 use Rattle.dual_climb.proofs.Usable.{keeps}
 use Rattle.dual_climb.proofs.moving.Climbing.new.Goals as goal
 
-pub gains_under-gains-requires-clause-usable : goal.gains_under-gains-requires-clause-usable
-gains_under-gains-requires-clause-usable c = (keeps c.args.program.now (present c.args.area.now) c.args.start.now c.requires.total).usable
+pub gains_under-requires-clause-usable : goal.gains_under-requires-clause-usable
+gains_under-requires-clause-usable c = (keeps c.args.program.now (present c.args.area.now) c.args.start.now c.requires.total).usable
 
 pub returns-clause-climbing : goal.returns-clause-climbing
 returns-clause-climbing c =
@@ -19,10 +19,11 @@ returns-clause-climbing c =
     record {
       gained = record {
         full = full;
-        slots = c.gains_under-gains.ensures.length;
-        gains = λ slot v h. c.gains_under-gains.ensures.value slot v h ∙ sym (gain_same p cert.scale all cert.mults same slot v);
+        slots = c.in_ok-gains.ensures.length;
+        gains = λ slot v h. c.in_ok-gains.ensures.value slot v h ∙ sym (gain_same p cert.scale all cert.mults same slot v);
       };
-      greatest_gains = c.gains_under-gains.ensures.most;
+      greatest_gains = c.in_ok-gains.ensures.most;
       slacks = omega (arith, c.in_ok-slacks.slacks.ok, c.in_ok-slacks.ensures.len, c.len-2.ensures);
+      places = omega (arith, c.in_ok-point.point.ok, c.in_ok-point.ensures.len, c.len-3.ensures);
       best = subst (IsFull (length p.rows)) (sym (c.in_ok-best.ensures.items ∙ c.as_slice-2.ensures.value)) full;
     }

@@ -1,21 +1,21 @@
 -- One slot more has its most.
-use Rattle.std.proofs.Common.{◌≡◌, ◌∙◌, ◌<◌, ◌≤◌, ◌^◌, ℕ, get_or, set, sym, ap, subst, ⊎_elim, ℤ, pos, to_z, of_z, unsigned_abs, arith}
+use Rattle.std.proofs.Common.{◌≡◌, ◌∙◌, ◌<◌, ◌≤◌, ◌^◌, ℕ, length, get_or, set, sym, ap, subst, ⊎_elim, ℤ, pos, to_z, of_z, unsigned_abs, arith}
 use mir.Syntax.{w128}
 use Rattle.std.proofs.lemmas.Bool.{cases_lt}
 use Rattle.std.proofs.lemmas.List.{get_or-set_same, get_or-set_other, length-set}
-use Rattle.std.proofs.lemmas.List.Elements.{All-set, All-replicate}
+use Rattle.std.proofs.lemmas.List.Elements.{All-set}
 use Rattle.row_kit.specs.Area.{present}
 use Rattle.row_kit.specs.declared.domain.Domain.{Domain}
 use Rattle.row_kit.specs.Domain.{domain_at, values_of}
 use Rattle.dual_bound.specs.Line.{line_at, slot_line}
 use Rattle.dual_bound.specs.Total.{greatest}
 use Rattle.dual_climb.proofs.Gained.{exact_most}
-use Rattle.dual_climb.proofs.gains.most_of.Goals as goal
+use Rattle.dual_climb.proofs.gains.put_most.Goals as goal
 
 pub loop-slot-init : goal.loop-slot-init
 loop-slot-init c = record {
-  slots = omega arith;
-  small = All-replicate (λ (x : ℤ). unsigned_abs x ≤ 2 ^ 107) 512 (pos 0) (omega arith);
+  slots = c.requires.places;
+  small = c.requires.small;
   each = λ slot lt. absurd (omega arith);
 }
 
@@ -28,12 +28,12 @@ loop-slot-preserved c =
     let lines = c.args.lines.now in
     let g = c.greatest_in.result in
     let x = to_z w128 (of_z w128 g) in
-    let top : k < 512 = omega (arith, c.loop-slot-test.true, c.slot_count-slot-end.ensures.count, c.requires.slots, c.requires.few) in
+    let top : k < length ds = omega (arith, c.loop-slot-test.true, c.slot_count-slot-end.ensures.count) in
     let is : g ≡ greatest (line_at (slot_line lines k)) (values_of (domain_at ds k)) =
     c.greatest_in.ensures.value ∙ ap (λ (d : Domain). greatest (line_at (slot_line lines k)) (values_of d)) c.domain.ensures.value in
     record {
       slots = length-set most k x ∙ inv.slots;
-      small = All-set (λ (x : ℤ). unsigned_abs x ≤ 2 ^ 107) most k x (subst (λ (y : ℤ). unsigned_abs y ≤ 2 ^ 107) (sym (exact_most g c.greatest_in.ensures.small)) c.greatest_in.ensures.small) inv.small;
+      small = All-set (λ (x : ℤ). unsigned_abs x ≤ 2 ^ 103) most k x (subst (λ (y : ℤ). unsigned_abs y ≤ 2 ^ 103) (sym (exact_most g c.greatest_in.ensures.small)) c.greatest_in.ensures.small) inv.small;
       each = λ slot lt.
           ⊎_elim
           (λ (low : slot < k). get_or-set_other most k slot x (pos 0) (λ q. absurd (omega arith)) ∙ inv.each slot low)

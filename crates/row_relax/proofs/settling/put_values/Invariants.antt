@@ -1,8 +1,8 @@
--- The values so far are the least of the domains so far.
+-- The values so far are those of the domains so far.
 use Rattle.std.proofs.Common.{◌≡◌, length, take}
 use Rattle.row_kit.specs.Area.{present}
 use Rattle.row_relax.specs.Settle.{only_point}
-use Rattle.branch_tree.proofs.found.put_least_of.Given as goal
+use Rattle.row_relax.proofs.settling.put_values.Given as goal
 
 abbrev pub invariant-loop-slot : goal.invariant-loop-slot
 invariant-loop-slot l = record {
