@@ -279,7 +279,16 @@ pub fn log_part<F: Shelf>(
     ensures writes { F.write_faults files.old ≤ F.write_faults files.new }
 {
     let point = point_of(alloc, plant, start)?;
-    match solve_rows_to::<BestFirst, _>(alloc, plant, part, levels, budget.boxes, &point, files, log) {
+    match solve_rows_to::<BestFirst, _>(
+        alloc,
+        plant,
+        part,
+        levels,
+        budget.boxes,
+        &point,
+        files,
+        log,
+    ) {
         Ok(outcome) => {
             in_money(&outcome.answer);
             Ok(planned(alloc, plant, &outcome)?)
