@@ -9,9 +9,9 @@ ghost use Rattle.dual_simplex.specs.Solved.{HasTotal, IsPlainOrBetter, IsBelow};
 use crate::workspace::{Outcome, Workspace};
 use chain_simplex::Basis;
 use dual_bound::{Cert, cap};
+use fixed_point::numbered;
 use proof_tree::Capped;
 use row_kit::{Area, List, Program};
-use sparse_basis::numbered;
 use std::alloc::{AllocError, Global};
 
 // The most steps: each makes at most one pivot.
