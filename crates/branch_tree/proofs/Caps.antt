@@ -15,7 +15,7 @@ use Rattle.dual_bound.specs.Cap.{cert_cap, scaled_cap}
 use Rattle.dual_bound.specs.Total.{has_total, is_fit, total_at, total_of}
 use Rattle.dual_climb.specs.Polished.{IsReached, NeverRises}
 use Rattle.dual_climb.specs.RowBest.{RowBest}
-use Rattle.dual_simplex.specs.Solved.{plain_cert, IsNotAbove}
+use Rattle.dual_bound.specs.Plain.{plain_cert, IsNotAbove}
 use Rattle.proof_tree.specs.declared.capped.Capped.{Capped}
 use Rattle.proof_tree.specs.declared.capped.Capped.TheVariants.{AtMost, NoPoint, Bad}
 use Rattle.branch_tree.specs.Justified.{IsPolished}

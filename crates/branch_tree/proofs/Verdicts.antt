@@ -17,7 +17,7 @@ use Rattle.range_prop.specs.Cuts.{AreDone, IsStill}
 use Rattle.dual_bound.specs.declared.cert.Cert.{Cert}
 use Rattle.dual_bound.specs.Cap.{cert_cap}
 use Rattle.dual_bound.specs.Total.{total_at}
-use Rattle.dual_simplex.specs.Solved.{plain_cert}
+use Rattle.dual_bound.specs.Plain.{plain_cert}
 use Rattle.proof_tree.specs.declared.capped.Capped.TheVariants.{Bad}
 use Rattle.proof_tree.specs.declared.item.Item.TheVariants.{Node, Cut, Found as FoundItem, Empty, Dual, Point, Pending, Split}
 use Rattle.proof_tree.specs.Views.{View}

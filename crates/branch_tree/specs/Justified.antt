@@ -12,7 +12,7 @@ use Rattle.dual_bound.specs.declared.cert.Cert.{Cert}
 use Rattle.dual_bound.specs.Cap.{cert_cap}
 use Rattle.dual_bound.specs.Total.{total_at}
 use Rattle.dual_climb.specs.RowBest.{RowBest}
-use Rattle.dual_simplex.specs.Solved.{IsNoWorseThanPlain}
+use Rattle.dual_bound.specs.Plain.{IsNoWorseThanPlain}
 use Rattle.proof_tree.specs.declared.capped.Capped.{Capped}
 use Rattle.proof_tree.specs.declared.capped.Capped.TheVariants.{AtMost}
 use Rattle.proof_tree.specs.Nodes.{Node, NodeEnd, closed, parted, EachNode}

@@ -4,7 +4,7 @@ ghost use Rattle.std.specs.List.{All};
 ghost use Rattle.row_kit.specs.Area.{present};
 ghost use Rattle.row_kit.specs.Domain.{IsOpen, IsSingle};
 ghost use Rattle.dual_bound.specs.Cap.{cert_cap};
-ghost use Rattle.dual_simplex.specs.Solved.{plain_cert, IsNoWorseThanPlain};
+ghost use Rattle.dual_bound.specs.Plain.{plain_cert, IsNoWorseThanPlain};
 ghost use Rattle.branch_tree.specs.laws.Ends.{is_over, says_more, IsVerdict};
 ghost use Rattle.branch_tree.specs.laws.Grounds.{IsGround, program_of};
 

@@ -1,7 +1,7 @@
 //! What slots and sums come to.
 use crate::simplex::Simplex;
+use fixed_point::{ONE, of_whole, scaled, times};
 use row_kit::Entry;
-use sparse_basis::{ONE, of_whole, scaled, times};
 
 /// How far a slot is started, from 0 to 1, and how many quanta it makes, each with 30 bits of fraction.
 #[derive(Clone, Copy, PartialEq, Eq, Debug)]

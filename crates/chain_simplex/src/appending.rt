@@ -1,12 +1,10 @@
 //! Rows that join the kernel.
 use crate::columns::Columns;
-use crate::extra::Extra;
-use crate::features::Features;
 use crate::kernel::Kernel;
-use crate::variables::{State, Variables};
 use crate::work::Work;
+use fixed_point::{NONE, ONE};
 use row_chains::Chains;
-use sparse_basis::{NONE, ONE};
+use simplex_state::{Extra, Features, State, Variables};
 
 /// Brings a row into the kernel, whose variable is basic; its place.
 pub fn append(

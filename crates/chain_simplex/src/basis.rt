@@ -1,10 +1,10 @@
 //! Where a bound begins.
 use crate::columns::Columns;
 use crate::kernel::Kernel;
-use crate::variables::{State, Variables};
+use fixed_point::{NONE, ONE, numbered, put, put_last};
 use row_chains::Chains;
 use row_kit::Program;
-use sparse_basis::{NONE, ONE, numbered, put, put_last};
+use simplex_state::{State, Variables};
 use std::alloc::{AllocError, Global};
 
 /// Where a bound stands: the rows that bind it, the variables of slots that lie between their ends, those that stand at their
@@ -103,7 +103,7 @@ fn note_columns(columns: &Columns, own: &Variables, basis: &mut Basis) {
 pub fn take(chains: &Chains, own: &mut Variables, limits: &[i64], basis: &Basis) {
     for row in &basis.rows {
         let row = chains.place_of(*row);
-        if row != NONE && sparse_basis::at(limits, row) < sparse_basis::TOP {
+        if row != NONE && fixed_point::at(limits, row) < fixed_point::TOP {
             own.set_state(own.of_row(row), State::Low);
         }
     }

@@ -2,10 +2,10 @@
 use crate::basis::{Basis, note, take};
 use crate::progress::BEGUN;
 use crate::simplex::Simplex;
-use crate::variables::State;
+use fixed_point::{ONE, TOP, of_whole, put};
 use row_chains::{Chains, row_limit};
 use row_kit::{Domain, Program};
-use sparse_basis::{ONE, TOP, of_whole, put};
+use simplex_state::State;
 
 impl Simplex {
     /// Puts an area, and brings the variables to where a bound stood.

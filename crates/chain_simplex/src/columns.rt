@@ -1,8 +1,8 @@
 //! The variables of the slots of an area.
-use crate::features::Features;
+use fixed_point::{NONE, numbered, of_whole, put_last, refill, scaled, wide};
 use row_chains::first;
 use row_kit::{Domain, Entry, Program};
-use sparse_basis::{NONE, numbered, of_whole, put_last, refill, scaled, wide};
+use simplex_state::Features;
 use std::alloc::{AllocError, Global};
 
 /// What one unit of a variable of a slot is: how far the slot is started, 0 or 1, its quanta, and what it brings. Reduced profits

@@ -1,8 +1,8 @@
 //! Which variable enters.
 use crate::leaving::Leaving;
-use crate::variables::{State, Variables};
 use crate::work::Work;
-use sparse_basis::{FEASIBLE, LEAST_PART, LEAST_PIVOT, magnitude, put_last, quotient, times};
+use fixed_point::{FEASIBLE, LEAST_PART, LEAST_PIVOT, magnitude, put_last, quotient, times};
+use simplex_state::{State, Variables};
 
 /// By how much the profit of the leaving variable changes until that of a variable comes to 0, and the variable.
 pub type Candidate = (i64, u32);

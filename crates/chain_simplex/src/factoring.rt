@@ -3,13 +3,10 @@ use crate::columns::Columns;
 use crate::kernel::Kernel;
 use crate::parts::scatter;
 use crate::simplex::Simplex;
-use crate::variables::{State, Variables};
 use crate::work::blank;
+use fixed_point::{GROWTH, LEAST_PIVOT, NOISE, NONE, ONE, Part, at, magnitude, numbered, place_at, put, put_last, put_place, scaled};
 use row_chains::Chains;
-use sparse_basis::{
-    GROWTH, LEAST_PIVOT, NOISE, NONE, ONE, Part, at, magnitude, numbered, place_at, put, put_last,
-    put_place, scaled,
-};
+use simplex_state::{State, Variables};
 
 // How often rows that are not told apart by columns may leave the kernel.
 const MOST_ROUNDS: u32 = 20;

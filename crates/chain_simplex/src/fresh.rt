@@ -2,10 +2,10 @@
 use crate::parts::write_sums;
 use crate::rows_left::spread_rows;
 use crate::simplex::Simplex;
-use crate::variables::State;
 use crate::work::blank;
+use fixed_point::{NO_PROFIT, ONE, at, numbered, put, refill, scaled, times};
 use row_chains::Chains;
-use sparse_basis::{NO_PROFIT, ONE, at, numbered, put, refill, scaled, times};
+use simplex_state::State;
 
 impl Simplex {
     /// Writes the profits of all variables.

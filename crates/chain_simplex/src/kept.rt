@@ -1,7 +1,7 @@
 //! Where a bound stands, kept while trials change it.
 use crate::simplex::Simplex;
-use crate::variables::State;
-use sparse_basis::{put_last, put_place};
+use fixed_point::{put_last, put_place};
+use simplex_state::State;
 use std::alloc::{AllocError, Global};
 
 /// Where a bound stands, kept while trials change it.
@@ -91,12 +91,12 @@ impl Simplex {
         copy(&mut self.own.profits, kept.profits.as_slice());
         copy(&mut self.own.weights, kept.weights.as_slice());
         copy(&mut self.own.places, kept.places.as_slice());
-        let count = sparse_basis::numbered(kept.variables.len());
+        let count = fixed_point::numbered(kept.variables.len());
         for place in 0..kept.variables.len() {
             let variable = kept.variables[place];
             put_place(
                 self.kernel.variables.as_mut_slice(),
-                sparse_basis::numbered(place),
+                fixed_point::numbered(place),
                 variable,
             );
         }

@@ -1,8 +1,8 @@
 //! The rows that bind and the variables that lie between their ends.
-use crate::etas::Etas;
-use crate::variables::Variables;
+use fixed_point::{NONE, numbered, place_at, put_last, put_place, refill};
 use row_chains::Chains;
-use sparse_basis::{Lu, NONE, numbered, place_at, put_last, put_place, refill};
+use simplex_state::{Etas, Variables};
+use sparse_basis::Lu;
 use std::alloc::{AllocError, Global};
 
 /// The kernel: its rows, each less the row of the kernel before it in its chain, and as many basic variables. It is factored, and
@@ -213,7 +213,7 @@ impl Kernel {
         let count = self.rows.len();
         refill(raw, 0, count);
         for place in 0..count {
-            let own = sparse_basis::at(multipliers, numbered(place));
+            let own = fixed_point::at(multipliers, numbered(place));
             if own != 0 {
                 add(raw.as_mut_slice(), numbered(place), own);
                 let before = self.before(numbered(place));
@@ -226,6 +226,6 @@ impl Kernel {
 /// Adds to the number at a place.
 #[inline(always)]
 pub fn add(numbers: &mut [i64], place: u32, change: i64) {
-    let number = sparse_basis::at(numbers, place).saturating_add(change);
-    sparse_basis::put(numbers, place, number);
+    let number = fixed_point::at(numbers, place).saturating_add(change);
+    fixed_point::put(numbers, place, number);
 }

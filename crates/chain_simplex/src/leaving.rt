@@ -1,9 +1,9 @@
 //! Which basic variable is mended.
 use crate::kernel::Kernel;
-use crate::variables::{State, Variables};
 use crate::work::Work;
+use fixed_point::{FEASIBLE, ONE};
 use row_chains::Chains;
-use sparse_basis::{FEASIBLE, ONE};
+use simplex_state::{State, Variables};
 
 /// A basic variable that is beyond one of its ends, which one, and by how much.
 #[derive(Clone, Copy)]

@@ -10,10 +10,7 @@ mod basis;
 mod beginning;
 mod columns;
 mod entering;
-mod etas;
-mod extra;
 mod factoring;
-mod features;
 mod fresh;
 mod kept;
 mod kernel;
@@ -28,7 +25,6 @@ mod running;
 mod simplex;
 mod stepping;
 mod trial;
-mod variables;
 mod work;
 
 pub use amounts::Amount;

@@ -5,9 +5,9 @@ use crate::leaving::Leaving;
 use crate::parts::scatter;
 use crate::rows_left::{Weighing, spread_rows, weight_of};
 use crate::simplex::Simplex;
-use crate::variables::State;
+use fixed_point::{FEASIBLE, ONE, at, magnitude, put, put_place, quotient, times};
 use row_chains::Chains;
-use sparse_basis::{FEASIBLE, ONE, at, magnitude, put, put_place, quotient, times};
+use simplex_state::State;
 
 /// An exchange: the place in the kernel, the part of the variable that enters there, by how much that one changes, and what is done
 /// to weights.
@@ -225,7 +225,7 @@ impl Simplex {
     fn swap(&mut self, leaving: &Leaving, entering: u32, exchange: &Exchange, end: i64) {
         let state = if leaving.low { State::Low } else { State::High };
         self.own.set_state(leaving.variable, state);
-        self.own.set_place(leaving.variable, sparse_basis::NONE);
+        self.own.set_place(leaving.variable, fixed_point::NONE);
         self.own.set_state(entering, State::Basic);
         self.own.set_place(entering, exchange.place);
         put_place(

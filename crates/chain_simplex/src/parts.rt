@@ -1,12 +1,10 @@
 //! The parts of a row of the kernel.
 use crate::columns::Columns;
-use crate::extra::Extra;
-use crate::features::Features;
 use crate::kernel::Kernel;
-use crate::variables::{State, Variables};
 use crate::work::{Work, blank};
+use fixed_point::{NOISE, ONE, at, magnitude, put};
 use row_chains::Chains;
-use sparse_basis::{NOISE, ONE, at, magnitude, put};
+use simplex_state::{Extra, Features, State, Variables};
 
 /// Writes what the multipliers of the rows of the kernel come to for each feature. Those up to `noise` count as 0.
 pub fn write_sums(
@@ -128,7 +126,7 @@ pub fn scatter(
         scatter_feature(chains, kernel, extra, variable & !1, by, column);
     }
     if units.quanta != 0 {
-        let by = sparse_basis::scaled(by, units.quanta);
+        let by = fixed_point::scaled(by, units.quanta);
         scatter_feature(chains, kernel, extra, variable | 1, by, column);
     }
 }
@@ -138,7 +136,7 @@ fn scatter_slack(kernel: &Kernel, row: u32, by: i64, column: &mut [i64]) {
     let place = kernel.place(row);
     let less = 0i64.saturating_sub(by);
     crate::kernel::add(column, place, by);
-    let after = sparse_basis::place_at(kernel.after.as_slice(), place);
+    let after = fixed_point::place_at(kernel.after.as_slice(), place);
     crate::kernel::add(column, after, less);
     for joined in kernel.factored..kernel.count() {
         if kernel.before(joined) == place {
@@ -158,12 +156,12 @@ fn scatter_feature(
 ) {
     let parts = chains.by_feature.list(feature);
     for part in parts {
-        let next = sparse_basis::place_at(kernel.next.as_slice(), part.place);
-        crate::kernel::add(column, next, sparse_basis::times(part.value, by));
+        let next = fixed_point::place_at(kernel.next.as_slice(), part.place);
+        crate::kernel::add(column, next, fixed_point::times(part.value, by));
     }
     for joined in kernel.factored..kernel.count() {
         let change = if kernel.row(joined) == chains.count() {
-            sparse_basis::times(extra.at(feature), by)
+            fixed_point::times(extra.at(feature), by)
         } else {
             let (from, to) = kernel.span(chains, joined);
             sum_between(parts, from, to, by)
@@ -174,11 +172,11 @@ fn scatter_feature(
 
 // What parts at places from one on up to another come to, times a number.
 #[inline(always)]
-fn sum_between(parts: &[sparse_basis::Part], from: u32, to: u32, by: i64) -> i64 {
+fn sum_between(parts: &[fixed_point::Part], from: u32, to: u32, by: i64) -> i64 {
     let mut sum = 0i64;
     for part in parts {
         if from <= part.place && part.place < to {
-            sum = sum.saturating_add(sparse_basis::times(part.value, by));
+            sum = sum.saturating_add(fixed_point::times(part.value, by));
         }
     }
     sum

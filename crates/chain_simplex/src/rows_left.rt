@@ -1,9 +1,7 @@
 //! What rows have left, as features change.
-use crate::extra::Extra;
-use crate::features::Features;
-use crate::variables::Variables;
+use fixed_point::{NOISE, NONE, Part, magnitude, numbered, place_at, put_last, put_place, times};
 use row_chains::Chains;
-use sparse_basis::{NOISE, NONE, Part, magnitude, numbered, place_at, put_last, put_place, times};
+use simplex_state::{Extra, Features, Variables};
 use std::alloc::{AllocError, Global};
 
 /// By how much each row counts more than the one before it in its chain, and the chains that are touched, each with the first row.

@@ -1,13 +1,12 @@
 //! Where a bound is computed.
 use crate::columns::Columns;
-use crate::extra::Extra;
 use crate::kept::Kept;
 use crate::kernel::Kernel;
 use crate::progress::{BEGUN, Progress};
-use crate::variables::Variables;
 use crate::work::Work;
+use fixed_point::TOP;
 use row_chains::Chains;
-use sparse_basis::TOP;
+use simplex_state::{Extra, Variables};
 use std::alloc::{AllocError, Global};
 
 /// Where a bound is computed. No call but `new` takes memory. It always comes with the chains that it was made for.

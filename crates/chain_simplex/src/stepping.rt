@@ -5,10 +5,10 @@ use crate::leaving::{Leaving, most_broken};
 use crate::parts::write_row;
 use crate::progress::{End, Stuck};
 use crate::simplex::Simplex;
-use crate::variables::State;
 use crate::work::blank;
+use fixed_point::{FEASIBLE, NONE, put_last};
 use row_chains::Chains;
-use sparse_basis::{FEASIBLE, NONE, put_last};
+use simplex_state::State;
 
 // A breach by less than this, which can't be mended, counts as kept: 4,096 times what is tiny.
 const SMALL: i64 = 4_194_304;

@@ -2,10 +2,10 @@
 use crate::progress::End;
 use crate::rows_left::spread_rows;
 use crate::simplex::Simplex;
-use crate::variables::State;
+use fixed_point::{FEASIBLE, NONE, ONE, TOP, of_whole, put, put_last};
 use row_chains::Chains;
 use row_kit::Entry;
-use sparse_basis::{FEASIBLE, NONE, ONE, TOP, of_whole, put, put_last};
+use simplex_state::State;
 
 // How often a trial looks at all rows, and how many it takes up then.
 const MOST_LOOKS: u32 = 1;
@@ -109,7 +109,7 @@ impl Simplex {
         let own = self.own.value(extra);
         for place in 0..self.columns.listed.len() {
             let variable = self.columns.listed_at(place);
-            let before = sparse_basis::at(self.kept.values.as_slice(), variable);
+            let before = fixed_point::at(self.kept.values.as_slice(), variable);
             let change = self.own.value(variable).saturating_sub(before);
             if change != 0 {
                 self.columns
@@ -118,7 +118,7 @@ impl Simplex {
         }
         for row in 0..chains.count() {
             let variable = self.own.of_row(row);
-            let before = sparse_basis::at(self.kept.values.as_slice(), variable);
+            let before = fixed_point::at(self.kept.values.as_slice(), variable);
             self.own.set_value(variable, before);
         }
         spread_rows(

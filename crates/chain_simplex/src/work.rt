@@ -1,8 +1,8 @@
 //! Lists that steps work with.
 use crate::entering::Candidate;
-use crate::features::Features;
 use crate::rows_left::RowChanges;
-use sparse_basis::{NONE, at, put, put_last, refill};
+use fixed_point::{NONE, at, put, put_last, refill};
+use simplex_state::Features;
 use std::alloc::{AllocError, Global};
 
 /// Lists that steps work with; between steps all are empty or 0.

@@ -3,6 +3,7 @@ pub mod Exchange
 pub mod Fit
 pub mod Greatest
 pub mod LineSums
+pub mod Plain
 pub mod Quotients
 pub mod Signed
 pub mod Small

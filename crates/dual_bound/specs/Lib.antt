@@ -1,3 +1,4 @@
 pub mod Cap
 pub mod Line
+pub mod Plain
 pub mod Total

@@ -1,5 +1,5 @@
 -- When the certificate of a simplex is defined, and when it is better than none.
-use Rattle.std.specs.Prelude.{◌≡◌, [], List, ◌⊎◌, ◌≤ℤ◌, ◌<ℤ◌, IsSome}
+use Rattle.std.specs.Prelude.{◌≡◌, List, ◌⊎◌, ◌<ℤ◌, IsSome}
 use Rattle.std.specs.List.{All}
 use Rattle.proof_tree.specs.declared.capped.Capped.{Capped}
 use Rattle.proof_tree.specs.declared.capped.Capped.TheVariants.{AtMost, NoPoint}
@@ -8,17 +8,8 @@ use Rattle.row_kit.specs.declared.program.Program.{Program}
 use Rattle.row_kit.specs.Domain.{IsOpen}
 use Rattle.dual_bound.specs.declared.cert.Cert.{Cert}
 use Rattle.dual_bound.specs.Cap.{cert_cap}
+use Rattle.dual_bound.specs.Plain.{plain_cert}
 use Rattle.dual_bound.specs.Total.{total_at}
-
--- scale 1 without multipliers
-abbrev pub plain_cert : Cert
-plain_cert = record { scale = 1; mults = [] }
-
--- a cap is NoPoint, or AtMost a number that is not above another's
-abbrev pub IsNotAbove : Capped → Capped → Type 0
-IsNotAbove NoPoint other = Unit {0}
-IsNotAbove (AtMost cap) (AtMost other) = cap ≤ℤ other
-IsNotAbove _ _ = ⊥
 
 -- a cap is NoPoint, or AtMost a number that is below another's
 abbrev pub IsBelow : Capped → Capped → Type 0
@@ -33,10 +24,6 @@ HasTotal program domains cert = IsSome (total_at program domains cert)
 -- a certificate has a total over all domains none of which is empty
 abbrev pub HasTotals : Program → Cert → Type 0
 HasTotals program cert = (domains : List Domain) → All IsOpen domains → IsSome (total_at program domains cert)
-
--- over domains the cap of a certificate is NoPoint, or not above that of scale 1 without multipliers
-abbrev pub IsNoWorseThanPlain : Program → List Domain → Cert → Type 0
-IsNoWorseThanPlain program domains cert = IsNotAbove (cert_cap program domains cert) (cert_cap program domains plain_cert)
 
 -- a certificate is scale 1 without multipliers, or its cap over domains is NoPoint or below that one's
 abbrev pub IsPlainOrBetter : Program → List Domain → Cert → Type 0

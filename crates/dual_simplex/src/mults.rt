@@ -4,9 +4,9 @@ ghost use Rattle.dual_bound.specs.Total.{are_fit};
 
 use chain_simplex::Simplex;
 use dual_bound::{MOST_FACTOR, MOST_MULTS, Mult};
+use fixed_point::numbered;
 use row_chains::Chains;
 use row_kit::Program;
-use sparse_basis::numbered;
 
 /// Where factors come from.
 #[derive(Clone, Copy)]

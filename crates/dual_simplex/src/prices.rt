@@ -1,5 +1,5 @@
 //! What a split costs.
-use sparse_basis::{TOP, times};
+use fixed_point::{TOP, times};
 
 /// The part of a slot's values that a split keeps.
 #[derive(Clone, Copy, PartialEq, Eq, Debug)]

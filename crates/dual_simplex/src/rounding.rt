@@ -3,8 +3,8 @@ ghost use Rattle.std.specs.Prelude.{◌≡◌, ℕ, ◌<◌, length};
 ghost use Rattle.row_kit.specs.Domain.{Holds, IsNormal, IsOpen};
 
 use chain_simplex::Amount;
+use fixed_point::ONE;
 use row_kit::Domain;
-use sparse_basis::ONE;
 
 /// The value of a domain that is nearest to what a slot comes to: 0 where it is held and the slot is started by less than a half.
 pub fn rounded(amount: &Amount, domain: &Domain) -> u8

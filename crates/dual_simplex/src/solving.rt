@@ -3,14 +3,15 @@ ghost use Rattle.std.specs.Prelude.{◌≡◌, ◌↔◌, length, IfOk, IsTrue};
 ghost use Rattle.std.specs.List.{All};
 ghost use Rattle.row_kit.specs.Area.{present};
 ghost use Rattle.row_kit.specs.Domain.{IsOpen};
-ghost use Rattle.dual_simplex.specs.Solved.{HasTotal, IsNoWorseThanPlain, IsPlainOrBetter, IsBelow};
+ghost use Rattle.dual_bound.specs.Plain.{IsNoWorseThanPlain};
+ghost use Rattle.dual_simplex.specs.Solved.{HasTotal, IsPlainOrBetter, IsBelow};
 
 use crate::workspace::{Outcome, Workspace};
 use chain_simplex::Basis;
 use dual_bound::{Cert, cap};
+use fixed_point::numbered;
 use proof_tree::Capped;
 use row_kit::{Area, List, Program};
-use sparse_basis::numbered;
 use std::alloc::{AllocError, Global};
 
 // The most steps: each makes at most one pivot.

@@ -1,8 +1,8 @@
 //! What a split says as a row, and the ends that it leaves to it.
 use crate::prices::Side;
+use fixed_point::of_whole;
 use row_chains::{Chains, least_above, most_at, sides_of, terms_of};
 use row_kit::{Domain, Entry, Program};
-use sparse_basis::of_whole;
 
 /// What a split bounds: what entries count, times a power of two, which is at most one end or at least the other one. The entries are
 /// those of a sum, or the one of a slot.

@@ -13,9 +13,9 @@ use crate::rounding::rounded;
 use crate::splitting::Split;
 use chain_simplex::{Amount, Basis, End, Restriction, Simplex};
 use dual_bound::{Cert, Mult};
+use fixed_point::{ONE, numbered, of_whole, put_last, whole_of, wide};
 use row_chains::{Chains, are_two_free, base_worth, most_at, sides_of, terms_of};
 use row_kit::{Area, Domain, Entry, List, Program};
-use sparse_basis::{ONE, numbered, of_whole, put_last, whole_of, wide};
 use std::alloc::{AllocError, Global};
 
 // What is left to a whole number where a sum counts as come to it: about 1 in 10,000.

@@ -6,8 +6,8 @@ use crate::caps::{exceeds, number_of};
 use crate::node::{NONE, Node};
 use chain_simplex::Basis;
 use dual_bound::{Cert, cap};
+use fixed_point::numbered;
 use row_kit::{Area, Domain, Program};
-use sparse_basis::numbered;
 use std::alloc::{AllocError, Global};
 use std::collections::BinaryHeap;
 

@@ -1,6 +1,7 @@
 //! Systems of equations by the sparse factors of their matrix, and numbers in fixed point.
 use case_tables::{Sheet, Step};
-use sparse_basis::{GROWTH, Lu, NONE, at, less_times, of_whole, put, quotient, times, whole_of};
+use fixed_point::{GROWTH, NONE, at, less_times, of_whole, put, quotient, times, whole_of};
+use sparse_basis::Lu;
 use std::alloc::{AllocError, Global};
 
 // A matrix and its factors.

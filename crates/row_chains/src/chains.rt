@@ -4,8 +4,8 @@ use crate::limits::most_left;
 use crate::ordering::{Order, order_of};
 use crate::scales::{first, greatest_bits};
 use crate::tables::Table;
+use fixed_point::{NONE, at, numbered, of_whole, place_at, put, put_place};
 use row_kit::{Domain, Entry, Program, Row};
-use sparse_basis::{NONE, at, numbered, of_whole, place_at, put, put_place};
 use std::alloc::{AllocError, Global};
 
 /// The rows of a program as differences. A chain is rows that stand one after another; each but the first is told by how it differs

@@ -2,8 +2,8 @@
 use crate::differences::{count_changes, given_entries};
 use crate::limits::most_amount;
 use crate::sums::first_row;
+use fixed_point::{NONE, numbered, place_at, put_place};
 use row_kit::{Program, Row};
-use sparse_basis::{NONE, numbered, place_at, put_place};
 use std::alloc::{AllocError, Global};
 
 /// The rows that are kept, in the order of their chains.

@@ -1,8 +1,8 @@
 //! The powers of two that bring rows and profits near 1.
 ghost use Rattle.std.specs.Prelude.{◌<◌};
 
+use fixed_point::wide;
 use row_kit::{Domain, Entry};
-use sparse_basis::wide;
 
 /// The first domains, so many at most.
 pub fn first(domains: &[Domain], most: u32) -> &[Domain] {

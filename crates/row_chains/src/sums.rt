@@ -1,6 +1,6 @@
 //! The rows of sums.
+use fixed_point::numbered;
 use row_kit::{Domain, Entry, Program};
-use sparse_basis::numbered;
 
 /// What the two rows of a sum say: what it counts is at most the width times its value and the room, and at least the width times
 /// its value less the offset.

@@ -1,6 +1,5 @@
 //! The factors of a matrix, step by step, and the solutions by them.
-use crate::number::{less_times, quotient};
-use crate::reserved::{NONE, Part, at, numbered, place_at, put, put_last, put_place, refill, span};
+use fixed_point::{NONE, Part, at, less_times, numbered, place_at, put, put_last, put_place, quotient, refill, span};
 use std::alloc::{AllocError, Global};
 
 // A step of the elimination: its pivot, and where its parts lie. Those of `lower` are multipliers by row. Those of `upper` are

@@ -1,10 +1,9 @@
 //! A sparse matrix, factored by pivots that fill little.
 use crate::factors::Factors;
 use crate::matrix::Matrix;
-use crate::number::{NOISE, less_times, magnitude, quotient, times};
 use crate::pivots::{Left, best_pivot};
 use crate::ranks::Ranks;
-use crate::reserved::{NONE, at, numbered, place_at, put, put_place, refill};
+use fixed_point::{NOISE, NONE, at, less_times, magnitude, numbered, place_at, put, put_place, quotient, refill, times};
 use std::alloc::{AllocError, Global};
 
 /// The factors of a sparse matrix, and the room to make them.

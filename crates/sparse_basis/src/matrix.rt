@@ -1,6 +1,5 @@
 //! The entries of a sparse matrix, each in the list of its row and in that of its column.
-use crate::number::{NOISE, magnitude};
-use crate::reserved::{NONE, numbered, put_last, refill};
+use fixed_point::{NOISE, NONE, magnitude, numbered, put_last, refill};
 use std::alloc::{AllocError, Global};
 
 /// An entry and its neighbours in its row and in its column. A free one has the next free one to its right.

@@ -1,8 +1,7 @@
 //! Which entry is the next pivot.
 use crate::matrix::{Entry, Matrix};
-use crate::number::{LEAST_PART, magnitude};
 use crate::ranks::Ranks;
-use crate::reserved::NONE;
+use fixed_point::{LEAST_PART, NONE, magnitude};
 
 // Rows and columns that are looked at before a pivot that was found is taken.
 const PATIENCE: u32 = 4;

@@ -1,5 +1,5 @@
 //! Rows, or columns, by how many entries they have left.
-use crate::reserved::{NONE, place_at, put_place, refill};
+use fixed_point::{NONE, place_at, put_place, refill};
 use std::alloc::{AllocError, Global};
 
 // The neighbours of an item in its list.

@@ -1,8 +1,8 @@
 -- Scale 1 without multipliers is within itself.
 use Rattle.std.proofs.Common.{sym, subst}
 use Rattle.row_kit.specs.Area.{present}
-use Rattle.dual_simplex.specs.Solved.{IsNoWorseThanPlain}
-use Rattle.dual_simplex.proofs.Totals.{plain_within}
+use Rattle.dual_bound.specs.Plain.{IsNoWorseThanPlain}
+use Rattle.dual_bound.proofs.Plain.{plain_within}
 use Rattle.branch_tree.specs.laws.Grounds.{program_of}
 use Rattle.branch_tree.proofs.judging.chosen.Goals as goal
 

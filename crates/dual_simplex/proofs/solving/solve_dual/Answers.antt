@@ -2,8 +2,9 @@
 use Rattle.std.proofs.Common.{List, sym, subst}
 use Rattle.row_kit.specs.Area.{present}
 use Rattle.dual_bound.specs.declared.cert.Mult.{Mult}
-use Rattle.dual_simplex.specs.Solved.{HasTotal, IsNoWorseThanPlain}
-use Rattle.dual_simplex.proofs.Totals.{plain_some, plain_within}
+use Rattle.dual_bound.specs.Plain.{IsNoWorseThanPlain}
+use Rattle.dual_simplex.specs.Solved.{HasTotal}
+use Rattle.dual_bound.proofs.Plain.{plain_some, plain_within}
 use Rattle.dual_simplex.proofs.solving.solve_dual.Goals as goal
 
 pub returns-else-is_below-clause-total : goal.returns-else-is_below-clause-total

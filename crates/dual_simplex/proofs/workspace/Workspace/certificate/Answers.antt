@@ -1,5 +1,5 @@
 use Rattle.std.proofs.Common.{lit≤}
-use Rattle.dual_simplex.proofs.Totals.{fit_some}
+use Rattle.dual_bound.proofs.Plain.{fit_some}
 use Rattle.dual_simplex.proofs.workspace.Workspace.certificate.Goals as goal
 
 pub returns-clause-total : goal.returns-clause-total

@@ -1,5 +1,5 @@
 //! Sums by feature.
-use sparse_basis::{Part, put_last, times};
+use fixed_point::{Part, put_last, times};
 use std::alloc::{AllocError, Global};
 
 // What has been summed up for a feature, and whether it is listed.

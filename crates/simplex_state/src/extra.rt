@@ -1,6 +1,6 @@
 //! The row of a trial.
 use crate::features::Features;
-use sparse_basis::{Part, at, put, put_last, times};
+use fixed_point::{Part, at, put, put_last, times};
 use std::alloc::{AllocError, Global};
 
 /// One more row, which a trial puts: what it counts of each feature.

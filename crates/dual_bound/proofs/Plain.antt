@@ -11,7 +11,7 @@ use Rattle.dual_bound.specs.declared.cert.Mult.{Mult}
 use Rattle.dual_bound.specs.Total.{are_fit, total_at, total_of}
 use Rattle.dual_bound.specs.Cap.{scaled_cap}
 use Rattle.std.proofs.lemmas.Int.{ints}
-use Rattle.dual_simplex.specs.Solved.{plain_cert, IsNotAbove, IsNoWorseThanPlain}
+use Rattle.dual_bound.specs.Plain.{plain_cert, IsNotAbove, IsNoWorseThanPlain}
 
 open_test : (ds : List Domain) → All IsOpen ds → list_all (λ (d : Domain). ltb 0 (count_of d)) ds ≡ true
 open_test ds all = list_all-from_AllPass (λ (d : Domain). ltb 0 (count_of d)) ds (λ k d lt. lt-ltb 0 (count_of (get_or ds k d)) (all k d lt))

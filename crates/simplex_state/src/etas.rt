@@ -1,5 +1,5 @@
 //! Changes of the kernel since it was factored.
-use sparse_basis::{Part, at, less_times, numbered, put, put_last, quotient, span};
+use fixed_point::{Part, at, less_times, numbered, put, put_last, quotient, span};
 use std::alloc::{AllocError, Global};
 
 /// A change of the kernel: a column at a place, with its pivot there and its other parts, or a row that joins at a place.

@@ -1,5 +1,5 @@
 //! Where each variable stands.
-use sparse_basis::{NONE, ONE, at, put, put_place, refill};
+use fixed_point::{NONE, ONE, at, put, put_place, refill};
 use std::alloc::{AllocError, Global};
 
 /// Where a variable stands: it is not there, at 0, at its bound, or between them.
@@ -40,7 +40,7 @@ impl Variables {
             profits: vec![in alloc; 0i64; count]?,
             weights: vec![in alloc; ONE; count]?,
             places: vec![in alloc; NONE; count]?,
-            rows_from: sparse_basis::numbered(columns),
+            rows_from: fixed_point::numbered(columns),
         })
     }
 
@@ -140,7 +140,7 @@ impl Variables {
     /// Where a basic variable stands in the kernel.
     #[inline(always)]
     pub fn place(&self, variable: u32) -> u32 {
-        sparse_basis::place_at(self.places.as_slice(), variable)
+        fixed_point::place_at(self.places.as_slice(), variable)
     }
 
     /// Notes where a basic variable stands in the kernel.
