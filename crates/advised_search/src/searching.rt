@@ -110,15 +110,7 @@ pub fn build_advised<A: Advisers>(
         (λ found. found.1 ≡ false → (found.0.left_open ≡ true) × (found.0.spent ≢ budget)) }
 {
     let (mut guide, mut hinter) = A::advised(alloc, &rows.program, given, budget)?;
-    search_guided(
-        alloc,
-        rows,
-        given,
-        budget,
-        start,
-        &mut hinter,
-        &mut guide,
-    )
+    search_guided(alloc, rows, given, budget, start, &mut hinter, &mut guide)
 }
 
 /// As `search_hinted`, and builds the proof.
@@ -138,13 +130,5 @@ pub fn build_hinted<A: Advisers>(
     ensures exact { IfOk result (λ searched. IsExact rows.now.program budget (ended_of searched)) }
 {
     let (mut guide, mut hinter) = A::hinted(alloc, &rows.program, given)?;
-    search(
-        alloc,
-        rows,
-        given,
-        budget,
-        start,
-        &mut hinter,
-        &mut guide,
-    )
+    search(alloc, rows, given, budget, start, &mut hinter, &mut guide)
 }

@@ -4,7 +4,10 @@ use crate::kernel::Kernel;
 use crate::parts::scatter;
 use crate::simplex::Simplex;
 use crate::work::blank;
-use fixed_point::{GROWTH, LEAST_PIVOT, NOISE, NONE, ONE, Part, at, magnitude, numbered, place_at, put, put_last, put_place, scaled};
+use fixed_point::{
+    GROWTH, LEAST_PIVOT, NOISE, NONE, ONE, Part, at, magnitude, numbered, place_at, put, put_last,
+    put_place, scaled,
+};
 use row_chains::Chains;
 use simplex_state::{State, Variables};
 

@@ -4,8 +4,8 @@ ghost use Rattle.proof_log.specs.LogNames.{log_name};
 ghost use Rattle.command_words.specs.Words.{Says, HasNoForm, IsBudget, IsPeriod, IsSeed, IsStep, IsStepCount, Solving, Logging, Simulating, Checking, Upgrading, Showing, Replanning, ReplanLogging, CheckingReplan, Estimating, texts, meaning, Seeking, Tracing, Auditing, NoHorizons, IsHorizon, IsNoLog, use_word, last_words};
 
 use crate::budget::{Budget, MAX_BUDGET};
-use crate::improve_words::improve_form;
 use crate::conflict_words::conflict_form;
+use crate::improve_words::improve_form;
 use crate::levels::{Levels, Part};
 use crate::listing_words::listing_form;
 use crate::part_words::part_form;

@@ -6,8 +6,8 @@
 
 pub mod budget;
 pub mod command;
-mod improve_words;
 mod conflict_words;
+mod improve_words;
 pub mod levels;
 mod listing_words;
 mod part_words;

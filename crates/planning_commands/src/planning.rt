@@ -147,7 +147,16 @@ fn outcome_of<F: Shelf>(
     let Some(name) = log else {
         return Ok(plan_rows::<BestFirst>(alloc, plant, part, levels, budget.boxes, point)?);
     };
-    match solve_rows_to::<BestFirst, _>(alloc, plant, part, levels, budget.boxes, point, files, name) {
+    match solve_rows_to::<BestFirst, _>(
+        alloc,
+        plant,
+        part,
+        levels,
+        budget.boxes,
+        point,
+        files,
+        name,
+    ) {
         Ok(outcome) => Ok(outcome),
         Err(Stop::Failed) => Err(Stopped::WriteFault),
         Err(Stop::Memory) => Err(Stopped::Memory),
@@ -169,5 +178,10 @@ fn reply_of(
     ensures money { IsInMoney outcome.now.answer }
 {
     in_money(&outcome.answer);
-    planned(alloc, plant, outcome, counted_since(start, since, &outcome.answer))
+    planned(
+        alloc,
+        plant,
+        outcome,
+        counted_since(start, since, &outcome.answer),
+    )
 }

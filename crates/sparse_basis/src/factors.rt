@@ -1,5 +1,8 @@
 //! The factors of a matrix, step by step, and the solutions by them.
-use fixed_point::{NONE, Part, at, less_times, numbered, place_at, put, put_last, put_place, quotient, refill, span};
+use fixed_point::{
+    NONE, Part, at, less_times, numbered, place_at, put, put_last, put_place, quotient, refill,
+    span,
+};
 use std::alloc::{AllocError, Global};
 
 // A step of the elimination: its pivot, and where its parts lie. Those of `lower` are multipliers by row. Those of `upper` are

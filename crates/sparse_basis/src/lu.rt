@@ -3,7 +3,10 @@ use crate::factors::Factors;
 use crate::matrix::Matrix;
 use crate::pivots::{Left, best_pivot};
 use crate::ranks::Ranks;
-use fixed_point::{NOISE, NONE, at, less_times, magnitude, numbered, place_at, put, put_place, quotient, refill, times};
+use fixed_point::{
+    NOISE, NONE, at, less_times, magnitude, numbered, place_at, put, put_place, quotient, refill,
+    times,
+};
 use std::alloc::{AllocError, Global};
 
 /// The factors of a sparse matrix, and the room to make them.
