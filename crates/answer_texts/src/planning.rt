@@ -140,12 +140,7 @@ fn optimal_head(alloc: Global, profit: &i128, lines: &str) -> Result<String, All
     format!(in alloc; "# optimal {profit}\n{lines}")
 }
 
-fn spent_head(
-    alloc: Global,
-    profit: &i128,
-    cap: &i128,
-    lines: &str,
-) -> Result<String, AllocError>
+fn spent_head(alloc: Global, profit: &i128, cap: &i128, lines: &str) -> Result<String, AllocError>
     ensures { IfOk result (λ head. string_bytes head
         ≡ codes "# budget-spent " ++ (signed_decimal profit.now ++ (codes " "
         ++ (signed_decimal cap.now ++ (codes "\n" ++ lines.now))))) }

@@ -76,9 +76,9 @@ part_solved plant levels part budget log program (Ok reply) enough is_part root 
   (
     record { is_part = is_part; root = root },
     planned-as plant (counted_since None []) (IsBegunOutcome plant program [] budget) (IsOutcomeOf plant (IsOfPart plant levels part) (least_plan plant program) (whole_count program) budget)
-    (HasProof plant program log) (HasPartProof plant levels program log) reply.status reply.text.items
-    (λ outcome begun. outcome-among plant (IsAdmitted plant program) (IsOfPart plant levels part) (λ plan. (exact plan).0) (λ plan. (exact plan).1) (least_plan plant program) (whole_count program) budget outcome begun.right)
-    (λ outcome has. has-part-proof plant levels part program log outcome enough root has) planned,
+        (HasProof plant program log) (HasPartProof plant levels program log) reply.status reply.text.items
+        (λ outcome begun. outcome-among plant (IsAdmitted plant program) (IsOfPart plant levels part) (λ plan. (exact plan).0) (λ plan. (exact plan).1) (least_plan plant program) (whole_count program) budget outcome begun.right)
+        (λ outcome has. has-part-proof plant levels part program log outcome enough root has) planned,
   ),
 )
 part_solved plant levels part budget log program (Err e) enough is_part root exact planned = tt

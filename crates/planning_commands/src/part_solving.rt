@@ -124,5 +124,15 @@ fn log_rows_of_part<F: Shelf>(
 {
     let levels = part.levels.number;
     let rows = part_rows(alloc, plant, levels, part.number)?;
-    plan_part(alloc, files, plant, rows.program, levels, &[], None, budget, Some(log))
+    plan_part(
+        alloc,
+        files,
+        plant,
+        rows.program,
+        levels,
+        &[],
+        None,
+        budget,
+        Some(log),
+    )
 }

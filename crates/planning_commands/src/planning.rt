@@ -168,5 +168,10 @@ fn reply_of(
     ensures money { IsInMoney outcome.now.answer }
 {
     in_money(&outcome.answer);
-    planned(alloc, plant, outcome, counted_since(start, since, &outcome.answer))
+    planned(
+        alloc,
+        plant,
+        outcome,
+        counted_since(start, since, &outcome.answer),
+    )
 }

@@ -53,7 +53,17 @@ pub fn replan<F: Shelf>(
     match keep(alloc, plant, plan, period)? {
         Keeping::Open(rows) => {
             let since = Some(period);
-            plan_part(alloc, files, plant, rows.program, 0, plan, since, budget, log)
+            plan_part(
+                alloc,
+                files,
+                plant,
+                rows.program,
+                0,
+                plan,
+                since,
+                budget,
+                log,
+            )
         }
         Keeping::Broken(violation) => Ok(broken(alloc, plant, &violation)?),
     }

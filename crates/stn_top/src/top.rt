@@ -201,7 +201,15 @@ fn reply_to<F: Shelf>(alloc: Global, command: Command, files: &mut F) -> Result<
             period,
             budget,
             log,
-        } => plan_on_file(alloc, files, plant, plan, Some(period.number), budget, Some(log)),
+        } => plan_on_file(
+            alloc,
+            files,
+            plant,
+            plan,
+            Some(period.number),
+            budget,
+            Some(log),
+        ),
         Command::CheckReplan {
             plant,
             plan,

@@ -5,8 +5,7 @@ use Rattle.command_words.proofs.improve_words.log_improve_of.Goals as goal
 pub returns-in-Some : goal.returns-in-Some
 returns-in-Some c =
     let no_word : Bor (List ℕ) = record { ref_ptr = (0, 0); now = [] } in
-    let words = five_words c.args.words.now no_word (codes "improve") (omega arith) (omega arith) c.if-eq.ensures in
-    (
+    let words = five_words c.args.words.now no_word (codes "improve") (omega arith) (omega arith) c.if-eq.ensures in (
       (get_or c.args.words.now 3 no_word).now,
       (
         words,

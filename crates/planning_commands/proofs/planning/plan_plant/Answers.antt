@@ -29,8 +29,8 @@ returns-clause-answer g c =
     let log = told_log (named_log c.args.log) (g.F.Shelf.files c.plan_part.new.files) in
     IfOk-weaker c.plan_part.result _ _
     (λ (reply : Reply) (is : Planned plant (counted_since c.args.since start) (IsBegunOutcome plant program start budget) (HasProof plant program log) reply.status reply.text.items).
-        planned-as plant (counted_since c.args.since start) (IsBegunOutcome plant program start budget) (IsGivenOutcome plant start budget) (HasProof plant program log) (HasPlantProof plant log) reply.status reply.text.items
-        (λ outcome begun. given-outcome plant program made means start budget outcome c.requires.sound begun) (λ outcome has. plant-proof plant program made means log outcome has) is)
+    planned-as plant (counted_since c.args.since start) (IsBegunOutcome plant program start budget) (IsGivenOutcome plant start budget) (HasProof plant program log) (HasPlantProof plant log) reply.status reply.text.items
+    (λ outcome begun. given-outcome plant program made means start budget outcome c.requires.sound begun) (λ outcome has. plant-proof plant program made means log outcome has) is)
     c.plan_part.ensures.answer
 
 pub returns-clause-left : goal.returns-clause-left
