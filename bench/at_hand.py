@@ -13,7 +13,7 @@ import os, random, re, subprocess, sys, tempfile, time
 import violations as plain
 
 EXAMPLES = os.path.join(plain.TOP, "examples")
-PLANTS = {"fine": 4, "kondili": 2, "kondili-1993": 2, "colours": 2}  # with how many seeds
+PLANTS = {"fine": 4, "kondili": 2, "kondili-1993": 2, "colours": 1, "five": 1}  # with how many seeds
 
 
 def without_orders(text):
