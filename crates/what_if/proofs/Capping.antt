@@ -1,7 +1,7 @@
 -- What bounds the worths of a program's lawful points caps the plans of its plant.
 use Rattle.std.proofs.Common.{◌≡◌, false, List, Option, Some, None, ℤ, refl, ap, ◌∙◌, subst, inl, inr, arith}
 use Rattle.std.specs.Prelude.{IfOk, Result, Ok, Err}
-use Rattle.std.specs.List.{list_any}
+use Rattle.std.specs.List.{All, list_any}
 use Rattle.std.proofs.lemmas.Bool.{ne_eqb}
 use Rattle.std.proofs.lemmas.List.Elements.{All-weaker}
 use Rattle.std.proofs.lemmas.List.Folds.{list_any_none}

@@ -7,7 +7,7 @@ use Rattle.stn_solve.proofs.Searchable.{part-searchable}
 use Rattle.stn_solve.proofs.plain.plan_plain.Goals as goal
 
 pub search_only-requires-clause-searchable : goal.search_only-requires-clause-searchable
-search_only-requires-clause-searchable c = part-searchable c.args.plant.now c.args.rows.now.program c.requires.sound c.requires.part
+search_only-requires-clause-searchable g c = part-searchable c.args.plant.now c.args.rows.now.program c.requires.sound c.requires.part
 
 pub told_of-requires-clause-places : goal.told_of-requires-clause-places
 told_of-requires-clause-places g c =

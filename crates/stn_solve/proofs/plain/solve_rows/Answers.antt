@@ -6,7 +6,7 @@ use Rattle.stn_solve.proofs.Searchable.{part-searchable}
 use Rattle.stn_solve.proofs.plain.solve_rows.Goals as goal
 
 pub search_built-requires-clause-searchable : goal.search_built-requires-clause-searchable
-search_built-requires-clause-searchable c = part-searchable c.args.plant.now c.args.rows.now.program c.requires.sound c.requires.part
+search_built-requires-clause-searchable g c = part-searchable c.args.plant.now c.args.rows.now.program c.requires.sound c.requires.part
 
 pub told_of-requires-clause-places : goal.told_of-requires-clause-places
 told_of-requires-clause-places g c =
