@@ -4,8 +4,14 @@ use Rattle.stn_edge.specs.Files.{file_of}
 use Rattle.valid_log.specs.declared.verdict.LogVerdict.{LogVerdict}
 use Rattle.valid_log.specs.Claims.{YesSaysOf}
 use Rattle.valid_log.specs.PlantLogs.{IsAnyPartChecked}
-use Rattle.log_parts.proofs.PartsChecked.{no_checked, part_said, yes_checked}
+use Rattle.log_parts.proofs.PartsChecked.{no_checked, part-rows, part-slots, part_said, yes_checked}
 use Rattle.joined_parts.proofs.checking.check_log.Goals as goal
+
+pub read_front-requires-clause-few_slots : goal.read_front-requires-clause-few_slots
+read_front-requires-clause-few_slots g c = part-slots c.args.plant.now c.in_ok-rows.rows.program c.requires.sound c.in_ok-rows.ensures.part
+
+pub read_front-requires-clause-few_rows : goal.read_front-requires-clause-few_rows
+read_front-requires-clause-few_rows g c = part-rows c.args.plant.now c.in_ok-rows.rows.program c.requires.sound c.in_ok-rows.ensures.part
 
 pub returns-in-Yes-clause-checked : goal.returns-in-Yes-clause-checked
 returns-in-Yes-clause-checked g c =
