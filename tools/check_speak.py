@@ -698,9 +698,9 @@ def entries(text):
 
 
 def check_entry(title, blocks, base):
-    """Writes an entry's files, runs its commands, and compares what is shown."""
+    """Writes an entry's files beside the small plant, runs its commands, and compares what is shown."""
     with tempfile.TemporaryDirectory(prefix="speak-") as room:
-        for kind, name, text in blocks:
+        for kind, name, text in [("toml", "kettle.toml", base), *blocks]:
             if kind == "console":
                 yield from check_console(title, text, room)
             else:
