@@ -137,6 +137,49 @@ def of_logs(room):
         yield Case(f"a log that promises: {line}".replace("\n", ", "), ["check", "tiny", log(room, f"c{number}", "node", line, "end")], 1, f"no {place} {kind}\n")
 
 
+def wide(room):
+    """A plant of 512 slots of 255 batch sizes each: 64 periods, 8 units. Its rows 512 to 576 count what is left of the feed."""
+    units = "".join(f'[[unit]]\nname = "U{n}"\n[[run]]\ntask = "make"\nunit = "U{n}"\nmin = 1\nmax = 255\n' for n in range(8))
+    task = '[[task]]\nname = "make"\nquantum = 1\n[[task.input]]\nstate = "feed"\npart = "1/1"\n'
+    task += '[[task.output]]\nstate = "prod"\npart = "1/1"\ndelay = 1\n'
+    states = '[[state]]\nname = "feed"\ninitial = 1000000000\n[[state]]\nname = "prod"\n'
+    return write(room, "wide", ("version = 1\nperiods = 64\n" + states + task + units, 1))
+
+
+def head(room, name, *parts):
+    """A log of version 4 with these texts, each so many times, as its head, and one open box."""
+    return write(room, name, ("stn-log 4\n", 1), *parts, ("node\npending 1 0\nclaim below 999999999\nend\n", 1))
+
+
+def of_heads(room):
+    """Heads that are as large as they may be, and rows at and past their limits; row 642 is the first that a head derives."""
+    plant, yes = wide(room), "yes below 999999999\n"
+    for number, (what, text) in enumerate(great_rows()):
+        yield Case(f"4,096 rows: {what}", ["check", plant, head(room, f"h{number}", (text, 4096))], 0, yes)
+    row, a_sum = "row 3 1 1 1 1 {} 0\nby {} 2\n".format, "sum 1 0 - - 1\nterm 0 1 0\n"
+    limits = "row 1000000000 999999999 1000000000 1000000000 1 1 0\nby 576 -1000000\nlift 0 1000000000000\n"
+    heads = (("4,097 rows", row(0, 576), 4097, "no 8194 21\n"), ("3,584 sums", a_sum, 3584, yes),
+             ("3,585 sums", a_sum, 3585, "no 7170 21\n"), ("factors, divisors and shifts at their limits", limits, 1, yes),
+             ("a row that names itself", row(0, 642), 1, "no 3 4\n"), ("a row that names a later one", row(0, 643), 1, "no 3 4\n"),
+             ("a group over a row that counts quanta", row(1, 576) + "shift 576 1\n", 1, "no 2 23\n"),
+             ("a slot lifted twice", row(2, 576) + "lift 0 -1\n" * 2, 1, yes), ("REST is DIVISOR", "row 1 1 1 1 1 0 0\n", 1, "no 2 1\n"),
+             ("64 rows of which none comes", "row 3 1 1 1 64 0 0\n", 1, "no 3 1\n"), ("four million cuts", "cut 0 0\n", 4_000_000, yes))
+    for number, (what, text, times, answer) in enumerate(heads):
+        yield Case(f"a head: {what}", ["check", plant, head(room, f"r{number}", (text, times))], int(answer != yes), answer)
+
+
+def great_rows():
+    """Rows that cost as much as a row may, each shown over the wide plant, with the limit of row 576 or of rows 513 to 576."""
+    row, slots = "row {} 1 1 1 {} {} {}\n".format, range(512)
+    each = lambda line: "".join(map(line.format, slots))
+    yield "each batch size its own step", row(3, 1, 0, 0) + "by 576 2\n"
+    yield "one step", row(10**9, 1, 0, 0) + "by 576 1\n"
+    yield "64 rows named", row(10**9, 64, 0, 0) + "".join(f"by {number} 1\n" for number in range(513, 577))
+    yield "512 lifts", row(3, 1, 512, 0) + "by 576 1\n" + each("lift {} -1\n")
+    yield "512 shifts", row(3, 1, 512, 0) + "by 576 1\n" + each("shift {} -1\n")
+    yield "an entry for each slot", row(1000, 1, 0, 512) + "by 576 1000\n" + each("entry {} 0 -10000000\n")
+
+
 def files(room):
     """The files of the runs: Tiny, Five, a plan, a log, one that may not be read, and a folder."""
     for name, text in (("plan", "0 U make 3\n"), ("kept", "old"), ("locked", "version = 1\n")):
@@ -172,7 +215,7 @@ def main():
     room, bad, count = tempfile.mkdtemp(prefix="hostile-"), [], 0
     try:
         files(room)
-        for cases in (of_devices, of_words, of_files, of_logs):
+        for cases in (of_devices, of_words, of_files, of_logs, of_heads):
             for case in cases(room):
                 why, status, seconds, peak = case.run(room)
                 count += 1

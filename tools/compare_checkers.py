@@ -5,9 +5,9 @@
 
 PROGRAM is the built `stn`; without it what STN names, or crates/stn/out/stn. The logs are those of examples/, what
 PROGRAM writes for the plants there, logs made at random over plants made at random, and mutants of all of them: numbers
-changed by one, lines changed, dropped, doubled or exchanged, logs cut off, other plants, plants with faults. KEEP may
-name a folder for the files of each difference. It exits with 0 where all answers and statuses agree, with 1 where some
-differ, and with 2 where there is no program.
+changed by one, lines changed, dropped, doubled or exchanged, logs cut off, other plants, plants with faults. Of the
+logs at random both are asked about another tank, too. KEEP may name a folder for the files of each difference. It exits
+with 0 where all answers and statuses agree, with 1 where some differ, and with 2 where there is no program.
 """
 
 import os
@@ -20,9 +20,8 @@ from collections import Counter
 from pathlib import Path
 
 from check_log import Answer
-from log_judge import Judge
-from log_text import Defect, LogText
 from plant_program import Refused, program_of, read_plant
+from random_logs import random_log
 
 TOP = Path(__file__).resolve().parent.parent
 BUDGETS = ("1", "7", "60")
@@ -145,78 +144,6 @@ def random_task(dice, name, states, utilities):
     return {"name": name, "quantum": 4, "input": inputs, "output": outputs, "draw": draws}
 
 
-# ---------------------------------------------------------------- logs at random
-
-
-def random_log(dice, program):
-    """A log of a small tree over a program, whose claim `below` is the cap that check_log.py finds, or one less."""
-    head = random_head(dice, program)
-    lines = ["stn-log 3", *head] if head else ["stn-log 2"]
-    sums = sum(line.startswith("sum") for line in head)
-    slots, rows = len(program.domains) + sums, len(program.rows) + 2 * sums
-    lines += random_tree(dice, slots, rows, dice.randint(0, 4)) if slots else ["node", "dual 1 0"]
-    cap = mended(lines, program) if dice.random() < 0.9 else 0
-    claim = "infeasible" if cap is None else f"below {cap - dice.randrange(2)}"
-    return "\n".join([*lines, f"claim {claim}", "end", ""]).encode()
-
-
-def mended(lines, program):
-    """The cap of a log's tree, after ends that do not stand were changed to ends that do; 0 where its head has a defect."""
-    for _ in range(len(lines)):
-        try:
-            return cap_of("\n".join([*lines, "claim infeasible", "end", ""]).encode(), program)
-        except Defect as defect:
-            line, kind = map(int, str(defect).split())
-            if kind == 20:
-                return 0
-            while lines[line : line + 1] and lines[line].startswith("mult"):
-                lines.pop(line)
-            lines[line - 1] = "empty" if kind == 11 else "dual 1 0"
-
-
-def cap_of(text, program):
-    """The cap of a log's tree."""
-    log = LogText(text, program).read()
-    return Judge(program, log).tree_cap(log.nodes)
-
-
-def random_head(dice, program):
-    """Up to two sums: of some slots, or of what a row counts or its opposite, shown by that row or by the batch sizes."""
-    lines = []
-    for _ in range(dice.choice((0, 0, 1, 2)) if program.slots else 0):
-        number = dice.randrange(len(program.rows))
-        row, times = program.rows[number], dice.choice((1, 1, 1, 2))
-        sign = dice.choice((-1, 1))
-        terms = {j: (sign * fixed, sign * per) for j, (fixed, per) in row.entries.items()}
-        if not terms or dice.random() < 0.4:
-            some = [j for j in range(len(program.slots)) if dice.random() < 0.7] or [0]
-            terms = {j: dice.choice(((1, 0), (0, 1), (1, 2))) for j in some}
-        sides = ["-", "-"] if dice.random() < 0.5 else [str(number), "-"] if sign < 0 else ["-", str(number)]
-        lines.append(f"sum {times} {dice.randint(-3, 30)} {' '.join(sides)} {len(terms)}")
-        lines += [f"term {j} {fixed} {per}" for j, (fixed, per) in terms.items()]
-    return lines
-
-
-def random_tree(dice, slots, rows, depth):
-    """Nodes with cuts, certificates of few rows, and splits."""
-    rows = max(rows, 1)
-    lines = ["node"] + [f"cut {dice.randrange(rows)} {dice.randrange(slots)}" for _ in range(dice.choice((0, 0, 1, 3)))]
-    factors = sorted(dice.sample(range(rows), min(rows, dice.choice((0, 1, 2, 5)))))
-    certificate = [f"mult {row} {dice.randint(1, 6)}" for row in factors]
-    if depth and dice.random() < 0.8:
-        split = f"split {dice.randrange(slots)} {dice.choice((0, 0, 1, 2))} {dice.choice((0, 1, 3))} {len(factors)}"
-        parts = random_tree(dice, slots, rows, depth - 1) + random_tree(dice, slots, rows, depth - 1)
-        return lines + [split, *certificate, *parts]
-    return lines + random_end(dice, certificate, factors)
-
-
-def random_end(dice, certificate, factors):
-    """The ending of a box: a certificate mostly."""
-    if dice.random() < 0.15:
-        return [dice.choice(("empty", "point"))]
-    return [f"{dice.choice(('dual', 'pending'))} {dice.choice((0, 1, 1, 1, 2, 7))} {len(factors)}", *certificate]
-
-
 # ---------------------------------------------------------------- the questions
 
 
@@ -235,12 +162,13 @@ class Comparison:
             return None
         return done.stdout.decode().rstrip("\n"), done.returncode
 
-    def ask(self, what, plant, log):
-        """One question: the bytes of a plant and of a log."""
+    def ask(self, what, plant, log, command="check", *others):
+        """One question: a command with the bytes of a plant and of a log, and what other words it has."""
         files = {str(self.room / "plant"): plant, str(self.room / "log"): log}
         for name, text in files.items():
             Path(name).write_bytes(text)
-        theirs, own = self.run("check", *files), Answer(files.__getitem__).of(["check", *files])
+        words = [command, *files, *others]
+        theirs, own = self.run(*words), Answer(files.__getitem__).of(words)
         self.asked += 1
         self.seen[kind_of(own[0])] += 1
         if theirs != own:
@@ -255,9 +183,9 @@ class Comparison:
                 (Path(os.environ["KEEP"]) / f"{self.differ}.{name}").write_bytes(text)
 
 
-def kind_of(line):
-    """An answer without its line or place: `yes CLAIM`, `no KIND` or `refused plant KIND`."""
-    words = line.split()
+def kind_of(text):
+    """An answer without its line or place: `yes CLAIM`, `no KIND`, `refused plant KIND` or `whatif`."""
+    words = text.split("\n")[0].split()[: 1 if text.startswith("whatif") else None]
     return " ".join([words[0], words[-1]] if words[0] == "no" else words[: 3 if words[0] == "refused" else 2])
 
 
@@ -299,6 +227,11 @@ def at_random(dice):
             yield f"random log {number} of {name}", plant, random_log(dice, program)
 
 
+def tanks_of(plant):
+    """The names of the states with limits."""
+    return [state.name for state in read_plant(plant).states if state.limits is not None]
+
+
 def main(words):
     program = words[0] if words else os.environ.get("STN", TOP / "crates" / "stn" / "out" / "stn")
     dice = random.Random(int(words[1]) if len(words) > 1 else 1)
@@ -310,6 +243,9 @@ def main(words):
         logs = [*stored(), *written(comparison), *at_random(dice)]
         for it in logs:
             comparison.ask(*it)
+        for what, plant, log in logs:
+            if what.startswith("random") and (tanks := tanks_of(plant)):
+                comparison.ask(f"{what}, tank", plant, log, "whatif", dice.choice(tanks), dice.choice(("-2", "1", "3")), "2")
         small = [it for it in logs if len(it[2]) <= GREATEST_MUTANT]
         for number in range(MUTANTS):
             name, plant, log = dice.choice(small)

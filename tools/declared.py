@@ -50,7 +50,7 @@ class Sum:
         if least is None or greatest is None:
             return None
         low, high = ((self.offset + it) // self.width for it in (least, greatest))
-        return tuple(range(high + 1)) if 0 <= low and high <= 255 else None
+        return tuple(range(high + 1)) if 0 <= low and 0 <= high <= 255 else None
 
 
 def opposites(terms):

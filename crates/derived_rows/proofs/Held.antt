@@ -4,7 +4,6 @@ use Rattle.std.specs.List.{All}
 use Rattle.std.proofs.lemmas.Int.{ints}
 use Rattle.std.proofs.lemmas.List.Elements.{All-cons, All-nil}
 use Rattle.std.proofs.Math.IntN.{*ℤ-zero, zero-*ℤ}
-use Rattle.row_kit.specs.declared.program.Program.{Program}
 use Rattle.row_kit.specs.declared.row.Entry.{Entry}
 use Rattle.row_kit.specs.declared.row.Row.{Row}
 use Rattle.row_kit.specs.Domain.{Holds, domain_at}
@@ -40,26 +39,25 @@ lone_counts : (slot v : ℕ) → counted (record { slot = slot; fixed = pos 1; p
 lone_counts slot zero = omega (arith, ints)
 lone_counts slot (suc v) = omega (arith, ints, part_above (pos 1) (pos 0) (suc v) (omega arith), zero-*ℤ (pos (suc v)))
 
--- a point that keeps a program's rows has at most one member of a group with a value other than 0
-alone : (program : Program) (point : List ℕ) → All (IsKept point) program.rows → (m : Members) (c : ℤ) → AreMembers program m → IsAlone program.rows point (record { members = m; shift = c })
-alone program point kept (One slot) c there = record { ones = lone slot; one = omega (arith, ints, lone_counts slot (get_or point slot 0)) }
-alone program point kept (OfRow row) c there = record {
+-- a point that keeps rows has at most one member of a group with a value other than 0
+alone : (rows : List Row) (slots : ℕ) (point : List ℕ) → All (IsKept point) rows → (m : Members) (c : ℤ) → AreMembers rows slots m → IsAlone rows point (record { members = m; shift = c })
+alone rows slots point kept (One slot) c there = record { ones = lone slot; one = omega (arith, ints, lone_counts slot (get_or point slot 0)) }
+alone rows slots point kept (OfRow row) c there = record {
   ones = record { fixed = there.1.fixed; per = there.1.per };
   one = omega (arith, ints, there.1.limit, kept row no_row there.0);
 }
 
 -- T summed over the slots of a point that keeps the rows is at most L
-terms_held : (program : Program) (derived : Derived) (point : List ℕ) → derived.rest < derived.divisor → All (IsGroup program) derived.groups → All (IsKept point) program.rows
-    → over_slots (term_at program.rows derived) 0 point ≤ℤ whole_limit program.rows derived
-terms_held program derived point lt groups kept =
-    let rows = program.rows in
+terms_held : (rows : List Row) (slots : ℕ) (derived : Derived) (point : List ℕ) → derived.rest < derived.divisor → All (IsGroup rows slots) derived.groups → All (IsKept point) rows
+    → over_slots (term_at rows derived) 0 point ≤ℤ whole_limit rows derived
+terms_held rows slots derived point lt groups kept =
     let round = round_of derived in
     let rounds : Rounds round = record { adds = phi_adds derived.divisor derived.rest lt; nothing = phi_nothing derived.divisor derived.rest lt } in
     let fs = derived.factors in
     let ws = map (slack_factor round) fs in
     let z = slacks rows fs point in
     let x = mixed_at rows fs in
-    let all : All (IsAlone rows point) derived.groups = λ k d h. alone program point kept (get_or derived.groups k d).members (get_or derived.groups k d).shift (groups k d h).members in
+    let all : All (IsAlone rows point) derived.groups = λ k d h. alone rows slots point kept (get_or derived.groups k d).members (get_or derived.groups k d).shift (groups k d h).members in
     let one = grouped round rounds rows derived.groups point all x (mixed_bare rows fs) z in
     let same : (z +ℤ over_slots x 0 point) -ℤ shifts_sum derived.groups ≡ mixed_limit rows fs -ℤ shifts_sum derived.groups = omega (arith, ints, mixed_whole rows fs point) in
     let parts = over_sum (term_at rows derived) (mixed_at rows ws) (shifted round rows derived.groups x) (λ s v. both (shifted round rows derived.groups x s v) (mixed_at rows ws s v)) 0 point in
@@ -78,18 +76,17 @@ term_bare rows derived s =
 
 -- no lawful point breaks a derived row
 pub held : DerivedRowsHold
-held program domains derived shown point lies kept =
-    let rows = program.rows in
+held rows domains derived shown point lies kept =
     let es = derived.entries in
     let n = derived.down in
     let m = derived.up in
     let left = over_times (pos n) (entry_at es) 0 point ∙ ap (λ (x : ℤ). pos n *ℤ x) (over_entries es point) in
     let right = over_times (pos m) (term_at rows derived) 0 point in
     let le = over_le (λ s v. pos n *ℤ entry_at es s v) (λ s v. pos m *ℤ term_at rows derived s v) 0 point (λ k lt. at_value k (get_or point k 0) (omega (arith, lt, lies.same_length)) (lies.held k (omega (arith, lt, lies.same_length)))) in
-    let scaled = times_le m (over_slots (term_at rows derived) 0 point) (whole_limit rows derived) (terms_held program derived point shown.declared.rest shown.declared.groups kept) in
+    let scaled = times_le m (over_slots (term_at rows derived) 0 point) (whole_limit rows derived) (terms_held rows (length domains) derived point shown.declared.rest shown.declared.groups kept) in
     quotient_at_least n (pos m *ℤ whole_limit rows derived) (entries_sum es point) shown.declared.down.0 (omega (arith, ints, left, right, le, scaled))
   where
-    at_value : (k v : ℕ) → k < length domains → Holds (domain_at domains k) v → (pos derived.down *ℤ entry_at derived.entries (0 + k) v) ≤ℤ (pos derived.up *ℤ term_at program.rows derived (0 + k) v)
+    at_value : (k v : ℕ) → k < length domains → Holds (domain_at domains k) v → (pos derived.down *ℤ entry_at derived.entries (0 + k) v) ≤ℤ (pos derived.up *ℤ term_at rows derived (0 + k) v)
     at_value k zero there holds =
-        omega (arith, ints, ap (λ (x : ℤ). pos derived.down *ℤ x) (none_at_zero derived.entries (0 + k)), *ℤ-zero (pos derived.down), ap (λ (x : ℤ). pos derived.up *ℤ x) (term_bare program.rows derived (0 + k)), *ℤ-zero (pos derived.up))
+        omega (arith, ints, ap (λ (x : ℤ). pos derived.down *ℤ x) (none_at_zero derived.entries (0 + k)), *ℤ-zero (pos derived.down), ap (λ (x : ℤ). pos derived.up *ℤ x) (term_bare rows derived (0 + k)), *ℤ-zero (pos derived.up))
     at_value k (suc v) there holds = let e : 0 + k ≡ k = omega arith in rw e (shown.below k (suc v) there (omega arith) holds)

@@ -1,7 +1,6 @@
 -- Groups of slots of which at most one has a value other than 0.
 use Rattle.std.specs.Prelude.{◌≡◌, ℕ, ◌<◌, ◌==◌, Bool, if◌then◌else◌, List, [], ◌∷◌, length, ℤ, pos, neg_ℤ, ◌+ℤ◌}
 use Rattle.std.specs.List.{All, list_any}
-use Rattle.row_kit.specs.declared.program.Program.{Program}
 use Rattle.row_kit.specs.declared.row.Entry.{Entry}
 use Rattle.row_kit.specs.declared.row.Row.{Row}
 use Rattle.row_kit.specs.Row.{row_at}
@@ -15,10 +14,10 @@ pub record IsChoice (row : Row) : Type 0 where
   pub fixed : All (λ e. e.fixed ≡ pos 1) row.entries
   pub per : All (λ e. e.per ≡ pos 0) row.entries
 
--- the members of a group are a slot of the program, or the slots of a row of it that keeps all of them but one at 0
-abbrev pub AreMembers : Program → Members → Type 0
-AreMembers program (One slot) = slot < length program.root
-AreMembers program (OfRow row) = (row < length program.rows) × IsChoice (row_at program.rows row)
+-- the members of a group are a slot of so many, or the slots of a row that keeps all of them but one at 0
+abbrev pub AreMembers : List Row → ℕ → Members → Type 0
+AreMembers rows slots (One slot) = slot < slots
+AreMembers rows slots (OfRow row) = (row < length rows) × IsChoice (row_at rows row)
 
 -- the entries that count the members of a group which have a value of 1 or more
 abbrev pub member_entries : List Row → Members → List Entry

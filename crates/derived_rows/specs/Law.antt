@@ -2,7 +2,7 @@
 use Rattle.std.specs.Prelude.{◌≡◌, ℕ, ◌<◌, List, ℤ, pos, ◌+ℤ◌, ◌≤ℤ◌}
 use Rattle.std.specs.List.{All}
 use Rattle.row_kit.specs.declared.domain.Domain.{Domain}
-use Rattle.row_kit.specs.declared.program.Program.{Program}
+use Rattle.row_kit.specs.declared.row.Row.{Row}
 use Rattle.row_kit.specs.Point.{LiesIn}
 use Rattle.row_kit.specs.Row.{IsKept}
 use Rattle.derived_rows.specs.declared.derived.Derived.{Derived}
@@ -17,8 +17,8 @@ RoundsDown =
     × ((a b : ℤ) → a ≤ℤ b → phi divisor rest a ≤ℤ phi divisor rest b)
     × (phi divisor rest (pos 0) ≡ pos 0)
 
--- a point that lies in the domains and keeps the rows of a program keeps each row that is derived from them and shown over the domains
+-- a point that lies in the domains and keeps rows keeps each row that is derived from them and shown over the domains
 abbrev pub DerivedRowsHold : Type 0
 DerivedRowsHold =
-    (program : Program) (domains : List Domain) (derived : Derived) → IsShownRow program domains derived → (point : List ℕ) → LiesIn domains point
-    → All (IsKept point) program.rows → IsKept point (derived_row program.rows derived)
+    (rows : List Row) (domains : List Domain) (derived : Derived) → IsShownRow rows domains derived → (point : List ℕ) → LiesIn domains point
+    → All (IsKept point) rows → IsKept point (derived_row rows derived)

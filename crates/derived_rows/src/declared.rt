@@ -7,7 +7,7 @@ ghost use Rattle.derived_rows.specs.Groups.{AreMembers, IsChoice};
 ghost use Rattle.derived_rows.specs.Shown.{IsDeclared, IsFactor, IsGroup};
 
 use crate::derived::{Derived, Factor, Group, Members};
-use row_kit::{Entry, MOST_LIMIT, MOST_ROW_ENTRY, Program, Row};
+use row_kit::{Entry, MOST_LIMIT, MOST_ROW_ENTRY, Row};
 
 // The most that a divisor and either number of a scale is.
 const MOST_SCALE: u32 = 1_000_000_000;
@@ -22,16 +22,16 @@ const MOST_FACTOR: u64 = 1_000_000;
 const MOST_GROUPS: usize = 512;
 
 // Whether the numbers of a derived row lie in their ranges, and what it names is there.
-pub fn is_declared(program: &Program, derived: &Derived) -> bool
-    ensures { IsTrue result ↔ IsDeclared program.now derived.now }
+pub fn is_declared(rows: &[Row], slots: usize, derived: &Derived) -> bool
+    ensures { IsTrue result ↔ IsDeclared rows.now slots derived.now }
 {
     is_scale(derived.divisor)
         && derived.rest < derived.divisor
         && is_scale(derived.up)
         && is_scale(derived.down)
-        && are_factors(derived.factors.as_slice(), program.rows.len())
-        && are_groups(program, derived.groups.as_slice())
-        && are_bounded(derived.entries.as_slice(), program.root.len())
+        && are_factors(derived.factors.as_slice(), rows.len())
+        && are_groups(rows, slots, derived.groups.as_slice())
+        && are_bounded(derived.entries.as_slice(), slots)
 }
 
 // Whether a number is that of a divisor or a scale.
@@ -60,29 +60,27 @@ fn is_factor(factor: &Factor, rows: usize) -> bool
         && factor.by.unsigned_abs() <= MOST_FACTOR
 }
 
-// Whether there are not too many groups, and each is one of the program.
-fn are_groups(program: &Program, groups: &[Group]) -> bool
-    ensures { IsTrue result ↔ ((length groups.now ≤ 512) × All (IsGroup program.now) groups.now) }
+// Whether there are not too many groups, and each is one of the rows over so many slots.
+fn are_groups(rows: &[Row], slots: usize, groups: &[Group]) -> bool
+    ensures { IsTrue result ↔ ((length groups.now ≤ 512) × All (IsGroup rows.now slots) groups.now) }
 {
-    groups.len() <= MOST_GROUPS && groups.iter().all(|group| is_group(program, group))
+    groups.len() <= MOST_GROUPS && groups.iter().all(|group| is_group(rows, slots, group))
 }
 
 // Whether a group has members of which at most one has a value other than 0, and a shift in its range.
-fn is_group(program: &Program, group: &Group) -> bool
-    ensures { IsTrue result ↔ IsGroup program.now group.now }
+fn is_group(rows: &[Row], slots: usize, group: &Group) -> bool
+    ensures { IsTrue result ↔ IsGroup rows.now slots group.now }
 {
-    u128::from(group.shift.unsigned_abs()) <= MOST_LIMIT && are_members(program, group.members)
+    u128::from(group.shift.unsigned_abs()) <= MOST_LIMIT && are_members(rows, slots, group.members)
 }
 
 // Whether members are a slot, or those of a row that keeps all of them but one at 0.
-fn are_members(program: &Program, members: Members) -> bool
-    ensures { IsTrue result ↔ AreMembers program.now members }
+fn are_members(rows: &[Row], slots: usize, members: Members) -> bool
+    ensures { IsTrue result ↔ AreMembers rows.now slots members }
 {
     match members {
-        Members::One(slot) => (slot as usize) < program.root.len(),
-        Members::OfRow(row) => {
-            (row as usize) < program.rows.len() && is_choice(program.rows.get(row as usize))
-        }
+        Members::One(slot) => (slot as usize) < slots,
+        Members::OfRow(row) => { (row as usize) < rows.len() && is_choice(&rows[row as usize]) }
     }
 }
 

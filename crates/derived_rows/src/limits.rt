@@ -9,20 +9,21 @@ ghost use Rattle.derived_rows.specs.Shown.{IsDeclared, IsFactor};
 
 use crate::derived::{Derived, Factor, Group};
 use crate::rounding::{phi, times};
-use row_kit::{List, Program, Row};
+use row_kit::{List, Row};
 use std::alloc::{AllocError, Global};
 
 // The factors that the slacks of the rows have.
 pub fn slack_factors(
     alloc: Global,
-    program: &Program,
+    rows: &[Row],
+    slots: usize,
     derived: &Derived,
 ) -> Result<List<Factor>, AllocError>
-    requires { IsDeclared program.now derived.now }
+    requires { IsDeclared rows.now slots derived.now }
     ensures value { IfOk result (λ factors. factors
         ≡ map (slack_factor (round_of derived.now)) derived.now.factors) }
     ensures small { IfOk result (λ factors.
-        All (IsSmallFactor (length program.now.rows)) factors) }
+        All (IsSmallFactor (length rows.now)) factors) }
 {
     let mut slacks = List::new(alloc);
     for factor in derived.factors.as_slice() {
@@ -63,24 +64,27 @@ fn rounded(derived: &Derived, by: i64) -> i64
 }
 
 // The limit of a derived row.
-pub fn derived_limit(program: &Program, derived: &Derived, slacks: &[Factor]) -> i128
-    requires declared { IsDeclared program.now derived.now }
+pub fn derived_limit(rows: &[Row], slots: usize, derived: &Derived, slacks: &[Factor]) -> i128
+    requires limits { All (λ row. unsigned_abs row.limit ≤ 1000000000000) rows.now }
+    requires declared { IsDeclared rows.now slots derived.now }
     requires slacks { slacks.now ≡ map (slack_factor (round_of derived.now)) derived.now.factors }
-    requires small { All (IsSmallFactor (length program.now.rows)) slacks.now }
-    ensures { result ≡ derived_limit program.now.rows derived.now }
+    requires small { All (IsSmallFactor (length rows.now)) slacks.now }
+    ensures { result ≡ derived_limit rows.now derived.now }
 {
-    times(derived.up, whole_limit(program, derived, slacks)).div_euclid(i128::from(derived.down))
+    times(derived.up, whole_limit(rows, slots, derived, slacks)).div_euclid(i128::from(
+        derived.down,
+    ))
 }
 
 // The limit before it is scaled.
-fn whole_limit(program: &Program, derived: &Derived, slacks: &[Factor]) -> i128
-    requires declared { IsDeclared program.now derived.now }
+fn whole_limit(rows: &[Row], slots: usize, derived: &Derived, slacks: &[Factor]) -> i128
+    requires limits { All (λ row. unsigned_abs row.limit ≤ 1000000000000) rows.now }
+    requires declared { IsDeclared rows.now slots derived.now }
     requires slacks { slacks.now ≡ map (slack_factor (round_of derived.now)) derived.now.factors }
-    requires small { All (IsSmallFactor (length program.now.rows)) slacks.now }
-    ensures value { result ≡ whole_limit program.now.rows derived.now }
+    requires small { All (IsSmallFactor (length rows.now)) slacks.now }
+    ensures value { result ≡ whole_limit rows.now derived.now }
     ensures small { unsigned_abs result ≤ 2 ^ 86 }
 {
-    let rows = program.rows.as_slice();
     let left = shifted_limit(rows, derived);
     phi(derived.divisor, derived.rest, left)
         - starts_sum(derived, derived.groups.as_slice())

@@ -12,35 +12,36 @@ use crate::declared::is_declared;
 use crate::derived::{Derived, Factor};
 use crate::limits::{derived_limit, slack_factors};
 use crate::table::Table;
-use row_kit::{Domain, List, MOST_LIMIT, Program, Row};
+use row_kit::{Domain, List, MOST_LIMIT, Row};
 use std::alloc::{AllocError, Global};
 
-/// The row that is derived from the rows of a program, where it is shown over domains, and None where it is not. An error means
+/// The row that is derived from rows, where it is shown over domains, and None where it is not. An error means
 /// that memory was not found. It takes memory for seven numbers of each slot, the factors and the entries, and costs the slots, the
 /// entries of the rows that factors and groups name, and phi at each value of 1 or more that the domains hold of the slots that
 /// these factors or the entries count.
 pub fn shown_row(
     alloc: Global,
-    program: &Program,
+    rows: &[Row],
     domains: &[Domain],
     derived: &Derived,
 ) -> Result<Option<Row>, AllocError>
-    requires slots { length domains.now ≡ length program.now.root }
+    requires slots { length domains.now ≤ 4096 }
     requires normal { All IsNormal domains.now }
+    requires bounded { All (IsBoundedRow (length domains.now)) rows.now }
     ensures shown { IfOk result (λ row. IsSome row
-        ↔ IsShownRow program.now domains.now derived.now) }
+        ↔ IsShownRow rows.now domains.now derived.now) }
     ensures row { IfOk result (λ row. IfSome row
-        (λ r. r ≡ derived_row program.now.rows derived.now)) }
+        (λ r. r ≡ derived_row rows.now derived.now)) }
     ensures bounded { IfOk result (λ row. IfSome row
-        (IsBoundedRow (length program.now.root))) }
+        (IsBoundedRow (length domains.now))) }
 {
-    if !is_declared(program, derived) {
+    if !is_declared(rows, domains.len(), derived) {
         return Ok(None);
     }
-    let slacks = slack_factors(alloc, program, derived)?;
-    let limit = derived_limit(program, derived, slacks.as_slice());
+    let slacks = slack_factors(alloc, rows, domains.len(), derived)?;
+    let limit = derived_limit(rows, domains.len(), derived, slacks.as_slice());
     if limit.unsigned_abs() > MOST_LIMIT
-        || !is_below(alloc, program, domains, derived, slacks.as_slice())?
+        || !is_below(alloc, rows, domains, derived, slacks.as_slice())?
     {
         return Ok(None);
     }
@@ -51,21 +52,22 @@ pub fn shown_row(
 // Whether the entries are below what is rounded, at every slot and each value of 1 or more that its domain holds.
 fn is_below(
     alloc: Global,
-    program: &Program,
+    rows: &[Row],
     domains: &[Domain],
     derived: &Derived,
     slacks: &[Factor],
 ) -> Result<bool, AllocError>
-    requires declared { IsDeclared program.now derived.now }
-    requires slots { length domains.now ≡ length program.now.root }
+    requires slots { length domains.now ≤ 4096 }
     requires normal { All IsNormal domains.now }
+    requires bounded { All (IsBoundedRow (length domains.now)) rows.now }
+    requires declared { IsDeclared rows.now (length domains.now) derived.now }
     requires slacks { slacks.now ≡ map (slack_factor (round_of derived.now)) derived.now.factors }
-    requires small { All (IsSmallFactor (length program.now.rows)) slacks.now }
+    requires small { All (IsSmallFactor (length rows.now)) slacks.now }
     ensures { IfOk result (λ below. IsTrue below ↔ ((slot value : ℕ) → slot < length domains.now
         → 1 ≤ value → Holds (domain_at domains.now slot) value
         → (pos derived.now.down *ℤ entry_at derived.now.entries slot value)
-        ≤ℤ (pos derived.now.up *ℤ term_at program.now.rows derived.now slot value))) }
+        ≤ℤ (pos derived.now.up *ℤ term_at rows.now derived.now slot value))) }
 {
-    let table = Table::new(alloc, program, derived, slacks)?;
+    let table = Table::new(alloc, rows, domains.len(), derived, slacks)?;
     Ok(table.are_below(derived, domains))
 }

@@ -1,6 +1,7 @@
 //! The parts of all slots.
 ghost use Rattle.std.specs.Prelude.{◌≡◌, ℕ, ◌+◌, ◌<◌, ◌≤◌, ◌↔◌, length, map, IsTrue, IfOk};
 ghost use Rattle.std.specs.List.{All};
+ghost use Rattle.row_kit.specs.Bounds.{IsBoundedRow};
 ghost use Rattle.row_kit.specs.Domain.{Holds, IsNormal, domain_at};
 ghost use Rattle.derived_rows.specs.Derived.{round_of, slack_factor};
 ghost use Rattle.derived_rows.specs.Line.{AreSmall, IsBelow, IsRounding, IsSmallFactor};
@@ -12,7 +13,7 @@ use crate::line::Line;
 use crate::lines::{entry_lines, mixed_lines};
 use crate::parts::Parts;
 use crate::shifts::shifts;
-use row_kit::{Domain, List, Program};
+use row_kit::{Domain, List, Row};
 use std::alloc::{AllocError, Global};
 
 /// For each slot what the factors make of it, what the factors of slacks make of it, what its own entry counts, and its shift.
@@ -25,21 +26,22 @@ pub struct Table {
 }
 
 impl Table {
-    // The table of a derived row. It takes memory for the slots, and costs the entries of the rows of factors and groups.
+    // The table of a derived row of rows over so many slots. It takes memory for the slots, and costs the entries of the rows of factors and groups.
     pub fn new(
         alloc: Global,
-        program: &Program,
+        rows: &[Row],
+        slots: usize,
         derived: &Derived,
         slacks: &[Factor],
     ) -> Result<Table, AllocError>
-        requires declared { IsDeclared program.now derived.now }
+        requires slots { slots ≤ 4096 }
+        requires bounded { All (IsBoundedRow slots) rows.now }
+        requires declared { IsDeclared rows.now slots derived.now }
         requires slacks { slacks.now
             ≡ map (slack_factor (round_of derived.now)) derived.now.factors }
-        requires small { All (IsSmallFactor (length program.now.rows)) slacks.now }
-        ensures { IfOk result (IsTableOf program.now derived.now) }
+        requires small { All (IsSmallFactor (length rows.now)) slacks.now }
+        ensures { IfOk result (IsTableOf rows.now slots derived.now) }
     {
-        let slots = program.root.len();
-        let rows = program.rows.as_slice();
         let sums = mixed_lines(alloc, slots, rows, derived.factors.as_slice())?;
         let slacks = mixed_lines(alloc, slots, rows, slacks)?;
         let own = entry_lines(alloc, slots, derived.entries.as_slice())?;

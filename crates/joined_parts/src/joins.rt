@@ -8,18 +8,19 @@ ghost use Rattle.proof_log.specs.LogNames.{log_name};
 ghost use Rattle.log_parts.specs.PartLogs.{IsJoiningIn, JoinSays, IsNo, LeavesJoin, AllAreValid};
 
 use crate::checking::check_parts;
-use log_parts::{Checked, JoinStop, Joined, joined, write_joined};
+use log_parts::{Checked, JoinStop, Joined, joined, joined_version, write_joined};
 use std::alloc::Global;
 use stn_edge::Shelf;
 use stn_model::Plant;
 
 /// Checks the logs of all parts, of any version, in their order, and joins them: LOG becomes the log of the tree of splits in
-/// which the parts' trees stand, with the joined claim. It is of version 3 where the parts declare sums, the same ones in the
-/// same order, and else of version 2. Each log is read once to be checked, its head once before, and a second time while LOG is
-/// written. At the first log that is not valid or declares other sums than that of part 0 it stops, and no file has changed.
-/// After an error LOG is as before, or holds a first part of the joined log. Over a store that does not tell its files the second
-/// reading may differ from the first, and the first defect that it meets is then the answer: kind 20 at line 1 of part 0 where
-/// the sums do not suit the joined claim, and no file has changed.
+/// which the parts' trees stand, with the joined claim. It has the head of the parts' logs, which declare the same sums, cuts and
+/// rows in the same order: it is of version 4 where one of them is, else of version 3 where they declare sums, and else of
+/// version 2. Each log is read once to be checked, its head once before, and a second time while LOG is written. At the first log
+/// that is not valid or has another head than that of part 0 it stops, and no file has changed. After an error LOG is as before,
+/// or holds a first part of the joined log. Over a store that does not tell its files the second reading may differ from the
+/// first, and the first defect that it meets is then the answer: kind 20 at line 1 of part 0 where the sums do not suit the joined
+/// claim, and no file has changed.
 pub fn join<F: Shelf>(
     alloc: Global,
     plant: &Plant,
@@ -58,13 +59,17 @@ pub fn join<F: Shelf>(
 {
     match check_parts(alloc, plant, levels, files, stem)? {
         Checked::All {
-            sums,
+            newest,
+            declared,
             heads,
             claims,
         } => {
             let claim = joined(claims);
-            let (own, counts) = (sums.as_slice(), heads.as_slice());
-            write_joined(alloc, plant, levels, own, counts, files, stem, name, claim)
+            let version = joined_version(newest, declared.sums.as_slice());
+            let counts = heads.as_slice();
+            write_joined(
+                alloc, plant, levels, version, &declared, counts, files, stem, name, claim,
+            )
         }
         Checked::Bad { part, defect } => Ok(Joined::No { part, defect }),
     }

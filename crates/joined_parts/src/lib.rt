@@ -2,6 +2,7 @@
 #![tactic(auto)]
 
 mod checking;
+mod heads;
 mod joins;
 
 pub use joins::join;

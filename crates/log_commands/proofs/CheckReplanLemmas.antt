@@ -12,7 +12,7 @@ use Rattle.valid_log.specs.declared.verdict.LogVerdict.{LogVerdict}
 use Rattle.valid_log.specs.declared.verdict.LogVerdict.TheVariants.{Yes, No}
 use Rattle.valid_log.specs.Verdict.{IfYes}
 use Rattle.valid_log.specs.Claims.{SaysOf, YesSaysOf}
-use Rattle.valid_log.specs.PlantLogs.{IsAnyPartChecked, IsPlantVerdict}
+use Rattle.valid_log.specs.PlantLogs.{IsAnyKeptChecked, IsKeptVerdict}
 use Rattle.frozen_plan.specs.Keeping.{Keeps, IsKeptPart}
 use Rattle.command_replies.specs.declared.reply.Reply.{Reply}
 use Rattle.answer_texts.specs.Checking.{Judged}
@@ -34,13 +34,13 @@ module _ (plant : Plant) (A B : List Start → Type 0) (to : (plan : List Start)
 -- ---- over a program of the plans that keep the starts
 
 -- the verdict on a log that may be told
-told-verdict : (plant : Plant) (part : Program) (log : Option (List ℕ)) (verdict : LogVerdict) → IfSome log (λ bytes. IsAnyPartChecked plant part 4608 bytes verdict) → IfSome log (λ bytes. IsPlantVerdict plant part 4608 bytes verdict)
+told-verdict : (plant : Plant) (part : Program) (log : Option (List ℕ)) (verdict : LogVerdict) → IfSome log (λ bytes. IsAnyKeptChecked plant part 4608 bytes verdict) → IfSome log (λ bytes. IsKeptVerdict plant part 4608 bytes verdict)
 told-verdict plant part None verdict right = tt
 told-verdict plant part (Some bytes) verdict right = right.right
 
 -- an answer of checking
 checked-over : (plant : Plant) (period : ℕ) (kept : List Start) (part : Program) (log : Option (List ℕ)) (status : ℕ) (text : List ℕ) → IsKeptPart plant period kept part
-    → Judged (IsAnyPartChecked plant part 4608) (YesSaysOf plant part) log status text → CheckedOver log plant period kept part status text
+    → Judged (IsAnyKeptChecked plant part 4608) (YesSaysOf plant part) log status text → CheckedOver log plant period kept part status text
 checked-over plant period kept part log status text is judged = record {
   verdict = judged.verdict;
   right = told-verdict plant part log judged.verdict judged.right;
@@ -52,7 +52,7 @@ checked-over plant period kept part log status text is judged = record {
 module _ {E : Type 0} (plant : Plant) (period : ℕ) (kept : List Start) where
   -- a reply on kept starts
   pub checked_open : (log : Option (List ℕ)) (Unchanged : Type 0) (part : Program) (r : Result Reply E) → IsKeptPart plant period kept part
-      → IfOk r (λ reply. Judged (IsAnyPartChecked plant part 4608) (YesSaysOf plant part) log reply.status reply.text.items)
+      → IfOk r (λ reply. Judged (IsAnyKeptChecked plant part 4608) (YesSaysOf plant part) log reply.status reply.text.items)
       → IfOk r (λ reply. ReplanChecked log plant period kept Unchanged reply.status reply.text.items)
   checked_open log Unchanged part (Ok reply) is judged = inr (part, (is, checked-over plant period kept part log reply.status reply.text.items is judged))
   checked_open log Unchanged part (Err e) is judged = tt

@@ -7,7 +7,7 @@ ghost use Rattle.stn_model.specs.Sound.{Sound};
 ghost use Rattle.plant_text.specs.Reading.{reading};
 ghost use Rattle.row_set.specs.Parts.{IsPartOf};
 ghost use Rattle.frozen_plan.specs.Frozen.{kept_starts};
-ghost use Rattle.valid_log.specs.PlantLogs.{IsAnyPartChecked};
+ghost use Rattle.valid_log.specs.PlantLogs.{IsAnyKeptChecked};
 ghost use Rattle.valid_log.specs.Claims.{YesSaysOf};
 ghost use Rattle.command_replies.specs.Answers.{IsPlanAnswer};
 ghost use Rattle.command_replies.specs.Sources.{IfReplied, IfRefused, IsReadOf};
@@ -19,7 +19,7 @@ use command_replies::{Reply, Stopped, plan_in, plant_in};
 use command_words::Period;
 use frozen_plan::{Keeping, keep};
 use log_check::CheckStop;
-use plant_check::{MOST_DEPTH, check_part};
+use plant_check::{MOST_DEPTH, check_kept};
 use row_kit::Program;
 use std::alloc::Global;
 use stn_edge::Shelf;
@@ -118,7 +118,8 @@ fn check_replan<F: Shelf>(
     }
 }
 
-// The answer of checking the log in a file against the program of a part of a plant's choices.
+// The answer of checking the log in a file against the program that kept starts leave, whose head in version 4 is
+// judged over these choices.
 fn check_log_of<F: Shelf>(
     alloc: Global,
     files: &mut F,
@@ -129,7 +130,7 @@ fn check_log_of<F: Shelf>(
     requires sound { Sound plant.now }
     requires part { IsPartOf plant.now part }
     requires allowed { IsTrue (F.may_read files.old name.now) }
-    ensures answer { IfOk result (λ reply. Judged (IsAnyPartChecked plant.now part 4608)
+    ensures answer { IfOk result (λ reply. Judged (IsAnyKeptChecked plant.now part 4608)
         (YesSaysOf plant.now part)
         (option_map (λ m. file_of m name.now) (F.files files.old)) reply.status reply.text.items) }
     ensures none { IfRefused result (λ _. ⊥) }
@@ -142,7 +143,7 @@ fn check_log_of<F: Shelf>(
     ensures later { F.read_faults files.old ≤ F.read_faults files.new }
     ensures no_write { F.write_faults files.new ≡ F.write_faults files.old }
 {
-    match check_part(alloc, plant, part, MOST_DEPTH, files, name) {
+    match check_kept(alloc, plant, part, MOST_DEPTH, files, name) {
         Ok(verdict) => Ok(checked(alloc, &verdict)?),
         Err(CheckStop::Fault) => Err(Stopped::ReadFault),
         Err(CheckStop::Memory) => Err(Stopped::Memory),

@@ -1,5 +1,5 @@
 -- What joining comes to, where the logs of all parts are valid.
-use Rattle.std.proofs.Common.{◌≡◌, ◌≢◌, ℕ, zero, suc, ◌+◌, ◌-◌, ◌*◌, ◌^◌, ◌<◌, ◌≤◌, List, [], ◌∷◌, ◌++◌, length, map, flat_map, get_or, Option, None, Some, IfSome, refl, sym, ap, ◌∙◌, subst, inl, inr, arith, length-append}
+use Rattle.std.proofs.Common.{◌≡◌, ◌≢◌, ℕ, zero, suc, ◌+◌, ◌-◌, ◌*◌, ◌^◌, ◌<◌, ◌≤◌, Bool, List, [], ◌∷◌, ◌++◌, length, get_or, Option, None, Some, IfSome, refl, sym, ap, ◌∙◌, subst, inl, inr, arith, length-append}
 use Rattle.std.proofs.Math.Seq.{get_or-append_seam}
 use Rattle.std.proofs.lemmas.Bool.{cases_eq}
 use Rattle.std.proofs.lemmas.List.{get_or_append_left, length-map}
@@ -8,47 +8,48 @@ use Rattle.stn_model.specs.declared.plant.Plant.{Plant}
 use Rattle.stn_model.specs.Sound.{Sound}
 use Rattle.time_grid.specs.Slots.{slots}
 use Rattle.row_kit.specs.declared.program.Program.{Program}
-use Rattle.row_set.specs.PlantProgram.{plant_root, plant_rows}
+use Rattle.row_set.specs.PlantProgram.{plant_root, plant_rows, slot_domain}
 use Rattle.row_relax.specs.RowProofs.{RowTree}
-use Rattle.proof_tree.specs.Items.{tree_items}
+use Rattle.derivations.specs.Growth.{rows_of}
 use Rattle.log_lines.specs.declared.grammar.Limits.{Limits}
-use Rattle.log_lines.specs.declared.line.Line.TheVariants.{Header, End}
 use Rattle.log_lines.specs.TextDefect.{log_text_defect}
 use Rattle.proof_log.specs.declared.claim.Claim.{Claim}
 use Rattle.proof_log.specs.declared.claim.Claim.TheVariants.{Infeasible}
 use Rattle.proof_log.specs.Behind.{behind}
-use Rattle.proof_log.specs.Log.{claim_lines, item_lines, log_lines, log_text}
 use Rattle.proof_log.specs.OneText.{IsLogOver}
-use Rattle.proof_log.proofs.Lines.{lines_text-append}
-use Rattle.sum_slots.specs.declared.sum.Sum.{Sum}
-use Rattle.sum_slots.specs.Larger.{IsWithSums, sum_domain, sum_rows}
 use Rattle.valid_log.specs.Verdict.{limits_of}
-use Rattle.valid_log.specs.SumTexts.{any_text, larger_claim}
+use Rattle.valid_log.specs.AnyVersion.{IsWithHead}
+use Rattle.valid_log.specs.SumTexts.{larger_claim}
 use Rattle.valid_log.specs.Claims.{Says}
+use Rattle.log_parts.specs.declared.heads.Declared.{Declared}
 use Rattle.log_parts.specs.declared.joins.Joined.{Joined}
 use Rattle.log_parts.specs.declared.joins.Joined.TheVariants.{Done, No}
+use Rattle.log_parts.specs.Heads.{front_text, joined_version}
 use Rattle.log_parts.specs.Joining.{IsJoined}
 use Rattle.plant_parts.specs.PlantParts.{IsPartProgram}
-use Rattle.log_parts.specs.PartLogs.{IsJoinedLog, IsJoining, IsJoiningIn, IsJoinBegun, LeavesJoin, AllAreValid, JoinSays, IsNo, logs_of, no_tree, tree_over}
-use Rattle.log_parts.specs.laws.Checked.{HaveClaims, MayDeclare}
-use Rattle.log_parts.specs.laws.Copying.{part_limits, front_text, joined_text, AreLogsOf, HasWritten, HasLeft, IsClaim, IsFit}
-use Rattle.log_parts.proofs.JoinedValid.{AllTrees, joined_fit, joined_log}
+use Rattle.log_parts.specs.PartLogs.{IsJoinedLog, IsJoining, IsJoiningIn, IsJoinBegun, LeavesJoin, AllAreValid, JoinSays, IsNo, logs_of, no_tree}
+use Rattle.log_parts.specs.laws.Checked.{AreNewest, HaveClaims, MayDeclare, head_limits}
+use Rattle.log_parts.specs.laws.Copying.{part_limits, joined_text, AreLogsOf, HasWritten, HasLeft, IsClaim, IsFit}
+use Rattle.log_parts.proofs.JoinedValid.{AllTrees, joined_fit, joined_log, part-stays}
+use Rattle.log_parts.proofs.Limits.{head_same}
+use Rattle.log_parts.proofs.PartHeads.{as-four, head-counts}
 use Rattle.log_parts.proofs.PartTrees.{IsPartTree, part_tree}
-use Rattle.log_parts.proofs.PartsChecked.{are_valid, head_same}
+use Rattle.log_parts.proofs.PartsChecked.{are_valid}
 
 -- ---- the trees of the parts
 
 -- a tree for each of the first parts
-record HaveTrees (plant : Plant) (levels : ℕ) (logs : ℕ → List ℕ) (sums : List Sum) (heads : List ℕ) (claims : List Claim) (n : ℕ) : Type 0 where
+record HaveTrees (plant : Plant) (levels : ℕ) (logs : ℕ → List ℕ) (declared : Declared) (heads : List ℕ) (claims : List Claim) (n : ℕ) : Type 0 where
   trees : List RowTree
   counted : length trees ≡ n
-  each : (part : ℕ) → part < n → IsPartTree plant levels part (logs part) sums (get_or heads part 0) (get_or trees part no_tree) (get_or claims part Infeasible)
+  each : (part : ℕ) → part < n → IsPartTree plant levels part (logs part) declared (get_or heads part 0) (get_or trees part no_tree) (get_or claims part Infeasible)
 
-trees_of : (plant : Plant) (levels : ℕ) (logs : ℕ → List ℕ) (sums : List Sum) (heads : List ℕ) (claims : List Claim) → HaveClaims plant levels logs sums heads claims → (n : ℕ) → n ≤ length claims → HaveTrees plant levels logs sums heads claims n
-trees_of plant levels logs sums heads claims have zero within = record { trees = []; counted = refl; each = λ part below. absurd (omega (arith, below)) }
-trees_of plant levels logs sums heads claims have (suc n) within =
-    let before = trees_of plant levels logs sums heads claims have n (omega (arith, within)) in
-    let next = part_tree plant levels n (logs n) sums (get_or heads n 0) (get_or claims n Infeasible) (have n (omega (arith, within))) in
+trees_of : (plant : Plant) (levels : ℕ) (logs : ℕ → List ℕ) (declared : Declared) (heads : List ℕ) (claims : List Claim) → HaveClaims plant levels logs declared heads claims → (n : ℕ) → n ≤ length claims → HaveTrees plant levels logs declared heads claims n
+trees_of plant levels logs declared heads claims have zero within = record { trees = []; counted = refl; each = λ part below. absurd (omega (arith, below)) }
+trees_of plant levels logs declared heads claims have (suc n) within =
+    let before = trees_of plant levels logs declared heads claims have n (omega (arith, within)) in
+    let found = have n (omega (arith, within)) in
+    let next = part_tree plant levels n (logs n) declared found.0 (get_or heads n 0) (get_or claims n Infeasible) found.1 in
     record {
       trees = before.trees ++ next.0 ∷ [];
       counted = length-append before.trees (next.0 ∷ []) ∙ (let was = before.counted in omega (arith, was));
@@ -57,12 +58,12 @@ trees_of plant levels logs sums heads claims have (suc n) within =
             | inl e ↦
                 let seam : get_or (before.trees ++ next.0 ∷ []) n no_tree ≡ next.0 =
                 ap (λ (k : ℕ). get_or (before.trees ++ next.0 ∷ []) k no_tree) (sym before.counted) ∙ get_or-append_seam before.trees next.0 [] no_tree in
-                subst (λ (k : ℕ). IsPartTree plant levels k (logs k) sums (get_or heads k 0) (get_or (before.trees ++ next.0 ∷ []) k no_tree) (get_or claims k Infeasible)) (sym e)
-                (subst (λ (tree : RowTree). IsPartTree plant levels n (logs n) sums (get_or heads n 0) tree (get_or claims n Infeasible)) (sym seam) next.1)
+                subst (λ (k : ℕ). IsPartTree plant levels k (logs k) declared (get_or heads k 0) (get_or (before.trees ++ next.0 ∷ []) k no_tree) (get_or claims k Infeasible)) (sym e)
+                (subst (λ (tree : RowTree). IsPartTree plant levels n (logs n) declared (get_or heads n 0) tree (get_or claims n Infeasible)) (sym seam) next.1)
             | inr other ↦
                 let earlier : part < n = omega (arith, below, other) in
                 let same : get_or (before.trees ++ next.0 ∷ []) part no_tree ≡ get_or before.trees part no_tree = front_at before.trees next.0 part (omega (arith, earlier, before.counted)) in
-                subst (λ (tree : RowTree). IsPartTree plant levels part (logs part) sums (get_or heads part 0) tree (get_or claims part Infeasible)) (sym same) (before.each part earlier)
+                subst (λ (tree : RowTree). IsPartTree plant levels part (logs part) declared (get_or heads part 0) tree (get_or claims part Infeasible)) (sym same) (before.each part earlier)
           ];
     }
   where
@@ -71,28 +72,27 @@ trees_of plant levels logs sums heads claims have (suc n) within =
 
 -- ---- the logs under the limits
 
--- two rows for each sum
-length-sum_rows : (slot : ℕ) (sums : List Sum) → length (sum_rows slot sums) ≡ 2 * length sums
-length-sum_rows slot [] = refl
-length-sum_rows slot (sum ∷ sums) = let rest = length-sum_rows (slot + 1) sums in omega (arith, rest)
-
-limits_larger : (plant : Plant) (levels part : ℕ) (sums : List Sum) (program larger : Program) → IsPartProgram plant levels part program → IsWithSums program (plant_root plant) sums larger → limits_of larger (4608 - levels) ≡ part_limits plant levels (length sums)
-limits_larger plant levels part sums program larger is added =
+limits_larger : (plant : Plant) (levels part : ℕ) (declared : Declared) (program larger : Program) → IsPartProgram plant levels part program → length (plant_root plant) ≡ length program.root
+    → IsWithHead 4 program (plant_root plant) declared.sums declared.derivations larger → limits_of larger (4608 - levels) ≡ part_limits plant levels declared
+limits_larger plant levels part declared program larger is judged added =
     let made : ℕ → ℕ → Limits = λ r s. record { rows = r; slots = s; depth = 4608 - levels } in
     let own = head_same plant levels part program is in
     let own_rows : length program.rows ≡ length (plant_rows plant) = ap (λ (l : Limits). l.rows) own in
     let own_slots : length program.root ≡ length (slots plant) = ap (λ (l : Limits). l.slots) own in
-    let rows : length larger.rows ≡ length (plant_rows plant) + 2 * length sums =
-    ap length added.rows ∙ length-append program.rows (sum_rows (length program.root) sums) ∙ (let more = length-sum_rows (length program.root) sums in omega (arith, own_rows, more)) in
-    let root : length larger.root ≡ length (slots plant) + length sums =
-    ap length added.root ∙ length-append program.root (map (sum_domain program (plant_root plant)) sums) ∙ (let more = length-map sums (sum_domain program (plant_root plant)) in omega (arith, own_slots, more)) in
-    ap (λ (r : ℕ). made r (length larger.root)) rows ∙ ap (made (length (plant_rows plant) + 2 * length sums)) root
+    let counts = head-counts program larger (plant_root plant) declared.sums declared.derivations judged added in
+    let rows : length larger.rows ≡ length (plant_rows plant) + 2 * length declared.sums + rows_of declared.derivations = omega (arith, counts.1, own_rows) in
+    let root : length larger.root ≡ length (slots plant) + length declared.sums = omega (arith, counts.0, own_slots) in
+    ap (λ (r : ℕ). made r (length larger.root)) rows ∙ ap (made (length (plant_rows plant) + 2 * length declared.sums + rows_of declared.derivations)) root
 
-are_logs : (plant : Plant) (levels : ℕ) (logs : ℕ → List ℕ) (sums : List Sum) (heads : List ℕ) (claims : List Claim) (n : ℕ) (have : HaveTrees plant levels logs sums heads claims n)
-    → AreLogsOf (part_limits plant levels (length sums)) n (λ part. behind (get_or heads part 0) (logs part)) have.trees
-are_logs plant levels logs sums heads claims n have part below =
+are_logs : (plant : Plant) (levels : ℕ) (logs : ℕ → List ℕ) (declared : Declared) (heads : List ℕ) (claims : List Claim) (n : ℕ) → Sound plant → levels ≤ length (slots plant) → (have : HaveTrees plant levels logs declared heads claims n)
+    → AreLogsOf (part_limits plant levels declared) n (λ part. behind (get_or heads part 0) (logs part)) have.trees
+are_logs plant levels logs declared heads claims n sound within have part below =
     let is = have.each part below in
-    let same = limits_larger plant levels part sums is.program is.larger is.of_part is.enlarged in
+    let base = plant_root plant in
+    let own = head_same plant levels part is.program is.of_part in
+    let judged : length base ≡ length is.program.root = length-map (slots plant) (slot_domain plant) ∙ sym (ap (λ (l : Limits). l.slots) own) in
+    let four = as-four is.version is.program is.larger base declared.sums declared.derivations is.enlarged is.none (part-stays plant levels part is.program is.enlarged.between declared.sums sound within is.of_part.root is.enlarged.with_sums) in
+    let same = limits_larger plant levels part declared is.program is.larger is.of_part judged four in
     record {
       version = is.log.version;
       claim = is.own;
@@ -103,61 +103,57 @@ are_logs plant levels logs sums heads claims n have part below =
 
 -- ---- the told case
 
--- the text of a front, a tree and a claim is that of a log of either version
-text_is : (sums : List Sum) (levels : ℕ) (trees : List RowTree) (claim : Claim) → joined_text (front_text sums) levels trees claim ≡ any_text sums (tree_over 0 levels trees) claim
-unfolding log_lines log_text
-text_is [] levels trees claim = sym (lines_text-append (Header 2 ∷ []) (flat_map item_lines (tree_items (tree_over 0 levels trees)) ++ (claim_lines claim ++ End ∷ [])))
-text_is (sum ∷ sums) levels trees claim = refl
-
 -- the trees of the parts' logs, that the sums suit the claim, and that their joined text is the joined log
-pub record CanJoin (plant : Plant) (levels : ℕ) (logs : ℕ → List ℕ) (sums : List Sum) (heads : List ℕ) (claim : Claim) : Type 0 where
+pub record CanJoin (plant : Plant) (levels : ℕ) (logs : ℕ → List ℕ) (declared : Declared) (newest : Bool) (heads : List ℕ) (claim : Claim) : Type 0 where
   pub trees : List RowTree
-  pub are : AreLogsOf (part_limits plant levels (length sums)) (2 ^ levels) (λ part. behind (get_or heads part 0) (logs part)) trees
-  pub fit : IsFit plant sums claim
-  pub log : (bytes : List ℕ) → bytes ≡ joined_text (front_text sums) levels trees (larger_claim sums claim) → IsJoinedLog plant levels logs claim bytes
+  pub are : AreLogsOf (part_limits plant levels declared) (2 ^ levels) (λ part. behind (get_or heads part 0) (logs part)) trees
+  pub fit : IsFit plant declared.sums claim
+  pub log : (bytes : List ℕ) → bytes ≡ joined_text (front_text (joined_version newest declared.sums) declared) levels trees (larger_claim declared.sums claim) → IsJoinedLog plant levels logs claim bytes
 
-can_join : (plant : Plant) (levels : ℕ) (logs : ℕ → List ℕ) (sums : List Sum) (heads : List ℕ) (claims : List Claim) (claim : Claim) → Sound plant → 1 ≤ levels → levels ≤ 8 → levels ≤ length (slots plant) → MayDeclare plant levels sums → length claims ≡ 2 ^ levels
-    → HaveClaims plant levels logs sums heads claims → IsJoined claims claim → CanJoin plant levels logs sums heads claim
-can_join plant levels logs sums heads claims claim sound some few within may all have joined =
-    let trees = trees_of plant levels logs sums heads claims have (2 ^ levels) (omega (arith, all)) in
-    let each : AllTrees plant levels logs sums heads trees.trees claims =
-    record { sound = sound; some = some; few = few; within = within; may = may; all_trees = trees.counted; all_claims = all; each = trees.each } in
+can_join : (plant : Plant) (levels : ℕ) (logs : ℕ → List ℕ) (declared : Declared) (newest : Bool) (heads : List ℕ) (claims : List Claim) (claim : Claim) → Sound plant → 1 ≤ levels → levels ≤ 8 → levels ≤ length (slots plant)
+    → MayDeclare (head_limits plant levels) (joined_version newest declared.sums) declared → length claims ≡ 2 ^ levels → HaveClaims plant levels logs declared heads claims → AreNewest logs (2 ^ levels) newest → IsJoined claims claim → CanJoin plant levels logs declared newest heads claim
+can_join plant levels logs declared newest heads claims claim sound some few within may all have known joined =
+    let trees = trees_of plant levels logs declared heads claims have (2 ^ levels) (omega (arith, all)) in
+    let each : AllTrees plant levels logs declared newest heads trees.trees claims =
+    record { sound = sound; some = some; few = few; within = within; may = may; known = known; all_trees = trees.counted; all_claims = all; each = trees.each } in
     record {
       trees = trees.trees;
-      are = are_logs plant levels logs sums heads claims (2 ^ levels) trees;
-      fit = joined_fit plant levels logs sums heads trees.trees claims claim each joined;
-      log = λ bytes text. joined_log plant levels logs sums heads trees.trees claims claim bytes each joined (text ∙ text_is sums levels trees.trees (larger_claim sums claim));
+      are = are_logs plant levels logs declared heads claims (2 ^ levels) sound within trees;
+      fit = joined_fit plant levels logs declared newest heads trees.trees claims claim each joined;
+      log = λ bytes text. joined_log plant levels logs declared newest heads trees.trees claims claim bytes each joined text;
     }
 
 -- what was found before the log is written
-abbrev pub Ready : Plant → ℕ → List ℕ → List Sum → List ℕ → Claim → Option FileMap → Type 0
-Ready plant levels stem sums heads claim old = IfSome old (λ m. CanJoin plant levels (logs_of m stem) sums heads claim)
+abbrev pub Ready : Plant → ℕ → List ℕ → Declared → Bool → List ℕ → Claim → Option FileMap → Type 0
+Ready plant levels stem declared newest heads claim old = IfSome old (λ m. CanJoin plant levels (logs_of m stem) declared newest heads claim)
 
-pub ready : (plant : Plant) (levels : ℕ) (stem : List ℕ) (sums : List Sum) (heads : List ℕ) (claims : List Claim) (claim : Claim) (old : Option FileMap) → Sound plant → 1 ≤ levels → levels ≤ 8 → levels ≤ length (slots plant) → MayDeclare plant levels sums
-    → length claims ≡ 2 ^ levels → IfSome old (λ m. HaveClaims plant levels (logs_of m stem) sums heads claims) → IsJoined claims claim → Ready plant levels stem sums heads claim old
-ready plant levels stem sums heads claims claim None sound some few within may all have joined = tt
-ready plant levels stem sums heads claims claim (Some m) sound some few within may all have joined = can_join plant levels (logs_of m stem) sums heads claims claim sound some few within may all have joined
+pub ready : (plant : Plant) (levels : ℕ) (stem : List ℕ) (declared : Declared) (newest : Bool) (heads : List ℕ) (claims : List Claim) (claim : Claim) (old : Option FileMap) → Sound plant → 1 ≤ levels → levels ≤ 8 → levels ≤ length (slots plant)
+    → MayDeclare (head_limits plant levels) (joined_version newest declared.sums) declared → length claims ≡ 2 ^ levels → IfSome old (λ m. HaveClaims plant levels (logs_of m stem) declared heads claims × AreNewest (logs_of m stem) (2 ^ levels) newest) → IsJoined claims claim
+    → Ready plant levels stem declared newest heads claim old
+ready plant levels stem declared newest heads claims claim None sound some few within may all have joined = tt
+ready plant levels stem declared newest heads claims claim (Some m) sound some few within may all have joined =
+    can_join plant levels (logs_of m stem) declared newest heads claims claim sound some few within may all have.0 have.1 joined
 
-pub all_valid : (plant : Plant) (levels : ℕ) (stem : List ℕ) (sums : List Sum) (heads : List ℕ) (claims : List Claim) (old : Option FileMap) → length claims ≡ 2 ^ levels → IfSome old (λ m. HaveClaims plant levels (logs_of m stem) sums heads claims)
-    → AllAreValid plant levels stem old
-all_valid plant levels stem sums heads claims None all have = tt
-all_valid plant levels stem sums heads claims (Some m) all have = (sums, are_valid plant levels (logs_of m stem) sums heads claims (2 ^ levels) (omega (arith, all)) have)
+pub all_valid : (plant : Plant) (levels : ℕ) (stem : List ℕ) (declared : Declared) (newest : Bool) (heads : List ℕ) (claims : List Claim) (old : Option FileMap) → length claims ≡ 2 ^ levels
+    → IfSome old (λ m. HaveClaims plant levels (logs_of m stem) declared heads claims × AreNewest (logs_of m stem) (2 ^ levels) newest) → AllAreValid plant levels stem old
+all_valid plant levels stem declared newest heads claims None all have = tt
+all_valid plant levels stem declared newest heads claims (Some m) all have = (declared, are_valid plant levels (logs_of m stem) declared heads claims (2 ^ levels) (omega (arith, all)) have.0)
 
 -- what was written, where the sums suit the claim
-abbrev pub WrittenIfFit : Plant → ℕ → List ℕ → List ℕ → List Sum → List ℕ → Claim → Option FileMap → Option FileMap → Joined → Type 0
-WrittenIfFit plant levels stem name sums heads claim old new said =
-    IsFit plant sums claim → HasWritten (part_limits plant levels (length sums)) levels stem heads name (front_text sums) (larger_claim sums claim) claim old new said
+abbrev pub WrittenIfFit : Plant → ℕ → List ℕ → List ℕ → Declared → Bool → List ℕ → Claim → Option FileMap → Option FileMap → Joined → Type 0
+WrittenIfFit plant levels stem name declared newest heads claim old new said =
+    IsFit plant declared.sums claim → HasWritten (part_limits plant levels declared) levels stem heads name (front_text (joined_version newest declared.sums) declared) (larger_claim declared.sums claim) claim old new said
 
-joining_at : (plant : Plant) (levels : ℕ) (logs : ℕ → List ℕ) (sums : List Sum) (heads name : List ℕ) (claim : Claim) (new : Option FileMap) (said : Joined) (can : CanJoin plant levels logs sums heads claim) → said ≡ Done claim
-    → IfSome new (λ n. file_of n name ≡ joined_text (front_text sums) levels can.trees (larger_claim sums claim)) → IfSome new (λ n. IsJoining plant levels logs (file_of n name) said)
-joining_at plant levels logs sums heads name claim None said can is text = tt
-joining_at plant levels logs sums heads name claim (Some n) said can is text = subst (IsJoining plant levels logs (file_of n name)) (sym is) (can.log (file_of n name) text)
+joining_at : (plant : Plant) (levels : ℕ) (logs : ℕ → List ℕ) (declared : Declared) (newest : Bool) (heads name : List ℕ) (claim : Claim) (new : Option FileMap) (said : Joined) (can : CanJoin plant levels logs declared newest heads claim) → said ≡ Done claim
+    → IfSome new (λ n. file_of n name ≡ joined_text (front_text (joined_version newest declared.sums) declared) levels can.trees (larger_claim declared.sums claim)) → IfSome new (λ n. IsJoining plant levels logs (file_of n name) said)
+joining_at plant levels logs declared newest heads name claim None said can is text = tt
+joining_at plant levels logs declared newest heads name claim (Some n) said can is text = subst (IsJoining plant levels logs (file_of n name)) (sym is) (can.log (file_of n name) text)
 
-pub joining_in : (plant : Plant) (levels : ℕ) (stem name : List ℕ) (sums : List Sum) (heads : List ℕ) (claim : Claim) (old new : Option FileMap) (said : Joined) → Ready plant levels stem sums heads claim old
-    → WrittenIfFit plant levels stem name sums heads claim old new said → IsJoiningIn plant levels stem name old new said
-joining_in plant levels stem name sums heads claim None new said can written = tt
-joining_in plant levels stem name sums heads claim (Some m) new said can written =
-    let is = written can.fit can.trees can.are in joining_at plant levels (logs_of m stem) sums heads name claim new said can is.0 is.1
+pub joining_in : (plant : Plant) (levels : ℕ) (stem name : List ℕ) (declared : Declared) (newest : Bool) (heads : List ℕ) (claim : Claim) (old new : Option FileMap) (said : Joined) → Ready plant levels stem declared newest heads claim old
+    → WrittenIfFit plant levels stem name declared newest heads claim old new said → IsJoiningIn plant levels stem name old new said
+joining_in plant levels stem name declared newest heads claim None new said can written = tt
+joining_in plant levels stem name declared newest heads claim (Some m) new said can written =
+    let is = written can.fit can.trees can.are in joining_at plant levels (logs_of m stem) declared newest heads name claim new said can is.0 is.1
 
 -- ---- what is said, kept and left
 
@@ -173,23 +169,23 @@ not_no : (claim : Claim) (said : Joined) → said ≡ Done claim → IsNo said �
 not_no claim (Done own) is no_ = no_
 not_no claim (No part defect) is no_ = (absurd cc)
 
-pub kept_where_no : (plant : Plant) (levels : ℕ) (stem name other : List ℕ) (sums : List Sum) (heads : List ℕ) (claim : Claim) (old new : Option FileMap) (said : Joined) → other ≢ name → OthersStay name old new
-    → Ready plant levels stem sums heads claim old → WrittenIfFit plant levels stem name sums heads claim old new said → IsNo said → new ≡ old
-kept_where_no plant levels stem name other sums heads claim None new said apart stay can written no_ = untold_stays name other new apart stay
-kept_where_no plant levels stem name other sums heads claim (Some m) new said apart stay can written no_ = absurd (not_no claim said (written can.fit can.trees can.are).0 no_)
+pub kept_where_no : (plant : Plant) (levels : ℕ) (stem name other : List ℕ) (declared : Declared) (newest : Bool) (heads : List ℕ) (claim : Claim) (old new : Option FileMap) (said : Joined) → other ≢ name → OthersStay name old new
+    → Ready plant levels stem declared newest heads claim old → WrittenIfFit plant levels stem name declared newest heads claim old new said → IsNo said → new ≡ old
+kept_where_no plant levels stem name other declared newest heads claim None new said apart stay can written no_ = untold_stays name other new apart stay
+kept_where_no plant levels stem name other declared newest heads claim (Some m) new said apart stay can written no_ = absurd (not_no claim said (written can.fit can.trees can.are).0 no_)
 
-begun_join : (plant : Plant) (levels : ℕ) (logs : ℕ → List ℕ) (sums : List Sum) (heads name : List ℕ) (claim : Claim) (new : Option FileMap) (can : CanJoin plant levels logs sums heads claim)
-    → IfSome new (λ n. (rest : List ℕ) × (file_of n name ++ rest ≡ joined_text (front_text sums) levels can.trees (larger_claim sums claim)))
+begun_join : (plant : Plant) (levels : ℕ) (logs : ℕ → List ℕ) (declared : Declared) (newest : Bool) (heads name : List ℕ) (claim : Claim) (new : Option FileMap) (can : CanJoin plant levels logs declared newest heads claim)
+    → IfSome new (λ n. (rest : List ℕ) × (file_of n name ++ rest ≡ joined_text (front_text (joined_version newest declared.sums) declared) levels can.trees (larger_claim declared.sums claim)))
     → IfSome new (λ n. IsJoinBegun plant levels logs (file_of n name))
-begun_join plant levels logs sums heads name claim None can begun = tt
-begun_join plant levels logs sums heads name claim (Some n) can begun = record { claim = claim; rest = begun.0; begun = can.log (file_of n name ++ begun.0) begun.1 }
+begun_join plant levels logs declared newest heads name claim None can begun = tt
+begun_join plant levels logs declared newest heads name claim (Some n) can begun = record { claim = claim; rest = begun.0; begun = can.log (file_of n name ++ begun.0) begun.1 }
 
-pub leaves_join : (plant : Plant) (levels : ℕ) (stem name other : List ℕ) (sums : List Sum) (heads : List ℕ) (claim : Claim) (old new : Option FileMap) → other ≢ name → OthersStay name old new → Ready plant levels stem sums heads claim old
-    → HasLeft (part_limits plant levels (length sums)) levels stem heads name (front_text sums) (larger_claim sums claim) old new
+pub leaves_join : (plant : Plant) (levels : ℕ) (stem name other : List ℕ) (declared : Declared) (newest : Bool) (heads : List ℕ) (claim : Claim) (old new : Option FileMap) → other ≢ name → OthersStay name old new → Ready plant levels stem declared newest heads claim old
+    → HasLeft (part_limits plant levels declared) levels stem heads name (front_text (joined_version newest declared.sums) declared) (larger_claim declared.sums claim) old new
     → LeavesJoin plant levels stem name old new
-leaves_join plant levels stem name other sums heads claim None new apart stay can left = inl (untold_stays name other new apart stay)
-leaves_join plant levels stem name other sums heads claim (Some m) new apart stay can left =
+leaves_join plant levels stem name other declared newest heads claim None new apart stay can left = inl (untold_stays name other new apart stay)
+leaves_join plant levels stem name other declared newest heads claim (Some m) new apart stay can left =
     elim (left can.trees can.are) [
       | inl same ↦ inl same
-      | inr begun ↦ inr (begun_join plant levels (logs_of m stem) sums heads name claim new can begun)
+      | inr begun ↦ inr (begun_join plant levels (logs_of m stem) declared newest heads name claim new can begun)
     ]

@@ -1,9 +1,9 @@
 -- The joined log of the valid logs of all parts is a valid log of the plant.
-use Rattle.std.proofs.Common.{◌≡◌, ◌≢◌, ℕ, ◌+◌, ◌-◌, ◌*◌, ◌^◌, ◌<◌, ◌≤◌, Bool, List, [], ◌∷◌, length, length-append, map, get_or, Option, Some, None, refl, sym, ap, ◌∙◌, subst, arith, pow_pos}
-use Rattle.std.specs.Prelude.{ℤ, IfSome}
+use Rattle.std.proofs.Common.{◌≡◌, ◌≢◌, ℕ, ◌+◌, ◌-◌, ◌*◌, ◌^◌, ◌<◌, ◌≤◌, Bool, true, List, [], ◌++◌, length, length-append, map, get_or, Option, Some, None, refl, sym, ap, ◌∙◌, subst, inl, inr, arith, pow_pos}
+use Rattle.std.specs.Prelude.{ℤ, IfSome, ◌↔◌}
 use Rattle.std.specs.List.{All, AllZip}
-use Rattle.std.proofs.lemmas.List.{get_or_append_left, length-map}
-use Rattle.std.proofs.lemmas.List.Elements.{All-weaker}
+use Rattle.std.proofs.lemmas.List.{get_or_append_left, get_or_default, length-map}
+use Rattle.std.proofs.lemmas.List.Elements.{All-append, All-nil, All-weaker}
 use Rattle.stn_model.specs.declared.plant.Plant.{Plant}
 use Rattle.stn_model.specs.declared.start.Start.{Start}
 use Rattle.stn_model.specs.Profit.{profit}
@@ -13,7 +13,7 @@ use Rattle.row_kit.specs.declared.area.Area.{Area}
 use Rattle.row_kit.specs.declared.domain.Domain.{Domain}
 use Rattle.row_kit.specs.declared.found.Found.{Found}
 use Rattle.row_kit.specs.declared.program.Program.{Program}
-use Rattle.row_kit.specs.Domain.{domain_at, no_values}
+use Rattle.row_kit.specs.Domain.{IsNormal, no_values}
 use Rattle.row_kit.specs.Point.{IsLawful}
 use Rattle.row_set.specs.Parts.{IsButRoot, IsWithin, IsPartOf, IsAdmitted, plan_of_values}
 use Rattle.row_set.specs.PlantProgram.{plant_root, plant_rows, slot_domain, IsMadeOf}
@@ -22,7 +22,12 @@ use Rattle.sum_slots.specs.declared.sum.Sum.{Sum}
 use Rattle.sum_slots.specs.Larger.{IsWithSums, completed, given_of, sum_domain}
 use Rattle.sum_slots.specs.Shown.{IsShown}
 use Rattle.sum_slots.specs.Sum.{IsDeclared}
-use Rattle.sum_lines.specs.Head.{AreKept}
+use Rattle.sum_slots.proofs.Joined.{All-second}
+use Rattle.derivations.specs.declared.derivation.Derivation.{Derivation}
+use Rattle.derivations.specs.Larger.{begun, grown_by, met}
+use Rattle.derivations.proofs.Holding.{slots-after_all}
+use Rattle.derivations.proofs.Shares.{length-met}
+use Rattle.log_lines.specs.declared.grammar.Limits.{Limits}
 use Rattle.proof_tree.specs.declared.capped.Capped.{Capped}
 use Rattle.proof_tree.specs.declared.capped.Capped.TheVariants.{AtMost, NoPoint, Bad}
 use Rattle.proof_tree.specs.Cap.{greater}
@@ -45,26 +50,28 @@ use Rattle.proof_log.specs.Behind.{behind}
 use Rattle.proof_log.specs.OneText.{IsOver}
 use Rattle.proof_log.proofs.GrammarWalk.{at, closed}
 use Rattle.log_lines.specs.declared.grammar.Place.TheVariants.{Node as AtNode}
-use Rattle.plan_images.proofs.Imaging.{HaveSamePoints, shown-points}
+use Rattle.plan_images.proofs.Imaging.{HaveSamePoints}
 use Rattle.plan_images.proofs.Telling.{same-plans}
 use Rattle.valid_log.specs.declared.verdict.LogVerdict.TheVariants as verdict
 use Rattle.valid_log.specs.Verdict.{IsLog, IsSoundLog, IsVerdict, IsVerdictGiven, limits_of}
 use Rattle.valid_log.proofs.FoundSound.{IsFine, IsFinePoint, items-fine, items_sound, real_outcome}
 use Rattle.valid_log.specs.Claims.{SaysOf}
-use Rattle.valid_log.specs.AnyVersion.{IsAnyVerdict, given_claim}
+use Rattle.valid_log.specs.AnyVersion.{IsAnyVerdict, IsWithHead, given_claim, head_domains}
 use Rattle.valid_log.specs.PlantLogs.{IsAnyChecked}
-use Rattle.valid_log.specs.SumTexts.{MayHead, any_text, larger_claim}
-use Rattle.valid_log.proofs.Holding.{larger-none}
-use Rattle.valid_log.proofs.LogFronts.{headed-verdict, plain-verdict}
+use Rattle.valid_log.specs.SumTexts.{larger_claim}
+use Rattle.valid_log.proofs.Holding.{head-points, larger-none}
+use Rattle.valid_log.proofs.LogFronts.{plain-verdict}
 use Rattle.valid_log.proofs.PlantRanges.{part-ranges, plant-ranges}
 use Rattle.valid_log.proofs.Saying.{of_plant}
 use Rattle.log_parts.specs.declared.joining.ClaimedPlan.{ClaimedPlan}
 use Rattle.log_parts.specs.Joining.{plan_of, IsBestPlan, IsBestCap, IsJoined}
+use Rattle.log_parts.specs.declared.heads.Declared.{Declared}
+use Rattle.log_parts.specs.Heads.{HasNewest, declared_text, joined_version}
 use Rattle.log_parts.specs.PartLogs.{IsJoinedLog, IsPartLog, no_tree, tree_over}
 use Rattle.plant_parts.specs.PlantParts.{IsOfPart, cut_root}
-use Rattle.log_parts.specs.laws.Checked.{MayDeclare}
+use Rattle.log_parts.specs.laws.Checked.{MayDeclare, head_limits}
 use Rattle.log_parts.specs.laws.Copying.{IsFit, IsPointed}
-use Rattle.plant_parts.proofs.Cutting.{AreFirstOfSlots, AreOfSlots, IsOfSlot, length-cut}
+use Rattle.plant_parts.proofs.Cutting.{AreFirstOfSlots, IsOfSlot, length-cut}
 use Rattle.log_parts.proofs.FinePoints.{fine-item, fine-whole}
 use Rattle.log_parts.proofs.JoinedClaims.{joined-says}
 use Rattle.log_parts.proofs.JoinedSound.{HasNoDefect, IsNotAbove, AllowsNone, IsCappedBy, greater-real, greater-not_above, greater-allows_none, plan-fine, capped-fine, no_cap-none, best-place, with-sound}
@@ -72,18 +79,20 @@ use Rattle.log_parts.proofs.JoinedTexts.{IsWrittenItem, IsWrittenClaim, IsWritte
 use Rattle.plant_parts.proofs.Meaning.{part-exact, plant-slots}
 use Rattle.log_parts.proofs.LargerClaims.{claim-at, fine-pointed, given-larger, joined-larger, joined-pointed, own-larger}
 use Rattle.log_parts.proofs.PartCaps.{IsPart, cap-same, lawful-part}
-use Rattle.log_parts.proofs.PartSums.{larger-whole, none-enlarged, part-larger, root-larger, shown-same}
+use Rattle.log_parts.proofs.HeadTexts.{headed_any, may_deeper, text_plain}
+use Rattle.log_parts.proofs.PartHeads.{as-four, cut-front, cut-stays, derived-of, head-counts, head-whole, none-enlarged, part-larger, root-larger, shown-same}
 use Rattle.log_parts.proofs.PartTrees.{IsPartTree}
-use Rattle.log_parts.proofs.RootSplits.{no-cut, over-cap, over-items, part_cap}
+use Rattle.log_parts.proofs.RootSplits.{left_root, no-cut, over-cap, over-items, part_cap}
 
 -- ---- the log of a part
 
--- what the log of a part says over the plant's own program
-record IsPartProof (whole : Program) (levels number : ℕ) (tree : RowTree) (claim : Claim) : Type 0 where
+-- what the log of a part says over the plant's own program, of whose slots' domains cuts have left some
+record IsPartProof (whole : Program) (base left : List Domain) (levels number : ℕ) (tree : RowTree) (claim : Claim) : Type 0 where
   part : Program
   bytes : List ℕ
   is : IsPart whole part
-  root : part.root ≡ cut_root levels number whole.root
+  root : part.root ≡ left_root base left levels number
+  slots : length part.root ≡ length whole.root
   log : IsLog part bytes tree claim
   clean : log_text_defect (limits_of part (4608 - levels)) bytes ≡ None
   sound : IsSoundLog part tree claim
@@ -110,7 +119,7 @@ ended-cap Bad proof_cap is = absurd (cc)
 ended-cap NoPoint proof_cap is = (let e : NoPoint ≡ proof_cap = cc in e, λ bad. let e : NoPoint ≡ proof_cap = cc in cc)
 ended-cap (AtMost n) proof_cap is = (let e : AtMost n ≡ proof_cap = cc in e, λ bad. let e : AtMost n ≡ proof_cap = cc in cc)
 
-module _ (whole : Program) (levels number : ℕ) (tree : RowTree) (claim : Claim) (proof : IsPartProof whole levels number tree claim) where
+module _ (whole : Program) (base left : List Domain) (levels number : ℕ) (tree : RowTree) (claim : Claim) (proof : IsPartProof whole base left levels number tree claim) where
   -- the cap of its proof, over the part's rows
   own-led : (tree_cap (row_steps proof.part) (view_of proof.part.root) tree ≡ proof.sound.proof_cap) × (proof.sound.proof_cap ≢ Bad)
   own-led =
@@ -118,13 +127,13 @@ module _ (whole : Program) (levels number : ℕ) (tree : RowTree) (claim : Claim
       (sym (walked-whole Rows Area Found (row_steps proof.part) tree (view_of proof.part.root)) ∙ proof.sound.proved.led)
 
   -- and over the plant's
-  cap-is : part_cap whole levels number tree ≡ proof.sound.proof_cap
+  cap-is : part_cap whole base left levels number tree ≡ proof.sound.proof_cap
   cap-is =
       ap (λ (ds : List Domain). tree_cap (row_steps whole) (view_of ds) tree) (sym proof.root)
       ∙ sym (cap-same whole proof.part tree proof.is) ∙ own-led.0
 
   -- what holds of that cap
-  of-cap : (Q : Capped → Type 0) → Q proof.sound.proof_cap → Q (part_cap whole levels number tree)
+  of-cap : (Q : Capped → Type 0) → Q proof.sound.proof_cap → Q (part_cap whole base left levels number tree)
   of-cap Q holds = subst Q (sym cap-is) holds
 
   -- its found points have no defect in the plant's program
@@ -133,17 +142,13 @@ module _ (whole : Program) (levels number : ℕ) (tree : RowTree) (claim : Claim
       All-weaker (IsFine proof.part) (IsFine whole) (fine-item whole proof.part proof.is) (tree_items tree)
       (items-fine (row_steps proof.part) proof.part (start (view_of proof.part.root)) (tree_items tree) proof.sound.proof_cap proof.sound.proved.sound proof.sound.proved.led)
 
-  -- the root has a domain for each slot
-  same-length : length proof.part.root ≡ length whole.root
-  same-length = ap length proof.root ∙ length-cut levels number whole.root
-
   -- it is written in lines that may be written
   own-written : IsWrittenLog (length whole.root) tree claim
-  own-written = subst (λ (n : ℕ). IsWrittenLog n tree claim) same-length (log-written proof.part proof.bytes tree claim proof.log)
+  own-written = subst (λ (n : ℕ). IsWrittenLog n tree claim) proof.slots (log-written proof.part proof.bytes tree claim proof.log)
 
   -- its lines lead through it in a log of the plant
   own-lead : levels ≤ 4608 → (outer : List Bool) → length outer ≡ levels → leads (limits_of whole 4608) (at 2 AtNode outer) (tree_lines tree) ≡ Some (closed 2 outer)
-  own-lead few = part-lead whole proof.part levels proof.bytes tree claim proof.is.rows same-length few proof.log proof.clean
+  own-lead few = part-lead whole proof.part levels proof.bytes tree claim proof.is.rows proof.slots few proof.log proof.clean
 
 -- ---- the joined log
 
@@ -151,20 +156,24 @@ module _ (whole : Program) (levels number : ℕ) (tree : RowTree) (claim : Claim
 abbrev root_cap : Program → RowTree → Capped
 root_cap program tree = tree_cap (row_steps program) (view_of program.root) tree
 
-module _ (whole : Program) (levels : ℕ) (trees : List RowTree) (claims : List Claim) (claim : Claim) (are : AreFirstOfSlots levels whole.root) (few : levels ≤ 8) (within : levels ≤ length whole.root)
-    (each : (part : ℕ) → part < 2 ^ levels → IsPartProof whole levels part (get_or trees part no_tree) (get_or claims part Infeasible)) (all : length claims ≡ 2 ^ levels) (joined : IsJoined claims claim) where
+module _ (whole : Program) (base left : List Domain) (long : length left ≡ length base) (root_is : whole.root ≡ met base left) (levels : ℕ) (trees : List RowTree) (claims : List Claim) (claim : Claim) (are : AreFirstOfSlots levels base)
+    (few : levels ≤ 8) (within : levels ≤ length base) (each : (part : ℕ) → part < 2 ^ levels → IsPartProof whole base left levels part (get_or trees part no_tree) (get_or claims part Infeasible)) (all : length claims ≡ 2 ^ levels) (joined : IsJoined claims claim) where
+  -- the root has a domain for each slot
+  there : levels ≤ length whole.root
+  there = omega (arith, within, ap length root_is, length-met base left long)
+
   -- what holds of each part's cap, and of the greater of two of which it holds, holds of the joined cap
   joined-cap : (Q : Capped → Type 0) → ((a b : Capped) → Q a → Q b → Q (greater a b)) → ((part : ℕ) (l : part < 2 ^ levels) → Q (each part l).sound.proof_cap) → Q (root_cap whole (tree_over 0 levels trees))
   joined-cap Q closed holds =
-      subst (λ (ds : List Domain). Q (tree_cap (row_steps whole) (view_of ds) (tree_over 0 levels trees))) (no-cut whole.root)
-      (over-cap Q closed whole levels are levels 0 0 trees (omega arith) within
+      subst (λ (ds : List Domain). Q (tree_cap (row_steps whole) (view_of ds) (tree_over 0 levels trees))) (ap (λ (ds : List Domain). met ds left) (no-cut base) ∙ sym root_is)
+      (over-cap Q closed whole base left long levels are levels 0 0 trees (omega arith) within
       (λ i l.
       let number : i ≡ 0 * 2 ^ levels + i = omega arith in
-      subst (λ (n : ℕ). Q (part_cap whole levels n (get_or trees i no_tree))) number
-      (of-cap whole levels i (get_or trees i no_tree) (get_or claims i Infeasible) (each i l) Q (holds i l))))
+      subst (λ (n : ℕ). Q (part_cap whole base left levels n (get_or trees i no_tree))) number
+      (of-cap whole base left levels i (get_or trees i no_tree) (get_or claims i Infeasible) (each i l) Q (holds i l))))
 
   real : root_cap whole (tree_over 0 levels trees) ≢ Bad
-  real = joined-cap (λ (c : Capped). c ≢ Bad) greater-real (λ part l. (own-led whole levels part (get_or trees part no_tree) (get_or claims part Infeasible) (each part l)).1)
+  real = joined-cap (λ (c : Capped). c ≢ Bad) greater-real (λ part l. (own-led whole base left levels part (get_or trees part no_tree) (get_or claims part Infeasible) (each part l)).1)
 
   -- the items lead to the joined cap
   led : walked {R = Rows} {A = Area} {F = Found} (row_steps whole) (start (view_of whole.root)) (tree_items (tree_over 0 levels trees)) ≡ ended (root_cap whole (tree_over 0 levels trees))
@@ -174,14 +183,14 @@ module _ (whole : Program) (levels : ℕ) (trees : List RowTree) (claims : List 
   all-fine : All (IsFine whole) (tree_items (tree_over 0 levels trees))
   all-fine =
       over-items (IsFine whole) levels levels 0 trees tt (λ k l. tt) (omega arith)
-      (λ i l. fine-parts whole levels i (get_or trees i no_tree) (get_or claims i Infeasible) (each i l))
+      (λ i l. fine-parts whole base left levels i (get_or trees i no_tree) (get_or claims i Infeasible) (each i l))
 
   -- what a place of the claims has
-  at-place : (place : ℕ) → place < length claims → IsPartProof whole levels place (get_or trees place no_tree) (get_or claims place Infeasible)
+  at-place : (place : ℕ) → place < length claims → IsPartProof whole base left levels place (get_or trees place no_tree) (get_or claims place Infeasible)
   at-place place l = each place (omega (arith, l, all))
 
   written-at : (place : ℕ) → place < length claims → IsWrittenClaim (length whole.root) (get_or claims place Infeasible)
-  written-at place l = (own-written whole levels place (get_or trees place no_tree) (get_or claims place Infeasible) (at-place place l)).claim_written
+  written-at place l = (own-written whole base left levels place (get_or trees place no_tree) (get_or claims place Infeasible) (at-place place l)).claim_written
 
   -- the best plan has no defect, and may be written
   best-fine : (plan : Option ClaimedPlan) → IsBestPlan claims plan → IfSome plan (λ p. IsFinePoint whole p.profit p.point)
@@ -228,9 +237,9 @@ module _ (whole : Program) (levels : ℕ) (trees : List RowTree) (claims : List 
       let few_slots = whole.few_slots in
       record {
         items_over = over-items (IsOver (length whole.root)) levels levels 0 trees tt (λ k l. tt) (omega arith)
-            (λ i l. (own-written whole levels i (get_or trees i no_tree) (get_or claims i Infeasible) (each i l)).items_over);
+            (λ i l. (own-written whole base left levels i (get_or trees i no_tree) (get_or claims i Infeasible) (each i l)).items_over);
         items = over-items IsWrittenItem levels levels 0 trees node-written (λ k l. split-written k (omega (arith, l, few))) (omega arith)
-            (λ i l. (own-written whole levels i (get_or trees i no_tree) (get_or claims i Infeasible) (each i l)).items);
+            (λ i l. (own-written whole base left levels i (get_or trees i no_tree) (get_or claims i Infeasible) (each i l)).items);
         claim_written = subst (IsWrittenClaim (length whole.root)) (sym joined.is)
             (with-written (length whole.root) joined.plan joined.cap (best-written joined.plan joined.best_plan) (cap-short joined.cap joined.best_cap));
       }
@@ -242,8 +251,8 @@ module _ (whole : Program) (levels : ℕ) (trees : List RowTree) (claims : List 
   joined-clean : log_text_defect (limits_of whole 4608) (log_text 2 (tree_items (tree_over 0 levels trees)) claim) ≡ None
   joined-clean =
       text-clean (limits_of whole 4608) (tree_over 0 levels trees) claim (log-over (length whole.root) (tree_over 0 levels trees) claim joined-written)
-      (over-lead (limits_of whole 4608) levels levels 0 trees [] (omega arith) within (omega (arith, few)) refl
-      (λ i l. own-lead whole levels i (get_or trees i no_tree) (get_or claims i Infeasible) (each i l) (omega (arith, few))))
+      (over-lead (limits_of whole 4608) levels levels 0 trees [] (omega arith) there (omega (arith, few)) refl
+      (λ i l. own-lead whole base left levels i (get_or trees i no_tree) (get_or claims i Infeasible) (each i l) (omega (arith, few))))
 
   -- the verdict on it is yes
   joined-right : IsVerdict whole 4608 (log_text 2 (tree_items (tree_over 0 levels trees)) claim) (verdict.Yes claim)
@@ -252,7 +261,7 @@ module _ (whole : Program) (levels : ℕ) (trees : List RowTree) (claims : List 
       subst (λ (found : Option (ℕ × ℕ)). IsVerdictGiven whole bytes found (verdict.Yes claim)) (sym joined-clean)
       (record { tree = tree_over 0 levels trees; is_log = joined-log; sound_log = joined-sound })
 
--- ---- with the parts' sums
+-- ---- with what the parts declare
 
 -- what is lawful in one program is so in another
 pointed-more : (one other : Program) (claim : Claim) → ((point : List ℕ) → IsLawful one point → IsLawful other point) → IsPointed one claim → IsPointed other claim
@@ -262,46 +271,64 @@ pointed-more one other claim more is = by (plan_of claim) is
     by None holds = tt
     by (Some plan) holds = more plan.point holds
 
--- what sums keep, under limits of the same numbers
-kept-as : (rows rows' slots slots' depth : ℕ) (sums : List Sum) → rows ≡ rows' → slots ≡ slots' → AreKept (record { rows = rows; slots = slots; depth = depth }) sums → AreKept (record { rows = rows'; slots = slots'; depth = depth }) sums
-kept-as rows rows' slots slots' depth sums same_rows same_slots kept =
-    subst (λ (n : ℕ). AreKept (record { rows = n; slots = slots'; depth = depth }) sums) same_rows (subst (λ (n : ℕ). AreKept (record { rows = rows; slots = n; depth = depth }) sums) same_slots kept)
-
--- the text of either version is that of a valid log
-text-any : (whole : Program) (ranges : List Domain) (sums : List Sum) (tree : RowTree) (claim : Claim) → MayHead whole ranges sums
-    → ((wide : Program) → IsWithSums whole ranges sums wide → IsVerdict wide 4608 (log_text 2 (tree_items tree) (larger_claim sums claim)) (verdict.Yes (larger_claim sums claim)))
-    → (wide : Program) → IsWithSums whole ranges sums wide → claim ≡ given_claim (length whole.root) (larger_claim sums claim)
-    → IsAnyVerdict whole ranges 4608 (any_text sums tree (larger_claim sums claim)) (verdict.Yes claim)
-text-any whole ranges [] tree claim may over wide added given =
-    plain-verdict whole ranges 4608 (tree_items tree) (larger_claim [] claim) (verdict.Yes claim)
-    (subst (λ (own : Claim). IsVerdict whole 4608 (log_text 2 (tree_items tree) (larger_claim [] claim)) (verdict.Yes own)) (larger-none claim) (over whole (none-enlarged whole ranges)))
-text-any whole ranges (sum ∷ sums) tree claim may over wide added given =
-    headed-verdict whole wide ranges (sum ∷ sums) 4608 tree (larger_claim (sum ∷ sums) claim) claim may added (over wide added) given
-
 -- what the claim of a part's log says of the plans of the part
-part-says : (plant : Plant) (levels number : ℕ) (bytes : List ℕ) (sums : List Sum) (tree : RowTree) (claim : Claim) → Sound plant → levels ≤ length (slots plant) → IsPartLog plant levels number bytes sums tree claim → SaysOf plant (IsOfPart plant levels number) claim
-part-says plant levels number bytes sums tree claim sound within log =
+part-says : (plant : Plant) (levels number : ℕ) (bytes : List ℕ) (declared : Declared) (tree : RowTree) (claim : Claim) → Sound plant → levels ≤ length (slots plant) → IsPartLog plant levels number bytes declared tree claim → SaysOf plant (IsOfPart plant levels number) claim
+part-says plant levels number bytes declared tree claim sound within log =
     let exact = λ (plan : List Start). part-exact plant levels number log.program plan sound within log.of_part.root in
     same-plans (IsAdmitted plant log.program) (IsOfPart plant levels number) (profit plant) (plan_of_values plant) claim (λ plan. (exact plan).0) (λ plan. (exact plan).1) log.right.holds
 
--- the logs of all parts, whose sums can be declared
-pub record AllTrees (plant : Plant) (levels : ℕ) (logs : ℕ → List ℕ) (sums : List Sum) (heads : List ℕ) (trees : List RowTree) (claims : List Claim) : Type 0 where
+-- the logs of all parts, and a version whose head can declare what they do
+pub record AllTrees (plant : Plant) (levels : ℕ) (logs : ℕ → List ℕ) (declared : Declared) (newest : Bool) (heads : List ℕ) (trees : List RowTree) (claims : List Claim) : Type 0 where
   pub sound : Sound plant
   pub some : 1 ≤ levels
   pub few : levels ≤ 8
   pub within : levels ≤ length (slots plant)
-  pub may : MayDeclare plant levels sums
+  pub may : MayDeclare (head_limits plant levels) (joined_version newest declared.sums) declared
+  pub known : (newest ≡ true) ↔ HasNewest logs (2 ^ levels)
   pub all_trees : length trees ≡ 2 ^ levels
   pub all_claims : length claims ≡ 2 ^ levels
-  pub each : (part : ℕ) → part < 2 ^ levels → IsPartTree plant levels part (logs part) sums (get_or heads part 0) (get_or trees part no_tree) (get_or claims part Infeasible)
+  pub each : (part : ℕ) → part < 2 ^ levels → IsPartTree plant levels part (logs part) declared (get_or heads part 0) (get_or trees part no_tree) (get_or claims part Infeasible)
 
-module _ (plant : Plant) (levels : ℕ) (logs : ℕ → List ℕ) (sums : List Sum) (heads : List ℕ) (trees : List RowTree) (claims : List Claim) (all : AllTrees plant levels logs sums heads trees claims) (whole : Program) (made : IsMadeOf plant whole) where
+-- the domains of a plant's slots, and more behind them: the first are those of slots
+first-slots : (plant : Plant) (levels : ℕ) (more : List Domain) → Sound plant → levels ≤ length (slots plant) → AreFirstOfSlots levels (plant_root plant ++ more)
+first-slots plant levels more sound within k l =
+    let low : k < length (plant_root plant) = omega (arith, l, within, length-map (slots plant) (slot_domain plant)) in
+    subst IsOfSlot (sym (get_or_append_left (plant_root plant) more no_values k low)) (plant-slots plant sound k low)
+
+-- and they are normal
+slots-normal : (plant : Plant) → Sound plant → All IsNormal (plant_root plant)
+slots-normal plant sound k d l = subst IsNormal (get_or_default (plant_root plant) k no_values d l) (plant-slots plant sound k l).normal
+
+-- the first slots of a part's root with sums are those of a plant, and what a head is judged over holds all of it
+pub part-stays : (plant : Plant) (levels number : ℕ) (part between : Program) (sums : List Sum) → Sound plant → levels ≤ length (slots plant) → part.root ≡ cut_root levels number (plant_root plant) → IsWithSums part (plant_root plant) sums between
+    → met between.root (head_domains part (plant_root plant) sums) ≡ between.root
+part-stays plant levels number part between sums sound within root added =
+    let base = plant_root plant in
+    let own = map (sum_domain part base) sums in
+    let all : length base ≡ length (slots plant) = length-map (slots plant) (slot_domain plant) in
+    let is : between.root ≡ cut_root levels number (base ++ own) = added.root ∙ ap (λ (ds : List Domain). ds ++ own) root ∙ sym (cut-front levels number base own (omega (arith, within, all))) in
+    subst (λ (ds : List Domain). met ds (base ++ own) ≡ ds) (sym is) (cut-stays (base ++ own) (base ++ own) levels number refl (first-slots plant levels own sound within)
+    (All-append IsNormal base own (slots-normal plant sound) (All-second IsNormal part.root own (subst (All IsNormal) added.root between.root_normal))))
+
+module _ (plant : Plant) (levels : ℕ) (logs : ℕ → List ℕ) (declared : Declared) (newest : Bool) (heads : List ℕ) (trees : List RowTree) (claims : List Claim) (all : AllTrees plant levels logs declared newest heads trees claims) (whole : Program) (made : IsMadeOf plant whole) where
+  abbrev sums : List Sum
+  sums = declared.sums
+
+  abbrev derivations : List Derivation
+  derivations = declared.derivations
+
+  abbrev base : List Domain
+  base = plant_root plant
+
   -- the limits of the heads are those of the plant's program
-  declared : All (IsDeclared (length whole.root)) sums
-  declared = subst (λ (n : ℕ). All (IsDeclared n) sums) (sym (ap length made.root_is ∙ length-map (slots plant) (slot_domain plant))) all.may.kept.declared
+  slots-same : length whole.root ≡ length (slots plant)
+  slots-same = ap length made.root_is ∙ length-map (slots plant) (slot_domain plant)
 
-  there : levels ≤ length whole.root
-  there = (let within = all.within in omega (arith, within, ap length made.root_is, length-map (slots plant) (slot_domain plant)))
+  declared-here : All (IsDeclared (length whole.root)) sums
+  declared-here = subst (λ (n : ℕ). All (IsDeclared n) sums) (sym slots-same) all.may.sums.declared
+
+  levels-there : levels ≤ length whole.root
+  levels-there = (let within = all.within in omega (arith, within, slots-same))
 
   rows-same : (k : ℕ) (l : k < 2 ^ levels) → (all.each k l).program.rows ≡ whole.rows
   rows-same k l = (but-root plant whole (all.each k l).program made (all.each k l).of_part.is_part).rows
@@ -312,22 +339,29 @@ module _ (plant : Plant) (levels : ℕ) (logs : ℕ → List ℕ) (sums : List S
   long-same : (k : ℕ) (l : k < 2 ^ levels) → length (all.each k l).program.root ≡ length whole.root
   long-same k l = ap length (root-cut k l) ∙ length-cut levels k whole.root
 
+  -- each part's program with its head, as with one of version 4
+  head-of-part : (k : ℕ) (l : k < 2 ^ levels) → IsWithHead 4 (all.each k l).program base sums derivations (all.each k l).larger
+  head-of-part k l =
+      let is = all.each k l in
+      as-four is.version is.program is.larger base sums derivations is.enlarged is.none
+      (part-stays plant levels k is.program is.enlarged.between sums all.sound all.within is.of_part.root is.enlarged.with_sums)
+
   -- the sums are shown
-  pub all-shown : All (IsShown whole (plant_root plant)) sums
+  pub all-shown : All (IsShown whole base) sums
   all-shown =
       let first = all.each 0 (pow_pos levels) in
-      All-weaker (IsShown first.program (plant_root plant)) (IsShown whole (plant_root plant)) (λ sum is. shown-same first.program whole (plant_root plant) sum (rows-same 0 (pow_pos levels)) is) sums first.shown
+      All-weaker (IsShown first.program base) (IsShown whole base) (λ sum is. shown-same first.program whole base sum (rows-same 0 (pow_pos levels)) is) sums (head-of-part 0 (pow_pos levels)).sums_shown
 
-  -- a program with the sums has the same points
-  same-whole : (wide : Program) → IsWithSums whole (plant_root plant) sums wide → HaveSamePoints whole wide (completed sums) (given_of whole)
-  same-whole wide added = shown-points whole wide (plant_root plant) sums (plant-ranges plant whole made) declared all-shown added
+  -- a program with the head has the same points
+  same-whole : (wide : Program) → IsWithHead 4 whole base sums derivations wide → HaveSamePoints whole wide (completed sums) (given_of whole)
+  same-whole wide added = head-points 4 whole wide base sums derivations (plant-ranges plant whole made) declared-here added
 
   same-part : (k : ℕ) (l : k < 2 ^ levels) → HaveSamePoints (all.each k l).program (all.each k l).larger (completed sums) (given_of (all.each k l).program)
   same-part k l =
       let is = all.each k l in
-      shown-points is.program is.larger (plant_root plant) sums (part-ranges plant is.program is.of_part.is_part) (subst (λ (n : ℕ). All (IsDeclared n) sums) (sym (long-same k l)) declared) is.shown is.enlarged
+      head-points 4 is.program is.larger base sums derivations (part-ranges plant is.program is.of_part.is_part) (subst (λ (n : ℕ). All (IsDeclared n) sums) (sym (long-same k l)) declared-here) (head-of-part k l)
 
-  -- the claim of a part over the part's program with the sums
+  -- the claim of a part over the part's program with the head
   own-claim : (k : ℕ) (l : k < 2 ^ levels) → ((all.each k l).own ≡ larger_claim sums (get_or claims k Infeasible)) × IsPointed (all.each k l).program (get_or claims k Infeasible)
   own-claim k l =
       let is = all.each k l in
@@ -342,90 +376,155 @@ module _ (plant : Plant) (levels : ℕ) (logs : ℕ → List ℕ) (sums : List S
       let part : IsPart whole is.program = record { rows = but.rows; profit = but.profit; base = but.base; worth = λ point lawful. worth-part whole is.program point but; within = within-root plant whole is.program made is.of_part.is_part } in
       pointed-more is.program whole (get_or claims k Infeasible) (λ point lawful. lawful-part whole is.program point part lawful) (own-claim k l).1
 
-  -- what each log says over the plant's program with the sums
-  each-proof : (wide : Program) → IsWithSums whole (plant_root plant) sums wide → (k : ℕ) → k < 2 ^ levels → IsPartProof wide levels k (get_or trees k no_tree) (get_or (map (larger_claim sums) claims) k Infeasible)
+  -- what a head of the plant's program leaves of its slots' domains
+  abbrev left-of : (wide : Program) → IsWithHead 4 whole base sums derivations wide → List Domain
+  left-of wide added = (grown_by added.between (head_domains whole base sums) derivations).domains
+
+  -- what each log says over the plant's program with the head
+  each-proof : (wide : Program) (added : IsWithHead 4 whole base sums derivations wide) → (k : ℕ) → k < 2 ^ levels
+      → IsPartProof wide added.between.root (left-of wide added) levels k (get_or trees k no_tree) (get_or (map (larger_claim sums) claims) k Infeasible)
   each-proof wide added k l =
       let is = all.each k l in
       let but = but-root plant whole is.program made is.of_part.is_part in
       let claim : is.own ≡ get_or (map (larger_claim sums) claims) k Infeasible = (own-claim k l).0 ∙ sym (claim-at sums claims k (let long = all.all_claims in omega (arith, l, long))) in
+      let judged : length base ≡ length whole.root = sym (ap length made.root_is) in
+      let one = head-counts whole wide base sums derivations judged added in
+      let other = head-counts is.program is.larger base sums derivations (judged ∙ sym (long-same k l)) (head-of-part k l) in
       record {
         part = is.larger;
         bytes = behind (get_or heads k 0) (logs k);
-        is = part-larger whole is.program wide is.larger (plant_root plant) sums but (within-root plant whole is.program made is.of_part.is_part) (long-same k l) added is.enlarged (same-whole wide added) (same-part k l);
-        root = root-larger whole is.program wide is.larger (plant_root plant) sums levels k there but.rows (root-cut k l) added is.enlarged;
+        is = part-larger whole is.program wide is.larger base sums derivations but (within-root plant whole is.program made is.of_part.is_part) (long-same k l) added (head-of-part k l) (same-whole wide added) (same-part k l);
+        root = root-larger whole is.program is.larger base sums derivations added.between levels k levels-there but.rows (root-cut k l) added.with_sums (head-of-part k l);
+        slots = other.0 ∙ ap (λ (n : ℕ). n + length sums) (long-same k l) ∙ sym one.0;
         log = subst (IsLog is.larger (behind (get_or heads k 0) (logs k)) (get_or trees k no_tree)) claim is.log;
         clean = is.clean;
         sound = subst (IsSoundLog is.larger (get_or trees k no_tree)) claim is.sound;
       }
 
-  -- the first slots are the plant's
-  first-slots : (wide : Program) → IsWithSums whole (plant_root plant) sums wide → AreFirstOfSlots levels wide.root
-  first-slots wide added k l =
-      let low : k < length whole.root = omega (arith, l, there) in
-      let own : IsOfSlot (domain_at whole.root k) = subst AreOfSlots (sym made.root_is) (plant-slots plant all.sound) k low in
-      subst IsOfSlot (sym (ap (λ (ds : List Domain). domain_at ds k) added.root ∙ get_or_append_left whole.root (map (sum_domain whole (plant_root plant)) sums) no_values k low)) own
+  -- the plant's program with the sums has the first slots of the plant
+  first-here : (between : Program) → IsWithSums whole base sums between → AreFirstOfSlots levels between.root
+  first-here between added =
+      let own = map (sum_domain whole base) sums in
+      let is : base ++ own ≡ between.root = ap (λ (ds : List Domain). ds ++ own) (sym made.root_is) ∙ sym added.root in
+      subst (AreFirstOfSlots levels) is (first-slots plant levels own all.sound all.within)
+
+  -- what a head leaves has a domain for each slot
+  left-long : (wide : Program) (added : IsWithHead 4 whole base sums derivations wide) → length (left-of wide added) ≡ length added.between.root
+  left-long wide added =
+      let own = map (sum_domain whole base) sums in
+      slots-after_all (begun added.between (head_domains whole base sums)) derivations ∙ length-append base own ∙ ap (λ (n : ℕ). n + length own) (sym (ap length made.root_is)) ∙ sym (length-append whole.root own) ∙ sym (ap length added.with_sums.root)
+
+  -- what a head is judged over holds all of the plant's root
+  whole-stays : (between : Program) (own : List Sum) → IsWithSums whole base own between → met between.root (head_domains whole base own) ≡ between.root
+  whole-stays between own added = part-stays plant 0 0 whole between own all.sound (omega arith) (made.root_is ∙ sym (no-cut base)) added
+
+  -- without sums and derivations the plant's program is itself
+  plain-head : IsWithHead 4 whole base [] [] whole
+  plain-head =
+      let none = none-enlarged whole base in
+      let three : IsWithHead 3 whole base [] [] whole = record { sums_shown = All-nil (IsShown whole base); between = whole; with_sums = none; derivations_shown = tt; grown = inl (refl, refl) } in
+      as-four 3 whole whole base [] [] three (λ e. refl) (whole-stays whole [] none)
 
   module _ (claim : Claim) (joined : IsJoined claims claim) where
-    -- the joined log over the plant's program with the sums
-    right-over : (wide : Program) → IsWithSums whole (plant_root plant) sums wide → IsVerdict wide 4608 (log_text 2 (tree_items (tree_over 0 levels trees)) (larger_claim sums claim)) (verdict.Yes (larger_claim sums claim))
+    -- the joined log over the plant's program with the head
+    right-over : (wide : Program) → IsWithHead 4 whole base sums derivations wide → IsVerdict wide 4608 (log_text 2 (tree_items (tree_over 0 levels trees)) (larger_claim sums claim)) (verdict.Yes (larger_claim sums claim))
     right-over wide added =
-        joined-right wide levels trees (map (larger_claim sums) claims) (larger_claim sums claim) (first-slots wide added) all.few
-        (let long = length-append whole.root (map (sum_domain whole (plant_root plant)) sums) in omega (arith, there, ap length added.root, long))
+        joined-right wide added.between.root (left-of wide added) (left-long wide added) (derived-of whole wide base sums derivations added).root levels trees (map (larger_claim sums) claims) (larger_claim sums claim) (first-here added.between added.with_sums) all.few
+        (let long = length-append whole.root (map (sum_domain whole base) sums) in omega (arith, levels-there, ap length added.with_sums.root, long))
         (each-proof wide added) (length-map claims (larger_claim sums) ∙ all.all_claims) (joined-larger sums claims claim joined)
 
     -- its point is lawful
     pub joint-pointed : IsPointed whole claim
     joint-pointed = joined-pointed whole claims claim joined (λ place l. pointed place (let long = all.all_claims in omega (arith, l, long)))
 
-    -- the plant's program with the sums
-    wide-some : (wide : Program) × IsWithSums whole (plant_root plant) sums wide
+    -- the plant's program with the head
+    wide-some : (wide : Program) × IsWithHead 4 whole base sums derivations wide
     wide-some =
         let first = all.each 0 (pow_pos levels) in
-        larger-whole whole first.program first.larger (plant_root plant) sums (but-root plant whole first.program made first.of_part.is_part) (long-same 0 (pow_pos levels)) first.enlarged
+        head-whole whole first.program first.larger base sums derivations (but-root plant whole first.program made first.of_part.is_part) (long-same 0 (pow_pos levels)) (sym (ap length made.root_is)) (head-of-part 0 (pow_pos levels))
 
-    may-head : MayHead whole (plant_root plant) sums
-    may-head = record {
-      depth = 4608 - levels;
-      kept = kept-as (length (plant_rows plant)) (length whole.rows) (length (slots plant)) (length whole.root) (4608 - levels) sums (sym (ap length made.rows_are)) (sym (ap length made.root_is ∙ length-map (slots plant) (slot_domain plant))) all.may.kept;
-      few_bytes = all.may.few_bytes;
-      shown = all-shown;
-    }
+    -- and that of a head of version 3, which has no derivations
+    three-wide : derivations ≡ [] → IsWithHead 4 whole base sums derivations wide-some.1.between
+    three-wide none =
+        let is = wide-some.1 in
+        let three : IsWithHead 3 whole base sums derivations is.between = record { sums_shown = is.sums_shown; between = is.between; with_sums = is.with_sums; derivations_shown = is.derivations_shown; grown = inl (refl, refl) } in
+        as-four 3 whole is.between base sums derivations three (λ e. none) (whole-stays is.between sums is.with_sums)
 
-    pub right-any : IsAnyVerdict whole (plant_root plant) 4608 (any_text sums (tree_over 0 levels trees) (larger_claim sums claim)) (verdict.Yes claim)
-    right-any =
-        let wide = wide-some in
-        text-any whole (plant_root plant) sums (tree_over 0 levels trees) claim may-head right-over wide.0 wide.1 (given-larger whole wide.0 sums claim (same-whole wide.0 wide.1) joint-pointed)
+    abbrev text : ℕ → List ℕ
+    text version = declared_text version declared (tree_over 0 levels trees) (larger_claim sums claim)
+
+    may-here : (version : ℕ) → MayDeclare (head_limits plant levels) version declared → MayDeclare (limits_of whole 4608) version declared
+    may-here version may =
+        let deeper = may_deeper (head_limits plant levels) 4608 version declared may in
+        let made' : ℕ → ℕ → Limits = λ r s. record { rows = r; slots = s; depth = 4608 } in
+        let same : made' (length (plant_rows plant)) (length (slots plant)) ≡ limits_of whole 4608 = ap (λ (r : ℕ). made' r (length (slots plant))) (sym (ap length made.rows_are)) ∙ ap (made' (length whole.rows)) (sym slots-same) in
+        subst (λ (l : Limits). MayDeclare l version declared) same deeper
+
+    given-here : (wide : Program) → IsWithHead 4 whole base sums derivations wide → claim ≡ given_claim (length whole.root) (larger_claim sums claim)
+    given-here wide added = given-larger whole wide sums claim (same-whole wide added) joint-pointed
+
+    -- the text of version 2, which declares nothing
+    right-plain : sums ≡ [] → derivations ≡ [] → IsAnyVerdict whole base base 4608 (text 2) (verdict.Yes claim)
+    right-plain none nothing =
+        let tree = tree_over 0 levels trees in
+        let own : larger_claim sums claim ≡ claim = ap (λ (ss : List Sum). larger_claim ss claim) none ∙ larger-none claim in
+        let is = subst (λ (ss : List Sum). IsWithHead 4 whole base ss derivations whole) (sym none) (subst (λ (ds : List Derivation). IsWithHead 4 whole base [] ds whole) (sym nothing) plain-head) in
+        let larger = larger_claim sums claim in
+        let right = subst (λ (c : Claim). IsVerdict whole 4608 (log_text 2 (tree_items tree) larger) (verdict.Yes c)) own (right-over whole is) in
+        subst (λ (bytes : List ℕ). IsAnyVerdict whole base base 4608 bytes (verdict.Yes claim)) (sym (text_plain declared tree larger))
+        (plain-verdict whole base base 4608 (tree_items tree) larger (verdict.Yes claim) right)
+
+    pub right-any : IsAnyVerdict whole base base 4608 (text (joined_version newest sums)) (verdict.Yes claim)
+    right-any = by (joined_version newest sums) all.may
+      where
+        by : (version : ℕ) → MayDeclare (head_limits plant levels) version declared → IsAnyVerdict whole base base 4608 (text version) (verdict.Yes claim)
+        by version may = elim may.known [
+          | inl two ↦ subst (λ (v : ℕ). IsAnyVerdict whole base base 4608 (text v) (verdict.Yes claim)) (sym two) (right-plain (may.plain two) (may.few (λ four. omega (arith, two, four))))
+          | inr known ↦ elim known [
+            | inl three ↦
+                let none = may.few (λ four. omega (arith, three, four)) in
+                let is = wide-some.1 in
+                let own : IsWithHead version whole base sums derivations is.between = record { sums_shown = is.sums_shown; between = is.between; with_sums = is.with_sums; derivations_shown = is.derivations_shown; grown = inl (three, refl) } in
+                headed_any whole is.between base version 4608 declared (tree_over 0 levels trees) (larger_claim sums claim) claim (inl three) (may-here version may) own (right-over is.between (three-wide none)) (given-here is.between (three-wide none))
+            | inr four ↦
+                let wide = wide-some in
+                headed_any whole wide.0 base version 4608 declared (tree_over 0 levels trees) (larger_claim sums claim) claim (inr four) (may-here version may) (subst (λ (v : ℕ). IsWithHead v whole base sums derivations wide.0) (sym four) wide.1)
+                (right-over wide.0 wide.1) (given-here wide.0 wide.1)
+          ]
+        ]
 
 -- where the logs of all parts are valid, the joined log is a valid log of the plant
-pub joined_valid : (plant : Plant) (levels : ℕ) (logs : ℕ → List ℕ) (sums : List Sum) (heads : List ℕ) (trees : List RowTree) (claims : List Claim) (claim : Claim) → AllTrees plant levels logs sums heads trees claims
-    → IsJoined claims claim → IsAnyChecked plant (any_text sums (tree_over 0 levels trees) (larger_claim sums claim)) (verdict.Yes claim)
-joined_valid plant levels logs sums heads trees claims claim all joined =
+pub joined_valid : (plant : Plant) (levels : ℕ) (logs : ℕ → List ℕ) (declared : Declared) (newest : Bool) (heads : List ℕ) (trees : List RowTree) (claims : List Claim) (claim : Claim) → AllTrees plant levels logs declared newest heads trees claims
+    → IsJoined claims claim → IsAnyChecked plant (declared_text (joined_version newest declared.sums) declared (tree_over 0 levels trees) (larger_claim declared.sums claim)) (verdict.Yes claim)
+joined_valid plant levels logs declared newest heads trees claims claim all joined =
     let part = (all.each 0 (pow_pos levels)).of_part.is_part in
     record {
       program = part.whole;
       of_plant = of_plant plant part.whole all.sound part.made part.means;
-      right = right-any plant levels logs sums heads trees claims all part.whole part.made claim joined;
+      right = right-any plant levels logs declared newest heads trees claims all part.whole part.made claim joined;
       holds = joined-says plant levels claims claim joined all.all_claims
-          (λ k l. part-says plant levels k (logs k) sums (get_or trees k no_tree) (get_or claims k Infeasible) all.sound all.within (all.each k (let long = all.all_claims in omega (arith, l, long))).is);
+          (λ k l. part-says plant levels k (logs k) declared (get_or trees k no_tree) (get_or claims k Infeasible) all.sound all.within (all.each k (let long = all.all_claims in omega (arith, l, long))).is);
     }
 
--- so the text of the sums, of the tree of splits and of the joined claim is the joined log
-pub joined_log : (plant : Plant) (levels : ℕ) (logs : ℕ → List ℕ) (sums : List Sum) (heads : List ℕ) (trees : List RowTree) (claims : List Claim) (claim : Claim) (bytes : List ℕ) → AllTrees plant levels logs sums heads trees claims
-    → IsJoined claims claim → bytes ≡ any_text sums (tree_over 0 levels trees) (larger_claim sums claim) → IsJoinedLog plant levels logs claim bytes
-joined_log plant levels logs sums heads trees claims claim bytes all joined text = record {
-  sums = sums;
+-- so the text of the head, of the tree of splits and of the joined claim is the joined log
+pub joined_log : (plant : Plant) (levels : ℕ) (logs : ℕ → List ℕ) (declared : Declared) (newest : Bool) (heads : List ℕ) (trees : List RowTree) (claims : List Claim) (claim : Claim) (bytes : List ℕ) → AllTrees plant levels logs declared newest heads trees claims
+    → IsJoined claims claim → bytes ≡ declared_text (joined_version newest declared.sums) declared (tree_over 0 levels trees) (larger_claim declared.sums claim) → IsJoinedLog plant levels logs claim bytes
+joined_log plant levels logs declared newest heads trees claims claim bytes all joined text = record {
+  declared = declared;
+  newest = newest;
   trees = trees;
   claims = claims;
   all_trees = all.all_trees;
   all_claims = all.all_claims;
   each = λ part l. (all.each part l).is;
   joined = joined;
+  is_newest = all.known;
   text = text;
-  valid = subst (λ (b : List ℕ). IsAnyChecked plant b (verdict.Yes claim)) (sym text) (joined_valid plant levels logs sums heads trees claims claim all joined);
+  valid = subst (λ (b : List ℕ). IsAnyChecked plant b (verdict.Yes claim)) (sym text) (joined_valid plant levels logs declared newest heads trees claims claim all joined);
 }
 
 -- the sums suit the joined claim
-pub joined_fit : (plant : Plant) (levels : ℕ) (logs : ℕ → List ℕ) (sums : List Sum) (heads : List ℕ) (trees : List RowTree) (claims : List Claim) (claim : Claim) → AllTrees plant levels logs sums heads trees claims
-    → IsJoined claims claim → IsFit plant sums claim
-joined_fit plant levels logs sums heads trees claims claim all joined program made =
-    (all-shown plant levels logs sums heads trees claims all program made, joint-pointed plant levels logs sums heads trees claims all program made claim joined)
+pub joined_fit : (plant : Plant) (levels : ℕ) (logs : ℕ → List ℕ) (declared : Declared) (newest : Bool) (heads : List ℕ) (trees : List RowTree) (claims : List Claim) (claim : Claim) → AllTrees plant levels logs declared newest heads trees claims
+    → IsJoined claims claim → IsFit plant declared.sums claim
+joined_fit plant levels logs declared newest heads trees claims claim all joined program made =
+    (all-shown plant levels logs declared newest heads trees claims all program made, joint-pointed plant levels logs declared newest heads trees claims all program made claim joined)

@@ -1,4 +1,5 @@
--- The tree of splits over a plant's first slots: what its two parts are over, and what holds of its cap and of its items.
+-- The tree of splits over a plant's first slots, of whose domains cuts have left some: what its two parts are over, and what holds of its
+-- cap and of its items.
 use Rattle.std.proofs.Common.{◌≡◌, ◌≢◌, ℕ, zero, suc, ◌+◌, ◌*◌, ◌^◌, ◌<◌, ◌≤◌, Bool, true, false, ◌&&◌, cond, eqb, leb, ltb, List, ◌∷◌, ◌++◌, length, get_or, set, take, drop, Option, Some, sym, ap, ◌∙◌, subst, inl, inr, arith, add-one, add-mul, one-mul, mul_assoc}
 use Rattle.std.specs.Prelude.{min, max}
 use Rattle.std.specs.List.{All}
@@ -22,6 +23,9 @@ use Rattle.row_relax.specs.RowProofs.{RowItem, RowTree}
 use Rattle.row_relax.specs.Steps.{row_steps, shown_if}
 use Rattle.row_relax.specs.View.{domains_of, view_of}
 use Rattle.row_relax.specs.laws.Shown.{domains_of-view_of}
+use Rattle.derivations.specs.Larger.{met}
+use Rattle.derivations.proofs.Shares.{length-met}
+use Rattle.log_parts.proofs.MetRoots.{kept-met}
 use Rattle.plant_parts.specs.PlantParts.{digit, kept_off, kept_on, cut_domain, cut_root}
 use Rattle.log_parts.specs.PartLogs.{no_mults, no_tree, tree_over}
 use Rattle.plant_parts.proofs.Cutting.{IsOfSlot, AreFirstOfSlots, cut-off, cut-on, cut-rest, length-cut, cut-at}
@@ -115,37 +119,48 @@ no-cut whole =
 
 -- ---- the views of the two sides
 
+-- what cuts have left of the slots' domains, as a part has them
+abbrev pub left_root : List Domain → List Domain → ℕ → ℕ → List Domain
+left_root whole left levels part = met (cut_root levels part whole) left
+
 shows : (there : Bool) (shown ds : List Domain) → there ≡ true → shown ≡ ds → shown_if there shown ≡ Some (view_of ds)
 shows true shown ds is same = ap (λ (xs : List Domain). Some (view_of xs)) same
 shows false shown ds is same = absurd (cc)
 
-left-view : (program : Program) (levels part : ℕ) → IsOfSlot (domain_at program.root levels) → levels < length program.root
-    → (row_steps program).left (view_of (cut_root levels part program.root)) (record { slot = levels; max = 0 }) ≡ Some (view_of (cut_root (levels + 1) (part * 2 + 0) program.root))
-unfolding row_steps
-left-view program levels part is low =
-    let ds = cut_root levels part program.root in
-    let same = domains_of-view_of ds in
-    let there : levels < length (domains_of (view_of ds)) = omega (arith, low, length-cut levels part program.root, ap length same) in
-    shows (ltb levels (length (domains_of (view_of ds)))) (kept_at (domains_of (view_of ds)) levels (up_to 0)) (cut_root (levels + 1) (part * 2 + 0) program.root) (lt-ltb levels _ there)
-    (ap (λ (xs : List Domain). kept_at xs levels (up_to 0)) same ∙ left-root levels part program.root is low
-    ∙ ap (λ (n : ℕ). cut_root n (part * 2 + 0) program.root) (sym (add-one levels)))
+module _ (program : Program) (whole left : List Domain) (same : length left ≡ length whole) where
+  long : (levels part : ℕ) → length (left_root whole left levels part) ≡ length whole
+  long levels part = length-met (cut_root levels part whole) left (same ∙ sym (length-cut levels part whole)) ∙ length-cut levels part whole
 
-right-view : (program : Program) (levels part : ℕ) → IsOfSlot (domain_at program.root levels) → levels < length program.root
-    → (row_steps program).right (view_of (cut_root levels part program.root)) (record { slot = levels; max = 0 }) ≡ Some (view_of (cut_root (levels + 1) (part * 2 + 1) program.root))
-unfolding row_steps
-right-view program levels part is low =
-    let ds = cut_root levels part program.root in
-    let same = domains_of-view_of ds in
-    let there : levels < length (domains_of (view_of ds)) = omega (arith, low, length-cut levels part program.root, ap length same) in
-    shows (ltb levels (length (domains_of (view_of ds)))) (kept_at (domains_of (view_of ds)) levels (over 0)) (cut_root (levels + 1) (part * 2 + 1) program.root) (lt-ltb levels _ there)
-    (ap (λ (xs : List Domain). kept_at xs levels (over 0)) same ∙ right-root levels part program.root is low
-    ∙ ap (λ (n : ℕ). cut_root n (part * 2 + 1) program.root) (sym (add-one levels)))
+  kept-left : (levels part slot : ℕ) (d : Domain) → slot < length whole → kept_at (left_root whole left levels part) slot d ≡ met (kept_at (cut_root levels part whole) slot d) left
+  kept-left levels part slot d low = kept-met (cut_root levels part whole) left slot d (same ∙ sym (length-cut levels part whole)) (omega (arith, low, length-cut levels part whole))
+
+  left-view : (levels part : ℕ) → IsOfSlot (domain_at whole levels) → levels < length whole
+      → (row_steps program).left (view_of (left_root whole left levels part)) (record { slot = levels; max = 0 }) ≡ Some (view_of (left_root whole left (levels + 1) (part * 2 + 0)))
+  unfolding row_steps
+  left-view levels part is low =
+      let ds = left_root whole left levels part in
+      let own = domains_of-view_of ds in
+      let there : levels < length (domains_of (view_of ds)) = omega (arith, low, long levels part, ap length own) in
+      shows (ltb levels (length (domains_of (view_of ds)))) (kept_at (domains_of (view_of ds)) levels (up_to 0)) (left_root whole left (levels + 1) (part * 2 + 0)) (lt-ltb levels _ there)
+      (ap (λ (xs : List Domain). kept_at xs levels (up_to 0)) own ∙ kept-left levels part levels (up_to 0) low ∙ ap (λ (xs : List Domain). met xs left) (left-root levels part whole is low)
+      ∙ ap (λ (n : ℕ). left_root whole left n (part * 2 + 0)) (sym (add-one levels)))
+
+  right-view : (levels part : ℕ) → IsOfSlot (domain_at whole levels) → levels < length whole
+      → (row_steps program).right (view_of (left_root whole left levels part)) (record { slot = levels; max = 0 }) ≡ Some (view_of (left_root whole left (levels + 1) (part * 2 + 1)))
+  unfolding row_steps
+  right-view levels part is low =
+      let ds = left_root whole left levels part in
+      let own = domains_of-view_of ds in
+      let there : levels < length (domains_of (view_of ds)) = omega (arith, low, long levels part, ap length own) in
+      shows (ltb levels (length (domains_of (view_of ds)))) (kept_at (domains_of (view_of ds)) levels (over 0)) (left_root whole left (levels + 1) (part * 2 + 1)) (lt-ltb levels _ there)
+      (ap (λ (xs : List Domain). kept_at xs levels (over 0)) own ∙ kept-left levels part levels (over 0) low ∙ ap (λ (xs : List Domain). met xs left) (right-root levels part whole is low)
+      ∙ ap (λ (n : ℕ). left_root whole left n (part * 2 + 1)) (sym (add-one levels)))
 
 -- ---- what holds of the cap
 
 -- the cap of a part's tree over the whole's rows
-abbrev pub part_cap : Program → ℕ → ℕ → RowTree → Capped
-part_cap program levels part tree = tree_cap (row_steps program) (view_of (cut_root levels part program.root)) tree
+abbrev pub part_cap : Program → List Domain → List Domain → ℕ → ℕ → RowTree → Capped
+part_cap program whole left levels part tree = tree_cap (row_steps program) (view_of (left_root whole left levels part)) tree
 
 -- the numbers of the parts of two halves
 first-number : (part half i : ℕ) → (part * 2 + 0) * half + i ≡ part * (half * 2) + i
@@ -181,28 +196,28 @@ split-cap Q closed first second a b f g is also one other =
     (subst (λ (next : Option View). Q (greater (f a) (cap_if next g))) (sym also) (closed (f a) (g b) one other))
 
 -- what holds of the cap of each part's tree, and of the greater of two caps of which it holds, holds of the cap of the tree of splits
-pub over-cap : (Q : Capped → Type 0) → ((a b : Capped) → Q a → Q b → Q (greater a b)) → (program : Program) (total : ℕ) → AreFirstOfSlots total program.root → (levels slot part : ℕ) (trees : List RowTree)
-    → slot + levels ≡ total → total ≤ length program.root
-    → ((i : ℕ) → i < 2 ^ levels → Q (part_cap program total (part * 2 ^ levels + i) (get_or trees i no_tree)))
-    → Q (tree_cap (row_steps program) (view_of (cut_root slot part program.root)) (tree_over slot levels trees))
-over-cap Q closed program total are zero slot part trees sum within each =
+pub over-cap : (Q : Capped → Type 0) → ((a b : Capped) → Q a → Q b → Q (greater a b)) → (program : Program) (whole left : List Domain) → length left ≡ length whole → (total : ℕ) → AreFirstOfSlots total whole → (levels slot part : ℕ) (trees : List RowTree)
+    → slot + levels ≡ total → total ≤ length whole
+    → ((i : ℕ) → i < 2 ^ levels → Q (part_cap program whole left total (part * 2 ^ levels + i) (get_or trees i no_tree)))
+    → Q (tree_cap (row_steps program) (view_of (left_root whole left slot part)) (tree_over slot levels trees))
+over-cap Q closed program whole left long total are zero slot part trees sum within each =
     let same : total ≡ slot = omega (arith, sum) in
     let number : part * 1 + 0 ≡ part = omega arith in
-    subst (λ (n : ℕ). Q (part_cap program n part (get_or trees 0 no_tree))) same
-    (subst (λ (n : ℕ). Q (part_cap program total n (get_or trees 0 no_tree))) number (each 0 (omega arith)))
-over-cap Q closed program total are (suc levels) slot part trees sum within each =
+    subst (λ (n : ℕ). Q (part_cap program whole left n part (get_or trees 0 no_tree))) same
+    (subst (λ (n : ℕ). Q (part_cap program whole left total n (get_or trees 0 no_tree))) number (each 0 (omega arith)))
+over-cap Q closed program whole left long total are (suc levels) slot part trees sum within each =
     let half = 2 ^ levels in
-    let low : slot < length program.root = omega (arith, sum, within) in
+    let low : slot < length whole = omega (arith, sum, within) in
     let further : (slot + 1) + levels ≡ total = omega (arith, sum) in
-    let each_half = subst (λ (n : ℕ). (i : ℕ) → i < n → Q (part_cap program total (part * n + i) (get_or trees i no_tree))) (pow-suc 2 levels) each in
-    let halves = in-halves (λ (number : ℕ) (tree : RowTree). Q (part_cap program total number tree)) part half trees each_half in
+    let each_half = subst (λ (n : ℕ). (i : ℕ) → i < n → Q (part_cap program whole left total (part * n + i) (get_or trees i no_tree))) (pow-suc 2 levels) each in
+    let halves = in-halves (λ (number : ℕ) (tree : RowTree). Q (part_cap program whole left total number tree)) part half trees each_half in
     split-cap Q closed
-    ((row_steps program).left (view_of (cut_root slot part program.root)) (record { slot = slot; max = 0 })) ((row_steps program).right (view_of (cut_root slot part program.root)) (record { slot = slot; max = 0 }))
-    (view_of (cut_root (slot + 1) (part * 2 + 0) program.root)) (view_of (cut_root (slot + 1) (part * 2 + 1) program.root))
+    ((row_steps program).left (view_of (left_root whole left slot part)) (record { slot = slot; max = 0 })) ((row_steps program).right (view_of (left_root whole left slot part)) (record { slot = slot; max = 0 }))
+    (view_of (left_root whole left (slot + 1) (part * 2 + 0))) (view_of (left_root whole left (slot + 1) (part * 2 + 1)))
     (λ x. tree_cap (row_steps program) x (tree_over (slot + 1) levels (take half trees))) (λ x. tree_cap (row_steps program) x (tree_over (slot + 1) levels (drop half trees)))
-    (left-view program slot part (are slot (omega (arith, sum))) low) (right-view program slot part (are slot (omega (arith, sum))) low)
-    (over-cap Q closed program total are levels (slot + 1) (part * 2 + 0) (take half trees) further within halves.0)
-    (over-cap Q closed program total are levels (slot + 1) (part * 2 + 1) (drop half trees) further within halves.1)
+    (left-view program whole left long slot part (are slot (omega (arith, sum))) low) (right-view program whole left long slot part (are slot (omega (arith, sum))) low)
+    (over-cap Q closed program whole left long total are levels (slot + 1) (part * 2 + 0) (take half trees) further within halves.0)
+    (over-cap Q closed program whole left long total are levels (slot + 1) (part * 2 + 1) (drop half trees) further within halves.1)
 
 -- ---- what holds of the items
 

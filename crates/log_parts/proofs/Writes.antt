@@ -1,5 +1,5 @@
 -- What a writer of a log has after more items.
-use Rattle.std.proofs.Common.{◌≡◌, ◌≢◌, inl, inr, refl, ℕ, List, [], ◌∷◌, ◌++◌, flat_map, append_assoc, append-nil, length, arith, Option, None, Some, IfSome, sym, ap, ◌∙◌, subst}
+use Rattle.std.proofs.Common.{◌≡◌, ◌≢◌, inl, inr, refl, ℕ, List, [], ◌∷◌, ◌++◌, flat_map, append_assoc, append-nil, Option, None, Some, IfSome, sym, ap, ◌∙◌, subst}
 use Rattle.std.specs.Option.{option_map}
 use Rattle.std.proofs.lemmas.Grind.{flat_map-append}
 use Rattle.std.specs.FinMap.{get}
@@ -8,13 +8,17 @@ use Rattle.stn_edge.proofs.FileLemmas.{get-cleared_other}
 use Rattle.row_relax.specs.RowProofs.{RowItem}
 use Rattle.log_lines.specs.declared.line.Line.TheVariants.{Header, End}
 use Rattle.log_lines.specs.Line.{line_text}
-use Rattle.sum_slots.specs.declared.sum.Sum.{Sum}
+use Rattle.std.proofs.lemmas.Bool.{cond-true, cond-false, eq-eqb, ne_eqb}
+use Rattle.sum_lines.specs.Head.{head_text}
+use Rattle.derivation_lines.specs.Tail.{tail_text}
+use Rattle.log_parts.specs.declared.heads.Declared.{Declared}
+use Rattle.log_parts.specs.Heads.{front_text}
 use Rattle.proof_log.specs.declared.claim.Claim.{Claim}
 use Rattle.proof_log.specs.Log.{item_lines, claim_lines, lines_text}
 use Rattle.proof_log.specs.Writer.{Writing, IsWhole, Took, Broke, whole}
 use Rattle.proof_log.proofs.Lines.{lines_text-append, lines_text-one}
 use Rattle.proof_log.proofs.Writing.{IsWhole-took}
-use Rattle.log_parts.specs.laws.Copying.{begun_text, front_text, whole_text, IsBegun, IsFinishedInPart}
+use Rattle.log_parts.specs.laws.Copying.{begun_text, whole_text, IsBegun, IsFinishedInPart}
 
 -- the text of items is followed by that of more
 pub text_more : (front : List ℕ) (items added : List RowItem) → begun_text front items ++ lines_text (flat_map item_lines added) ≡ begun_text front (items ++ added)
@@ -73,7 +77,12 @@ finish_broken front before after items claim is broke =
     subst (λ (name : List ℕ). IsFinishedInPart front name items claim after.files) broke.keeps.name
     (begun_at after.name after.files broke.part.0 (lines_text (claim_lines claim ++ End ∷ [])) (begun_text front items) (whole_text front items claim) (whole before) broke.part.1 is (text_ended front items claim))
 
--- the first line of version 2 is the front where there are no sums
-pub front_none : (sums : List Sum) (old new : List ℕ) → length sums ≡ 0 → new ≡ old ++ (line_text (Header 2) ++ 10 ∷ []) → new ≡ old ++ front_text sums
-front_none [] old new none is = is ∙ ap (λ (text : List ℕ). old ++ text) (sym (lines_text-one (Header 2)))
-front_none (sum ∷ sums) old new none is = absurd (omega (arith, none))
+-- the first line is the front of a log of version 2
+pub front_two : (version : ℕ) (declared : Declared) (old new : List ℕ) → version ≡ 2 → new ≡ old ++ (line_text (Header 2) ++ 10 ∷ []) → new ≡ old ++ front_text version declared
+front_two version declared old new two is = is ∙ ap (λ (text : List ℕ). old ++ text) (sym (lines_text-one (Header 2)) ∙ sym (cond-true _ _ _ (eq-eqb version 2 two)))
+
+-- and a head that of a later one
+pub front_other : (version : ℕ) (declared : Declared) (old mid new : List ℕ) → version ≢ 2 → mid ≡ old ++ head_text version declared.sums → new ≡ mid ++ tail_text declared.derivations → new ≡ old ++ front_text version declared
+front_other version declared old mid new other head tail =
+    tail ∙ ap (λ (text : List ℕ). text ++ tail_text declared.derivations) head ∙ append_assoc old (head_text version declared.sums) (tail_text declared.derivations)
+    ∙ ap (λ (text : List ℕ). old ++ text) (sym (cond-false _ _ _ (ne_eqb version 2 other)))

@@ -1,4 +1,5 @@
+pub mod Heads
 pub mod Joining
-pub mod OtherSums
+pub mod OtherHeads
 pub mod PartLogs
 pub mod laws

@@ -1,5 +1,5 @@
 -- The logs of a plant's parts, and the log that is joined of them.
-use Rattle.std.specs.Prelude.{◌≡◌, ◌⊎◌, ℕ, ◌+◌, ◌-◌, ◌^◌, ◌<◌, zero, suc, ⊤, List, [], ◌++◌, length, take, drop, slice_index_or, Option, None, IfSome}
+use Rattle.std.specs.Prelude.{◌≡◌, ◌⊎◌, ◌↔◌, Bool, true, ℕ, ◌+◌, ◌-◌, ◌^◌, ◌<◌, zero, suc, ⊤, List, [], ◌++◌, length, take, drop, slice_index_or, Option, None, IfSome}
 use Rattle.stn_edge.specs.Files.{FileMap, file_of}
 use Rattle.stn_model.specs.declared.plant.Plant.{Plant}
 use Rattle.row_kit.specs.declared.program.Program.{Program}
@@ -14,14 +14,15 @@ use Rattle.proof_log.specs.LogNames.{log_name}
 use Rattle.valid_log.specs.declared.verdict.LogVerdict.{LogVerdict}
 use Rattle.valid_log.specs.declared.verdict.LogVerdict.TheVariants as verdict
 use Rattle.valid_log.specs.Claims.{Says}
-use Rattle.sum_slots.specs.declared.sum.Sum.{Sum}
 use Rattle.valid_log.specs.AnyVersion.{IsAnyLog}
 use Rattle.valid_log.specs.PlantLogs.{IsAnyChecked, IsAnyPartChecked}
-use Rattle.valid_log.specs.SumTexts.{any_text, larger_claim}
+use Rattle.valid_log.specs.SumTexts.{larger_claim}
+use Rattle.log_parts.specs.declared.heads.Declared.{Declared}
 use Rattle.log_parts.specs.declared.joins.Joined.{Joined}
 use Rattle.log_parts.specs.declared.joins.Joined.TheVariants.{Done, No}
 use Rattle.log_parts.specs.Joining.{IsJoined}
-use Rattle.log_parts.specs.OtherSums.{IsOtherSums}
+use Rattle.log_parts.specs.Heads.{HasNewest, declared_text, joined_version}
+use Rattle.log_parts.specs.OtherHeads.{IsOtherHead}
 use Rattle.plant_parts.specs.PlantParts.{IsPartProgram}
 
 -- the verdict is right on the log of a part, of any version, in which at most 4,608 splits less one for each level may be open
@@ -30,33 +31,33 @@ pub record IsPartVerdict (plant : Plant) (levels part : ℕ) (bytes : List ℕ) 
   pub of_part : IsPartProgram plant levels part program
   pub right : IsAnyPartChecked plant program (4608 - levels) bytes said
 
--- the bytes are a valid log of a part, which declares these sums, of this tree and this claim
-pub record IsPartLog (plant : Plant) (levels part : ℕ) (bytes : List ℕ) (sums : List Sum) (tree : RowTree) (claim : Claim) : Type 0 where
+-- the bytes are a valid log of a part, which declares these sums and derivations, of this tree and this claim
+pub record IsPartLog (plant : Plant) (levels part : ℕ) (bytes : List ℕ) (declared : Declared) (tree : RowTree) (claim : Claim) : Type 0 where
   pub program : Program
   pub of_part : IsPartProgram plant levels part program
   pub right : IsAnyPartChecked plant program (4608 - levels) bytes (verdict.Yes claim)
-  pub log : IsAnyLog program (plant_root plant) bytes sums tree claim
+  pub log : IsAnyLog program (plant_root plant) (plant_root plant) bytes declared.sums declared.derivations tree claim
 
--- the bytes are a valid log of a part, which declares these sums
-abbrev pub IsValidPart : Plant → ℕ → ℕ → List ℕ → List Sum → Type 0
-IsValidPart plant levels part bytes sums = (tree : RowTree) × ((claim : Claim) × IsPartLog plant levels part bytes sums tree claim)
+-- the bytes are a valid log of a part, which declares these sums and derivations
+abbrev pub IsValidPart : Plant → ℕ → ℕ → List ℕ → Declared → Type 0
+IsValidPart plant levels part bytes declared = (tree : RowTree) × ((claim : Claim) × IsPartLog plant levels part bytes declared tree claim)
 
--- each log of the first parts, so many, is valid and declares these sums
-abbrev pub AreValid : Plant → ℕ → (ℕ → List ℕ) → List Sum → ℕ → Type 0
-AreValid plant levels logs sums count = (part : ℕ) → part < count → IsValidPart plant levels part (logs part) sums
+-- each log of the first parts, so many, is valid and declares these sums and derivations
+abbrev pub AreValid : Plant → ℕ → (ℕ → List ℕ) → Declared → ℕ → Type 0
+AreValid plant levels logs declared count = (part : ℕ) → part < count → IsValidPart plant levels part (logs part) declared
 
--- The bytes are a valid log of a part, but declare other sums than these: the defect is of kind 22, at the line on which the first sum
--- that differs begins, or line 1 where only the number of sums differs.
-pub record IsOtherLog (plant : Plant) (levels part : ℕ) (bytes : List ℕ) (sums : List Sum) (defect : Defect) : Type 0 where
-  pub own : List Sum
+-- The bytes are a valid log of a part, but its head is another than this: the defect is of kind 22, at the line on which the first sum,
+-- cut or row that differs begins, or line 1 where one head is a first part of the other.
+pub record IsOtherLog (plant : Plant) (levels part : ℕ) (bytes : List ℕ) (declared : Declared) (defect : Defect) : Type 0 where
+  pub own : Declared
   pub valid : IsValidPart plant levels part bytes own
   pub kind : defect.kind ≡ 22
-  pub differ : IsOtherSums sums own defect.line
+  pub differ : IsOtherHead declared own defect.line
 
--- the log of a part is refused where the earlier ones declare these sums: it is not valid and has this first defect, or it is valid, not the first, and declares other sums
-abbrev pub IsRefused : Plant → ℕ → ℕ → List ℕ → List Sum → Defect → Type 0
-IsRefused plant levels part bytes sums defect =
-    IsPartVerdict plant levels part bytes (verdict.No defect) ⊎ ((0 < part) × IsOtherLog plant levels part bytes sums defect)
+-- the log of a part is refused where the earlier ones declare this: it is not valid and has this first defect, or it is valid, not the first, and has another head
+abbrev pub IsRefused : Plant → ℕ → ℕ → List ℕ → Declared → Defect → Type 0
+IsRefused plant levels part bytes declared defect =
+    IsPartVerdict plant levels part bytes (verdict.No defect) ⊎ ((0 < part) × IsOtherLog plant levels part bytes declared defect)
 
 -- the certificate without multipliers
 abbrev pub no_mults : Cert
@@ -72,26 +73,28 @@ tree_over slot zero trees = slice_index_or trees 0 no_tree
 tree_over slot (suc levels) trees =
     split [] None (record { slot = slot; max = 0 }) no_mults (tree_over (slot + 1) levels (take (2 ^ levels) trees)) (tree_over (slot + 1) levels (drop (2 ^ levels) trees))
 
--- The bytes are the joined log of the logs of all parts: each of these is valid, all declare the same sums, and the bytes are the text
--- of these sums and of the tree of splits in which the parts' trees stand, with the joined claim and its point completed by the values of
--- the sums. They are a valid log of the plant.
+-- The bytes are the joined log of the logs of all parts: each of these is valid, all have the same head, and the bytes are the text of
+-- that head and of the tree of splits in which the parts' trees stand, with the joined claim and its point completed by the values of
+-- the sums; of version 4 where a part's log is. They are a valid log of the plant.
 pub record IsJoinedLog (plant : Plant) (levels : ℕ) (logs : ℕ → List ℕ) (claim : Claim) (bytes : List ℕ) : Type 0 where
-  pub sums : List Sum
+  pub declared : Declared
+  pub newest : Bool
   pub trees : List RowTree
   pub claims : List Claim
   pub all_trees : length trees ≡ 2 ^ levels
   pub all_claims : length claims ≡ 2 ^ levels
-  pub each : (part : ℕ) → part < 2 ^ levels → IsPartLog plant levels part (logs part) sums (slice_index_or trees part no_tree) (slice_index_or claims part Infeasible)
+  pub each : (part : ℕ) → part < 2 ^ levels → IsPartLog plant levels part (logs part) declared (slice_index_or trees part no_tree) (slice_index_or claims part Infeasible)
   pub joined : IsJoined claims claim
-  pub text : bytes ≡ any_text sums (tree_over 0 levels trees) (larger_claim sums claim)
+  pub is_newest : (newest ≡ true) ↔ HasNewest logs (2 ^ levels)
+  pub text : bytes ≡ declared_text (joined_version newest declared.sums) declared (tree_over 0 levels trees) (larger_claim declared.sums claim)
   pub valid : IsAnyChecked plant bytes (verdict.Yes claim)
 
--- What joining comes to: the joined log and its claim, or the first part whose log is not valid or declares other sums than the first
--- one's, with its defect.
+-- What joining comes to: the joined log and its claim, or the first part whose log is not valid or has another head than the first one's,
+-- with its defect.
 abbrev pub IsJoining : Plant → ℕ → (ℕ → List ℕ) → List ℕ → Joined → Type 0
 IsJoining plant levels logs bytes (Done claim) = IsJoinedLog plant levels logs claim bytes
 IsJoining plant levels logs bytes (No part defect) =
-    (part < 2 ^ levels) × ((sums : List Sum) × (AreValid plant levels logs sums part × IsRefused plant levels part (logs part) sums defect))
+    (part < 2 ^ levels) × ((declared : Declared) × (AreValid plant levels logs declared part × IsRefused plant levels part (logs part) declared defect))
 
 -- the bytes of the logs of a stem, by their numbers
 abbrev pub logs_of : FileMap → List ℕ → ℕ → List ℕ
@@ -123,6 +126,6 @@ abbrev pub LeavesJoin : Plant → ℕ → List ℕ → List ℕ → Option FileM
 LeavesJoin plant levels stem name old new =
     (new ≡ old) ⊎ IfSome old (λ m. IfSome new (λ n. IsJoinBegun plant levels (logs_of m stem) (file_of n name)))
 
--- the logs of all parts are valid and declare the same sums, where the files are told
+-- the logs of all parts are valid and have the same head, where the files are told
 abbrev pub AllAreValid : Plant → ℕ → List ℕ → Option FileMap → Type 0
-AllAreValid plant levels stem files = IfSome files (λ m. (sums : List Sum) × AreValid plant levels (logs_of m stem) sums (2 ^ levels))
+AllAreValid plant levels stem files = IfSome files (λ m. (declared : Declared) × AreValid plant levels (logs_of m stem) declared (2 ^ levels))

@@ -1,126 +1,144 @@
-//! The sums that a part's log declares, beside those of the first part's.
-ghost use Rattle.std.specs.Prelude.{◌≡◌, ◌↔◌, length, IsTrue, MatchOption};
+//! The head of a part's log, beside that of the first part's.
+ghost use Rattle.std.specs.Prelude.{◌≡◌, ◌↔◌, ◌<◌, ◌^◌, ◌++◌, length, IsTrue, IfOk, MatchOption, slice_get};
 ghost use Rattle.log_lines.specs.declared.grammar.Limits.{Limits};
-ghost use Rattle.sum_lines.specs.Front.{KeepsLimits};
-ghost use Rattle.sum_lines.specs.Head.{begins_on};
-ghost use Rattle.log_parts.specs.OtherSums.{IsOtherSums};
-ghost use Rattle.log_parts.specs.laws.Checked.{IsCompared, IsDeclaredBy};
+ghost use Rattle.log_parts.specs.Heads.{items_of, lines_on};
+ghost use Rattle.log_parts.specs.OtherHeads.{IsOtherHead};
+ghost use Rattle.log_parts.specs.laws.Checked.{IsCompared, IsFrontKept, IsHeadCompared, head_with, no_head};
 
+use crate::heads::{Declared, LogFront, LogHead};
+use crate::sameness::{is_same_derivation, is_same_sum};
+use derivation_lines::Tail;
 use log_lines::Defect;
 use proof_log::Claim;
-use row_kit::{Entry, List};
-use std::alloc::Global;
-use sum_lines::Front;
-use sum_slots::Sum;
+use row_kit::List;
+use std::alloc::{AllocError, Global};
+use sum_lines::Head;
 
-// The kind of the defect that a log declares other sums than the first part's.
-const OTHER_SUMS: u8 = 22;
+// The kind of the defect that a log has another head than the first part's.
+const OTHER_HEAD: u8 = 22;
 
-/// What the front of a log declares.
-#[derive(Drop)]
-pub enum Declared {
-    /// These sums; none where there is no head.
-    Sums(List<Sum>),
-    /// The first defect of the head.
-    Bad(Defect),
-}
-
-/// What the check of the log of a part against sums comes to.
+/// What the check of the log of a part against what is declared comes to.
 #[derive(Drop)]
 pub enum PartCheck {
-    /// The log is valid with this claim, declares the sums, and its head has so many bytes; none where there is no head.
-    Valid { head: u64, claim: Claim },
+    /// The log is valid with this claim, and declares the same; its head is of this version and has so many bytes, and it is of
+    /// version 2 where it has none.
+    Valid {
+        version: u8,
+        bytes: u64,
+        claim: Claim,
+    },
     /// The defect for which it is refused.
     Bad(Defect),
 }
 
-/// The sums that a front declares, or its defect.
-pub fn sums_of(alloc: Global, front: Front) -> Declared
-    ensures { IsDeclaredBy front result }
+/// The head of a log without one.
+pub fn no_head(alloc: Global) -> LogHead
+    ensures { result ≡ no_head }
 {
-    match front {
-        Front::Plain => Declared::Sums(List::new(alloc)),
-        Front::Headed(head) => Declared::Sums(head.sums),
-        Front::Bad(defect) => Declared::Bad(defect),
+    LogHead {
+        version: 2,
+        declared: Declared {
+            sums: List::new(alloc),
+            derivations: List::new(alloc),
+        },
+        lines: List::new(alloc),
+        bytes: 0,
     }
 }
 
-/// A log with this front, to which a check said yes with this claim, against sums.
-pub fn compared(sums: &[Sum], front: &Front, claim: Claim) -> PartCheck
-    requires { (limits : Limits) × KeepsLimits limits front.now }
-    ensures { IsCompared sums.now front.now claim result }
+/// A head with the derivations behind its sums. It takes memory for the lines on which these begin.
+pub fn head_with(head: Head, tail: Tail) -> Result<LogHead, AllocError>
+    ensures { IfOk result (λ own. own ≡ head_with head tail) }
+{
+    Ok(LogHead {
+        version: head.version,
+        declared: Declared {
+            sums: head.sums,
+            derivations: tail.derivations,
+        },
+        lines: joined_lines(head.lines, tail.lines.as_slice())?,
+        bytes: tail.bytes,
+    })
+}
+
+// Numbers of lines, and more behind them.
+fn joined_lines(lines: List<u64>, more: &[u64]) -> Result<List<u64>, AllocError>
+    ensures { IfOk result (λ all. all ≡ lines ++ more.now) }
+{
+    let mut all = lines;
+    for line in more {
+        all.push(*line)?;
+    }
+    Ok(all)
+}
+
+/// A log with this front, to which a check said yes with this claim, against what is declared.
+pub fn compared(declared: &Declared, front: &LogFront, claim: Claim) -> PartCheck
+    requires { (limits : Limits) × IsFrontKept limits front.now }
+    ensures { IsCompared declared.now front.now claim result }
 {
     match front {
-        Front::Bad(defect) => PartCheck::Bad(*defect),
-        Front::Plain => {
-            if sums.is_empty() {
-                PartCheck::Valid { head: 0, claim }
-            } else {
-                PartCheck::Bad(Defect {
-                    line: 1,
-                    kind: OTHER_SUMS,
-                })
-            }
-        }
-        Front::Headed(head) => {
-            match other_line(sums, head.sums.as_slice(), head.lines.as_slice()) {
-                Some(line) => PartCheck::Bad(Defect {
-                    line,
-                    kind: OTHER_SUMS,
-                }),
-                None => PartCheck::Valid {
-                    head: head.bytes,
-                    claim,
-                },
-            }
-        }
+        LogFront::Whole(own) => with_head(declared, own, claim),
+        LogFront::Bad(defect) => PartCheck::Bad(*defect),
     }
 }
 
-// The line at which sums, which begin on these lines, differ from given ones.
-fn other_line(sums: &[Sum], own: &[Sum], lines: &[u64]) -> Option<u64>
-    requires { lines.now ≡ begins_on 2 own.now }
-    ensures { MatchOption result (sums.now ≡ own.now) (IsOtherSums sums.now own.now) }
+// The same of a log with this head.
+fn with_head(declared: &Declared, own: &LogHead, claim: Claim) -> PartCheck
+    requires { own.now.lines ≡ lines_on own.now.declared }
+    ensures { IsHeadCompared declared.now own.now claim result }
 {
-    let few = if sums.len() < own.len() {
-        sums.len()
-    } else {
-        own.len()
-    };
+    match other_line(declared, &own.declared, own.lines.as_slice()) {
+        Some(line) => PartCheck::Bad(Defect {
+            line,
+            kind: OTHER_HEAD,
+        }),
+        None => PartCheck::Valid {
+            version: own.version,
+            bytes: own.bytes,
+            claim,
+        },
+    }
+}
+
+// The line at which what a log declares, which begins on these lines, differs from what is given.
+fn other_line(given: &Declared, own: &Declared, lines: &[u64]) -> Option<u64>
+    requires { lines.now ≡ lines_on own.now }
+    ensures { MatchOption result (given.now ≡ own.now) (IsOtherHead given.now own.now) }
+{
+    let (all, own_all) = (count_of(given), count_of(own));
+    let few = if all < own_all { all } else { own_all };
     for place in 0..few {
-        if !is_same(&sums[place], &own[place]) {
+        if !is_same_at(given, own, place) {
             return Some(lines[place]);
         }
     }
-    if sums.len() == own.len() {
-        None
+    if all == own_all { None } else { Some(1) }
+}
+
+// How many sums and derivations are declared.
+fn count_of(declared: &Declared) -> usize
+    ensures count { result ≡ length (items_of declared.now) }
+    ensures small { result < 2 ^ 60 }
+{
+    declared.sums.as_slice().len() + declared.derivations.as_slice().len()
+}
+
+// Whether what is declared at a place is the same.
+fn is_same_at(given: &Declared, own: &Declared, place: usize) -> bool
+    requires within { place < length (items_of given.now) }
+    requires within_own { place < length (items_of own.now) }
+    ensures { IsTrue result
+        ↔ slice_get (items_of given.now) place ≡ slice_get (items_of own.now) place }
+{
+    let (sums, own_sums) = (given.sums.len(), own.sums.len());
+    if place < sums {
+        place < own_sums && is_same_sum(given.sums.get(place), own.sums.get(place))
     } else {
-        Some(1)
+        place >= own_sums
+            && is_same_derivation(
+                given.derivations.get(place - sums),
+                own.derivations.get(place - own_sums),
+            )
     }
-}
-
-// Whether two sums are the same.
-fn is_same(one: &Sum, other: &Sum) -> bool
-    ensures { IsTrue result ↔ one.now ≡ other.now }
-{
-    one.width == other.width
-        && one.offset == other.offset
-        && one.low == other.low
-        && one.high == other.high
-        && are_same(one.terms.as_slice(), other.terms.as_slice())
-}
-
-// Whether terms are the same.
-fn are_same(one: &[Entry], other: &[Entry]) -> bool
-    ensures { IsTrue result ↔ one.now ≡ other.now }
-{
-    if one.len() != other.len() {
-        return false;
-    }
-    for place in 0..one.len() {
-        if one[place] != other[place] {
-            return false;
-        }
-    }
-    true
 }

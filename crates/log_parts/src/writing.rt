@@ -6,10 +6,12 @@ ghost use Rattle.stn_model.specs.Sound.{Sound};
 ghost use Rattle.time_grid.specs.Slots.{slots};
 ghost use Rattle.row_relax.specs.RowProofs.{RowItem};
 ghost use Rattle.proof_log.specs.LogNames.{log_name};
+ghost use Rattle.derivations.specs.Growth.{rows_of};
+ghost use Rattle.sum_slots.specs.declared.sum.Sum.{Sum};
+ghost use Rattle.log_parts.specs.Heads.{front_text, joined_version};
 ghost use Rattle.log_parts.specs.laws.Copying.{
   limits_over,
   part_limits,
-  front_text,
   IsFit,
   name_of,
   opening_split,
@@ -27,11 +29,14 @@ ghost use Rattle.log_parts.specs.laws.Copying.{
 };
 ghost use Rattle.proof_log.specs.declared.claim.Claim.{Claim};
 ghost use Rattle.valid_log.specs.SumTexts.{larger_claim};
-ghost use Rattle.log_parts.specs.laws.Checked.{MayDeclare};
+ghost use Rattle.log_parts.specs.laws.Checked.{MayDeclare, head_limits};
 
 use crate::completing::larger_claim;
 use crate::copying::{copy_log, put_item};
+use crate::heads::Declared;
 use crate::joins::{JoinStop, Joined};
+use derivation_lines::put_derivations;
+use derivations::Derivation;
 use dual_bound::Cert;
 use log_lines::{Defect, Limits, Line, put_line};
 use proof_log::{Claim, LogWriter, log_name};
@@ -208,16 +213,41 @@ fn write_tree<F: Shelf>(
     write_tree(alloc, logs, slot + 1, right, writer, files)
 }
 
-// The limits of the logs of a plant's parts over their programs with so many sums, from the plant's program.
-fn limits_of(program: &Program, levels: u32, sums: usize) -> Limits
+// The limits of the logs of a plant's parts over their programs with what they declare, from the plant's program.
+fn limits_of(program: &Program, levels: u32, declared: &Declared) -> Limits
     requires most { levels ≤ 8 }
-    requires few { sums ≤ 512 }
-    ensures { result ≡ limits_over program.now levels sums }
+    requires few { length declared.now.sums ≤ 4096 }
+    requires few_rows { rows_of declared.now.derivations ≤ 4096 }
+    ensures { result ≡ limits_over program.now levels declared.now }
 {
+    let sums = declared.sums.len() as u32;
+    let rows = rows_in(declared.derivations.as_slice());
     Limits {
-        rows: program.rows.len() as u32 + 2 * sums as u32,
-        slots: program.root.len() as u32 + sums as u32,
+        rows: program.rows.len() as u32 + 2 * sums + rows as u32,
+        slots: program.root.len() as u32 + sums,
         depth: 4608 - levels,
+    }
+}
+
+// How many of derivations are rows.
+fn rows_in(derivations: &[Derivation]) -> usize
+    ensures { result ≡ rows_of derivations.now }
+{
+    let mut rows = 0;
+    for derivation in derivations {
+        rows += row_count(derivation);
+    }
+    rows
+}
+
+// 1 for a row, and 0 for a cut.
+fn row_count(derivation: &Derivation) -> usize
+    ensures count { result ≡ rows_of (derivation.now ∷ []) }
+    ensures most { result ≤ 1 }
+{
+    match derivation {
+        Derivation::Cut(_) => 0,
+        Derivation::Row(_) => 1,
     }
 }
 
@@ -232,28 +262,48 @@ fn write_stop(stop: Stop) -> JoinStop
     }
 }
 
-// Appends the text in the place of the first line of a log with these sums.
-fn put_front(alloc: Global, sums: &[Sum], into: &mut Vec<u8>) -> Result<(), AllocError>
-    ensures { OnOk result (into.new.items ≡ into.old.items ++ front_text sums.now) }
+/// The version of a log that is joined of others which declare these sums, where one of them is of version 4, or none.
+pub fn joined_version(newest: bool, sums: &[Sum]) -> u8
+    ensures { result ≡ joined_version newest sums.now }
 {
-    if sums.is_empty() {
+    if newest {
+        4
+    } else if sums.is_empty() {
+        2
+    } else {
+        3
+    }
+}
+
+// Appends the text in the place of the first line of a log of this version that declares this.
+fn put_front(
+    alloc: Global,
+    version: u8,
+    declared: &Declared,
+    into: &mut Vec<u8>,
+) -> Result<(), AllocError>
+    ensures { OnOk result (into.new.items ≡ into.old.items ++ front_text version declared.now) }
+{
+    if version == 2 {
         put_line(alloc, &Line::Header { version: 2 }, into)?;
     } else {
-        put_head(alloc, sums, into)?;
+        put_head(alloc, version, declared.sums.as_slice(), into)?;
+        put_derivations(alloc, declared.derivations.as_slice(), into)?;
     }
     Ok(())
 }
 
-// Begins the log, which declares these sums.
+// Begins the log of this version, which declares this.
 fn begin_log<F: Shelf>(
     alloc: Global,
-    sums: &[Sum],
+    version: u8,
+    declared: &Declared,
     files: &mut F,
     name: &str,
 ) -> Result<LogWriter, JoinStop>
     requires { IsTrue (F.may_write files.old name.now) }
     ensures begun { IfOk result
-        (λ writer. HasItems (front_text sums.now) writer (F.files files.new) []) }
+        (λ writer. HasItems (front_text version declared.now) writer (F.files files.new) []) }
     ensures named { IfOk result (λ writer. name_of writer ≡ name.now) }
     ensures err { OnErr result (MayClear name.now (F.files files.old) (F.files files.new)) }
     ensures others { OthersStay name.now (F.files files.old) (F.files files.new) }
@@ -266,7 +316,7 @@ fn begin_log<F: Shelf>(
     ensures no_fault { result ≢ Err JoinStop.ReadFault }
 {
     let mut front = Vec::new(alloc);
-    put_front(alloc, sums, &mut front)?;
+    put_front(alloc, version, declared, &mut front)?;
     match LogWriter::begin_with(alloc, files, name, front.as_slice()) {
         Ok(writer) => Ok(writer),
         Err(stop) => Err(write_stop(stop)),
@@ -297,11 +347,13 @@ fn finish_log<F: Shelf>(writer: LogWriter, files: &mut F, claim: &Claim) -> Resu
     }
 }
 
-// Writes the joined log with these sums and the larger claim, where no log of a part shows a defect now, and answers the claim.
+// Writes the joined log of this version with what it declares and the larger claim, where no log of a part shows a defect now, and
+// answers the claim.
 fn write_log<F: Shelf>(
     alloc: Global,
     logs: PartLogs,
-    sums: &[Sum],
+    version: u8,
+    declared: &Declared,
     larger: &Claim,
     files: &mut F,
     name: &str,
@@ -315,12 +367,12 @@ fn write_log<F: Shelf>(
     requires apart { (part : ℕ) → part < 2 ^ logs.levels
         → name.now ≢ log_name logs.stem.now part }
     ensures written { IfOk result (HasWritten logs.entry.limits logs.entry.levels
-        logs.entry.stem.now logs.entry.heads.now name.now (front_text sums.now) larger.now claim
-        (F.files files.old) (F.files files.new)) }
+        logs.entry.stem.now logs.entry.heads.now name.now (front_text version declared.now)
+        larger.now claim (F.files files.old) (F.files files.new)) }
     ensures claim { IfOk result (IsClaim claim) }
     ensures err { OnErr result (HasLeft logs.entry.limits logs.entry.levels
-        logs.entry.stem.now logs.entry.heads.now name.now (front_text sums.now) larger.now
-        (F.files files.old) (F.files files.new)) }
+        logs.entry.stem.now logs.entry.heads.now name.now (front_text version declared.now)
+        larger.now (F.files files.old) (F.files files.new)) }
     ensures others { OthersStay name.now (F.files files.old) (F.files files.new) }
     ensures readable { F.may_read files.new ≡ F.may_read files.old }
     ensures writable { F.may_write files.new ≡ F.may_write files.old }
@@ -331,7 +383,7 @@ fn write_log<F: Shelf>(
     ensures write_fault { result ≡ Err JoinStop.WriteFault
         → Rose (F.write_faults files.old) (F.write_faults files.new) }
 {
-    let mut writer = begin_log(alloc, sums, files, name)?;
+    let mut writer = begin_log(alloc, version, declared, files, name)?;
     match write_tree(alloc, logs, 0, 0, &mut writer, files)? {
         Some(BadPart { part, defect }) => Ok(Joined::No { part, defect }),
         None => {
@@ -341,12 +393,14 @@ fn write_log<F: Shelf>(
     }
 }
 
-// Writes the joined log with these sums and this claim, where no log of a part shows a defect now.
+/// Writes the joined log of this version, which declares this, with this claim, where no log of a part shows a defect now. It takes
+/// memory for the text of the head and for the plant's program.
 pub fn write_joined<F: Shelf>(
     alloc: Global,
     plant: &Plant,
     levels: u32,
-    sums: &[Sum],
+    version: u8,
+    declared: &Declared,
     heads: &[u64],
     files: &mut F,
     stem: &str,
@@ -355,20 +409,20 @@ pub fn write_joined<F: Shelf>(
 ) -> Result<Joined, JoinStop>
     requires sound { Sound plant.now }
     requires most { levels ≤ 8 }
-    requires declared { MayDeclare plant.now levels sums.now }
+    requires declared { MayDeclare (head_limits plant.now levels) version declared.now }
     requires heads { length heads.now ≡ 2 ^ levels }
     requires may_read { (part : ℕ) → part < 2 ^ levels
         → IsTrue (F.may_read files.old (log_name stem.now part)) }
     requires may_write { IsTrue (F.may_write files.old name.now) }
     requires apart { (part : ℕ) → part < 2 ^ levels → name.now ≢ log_name stem.now part }
-    ensures written { IfOk result (λ said. IsFit plant.now sums.now claim
-        → HasWritten (part_limits plant.now levels (length sums.now)) levels stem.now heads.now
-        name.now (front_text sums.now) (larger_claim sums.now claim) claim
+    ensures written { IfOk result (λ said. IsFit plant.now declared.now.sums claim
+        → HasWritten (part_limits plant.now levels declared.now) levels stem.now heads.now
+        name.now (front_text version declared.now) (larger_claim declared.now.sums claim) claim
         (F.files files.old) (F.files files.new) said) }
     ensures claim { IfOk result (IsClaim claim) }
-    ensures err { OnErr result (HasLeft (part_limits plant.now levels (length sums.now)) levels
-        stem.now heads.now name.now (front_text sums.now) (larger_claim sums.now claim)
-        (F.files files.old) (F.files files.new)) }
+    ensures err { OnErr result (HasLeft (part_limits plant.now levels declared.now) levels
+        stem.now heads.now name.now (front_text version declared.now)
+        (larger_claim declared.now.sums claim) (F.files files.old) (F.files files.new)) }
     ensures others { OthersStay name.now (F.files files.old) (F.files files.new) }
     ensures readable { F.may_read files.new ≡ F.may_read files.old }
     ensures writable { F.may_write files.new ≡ F.may_write files.old }
@@ -380,16 +434,16 @@ pub fn write_joined<F: Shelf>(
         → Rose (F.write_faults files.old) (F.write_faults files.new) }
 {
     let program = program_of(alloc, plant)?;
-    match larger_claim(alloc, &program, sums, &claim)? {
+    match larger_claim(alloc, &program, declared.sums.as_slice(), &claim)? {
         Some(larger) => {
-            let limits = limits_of(&program, levels, sums.len());
+            let limits = limits_of(&program, levels, declared);
             let logs = PartLogs {
                 levels,
                 limits,
                 heads,
                 stem,
             };
-            write_log(alloc, logs, sums, &larger, files, name, claim)
+            write_log(alloc, logs, version, declared, &larger, files, name, claim)
         }
         None => Ok(no_sums()),
     }

@@ -2,14 +2,14 @@
 use Rattle.std.proofs.Common.{◌≡◌, ℕ, ◌≤◌, ◌<◌, ◌^◌, List, [], ◌∷◌, length, All, Bool, IsTrue, inl, inr, arith, append-nil, subst}
 use Rattle.std.proofs.lemmas.List.Elements.{All-tail}
 use Rattle.std.proofs.lemmas.List.FromFn.{get_or-map-range_with_len, length-map-range_with_len}
-use Rattle.std.specs.Prelude.{◌⊎◌, Option, Some, None, Result, Ok, Err, IfOk, IfSome}
+use Rattle.std.specs.Prelude.{Option, Some, None, Result, Ok, Err, IfOk, IfSome}
 use Rattle.stn_edge.specs.Files.{FileMap, file_of}
 use Rattle.stn_model.specs.declared.plant.Plant.{Plant}
 use Rattle.time_grid.specs.Slots.{slots}
 use Rattle.proof_log.specs.declared.claim.Claim.{Claim}
 use Rattle.log_parts.specs.declared.joins.Joined.{Joined}
 use Rattle.log_parts.specs.declared.joins.Joined.TheVariants.{Done, No}
-use Rattle.log_parts.specs.PartLogs.{IsJoinedLog, IsJoinBegun, IsJoiningIn, IsNo, LeavesJoin, logs_of}
+use Rattle.log_parts.specs.PartLogs.{IsJoinedLog, IsJoinBegun, IsJoiningIn, IsNo, logs_of}
 use Rattle.command_replies.specs.declared.reply.Reply.{Reply}
 use Rattle.proof_log.specs.LogNames.{log_name}
 use Rattle.part_commands.specs.JoiningParts.{join_status, part_names, JoinAnswered, LeavesJoined}

@@ -1,5 +1,5 @@
 -- Images, and what makes them.
-use Rattle.std.proofs.Common.{◌≡◌, ℕ, List, length, sym, ap, ap₂, ◌∙◌, subst, arith, ℤ, pos, ◌+ℤ◌, ◌-ℤ◌, ◌≤ℤ◌}
+use Rattle.std.proofs.Common.{◌≡◌, ℕ, List, length, refl, sym, ap, ap₂, ◌∙◌, subst, arith, ℤ, pos, ◌+ℤ◌, ◌-ℤ◌, ◌≤ℤ◌}
 use Rattle.std.specs.List.{All}
 use Rattle.std.proofs.lemmas.Int.{ints}
 use Rattle.std.proofs.lemmas.List.Elements.{All-append}
@@ -16,9 +16,14 @@ use Rattle.sum_slots.specs.Law.{IsSameWithSums}
 use Rattle.sum_slots.specs.Shown.{AreRanges, IsShown}
 use Rattle.sum_slots.specs.Sum.{IsDeclared}
 use Rattle.sum_slots.proofs.Sameness.{law}
+use Rattle.derivations.specs.declared.derivation.Derivation.{Derivation}
+use Rattle.derivations.specs.Growth.{AreShown}
+use Rattle.derivations.specs.Larger.{IsWithDerivations, begun}
+use Rattle.derivations.proofs.Holding.{holds}
+use Rattle.derivations.proofs.Shares.{met-holds}
 use Rattle.plan_images.specs.Extensions.{Extends, IsWithRows}
 use Rattle.plan_images.specs.Images.{IsImage, IsRelaxation, Relaxes}
-use Rattle.plan_images.specs.Law.{SumsExtend}
+use Rattle.plan_images.specs.Law.{DerivationsExtend, SumsExtend}
 use Rattle.plan_images.specs.Told.{ReadsAs}
 
 less_costs : (value : ℤ) (n : ℕ) (earned : ℤ) → earned ≤ℤ (value -ℤ pos n) → earned ≤ℤ value
@@ -57,16 +62,16 @@ itself-relaxes program = record { image = λ point. point; is = own-image progra
 
 -- ---- rows
 
--- a relaxation stays one where rows are added that each image keeps
-pub with-rows : {X : Type 0} (admits : X → Type 0) (earned : X → ℤ) (given larger : Program) (alone : List ℕ → ℤ) (more : List Row) (is : IsRelaxation admits earned given alone)
-    → ((x : X) → admits x → All (IsKept (is.image x)) more) → IsWithRows given more larger → IsRelaxation admits earned larger alone
-with-rows admits earned given larger alone more is keep added = record { image = is.image; is = λ x admitted. in_larger (is.image x) (earned x) (is.is x admitted) (keep x admitted) }
+-- a relaxation stays one where rows are added that each image keeps, and the root is narrowed to domains in which it lies
+pub with-rows : {X : Type 0} (admits : X → Type 0) (earned : X → ℤ) (given larger : Program) (alone : List ℕ → ℤ) (more : List Row) (domains : List Domain) (is : IsRelaxation admits earned given alone)
+    → ((x : X) → admits x → All (IsKept (is.image x)) more × LiesIn domains (is.image x)) → IsWithRows given more domains larger → IsRelaxation admits earned larger alone
+with-rows admits earned given larger alone more domains is keep added = record { image = is.image; is = λ x admitted. in_larger (is.image x) (earned x) (is.is x admitted) (keep x admitted) }
   where
-    in_larger : (point : List ℕ) (amount : ℤ) → IsImage given alone amount point → All (IsKept point) more → IsImage larger alone amount point
+    in_larger : (point : List ℕ) (amount : ℤ) → IsImage given alone amount point → All (IsKept point) more × LiesIn domains point → IsImage larger alone amount point
     in_larger point amount image kept = record {
       lawful = record {
-        lies = subst (λ (ds : List Domain). LiesIn ds point) (sym added.root) image.lawful.lies;
-        keeps = subst (All (IsKept point)) (sym added.rows) (All-append (IsKept point) given.rows more image.lawful.keeps kept);
+        lies = subst (λ (ds : List Domain). LiesIn ds point) (sym added.root) (met-holds given.root domains point image.lawful.lies kept.1);
+        keeps = subst (All (IsKept point)) (sym added.rows) (All-append (IsKept point) given.rows more image.lawful.keeps kept.0);
       };
       value = subst (λ (v : ℤ). amount ≤ℤ v) (ap₂ (λ (base : ℤ) (es : List Entry). base +ℤ entries_sum es point) (sym added.base) (sym added.profit)) image.value;
       said = image.said;
@@ -118,3 +123,21 @@ shown-points given larger ranges sums wide declared shown enlarged = sums-points
 pub shown-extend : SumsExtend
 shown-extend given larger ranges sums wide declared shown enlarged =
     same-extend given larger (completed sums) (given_of given) (shown-points given larger ranges sums wide declared shown enlarged)
+
+-- ---- derivations
+
+-- a program with derivations that are shown has the points of the one without them, under their own names
+pub derived-points : (given larger : Program) (domains : List Domain) (derivations : List Derivation) → AreRanges given domains → AreShown (begun given domains) derivations → IsWithDerivations given domains derivations larger
+    → HaveSamePoints given larger (λ point. point) (λ point. point)
+derived-points given larger domains derivations wide shown enlarged =
+    let same = holds given larger domains derivations wide.same_length wide.normal wide.hold shown enlarged in record {
+      there_is = λ point lawful. ((same.points point).1 lawful, same.worth point);
+      back_is = λ point lawful. ((same.points point).0 lawful, sym (same.worth point));
+      there_back = λ point lawful. refl;
+      back_there = λ point lawful. refl;
+    }
+
+-- so derivations that are shown extend a program
+pub derived-extend : DerivationsExtend
+derived-extend given larger domains derivations wide shown enlarged =
+    same-extend given larger (λ point. point) (λ point. point) (derived-points given larger domains derivations wide shown enlarged)

@@ -7,7 +7,7 @@ use Rattle.stn_model.specs.Profit.{profit}
 use Rattle.row_kit.specs.declared.domain.Domain.{Domain}
 use Rattle.row_kit.specs.declared.program.Program.{Program}
 use Rattle.row_kit.specs.declared.row.Row.{Row}
-use Rattle.row_kit.specs.Point.{IsLawful, worth_of}
+use Rattle.row_kit.specs.Point.{IsLawful, LiesIn, worth_of}
 use Rattle.row_kit.specs.Row.{IsKept}
 use Rattle.row_set.specs.Parts.{IsAdmitted, IsPartOf}
 use Rattle.proof_tree.specs.declared.capped.Capped.{Capped}
@@ -22,6 +22,9 @@ use Rattle.sum_slots.specs.declared.sum.Sum.{Sum}
 use Rattle.sum_slots.specs.Larger.{IsWithSums}
 use Rattle.sum_slots.specs.Shown.{AreRanges, IsShown}
 use Rattle.sum_slots.specs.Sum.{IsDeclared}
+use Rattle.derivations.specs.declared.derivation.Derivation.{Derivation}
+use Rattle.derivations.specs.Growth.{AreShown}
+use Rattle.derivations.specs.Larger.{IsWithDerivations, begun}
 use Rattle.proof_log.specs.declared.claim.Claim.{Claim}
 use Rattle.proof_log.specs.ClaimSays.{ClaimSays}
 use Rattle.plan_images.specs.Boxes.{LosesNone, SettlesBy, settled_by}
@@ -44,11 +47,17 @@ SumsExtend =
     (given larger : Program) (ranges : List Domain) (sums : List Sum) → AreRanges given ranges → All (IsDeclared (length given.root)) sums → All (IsShown given ranges) sums
     → IsWithSums given ranges sums larger → Extends given (worth_of given) larger (worth_of larger)
 
--- a relaxation stays one, with the same images, where rows are added that each image keeps
+-- a program with derivations that are shown extends the one without them
+abbrev pub DerivationsExtend : Type 0
+DerivationsExtend =
+    (given larger : Program) (domains : List Domain) (derivations : List Derivation) → AreRanges given domains → AreShown (begun given domains) derivations → IsWithDerivations given domains derivations larger
+    → Extends given (worth_of given) larger (worth_of larger)
+
+-- a relaxation stays one, with the same images, where rows are added that each image keeps, and the root is narrowed to domains in which each image lies
 abbrev pub RowsExtend : Type 0
 RowsExtend =
-    (plant : Plant) (part given larger : Program) (alone : List ℕ → ℤ) (more : List Row) (is : RelaxesPart plant part given alone) → ((plan : List Start) → IsAdmitted plant part plan → All (IsKept (is.image plan)) more)
-    → IsWithRows given more larger → RelaxesPart plant part larger alone
+    (plant : Plant) (part given larger : Program) (alone : List ℕ → ℤ) (more : List Row) (domains : List Domain) (is : RelaxesPart plant part given alone) → ((plan : List Start) → IsAdmitted plant part plan → All (IsKept (is.image plan)) more × LiesIn domains (is.image plan))
+    → IsWithRows given more domains larger → RelaxesPart plant part larger alone
 
 -- what extends a relaxation is one
 abbrev pub ExtensionsCompose : Type 0

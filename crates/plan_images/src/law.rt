@@ -1,5 +1,5 @@
 //! The law of relaxations.
-ghost use Rattle.plan_images.specs.Law.{CapsAreFloored, ClaimsAreBorne, ClaimsAreTold, ExtensionsCompose, NoneIsLost, PartsRelax, RowsExtend, RowsSettle, SumsExtend, TreesCap};
+ghost use Rattle.plan_images.specs.Law.{CapsAreFloored, ClaimsAreBorne, ClaimsAreTold, DerivationsExtend, ExtensionsCompose, NoneIsLost, PartsRelax, RowsExtend, RowsSettle, SumsExtend, TreesCap};
 
 /// A relaxation of plans is a program in which each of them has a point, its image: lawful, and worth at least what the plan earns.
 /// These are its laws; of points that are no images they say nothing.
@@ -7,8 +7,10 @@ pub fn plans_have_images()
     // The program of a plant, or of a part of its choices, is a relaxation of the plans that it admits.
     ensures parts { PartsRelax }
 
-    // Sums extend a program, and so do rows that every image keeps; extensions compose.
+    // Sums extend a program, and so do derivations; rows that every image keeps and domains in which it lies leave a relaxation one;
+    // extensions compose.
     ensures sums { SumsExtend }
+    ensures derivations { DerivationsExtend }
     ensures rows { RowsExtend }
     ensures compose { ExtensionsCompose }
 

@@ -122,7 +122,7 @@ module _ (plant : Plant) (part : Program) (sound : Sound plant) (is : IsPartOf p
         boxes = sym of.search.spent;
         justified = of.search.justified;
         is = plain-is plant part tree (claim_of plant said);
-        valid = plain-verdict part (plant_root plant) (depth_over part.root) (tree_items tree) (claim_of plant said) (Yes (claim_of plant said)) (valid-search part budget tree ended (claim_of plant said) of.search borne small);
+        valid = plain-verdict part (plant_root plant) (plant_root plant) (depth_over part.root) (tree_items tree) (claim_of plant said) (Yes (claim_of plant said)) (valid-search part budget tree ended (claim_of plant said) of.search borne small);
         cap = subst (IsCapOf said) of.search.cap most;
         left_open = left;
       }) told says in

@@ -78,6 +78,6 @@ valid-sums plant part larger sums budget tree ended claim is may enlarged made s
     let same = same-given plant part larger sums is may enlarged in
     let whole = larger_claim sums claim in
     let valid = valid-search larger budget tree ended whole made (sound_larger part larger sums same ended.cap claim sound) (small_larger sums claim small) in
-    headed-verdict part larger ranges sums (depth_over part.root) tree whole claim may enlarged
+    headed-verdict part larger ranges ranges sums (depth_over part.root) tree whole claim may enlarged
     (yes-deeper larger (depth_over larger.root) (depth_over part.root) (log_text 2 (tree_items tree) whole) whole (depth_less part larger ranges sums enlarged) valid)
     (sym (cut_same part larger sums same ended.cap claim sound))

@@ -1,4 +1,5 @@
 pub mod FirstBad
+pub mod HeadJudged
 pub mod OwnSaying
 pub mod PlantSaying
 pub mod ShownVerdicts

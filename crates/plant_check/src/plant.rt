@@ -6,11 +6,11 @@ ghost use Rattle.stn_model.specs.Sound.{Sound};
 ghost use Rattle.row_set.specs.Parts.{IsPartOf};
 ghost use Rattle.row_set.specs.PlantProgram.{IsMadeOf, IsProgramOf};
 ghost use Rattle.valid_log.specs.Claims.{YesSays, YesSaysOf};
-ghost use Rattle.valid_log.specs.PlantLogs.{IsAnyChecked, IsAnyPartChecked};
+ghost use Rattle.valid_log.specs.PlantLogs.{IsAnyChecked, IsAnyKeptChecked, IsAnyPartChecked};
 
 use crate::check::check_any;
 use log_check::CheckStop;
-use row_kit::Program;
+use row_kit::{List, Program};
 use row_set::{plant_root, program_of};
 use std::alloc::Global;
 use stn_edge::Shelf;
@@ -21,8 +21,8 @@ use valid_log::LogVerdict;
 /// have at most nine splits each.
 pub const MOST_DEPTH: u32 = 4608;
 
-/// Checks the log of any version in a file against a plant. A log of version 3 is read in two passes, its head and what follows,
-/// others once; what is held of it is its sums, and grows with the depth of its tree. The files are as before. `Fault` comes
+/// Checks the log of any version in a file against a plant. A log with a head is read in two passes, its head and what follows,
+/// others once; what is held of it is its sums and derived rows, and grows with the depth of its tree. The files are as before. `Fault` comes
 /// only where a read failed.
 pub fn check_stream<F: Shelf>(
     alloc: Global,
@@ -46,7 +46,8 @@ pub fn check_stream<F: Shelf>(
 {
     let program = whole_program(alloc, plant)?;
     let ranges = plant_root(alloc, plant)?;
-    check_any(alloc, program, ranges.as_slice(), MOST_DEPTH, files, name)
+    let ranges = ranges.as_slice();
+    check_any(alloc, program, ranges, ranges, MOST_DEPTH, files, name)
 }
 
 // The program of a plant.
@@ -60,8 +61,8 @@ fn whole_program(alloc: Global, plant: &Plant) -> Result<Program, CheckStop>
 }
 
 /// Checks the log of any version in a file against a part of a plant's choices, of which this is the program, as `check_stream`
-/// checks one against all of them, where at most so many splits may be open. Its sums are to be shown by what slots of the plant
-/// may have, whatever they may have in the part. The files are as before. `Fault` comes only where a read failed.
+/// checks one against all of them, where at most so many splits may be open. Its head is judged over what slots of the plant may
+/// have, whatever they may have in the part. The files are as before. `Fault` comes only where a read failed.
 pub fn check_part<F: Shelf>(
     alloc: Global,
     plant: &Plant,
@@ -85,6 +86,46 @@ pub fn check_part<F: Shelf>(
     ensures later { F.read_faults files.old ≤ F.read_faults files.new }
     ensures no_write { F.write_faults files.new ≡ F.write_faults files.old }
 {
+    let whole = plant_root(alloc, plant)?;
+    let ranges = whole.as_slice();
+    check_any(alloc, part, ranges, ranges, depth, files, name)
+}
+
+/// Checks the log of any version in a file against the choices that kept starts leave, as `check_part` checks one against a part:
+/// but a head of version 4 is judged over these choices, and not over what slots of the plant may have. The files are as before.
+/// `Fault` comes only where a read failed.
+pub fn check_kept<F: Shelf>(
+    alloc: Global,
+    plant: &Plant,
+    part: Program,
+    depth: u32,
+    files: &mut F,
+    name: &str,
+) -> Result<LogVerdict, CheckStop>
+    requires sound { Sound plant.now }
+    requires part { IsPartOf plant.now part }
+    requires allowed { IsTrue (F.may_read files.old name.now) }
+    ensures checked { IfOk result (λ verdict. IfSome (F.files files.old)
+        (λ m. IsAnyKeptChecked plant.now part depth (file_of m name.now) verdict)) }
+
+    // What the claim of a yes says holds of all admitted plans, whether the files are told or not.
+    ensures says { IfOk result (YesSaysOf plant.now part) }
+    ensures fault { result ≡ Err CheckStop.Fault → Rose (F.read_faults files.old) (F.read_faults files.new) }
+    ensures same { F.files files.new ≡ F.files files.old }
+    ensures readable { F.may_read files.new ≡ F.may_read files.old }
+    ensures writable { F.may_write files.new ≡ F.may_write files.old }
+    ensures later { F.read_faults files.old ≤ F.read_faults files.new }
+    ensures no_write { F.write_faults files.new ≡ F.write_faults files.old }
+{
     let ranges = plant_root(alloc, plant)?;
-    check_any(alloc, part, ranges.as_slice(), depth, files, name)
+    let root = List::from_slice(alloc, part.root.as_slice())?;
+    check_any(
+        alloc,
+        part,
+        ranges.as_slice(),
+        root.as_slice(),
+        depth,
+        files,
+        name,
+    )
 }

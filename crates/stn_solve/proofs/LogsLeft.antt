@@ -104,16 +104,16 @@ plain-left plant part head name old new is (inl same) = inl same
 plain-left plant part head name old new is (inr begun) = inr (plain-told plant part head name new is begun)
 
 -- a log with a head of sums that was begun is one of version 3
-sums_begun : (plant : Plant) (part larger : Program) (sums : List Sum) (bytes : List ℕ) → IsWithSums part (plant_root plant) sums larger → IsBegun larger (head_text sums) bytes → IsSomeLogBegun plant part bytes
+sums_begun : (plant : Plant) (part larger : Program) (sums : List Sum) (bytes : List ℕ) → IsWithSums part (plant_root plant) sums larger → IsBegun larger (head_text 3 sums) bytes → IsSomeLogBegun plant part bytes
 sums_begun plant part larger sums bytes enlarged begun =
     record { sums = sums; larger = larger; tree = begun.tree; own = begun.claim; rest = begun.rest; is = inr (enlarged, begun.text); writable = begun.writable }
 
-pub sums-told : (plant : Plant) (part larger : Program) (sums : List Sum) (head name : List ℕ) (files : Option FileMap) → IsWithSums part (plant_root plant) sums larger → head ≡ head_text sums
+pub sums-told : (plant : Plant) (part larger : Program) (sums : List Sum) (head name : List ℕ) (files : Option FileMap) → IsWithSums part (plant_root plant) sums larger → head ≡ head_text 3 sums
     → IfSome (bytes_in name files) (IsBegun larger head) → IfSome (bytes_in name files) (IsSomeLogBegun plant part)
 sums-told plant part larger sums head name files enlarged is begun =
     told_weaker (bytes_in name files) (IsBegun larger head) (IsSomeLogBegun plant part) (λ bytes b. sums_begun plant part larger sums bytes enlarged (subst (λ (h : List ℕ). IsBegun larger h bytes) is b)) begun
 
-pub sums-left : (plant : Plant) (part larger : Program) (sums : List Sum) (head name : List ℕ) (old new : Option FileMap) → IsWithSums part (plant_root plant) sums larger → head ≡ head_text sums
+pub sums-left : (plant : Plant) (part larger : Program) (sums : List Sum) (head name : List ℕ) (old new : Option FileMap) → IsWithSums part (plant_root plant) sums larger → head ≡ head_text 3 sums
     → LeavesBegun larger head name old new → IsLeft plant part name old new
 sums-left plant part larger sums head name old new enlarged is (inl same) = inl same
 sums-left plant part larger sums head name old new enlarged is (inr begun) = inr (sums-told plant part larger sums head name new enlarged is begun)

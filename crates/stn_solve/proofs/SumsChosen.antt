@@ -36,14 +36,14 @@ shown_there program ranges sum shown = (shows_there program ranges sum.low (oppo
 
 -- sums that are declared and shown, and for which there is room, may stand in a head
 pub may-head : (program : Program) (ranges : List Domain) (sums : List Sum) → All (IsDeclared (length program.root)) sums → All (IsShown program ranges) sums
-    → length program.root + length sums ≤ 512 → length program.rows + 2 * length sums ≤ 45904 → length (head_text sums) < 2 ^ 64 → MayHead program ranges sums
+    → length program.root + length sums ≤ 512 → length program.rows + 2 * length sums ≤ 45904 → length (head_text 3 sums) < 2 ^ 64 → MayHead program ranges sums
 may-head program ranges sums declared shown slots rows few = record {
   depth = 0;
   kept = record {
     declared = declared;
     rows_there = All-weaker (IsShown program ranges) (HasRows (length program.rows)) (shown_there program ranges) sums shown;
-    slots = slots;
-    rows = rows;
+    slots = λ some. slots;
+    rows = λ some. rows;
   };
   few_bytes = few;
   shown = shown;

@@ -16,6 +16,9 @@ use sum_choice::choose_sums;
 use sum_lines::put_head;
 use sum_slots::{Sum, complete, with_sums};
 
+// The version of logs that declare sums.
+const SUMS_VERSION: u8 = 3;
+
 /// A part of a plant's choices with sums, as a search finds it.
 #[derive(Drop)]
 pub struct Summed {
@@ -39,7 +42,7 @@ pub fn with_chosen(alloc: Global, plant: &Plant, part: Program) -> Result<Summed
     let ranges = plant_root(alloc, plant)?;
     let sums = choose_sums(alloc, &part, ranges.as_slice())?;
     let mut head = Vec::new(alloc);
-    put_head(alloc, sums.as_slice(), &mut head)?;
+    put_head(alloc, SUMS_VERSION, sums.as_slice(), &mut head)?;
     let given = part.root.len() as u32;
     let least = least_found(alloc, &part)?;
     let program = with_sums(alloc, part, ranges.as_slice(), sums.as_slice())?;

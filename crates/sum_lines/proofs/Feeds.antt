@@ -27,7 +27,7 @@ IsFit word = HasNoFeed word × (length word ≤ 31)
 pub tested : (bytes : List ℕ) → list_all (λ b. not (eqb b 10)) bytes ≡ true → HasNoFeed bytes
 tested bytes is = λ k d within. let tells : not (eqb (get_or bytes k d) 10) ≡ true = and_at (list_all (λ b. not (eqb b 10))) (λ b. not (eqb b 10)) refl (λ _ _. refl) bytes k d within is in grind (arith, nat_tests)
 
-no_feed_number : (n : ℕ) → n < 10 ^ 64 → HasNoFeed (decimal n)
+pub no_feed_number : (n : ℕ) → n < 10 ^ 64 → HasNoFeed (decimal n)
 no_feed_number n small = λ k d within. let lacks : eqb (get_or (decimal n) k d) 10 ≡ false = decimal-lacks n 10 small (λ r. omega arith) k d within in grind (arith, nat_tests)
 
 fit_number : (n : ℕ) → n < 10 ^ 30 → HasNoFeed (decimal n) × (length (decimal n) ≤ 31)

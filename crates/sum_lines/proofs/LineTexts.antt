@@ -14,18 +14,18 @@ unfolding words_text
 words_more words word = flat_map-append (λ w. 32 ∷ w) words (word ∷ []) ∙ ap (λ w. words_text words ++ w) (append-nil (32 ∷ word))
 
 -- a name that is put
-put_name : (old name s : List ℕ) → s ≡ old ++ name → s ≡ old ++ (name ++ words_text [])
+pub put_name : (old name s : List ℕ) → s ≡ old ++ name → s ≡ old ++ (name ++ words_text [])
 unfolding words_text
 put_name old name s is = is ∙ ap (λ w. old ++ w) (sym (append-nil name))
 
 -- a word that is put after a name and words
-put_word : (old name s s2 word : List ℕ) (words : List (List ℕ)) → s ≡ old ++ (name ++ words_text words) → s2 ≡ s ++ (32 ∷ word) → s2 ≡ old ++ (name ++ words_text (words ++ word ∷ []))
+pub put_word : (old name s s2 word : List ℕ) (words : List (List ℕ)) → s ≡ old ++ (name ++ words_text words) → s2 ≡ s ++ (32 ∷ word) → s2 ≡ old ++ (name ++ words_text (words ++ word ∷ []))
 put_word old name s s2 word words is is2 =
     is2 ∙ ap (λ w. w ++ (32 ∷ word)) is ∙ append_assoc old (name ++ words_text words) (32 ∷ word)
     ∙ ap (λ w. old ++ w) (append_assoc name (words_text words) (32 ∷ word) ∙ ap (λ w. name ++ w) (sym (words_more words word)))
 
 -- a line feed that is put after a text
-put_feed : (old text s s2 : List ℕ) → s ≡ old ++ text → s2 ≡ s ++ 10 ∷ [] → s2 ≡ old ++ (text ++ 10 ∷ [])
+pub put_feed : (old text s s2 : List ℕ) → s ≡ old ++ text → s2 ≡ s ++ 10 ∷ [] → s2 ≡ old ++ (text ++ 10 ∷ [])
 put_feed old text s s2 is is2 = is2 ∙ ap (λ w. w ++ 10 ∷ []) is ∙ append_assoc old text (10 ∷ [])
 
 -- a name, three words and a line feed, put one after another

@@ -23,7 +23,7 @@ use Rattle.sum_lines.proofs.WordTexts.{IsRest-words_text, words_unique}
 -- ---- words without blanks
 
 -- a text of which a test tells that it has no blank
-tested : (text : List ℕ) → list_all (λ b. not (eqb b 32)) text ≡ true → IsWord text
+pub tested : (text : List ℕ) → list_all (λ b. not (eqb b 32)) text ≡ true → IsWord text
 tested text is = λ k d within. let tells : not (eqb (get_or text k d) 32) ≡ true = and_at (list_all (λ b. not (eqb b 32))) (λ b. not (eqb b 32)) refl (λ _ _. refl) text k d within is in grind (arith, nat_tests)
 
 -- what is printed of a number has no blank

@@ -29,10 +29,10 @@ there_is rows None is = tt
 there_is rows (Some row) is = grind (arith, nat_tests)
 
 -- a sum line without a defect: its rows are there, and there is room
-pub sound_is : (limits : Limits) (before width : ℕ) (offset : ℤ) (low high : Option ℕ) (count : ℕ) → opening_defect limits before (line.Sum width offset low high count) ≡ None
-    → IsThere limits.rows low × IsThere limits.rows high × (has_room limits (before + 1) ≡ true)
-sound_is limits before width offset low high count is =
-    let tests = all_passed (is_there limits.rows low) (is_there limits.rows high) (has_room limits (before + 1)) is in
+pub sound_is : (version : ℕ) (limits : Limits) (before width : ℕ) (offset : ℤ) (low high : Option ℕ) (count : ℕ) → opening_defect version limits before (line.Sum width offset low high count) ≡ None
+    → IsThere limits.rows low × IsThere limits.rows high × (has_room version limits (before + 1) ≡ true)
+sound_is version limits before width offset low high count is =
+    let tests = all_passed (is_there limits.rows low) (is_there limits.rows high) (has_room version limits (before + 1)) is in
     (there_is limits.rows low tests.0, there_is limits.rows high tests.1, tests.2)
 
 -- a row that is there among at most so many
@@ -47,8 +47,8 @@ offset_same offset small =
     ap (λ z. to_z w64 (of_z w64 z)) wide ∙ to_z-of_z w64 offset (fits_signed_from_abs w64 offset (omega arith))
 
 -- a sum with the numbers of a line
-pub opened_sum : (limits : Limits) (before : ℕ) (shown : Seen) (sum : Sum) (width : ℕ) (offset : ℤ) (low high : Option ℕ) (count : ℕ) → shown ≡ seen.Line (line.Sum width offset low high count) → MayOpen limits.slots (line.Sum width offset low high count)
-    → opening_defect limits before (line.Sum width offset low high count) ≡ None → sum.width ≡ width → sum.offset ≡ offset → sum.low ≡ low → sum.high ≡ high → sum.terms ≡ [] → IsOpened limits before shown (opened.Sum sum count)
-opened_sum limits before shown sum width offset low high count is may none is_width is_offset is_low is_high empty =
+pub opened_sum : (version : ℕ) (limits : Limits) (before : ℕ) (shown : Seen) (sum : Sum) (width : ℕ) (offset : ℤ) (low high : Option ℕ) (count : ℕ) → shown ≡ seen.Line (line.Sum width offset low high count) → MayOpen limits.slots (line.Sum width offset low high count)
+    → opening_defect version limits before (line.Sum width offset low high count) ≡ None → sum.width ≡ width → sum.offset ≡ offset → sum.low ≡ low → sum.high ≡ high → sum.terms ≡ [] → IsOpened version limits before shown (opened.Sum sum count)
+opened_sum version limits before shown sum width offset low high count is may none is_width is_offset is_low is_high empty =
     let same : line.Sum width offset low high count ≡ line.Sum sum.width sum.offset sum.low sum.high count = cc in
-    (is ∙ ap seen.Line same, subst (MayOpen limits.slots) same may, ap (opening_defect limits before) (sym same) ∙ none, empty)
+    (is ∙ ap seen.Line same, subst (MayOpen limits.slots) same may, ap (opening_defect version limits before) (sym same) ∙ none, empty)

@@ -18,15 +18,15 @@ use Rattle.sum_lines.specs.Head.{AreTerms, last_slot, term_line, text_with}
 use Rattle.sum_lines.specs.Line.{IsHeadLine, head_line_text}
 use Rattle.sum_lines.specs.laws.Walk.{HasBadTerm, HasPassed, HasSeen, IsFar, IsTermAbove, IsTermKind, rest_after}
 use Rattle.sum_lines.proofs.Feeds.{begins_line, line_late, text_fits, text_unique}
-use Rattle.sum_lines.proofs.Walks.{rest_is, text_with_more}
+use Rattle.sum_lines.proofs.Walks.{passed_file, rest_is, text_with_more}
 
 -- the line that a walk has passed stood first in what was left
-pub line_first : (lines : List HeadLine) (line : HeadLine) (file : List ℕ) → file ≡ text_with (lines ++ line ∷ []) ++ rest_after (lines ++ line ∷ []) file → rest_after lines file ≡ head_line_text line ++ 10 ∷ rest_after (lines ++ line ∷ []) file
-line_first lines line file is =
-    let r : List ℕ = rest_after (lines ++ line ∷ []) file in
+pub line_first : (version : ℕ) (lines : List HeadLine) (line : HeadLine) (file : List ℕ) → file ≡ text_with version (lines ++ line ∷ []) ++ rest_after version (lines ++ line ∷ []) file → rest_after version lines file ≡ head_line_text line ++ 10 ∷ rest_after version (lines ++ line ∷ []) file
+line_first version lines line file is =
+    let r : List ℕ = rest_after version (lines ++ line ∷ []) file in
     let t : List ℕ = head_line_text line in
-    rest_is lines file (t ++ 10 ∷ r)
-    (is ∙ ap (λ w. w ++ r) (text_with_more lines line) ∙ append_assoc (text_with lines) (t ++ 10 ∷ []) r ∙ ap (λ w. text_with lines ++ w) (append_assoc t (10 ∷ []) r))
+    rest_is version lines file (t ++ 10 ∷ r)
+    (is ∙ ap (λ w. w ++ r) (text_with_more version lines line) ∙ append_assoc (text_with version lines) (t ++ 10 ∷ []) r ∙ ap (λ w. text_with version lines ++ w) (append_assoc t (10 ∷ []) r))
 
 -- a line that stands first where another line of a head does is that
 pub first_same : (a b : HeadLine) (bytes after : List ℕ) → IsHeadLine a → IsHeadLine b → bytes ≡ head_line_text b ++ 10 ∷ after → BeginsWith (head_line_text a) bytes → a ≡ b
@@ -55,19 +55,19 @@ line_bad slots above bytes after kind line next is (inl other) =
 line_bad slots above bytes after kind line next is (inr far) = far_bad slots above bytes after kind line next far.0 far.1 far.2
 
 -- the same of what is seen, where the store may not tell the file
-bad_told : (files : Option FileMap) (name : List ℕ) (lines : List HeadLine) (walk walk2 : Walk) (shown : Seen) (slots : ℕ) (above : Option ℕ) (kind : ℕ) → HasPassed files name lines walk → HasSeen files name lines walk2 shown → IsTermKind slots above shown kind
-    → IfSome files (λ m. (file_of m name ≡ text_with lines ++ rest_after lines (file_of m name)) × IsBadTerm slots above (rest_after lines (file_of m name)) kind)
-bad_told None name lines walk walk2 shown slots above kind passed has is = tt
-bad_told (Some m) name lines walk walk2 (seen.Line line) slots above kind passed has is =
+bad_told : (files : Option FileMap) (name : List ℕ) (version : ℕ) (lines : List HeadLine) (walk walk2 : Walk) (shown : Seen) (slots : ℕ) (above : Option ℕ) (kind : ℕ) → HasPassed files name version lines walk → HasSeen files name version lines walk2 shown → IsTermKind slots above shown kind
+    → IfSome files (λ m. (file_of m name ≡ text_with version lines ++ rest_after version lines (file_of m name)) × IsBadTerm slots above (rest_after version lines (file_of m name)) kind)
+bad_told None name version lines walk walk2 shown slots above kind passed has is = tt
+bad_told (Some m) name version lines walk walk2 (seen.Line line) slots above kind passed has is =
     let file = file_of m name in
-    (passed.told.0, line_bad slots above (rest_after lines file) (rest_after (lines ++ line ∷ []) file) kind line (line_first lines line file has.1.told.0) has.0 is)
-bad_told (Some m) name lines walk walk2 seen.Other slots above kind passed has is = (passed.told.0, inr (inl (is, has.0, λ line may first. has.1 line (may_follow_line above line may) first)))
-bad_told (Some m) name lines walk walk2 seen.Cut slots above kind passed has is = (passed.told.0, inl (is, has))
+    (passed_file m name version lines walk passed, line_bad slots above (rest_after version lines file) (rest_after version (lines ++ line ∷ []) file) kind line (line_first version lines line file (passed_file m name version (lines ++ line ∷ []) walk2 has.1)) has.0 is)
+bad_told (Some m) name version lines walk walk2 seen.Other slots above kind passed has is = (passed_file m name version lines walk passed, inr (inl (is, has.0, λ line may first. has.1 line (may_follow_line above line may) first)))
+bad_told (Some m) name version lines walk walk2 seen.Cut slots above kind passed has is = (passed_file m name version lines walk passed, inl (is, has))
 
 -- the defect of what is seen where a term is to come
-pub term_bad : (files : Option FileMap) (name : List ℕ) (lines : List HeadLine) (walk walk2 : Walk) (shown : Seen) (slots : ℕ) (above : Option ℕ) (kind : ℕ) → HasPassed files name lines walk → HasSeen files name lines walk2 shown → IsTermKind slots above shown kind
-    → HasBadTerm files name slots above lines (record { line = walk.line; kind = kind })
-term_bad files name lines walk walk2 shown slots above kind passed has is = record { line = passed.line; told = bad_told files name lines walk walk2 shown slots above kind passed has is }
+pub term_bad : (files : Option FileMap) (name : List ℕ) (version : ℕ) (lines : List HeadLine) (walk walk2 : Walk) (shown : Seen) (slots : ℕ) (above : Option ℕ) (kind : ℕ) → HasPassed files name version lines walk → HasSeen files name version lines walk2 shown → IsTermKind slots above shown kind
+    → HasBadTerm files name version slots above lines (record { line = walk.line; kind = kind })
+term_bad files name version lines walk walk2 shown slots above kind passed has is = record { line = passed.line; told = bad_told files name version lines walk walk2 shown slots above kind passed has is }
 
 -- ---- terms one after another
 
@@ -77,7 +77,7 @@ last_slot-more above [] term = refl
 last_slot-more above (t ∷ terms) term = last_slot-more (Some t.slot) terms term
 
 -- the last slot by its place
-last_at : (above : Option ℕ) (terms : List Entry) → 0 < length terms → last_slot above terms ≡ Some (get_or (map (λ t. t.slot) terms) (length terms - 1) 0)
+pub last_at : (above : Option ℕ) (terms : List Entry) → 0 < length terms → last_slot above terms ≡ Some (get_or (map (λ t. t.slot) terms) (length terms - 1) 0)
 last_at above [] some = absurd (omega arith)
 last_at above (t ∷ []) some = refl
 last_at above (t ∷ u ∷ terms) some =
@@ -85,7 +85,7 @@ last_at above (t ∷ u ∷ terms) some =
     last_at (Some t.slot) (u ∷ terms) (omega arith) ∙ ap (λ k. Some (get_or (map (λ t. t.slot) (t ∷ u ∷ terms)) k 0)) (sym next)
 
 -- a number that follows the last is above it
-follows_above : (above : Option ℕ) (last number : ℕ) → above ≡ Some last → follows above number ≡ true → last < number
+pub follows_above : (above : Option ℕ) (last number : ℕ) → above ≡ Some last → follows above number ≡ true → last < number
 follows_above None last number is tells = cc
 follows_above (Some n) last number is tells = let same : n ≡ last = cc in grind (arith, nat_tests)
 
@@ -100,7 +100,7 @@ asc_more (y ∷ z ∷ ys) x asc above (suc k) within =
     let next : length (y ∷ z ∷ ys) - 1 ≡ suc (length (z ∷ ys) - 1) = omega arith in
     asc_more (z ∷ ys) x (λ j w. asc (suc j) (omega arith)) (λ some. subst (λ n. get_or (y ∷ z ∷ ys) n 0 < x) next (above (omega arith))) k (omega arith)
 
-ascending_more : (xs : List ℕ) (x : ℕ) → IsStrictlyIncreasing xs → (0 < length xs → get_or xs (length xs - 1) 0 < x) → IsStrictlyIncreasing (xs ++ x ∷ [])
+pub ascending_more : (xs : List ℕ) (x : ℕ) → IsStrictlyIncreasing xs → (0 < length xs → get_or xs (length xs - 1) 0 < x) → IsStrictlyIncreasing (xs ++ x ∷ [])
 ascending_more xs x ascending above = λ k within.
     let one : suc k ≡ k + 1 = omega arith in
     subst (λ n. get_or (xs ++ x ∷ []) k 0 < get_or (xs ++ x ∷ []) n 0) one
@@ -121,7 +121,7 @@ slots_more terms term ascending tells =
     (λ some. let place : length terms - 1 ≡ length slots - 1 = ap (λ n. n - 1) (sym long) in
     follows_above (last_slot None terms) (get_or slots (length slots - 1) 0) term.slot (last_at None terms (omega arith) ∙ ap (λ k. Some (get_or slots k 0)) place) tells))
 
-one : {X : Type 0} (P : X → Type 0) (x : X) → P x → All P (x ∷ [])
+pub one : {X : Type 0} (P : X → Type 0) (x : X) → P x → All P (x ∷ [])
 one P x is = All-cons P x [] is (λ k d within. absurd (omega arith))
 
 -- terms and one more above the last slot
@@ -137,6 +137,6 @@ terms_more slots terms term are is = record {
 }
 
 -- a walk that has passed one term more
-pub passed_more : (files : Option FileMap) (name : List ℕ) (lines : List HeadLine) (terms : List Entry) (term : Entry) (walk : Walk) → HasPassed files name ((lines ++ map term_line terms) ++ term_line term ∷ []) walk → HasPassed files name (lines ++ map term_line (terms ++ term ∷ [])) walk
-passed_more files name lines terms term walk passed =
-    subst (λ ls. HasPassed files name ls walk) (append_assoc lines (map term_line terms) (term_line term ∷ []) ∙ ap (λ w. lines ++ w) (sym (map-append term_line terms (term ∷ [])))) passed
+pub passed_more : (files : Option FileMap) (name : List ℕ) (version : ℕ) (lines : List HeadLine) (terms : List Entry) (term : Entry) (walk : Walk) → HasPassed files name version ((lines ++ map term_line terms) ++ term_line term ∷ []) walk → HasPassed files name version (lines ++ map term_line (terms ++ term ∷ [])) walk
+passed_more files name version lines terms term walk passed =
+    subst (λ ls. HasPassed files name version ls walk) (append_assoc lines (map term_line terms) (term_line term ∷ []) ∙ ap (λ w. lines ++ w) (sym (map-append term_line terms (term ∷ [])))) passed

@@ -7,10 +7,12 @@ use log_lines::Defect;
 use std::alloc::AllocError;
 use stn_edge::Stop;
 
-// A defect of the text, or a stop.
+/// A defect of the text, or a stop.
 #[derive(Clone, Copy)]
-pub(crate) enum Halt {
+pub enum Halt {
+    /// The first defect of the text.
     Bad(Defect),
+    /// The reading stopped.
     Stopped(Stop),
 }
 

@@ -95,8 +95,8 @@ fn read_some(word: &[u8], limit: u128) -> Option<u128>
     }
 }
 
-// A number below a limit in absolute value; it may have a minus, which a zero has not.
-fn read_signed(word: &[u8], limit: u128) -> Option<i128>
+/// A number below a limit in absolute value; it may have a minus, which a zero has not. None where the word is no such number.
+pub fn read_signed(word: &[u8], limit: u128) -> Option<i128>
     requires { limit ≤ 10 ^ 30 }
     ensures { ReadsWord (λ number. unsigned_abs number < limit) signed_decimal word.now result }
 {

@@ -1,7 +1,7 @@
 //! What a line begins that stands where a sum may.
 ghost use Rattle.std.specs.Prelude.{◌≡◌, ◌≤◌, ℕ, ℤ};
 ghost use Rattle.sum_lines.specs.Front.{has_room, is_there, opening_defect};
-ghost use Rattle.sum_lines.specs.Head.{IsThere};
+ghost use Rattle.sum_lines.specs.Head.{IsThere, most_rows, most_slots};
 ghost use Rattle.sum_lines.specs.declared.line.HeadLine.TheVariants as line;
 ghost use Rattle.sum_lines.specs.laws.Walk.{IsOpened, MayBeSeen};
 
@@ -16,12 +16,6 @@ use sum_slots::Sum;
 /// With one sum more there would be too many slots or rows.
 pub(crate) const TOO_MANY_SUMS: u8 = 21;
 
-/// The most slots of a program, with those of its sums.
-const MOST_SLOTS: u64 = 512;
-
-/// The most rows of a program, with those of its sums.
-const MOST_ROWS: u64 = 45_904;
-
 // A sum without its terms, which are to be so many; its defect; or nothing.
 #[derive(Drop)]
 pub(crate) enum Opened {
@@ -31,12 +25,18 @@ pub(crate) enum Opened {
 }
 
 // What the line that is seen after so many sums begins.
-pub(crate) fn open_sum(alloc: Global, limits: &Limits, before: usize, seen: Seen) -> Opened
-    requires slots { limits.now.slots ≤ 512 }
-    requires rows { limits.now.rows ≤ 45904 }
-    requires before { before ≤ 512 }
+pub(crate) fn open_sum(
+    alloc: Global,
+    version: u8,
+    limits: &Limits,
+    before: usize,
+    seen: Seen,
+) -> Opened
+    requires slots { limits.now.slots ≤ 4096 }
+    requires rows { limits.now.rows ≤ 400000 }
+    requires before { before ≤ 4096 }
     requires may_be { MayBeSeen seen }
-    ensures { IsOpened limits.now before seen result }
+    ensures { IsOpened version limits.now before seen result }
 {
     match seen {
         Seen::Line(
@@ -48,7 +48,7 @@ pub(crate) fn open_sum(alloc: Global, limits: &Limits, before: usize, seen: Seen
                 count,
             },
         ) if count <= u128::from(limits.slots) => {
-            match opening_defect(limits, before, low, high) {
+            match opening_defect(version, limits, before, low, high) {
                 Some(kind) => Opened::Bad(kind),
                 None => Opened::Sum {
                     sum: Sum {
@@ -68,34 +68,50 @@ pub(crate) fn open_sum(alloc: Global, limits: &Limits, before: usize, seen: Seen
 
 // The kind of the defect of a sum line with these rows after so many sums.
 fn opening_defect(
+    version: u8,
     limits: &Limits,
     before: usize,
     low: Option<u128>,
     high: Option<u128>,
 ) -> Option<u8>
-    requires slots { limits.now.slots ≤ 512 }
-    requires rows { limits.now.rows ≤ 45904 }
-    requires before { before ≤ 512 }
+    requires slots { limits.now.slots ≤ 4096 }
+    requires rows { limits.now.rows ≤ 400000 }
+    requires before { before ≤ 4096 }
     ensures { (width : ℕ) (offset : ℤ) (count : ℕ)
-        → result ≡ opening_defect limits.now before (line.Sum width offset low high count) }
+        → result ≡ opening_defect version limits.now before (line.Sum width offset low high count) }
 {
     if !is_there(limits.rows, low) || !is_there(limits.rows, high) {
         Some(ROW_NUMBER)
-    } else if has_room(limits, before as u64 + 1) {
+    } else if has_room(version, limits, before as u64 + 1) {
         None
     } else {
         Some(TOO_MANY_SUMS)
     }
 }
 
-// Whether there is room for so many sums.
-fn has_room(limits: &Limits, count: u64) -> bool
-    requires slots { limits.now.slots ≤ 512 }
-    requires rows { limits.now.rows ≤ 45904 }
-    requires count { count ≤ 513 }
-    ensures { result ≡ has_room limits.now count }
+// Whether a head of a version has room for so many sums.
+fn has_room(version: u8, limits: &Limits, count: u64) -> bool
+    requires slots { limits.now.slots ≤ 4096 }
+    requires rows { limits.now.rows ≤ 400000 }
+    requires count { count ≤ 4097 }
+    ensures { result ≡ has_room version limits.now count }
 {
-    u64::from(limits.slots) + count <= MOST_SLOTS && u64::from(limits.rows) + 2 * count <= MOST_ROWS
+    u64::from(limits.slots) + count <= most_slots(version)
+        && u64::from(limits.rows) + 2 * count <= most_rows(version)
+}
+
+// The most slots of a program with those of its sums.
+fn most_slots(version: u8) -> u64
+    ensures { result ≡ most_slots version }
+{
+    if version == 4 { 4_096 } else { 512 }
+}
+
+// The most rows of a program with those of its sums.
+fn most_rows(version: u8) -> u64
+    ensures { result ≡ most_rows version }
+{
+    if version == 4 { 400_000 } else { 45_904 }
 }
 
 // Whether the row is there, where one is named.
@@ -110,7 +126,7 @@ fn is_there(rows: u32, row: Option<u128>) -> bool
 
 // The number of a row that is there.
 fn narrow(row: Option<u128>) -> Option<u32>
-    requires { IsThere 45904 row }
+    requires { IsThere 400000 row }
     ensures { result ≡ row }
 {
     match row {

@@ -1,22 +1,38 @@
 //! The text of a head.
 ghost use Rattle.std.specs.Prelude.{◌≡◌, ◌++◌, ◌∷◌, [], OnOk, OnErr, length, map, decimal};
 ghost use Rattle.std.specs.Fmt.{signed_decimal};
-ghost use Rattle.sum_lines.specs.Head.{head_text, lines_of, lines_text, opening_line, sum_lines, term_line};
+ghost use Rattle.sum_lines.specs.Head.{first_line, head_text, lines_of, lines_text, opening_line, sum_lines, term_line};
 ghost use Rattle.sum_lines.specs.Line.{head_line_text, row_word};
 
 use row_kit::Entry;
 use std::alloc::{AllocError, Global};
 use sum_slots::Sum;
 
-/// Appends the text of a head with these sums. After an error `into` is as before.
-pub fn put_head(alloc: Global, sums: &[Sum], into: &mut Vec<u8>) -> Result<(), AllocError>
-    ensures ok { OnOk result (into.new.items ≡ into.old.items ++ head_text sums.now) }
+/// Appends the text of a head of version 4, or else of version 3, with these sums. After an error `into` is as before.
+pub fn put_head(
+    alloc: Global,
+    version: u8,
+    sums: &[Sum],
+    into: &mut Vec<u8>,
+) -> Result<(), AllocError>
+    ensures ok { OnOk result (into.new.items ≡ into.old.items ++ head_text version sums.now) }
     ensures err { OnErr result (into.new.items ≡ into.old.items) }
 {
     let mut text = Vec::new(alloc);
-    text.extend_from_slice(b"stn-log 3\n")?;
+    put_first(version, &mut text)?;
     put_sums(alloc, sums, &mut text)?;
     into.extend_from_slice(text.as_slice())
+}
+
+// Appends the first line of a head.
+fn put_first(version: u8, text: &mut Vec<u8>) -> Result<(), AllocError>
+    ensures { OnOk result (text.new.items ≡ text.old.items ++ (first_line version ++ 10 ∷ [])) }
+{
+    if version == 4 {
+        text.extend_from_slice(b"stn-log 4\n")
+    } else {
+        text.extend_from_slice(b"stn-log 3\n")
+    }
 }
 
 // Appends the lines of sums.
@@ -87,16 +103,16 @@ fn put_row(alloc: Global, row: Option<u32>, text: &mut Vec<u8>) -> Result<(), Al
     }
 }
 
-// Appends a number without sign after a blank.
-fn put_natural(alloc: Global, number: u64, text: &mut Vec<u8>) -> Result<(), AllocError>
+/// Appends a number without sign after a blank. After an error `text` may have grown.
+pub fn put_natural(alloc: Global, number: u64, text: &mut Vec<u8>) -> Result<(), AllocError>
     ensures { OnOk result (text.new.items ≡ text.old.items ++ (32 ∷ decimal number)) }
 {
     let digits = format!(in alloc; " {number}")?;
     text.extend_from_slice(digits.as_bytes())
 }
 
-// Appends a number after a blank.
-fn put_signed(alloc: Global, number: &i64, text: &mut Vec<u8>) -> Result<(), AllocError>
+/// Appends a number after a blank. After an error `text` may have grown.
+pub fn put_signed(alloc: Global, number: &i64, text: &mut Vec<u8>) -> Result<(), AllocError>
     ensures { OnOk result (text.new.items ≡ text.old.items ++ (32 ∷ signed_decimal number.now)) }
 {
     let digits = format!(in alloc; " {number}")?;

@@ -5,7 +5,7 @@ ghost use Rattle.stn_edge.specs.Count.{Rose};
 ghost use Rattle.stn_edge.specs.Files.{file_of};
 ghost use Rattle.stn_edge.specs.declared.stop.Stop.TheVariants.{Failed};
 ghost use Rattle.sum_lines.specs.Front.{IsBadAt, IsBadHead, IsFront, IsHeaded, KeepsLimits, MayOpen, NoneFirst};
-ghost use Rattle.sum_lines.specs.Head.{IsKept, sum_lines};
+ghost use Rattle.sum_lines.specs.Head.{IsHeadVersion, IsKept, sum_lines};
 ghost use Rattle.sum_lines.specs.declared.line.HeadLine.{HeadLine};
 ghost use Rattle.sum_lines.specs.laws.Sums.{IsSumKept};
 ghost use Rattle.sum_lines.specs.laws.Walk.{HasPassed, rest_after};
@@ -29,8 +29,8 @@ pub fn read_head<F: Shelf>(
     files: &mut F,
     name: &str,
 ) -> Result<Front, Stop>
-    requires slots { limits.now.slots ≤ 512 }
-    requires rows { limits.now.rows ≤ 45904 }
+    requires slots { limits.now.slots ≤ 4096 }
+    requires rows { limits.now.rows ≤ 400000 }
     requires allowed { IsTrue (F.may_read files.old name.now) }
     ensures front { IfOk result (λ front. IfSome (F.files files.old)
         (λ m. IsFront limits.now (file_of m name.now) front)) }
@@ -59,8 +59,8 @@ fn read_front<F: Shelf>(
     files: &mut F,
     name: &str,
 ) -> Result<Front, Halt>
-    requires slots { limits.now.slots ≤ 512 }
-    requires rows { limits.now.rows ≤ 45904 }
+    requires slots { limits.now.slots ≤ 4096 }
+    requires rows { limits.now.rows ≤ 400000 }
     requires allowed { IsTrue (F.may_read files.old name.now) }
     ensures front { IfOk result (λ front. IfSome (F.files files.old)
         (λ m. IsFront limits.now (file_of m name.now) front)) }
@@ -77,7 +77,9 @@ fn read_front<F: Shelf>(
 {
     match Walk::begin(alloc, files, name)? {
         None => Ok(Front::Plain),
-        Some(mut walk) => match read_sums(alloc, limits, &mut walk, files, name) {
+        Some((mut walk, version)) => match read_sums(
+            alloc, version, limits, &mut walk, files, name,
+        ) {
             Ok(head) => Ok(Front::Headed(head)),
             Err(halt) => Err(halt),
         },
@@ -87,15 +89,17 @@ fn read_front<F: Shelf>(
 // The head whose first line was passed.
 fn read_sums<F: Shelf>(
     alloc: Global,
+    version: u8,
     limits: &Limits,
     walk: &mut Walk,
     files: &mut F,
     name: &str,
 ) -> Result<Head, Halt>
-    requires slots { limits.now.slots ≤ 512 }
-    requires rows { limits.now.rows ≤ 45904 }
+    requires slots { limits.now.slots ≤ 4096 }
+    requires rows { limits.now.rows ≤ 400000 }
     requires allowed { IsTrue (F.may_read files.old name.now) }
-    requires passed { HasPassed (F.files files.old) name.now [] walk.old }
+    requires version { IsHeadVersion version }
+    requires passed { HasPassed (F.files files.old) name.now version [] walk.old }
     ensures head { IfOk result (λ head. IfSome (F.files files.old)
         (λ m. IsHeaded limits.now (file_of m name.now) head)) }
     ensures kept { IfOk result (IsKept limits.now) }
@@ -114,24 +118,26 @@ fn read_sums<F: Shelf>(
     'sums: loop {
         let line = walk.line;
         let bytes = walk.bytes;
-        match next_sum(alloc, limits, sums.len(), walk, files, name) {
+        match next_sum(alloc, version, limits, sums.len(), walk, files, name) {
             Ok(Some(sum)) => {
                 sums.push(sum)?;
                 lines.push(line)?;
             }
-            Ok(None) => return Ok(head_with(sums, lines, line, bytes)),
+            Ok(None) => return Ok(head_with(version, sums, lines, line, bytes)),
             Err(halt) => return Err(halt),
         }
     }
 }
 
-// The head with these sums, which begin on these lines, before a line and after so many bytes.
-fn head_with(sums: List<Sum>, lines: List<u64>, line: u64, bytes: u64) -> Head
+// The head of a version with these sums, which begin on these lines, before a line and after so many bytes.
+fn head_with(version: u8, sums: List<Sum>, lines: List<u64>, line: u64, bytes: u64) -> Head
     requires { 1 ≤ line }
-    ensures is { result ≡ record { sums = sums; lines = lines; count = line - 1; bytes = bytes } }
+    ensures is { result
+        ≡ record { version = version; sums = sums; lines = lines; count = line - 1; bytes = bytes } }
     ensures small { bytes < 2 ^ 64 }
 {
     Head {
+        version,
         sums,
         lines,
         count: line - 1,
@@ -142,30 +148,31 @@ fn head_with(sums: List<Sum>, lines: List<u64>, line: u64, bytes: u64) -> Head
 // The sum that comes next after so many, or None where no line stands there that may begin one.
 fn next_sum<F: Shelf>(
     alloc: Global,
+    version: u8,
     limits: &Limits,
     before: usize,
     walk: &mut Walk,
     files: &mut F,
     name: &str,
 ) -> Result<Option<Sum>, Halt>
-    requires slots { limits.now.slots ≤ 512 }
-    requires rows { limits.now.rows ≤ 45904 }
-    requires before { before ≤ 512 }
+    requires slots { limits.now.slots ≤ 4096 }
+    requires rows { limits.now.rows ≤ 400000 }
+    requires before { before ≤ 4096 }
     requires allowed { IsTrue (F.may_read files.old name.now) }
     requires passed { (lines : Items HeadLine)
-        × HasPassed (F.files files.old) name.now lines walk.old }
-    ensures sum { IfOk result (λ found. IfSome found (IsSumKept limits.now before)) }
+        × HasPassed (F.files files.old) name.now version lines walk.old }
+    ensures sum { IfOk result (λ found. IfSome found (IsSumKept version limits.now before)) }
     ensures goes { IfOk result (λ found. IfSome found (λ sum. (lines : Items HeadLine)
-        → HasPassed (F.files files.old) name.now lines walk.old
-        → HasPassed (F.files files.old) name.now (lines ++ sum_lines sum) walk.new)) }
+        → HasPassed (F.files files.old) name.now version lines walk.old
+        → HasPassed (F.files files.old) name.now version (lines ++ sum_lines sum) walk.new)) }
     ensures ends { result ≡ Ok None → (lines : Items HeadLine)
-        → HasPassed (F.files files.old) name.now lines walk.old
+        → HasPassed (F.files files.old) name.now version lines walk.old
         → IfSome (F.files files.old)
-        (λ m. NoneFirst (MayOpen limits.now.slots) (rest_after lines (file_of m name.now))) }
+        (λ m. NoneFirst (MayOpen limits.now.slots) (rest_after version lines (file_of m name.now))) }
     ensures bad { (defect : Defect) → result ≡ Err (Halt.Bad defect)
-        → (lines : Items HeadLine) → HasPassed (F.files files.old) name.now lines walk.old
+        → (lines : Items HeadLine) → HasPassed (F.files files.old) name.now version lines walk.old
         → IfSome (F.files files.old)
-        (λ m. IsBadAt limits.now before lines (file_of m name.now) defect) }
+        (λ m. IsBadAt version limits.now before lines (file_of m name.now) defect) }
     ensures fault { result ≡ Err (Halt.Stopped Failed)
         → Rose (F.read_faults files.old) (F.read_faults files.new) }
     ensures same { F.files files.new ≡ F.files files.old }
@@ -176,7 +183,7 @@ fn next_sum<F: Shelf>(
 {
     let line = walk.line;
     let seen = walk.next(files, name)?;
-    match open_sum(alloc, limits, before, seen) {
+    match open_sum(alloc, version, limits, before, seen) {
         Opened::Nothing => Ok(None),
         Opened::Bad(kind) => Err(Halt::Bad(Defect { line, kind })),
         Opened::Sum { mut sum, count } => {

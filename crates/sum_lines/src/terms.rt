@@ -1,5 +1,5 @@
 //! The terms of a sum, line by line.
-ghost use Rattle.std.specs.Prelude.{◌≡◌, ◌≤◌, ◌∷◌, [], ◌++◌, List as Items, Err, IsTrue, IfErr, IfOk, length, map};
+ghost use Rattle.std.specs.Prelude.{◌≡◌, ◌≤◌, ℕ, ◌∷◌, [], ◌++◌, List as Items, Err, IsTrue, IfErr, IfOk, length, map};
 ghost use Rattle.log_lines.specs.Grammar.{follows};
 ghost use Rattle.log_lines.specs.declared.defect.Defect.{Defect};
 ghost use Rattle.stn_edge.specs.Count.{Rose};
@@ -28,16 +28,18 @@ pub(crate) fn read_terms<F: Shelf>(
     name: &str,
 ) -> Result<List<Entry>, Halt>
     requires allowed { IsTrue (F.may_read files.old name.now) }
-    requires passed { (lines : Items HeadLine)
-        × HasPassed (F.files files.old) name.now lines walk.old }
+    requires passed { (version : ℕ) × (lines : Items HeadLine)
+        × HasPassed (F.files files.old) name.now version lines walk.old }
     ensures count { IfOk result (λ terms. length terms ≡ count) }
     ensures terms { IfOk result (AreTerms slots) }
     ensures goes { IfOk result
-        (λ terms. (lines : Items HeadLine) → HasPassed (F.files files.old) name.now lines walk.old
-        → HasPassed (F.files files.old) name.now (lines ++ map term_line terms) walk.new) }
+        (λ terms. (version : ℕ) (lines : Items HeadLine)
+        → HasPassed (F.files files.old) name.now version lines walk.old
+        → HasPassed (F.files files.old) name.now version (lines ++ map term_line terms) walk.new) }
     ensures bad { (defect : Defect) → result ≡ Err (Halt.Bad defect)
-        → (lines : Items HeadLine) → HasPassed (F.files files.old) name.now lines walk.old
-        → HasBadTerms (F.files files.old) name.now slots count lines defect }
+        → (version : ℕ) (lines : Items HeadLine)
+        → HasPassed (F.files files.old) name.now version lines walk.old
+        → HasBadTerms (F.files files.old) name.now version slots count lines defect }
     ensures same { F.files files.new ≡ F.files files.old }
     ensures readable { F.may_read files.new ≡ F.may_read files.old }
     ensures writable { F.may_write files.new ≡ F.may_write files.old }
@@ -69,15 +71,17 @@ fn next_term<F: Shelf>(
     name: &str,
 ) -> Result<Entry, Halt>
     requires allowed { IsTrue (F.may_read files.old name.now) }
-    requires passed { (lines : Items HeadLine)
-        × HasPassed (F.files files.old) name.now lines walk.old }
+    requires passed { (version : ℕ) × (lines : Items HeadLine)
+        × HasPassed (F.files files.old) name.now version lines walk.old }
     ensures term { IfOk result (IsTermAbove slots above) }
     ensures goes { IfOk result
-        (λ term. (lines : Items HeadLine) → HasPassed (F.files files.old) name.now lines walk.old
-        → HasPassed (F.files files.old) name.now (lines ++ term_line term ∷ []) walk.new) }
+        (λ term. (version : ℕ) (lines : Items HeadLine)
+        → HasPassed (F.files files.old) name.now version lines walk.old
+        → HasPassed (F.files files.old) name.now version (lines ++ term_line term ∷ []) walk.new) }
     ensures bad { (defect : Defect) → result ≡ Err (Halt.Bad defect)
-        → (lines : Items HeadLine) → HasPassed (F.files files.old) name.now lines walk.old
-        → HasBadTerm (F.files files.old) name.now slots above lines defect }
+        → (version : ℕ) (lines : Items HeadLine)
+        → HasPassed (F.files files.old) name.now version lines walk.old
+        → HasBadTerm (F.files files.old) name.now version slots above lines defect }
     ensures same { F.files files.new ≡ F.files files.old }
     ensures readable { F.may_read files.new ≡ F.may_read files.old }
     ensures writable { F.may_write files.new ≡ F.may_write files.old }

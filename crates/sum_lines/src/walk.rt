@@ -1,7 +1,9 @@
-//! A walk over the lines of a head in a file.
-ghost use Rattle.std.specs.Prelude.{◌≡◌, ◌≢◌, ◌≤◌, ◌+◌, List, Err, IsTrue, IfOk, IfErr, OnOk, MatchOption, length};
+//! A walk over the lines of a file.
+ghost use Rattle.std.specs.Prelude.{◌≡◌, ◌≢◌, ◌≤◌, ◌+◌, ℕ, Option, List, [], Err, IsTrue, IfOk, IfErr, OnOk, MatchOption, length};
 ghost use Rattle.stn_edge.specs.Count.{Rose};
-ghost use Rattle.sum_lines.specs.Head.{first_line};
+ghost use Rattle.stn_edge.specs.Files.{FileMap};
+ghost use Rattle.sum_lines.specs.Head.{IsHeadVersion, first_line};
+ghost use Rattle.sum_lines.specs.Walk.{IsAfter, IsStepped};
 ghost use Rattle.sum_lines.specs.declared.line.HeadLine.{HeadLine};
 ghost use Rattle.sum_lines.specs.laws.Walk.{HasBegun, HasLooked, HasPassed, HasSeen, MayBeSeen};
 
@@ -14,12 +16,15 @@ use stn_edge::{Shelf, Stop};
 /// The most bytes of a line with its line feed.
 const MOST_LINE: u64 = 201;
 
-// A reader of lines with the number of the next one and the bytes before it.
+/// A reader of lines with the number of the next one and the bytes before it.
 #[derive(Drop)]
-pub(crate) struct Walk {
-    pub(crate) reader: LineReader,
-    pub(crate) line: u64,
-    pub(crate) bytes: u64,
+pub struct Walk {
+    /// The reader, whose line is the last one that was passed.
+    pub reader: LineReader,
+    /// The number of the next line, counted from 1.
+    pub line: u64,
+    /// How many bytes of the file stand before the next line.
+    pub bytes: u64,
 }
 
 // What stands next in a file: a line of a head, the file's end before a line feed, or something else.
@@ -31,68 +36,43 @@ pub(crate) enum Seen {
 }
 
 impl Walk {
-    // A walk past the first line of a head, or None where the file does not begin with it.
-    pub(crate) fn begin<F: Shelf>(
-        alloc: Global,
-        files: &mut F,
-        name: &str,
-    ) -> Result<Option<Walk>, Stop>
-        requires allowed { IsTrue (F.may_read files.old name.now) }
-        ensures begun { IfOk result (HasBegun (F.files files.old) name.now) }
-        ensures same { F.files files.new ≡ F.files files.old }
-        ensures readable { F.may_read files.new ≡ F.may_read files.old }
-        ensures writable { F.may_write files.new ≡ F.may_write files.old }
-        ensures later { F.read_faults files.old ≤ F.read_faults files.new }
-        ensures no_write { F.write_faults files.new ≡ F.write_faults files.old }
-        ensures fault { result ≡ Err Stop.Failed
-            → Rose (F.read_faults files.old) (F.read_faults files.new) }
-    {
-        let mut reader = LineReader::begin(alloc)?;
-        match reader.next(files, name)? {
-            LineEnd::Whole => Ok(past_first(reader)),
-            _ => Ok(None),
-        }
-    }
-
-    // Looks at the next line, and passes it where it is a line of a head.
-    pub(crate) fn next<F: Shelf>(&mut self, files: &mut F, name: &str) -> Result<Seen, Stop>
-        requires allowed { IsTrue (F.may_read files.old name.now) }
-        requires passed { (lines : List HeadLine)
-            × HasPassed (F.files files.old) name.now lines self.old }
-        ensures may_be { IfOk result MayBeSeen }
-        ensures seen { IfOk result
-            (λ seen. (lines : List HeadLine) → HasPassed (F.files files.old) name.now lines self.old
-            → HasSeen (F.files files.old) name.now lines self.new seen) }
-        ensures same { F.files files.new ≡ F.files files.old }
-        ensures readable { F.may_read files.new ≡ F.may_read files.old }
-        ensures writable { F.may_write files.new ≡ F.may_write files.old }
-        ensures later { F.read_faults files.old ≤ F.read_faults files.new }
-        ensures no_write { F.write_faults files.new ≡ F.write_faults files.old }
-        ensures fault { result ≡ Err Stop.Failed
-            → Rose (F.read_faults files.old) (F.read_faults files.new) }
-    {
-        match self.reader.next(files, name)? {
-            LineEnd::Whole => self.look(),
-            LineEnd::Long => Ok(Seen::Other),
-            LineEnd::Cut => Ok(Seen::Cut),
-            LineEnd::Nothing => Ok(Seen::Cut),
-        }
-    }
-
-    // Takes the line that was read, where it is one of a head.
-    fn look(&mut self) -> Result<Seen, Stop>
-        requires short { length self.old.reader.line ≤ 200 }
-        ensures reader { self.new.reader ≡ self.old.reader }
-        ensures looked { IfOk result (HasLooked self.old self.new) }
+    /// A walk from the line of a number on, which begins after so many bytes. It takes memory for a piece of the file.
+    pub fn begin_at(alloc: Global, line: u64, bytes: u64) -> Result<Walk, Stop>
+        ensures line { IfOk result (λ walk. walk.line ≡ line) }
+        ensures after { IfOk result (λ walk. (files : Option FileMap) (name : List ℕ)
+            → IsAfter files name bytes [] walk) }
         ensures memory { IfErr result (λ stop. stop ≡ Stop.Memory) }
     {
-        match read_head_line(self.reader.line()) {
-            None => Ok(Seen::Other),
-            Some(line) => {
-                self.pass()?;
-                Ok(Seen::Line(line))
-            }
+        let reader = LineReader::begin_at(alloc, bytes)?;
+        Ok(Walk {
+            reader,
+            line,
+            bytes,
+        })
+    }
+
+    /// Reads the next line, and passes it where it is whole. `Failed` comes only where a read failed, and `Memory` only where the
+    /// numbers of lines or bytes would reach 2^64. After an error, and after every answer but `Whole`, the walk has ended.
+    pub fn step<F: Shelf>(&mut self, files: &mut F, name: &str) -> Result<LineEnd, Stop>
+        requires allowed { IsTrue (F.may_read files.old name.now) }
+        requires after { (start : ℕ) × (text : List ℕ)
+            × IsAfter (F.files files.old) name.now start text self.old }
+        ensures stepped { IfOk result (λ end. (start : ℕ) (text : List ℕ)
+            → IsAfter (F.files files.old) name.now start text self.old
+            → IsStepped (F.files files.old) name.now start text self.old self.new end) }
+        ensures same { F.files files.new ≡ F.files files.old }
+        ensures readable { F.may_read files.new ≡ F.may_read files.old }
+        ensures writable { F.may_write files.new ≡ F.may_write files.old }
+        ensures later { F.read_faults files.old ≤ F.read_faults files.new }
+        ensures no_write { F.write_faults files.new ≡ F.write_faults files.old }
+        ensures fault { result ≡ Err Stop.Failed
+            → Rose (F.read_faults files.old) (F.read_faults files.new) }
+    {
+        let end = self.reader.next(files, name)?;
+        if end == LineEnd::Whole {
+            self.pass()?;
         }
+        Ok(end)
     }
 
     // Counts the line that was read.
@@ -112,20 +92,79 @@ impl Walk {
         self.bytes += self.reader.line().len() as u64 + 1;
         Ok(())
     }
+
+    // A walk past the first line of a head, and its version, or None where the file begins with no such line.
+    pub(crate) fn begin<F: Shelf>(
+        alloc: Global,
+        files: &mut F,
+        name: &str,
+    ) -> Result<Option<(Walk, u8)>, Stop>
+        requires allowed { IsTrue (F.may_read files.old name.now) }
+        ensures begun { IfOk result (HasBegun (F.files files.old) name.now) }
+        ensures same { F.files files.new ≡ F.files files.old }
+        ensures readable { F.may_read files.new ≡ F.may_read files.old }
+        ensures writable { F.may_write files.new ≡ F.may_write files.old }
+        ensures later { F.read_faults files.old ≤ F.read_faults files.new }
+        ensures no_write { F.write_faults files.new ≡ F.write_faults files.old }
+        ensures fault { result ≡ Err Stop.Failed
+            → Rose (F.read_faults files.old) (F.read_faults files.new) }
+    {
+        let mut walk = Walk::begin_at(alloc, 1, 0)?;
+        match walk.step(files, name)? {
+            LineEnd::Whole => Ok(versioned(walk)),
+            _ => Ok(None),
+        }
+    }
+
+    // Looks at the next line, and passes it.
+    pub(crate) fn next<F: Shelf>(&mut self, files: &mut F, name: &str) -> Result<Seen, Stop>
+        requires allowed { IsTrue (F.may_read files.old name.now) }
+        requires passed { (version : ℕ) × (lines : List HeadLine)
+            × HasPassed (F.files files.old) name.now version lines self.old }
+        ensures may_be { IfOk result MayBeSeen }
+        ensures seen { IfOk result (λ seen. (version : ℕ) (lines : List HeadLine)
+            → HasPassed (F.files files.old) name.now version lines self.old
+            → HasSeen (F.files files.old) name.now version lines self.new seen) }
+        ensures same { F.files files.new ≡ F.files files.old }
+        ensures readable { F.may_read files.new ≡ F.may_read files.old }
+        ensures writable { F.may_write files.new ≡ F.may_write files.old }
+        ensures later { F.read_faults files.old ≤ F.read_faults files.new }
+        ensures no_write { F.write_faults files.new ≡ F.write_faults files.old }
+        ensures fault { result ≡ Err Stop.Failed
+            → Rose (F.read_faults files.old) (F.read_faults files.new) }
+    {
+        match self.step(files, name)? {
+            LineEnd::Whole => Ok(look(self.reader.line())),
+            LineEnd::Long => Ok(Seen::Other),
+            LineEnd::Cut => Ok(Seen::Cut),
+            LineEnd::Nothing => Ok(Seen::Cut),
+        }
+    }
 }
 
-// A walk past the line that was read, where it is the first one of a head.
-fn past_first(reader: LineReader) -> Option<Walk>
-    ensures { MatchOption result (reader.line ≢ first_line)
-        (λ walk. (reader.line ≡ first_line)
-        × (walk ≡ record { reader = reader; line = 2; bytes = 10 })) }
+// What a line is.
+fn look(line: &[u8]) -> Seen
+    ensures looked { HasLooked line.now result }
+    ensures may_be { MayBeSeen result }
 {
-    if reader.line() == b"stn-log 3".as_slice() {
-        Some(Walk {
-            reader,
-            line: 2,
-            bytes: 10,
-        })
+    match read_head_line(line) {
+        None => Seen::Other,
+        Some(line) => Seen::Line(line),
+    }
+}
+
+// A walk with the version whose first line it has passed, or None where it is that of none.
+fn versioned(walk: Walk) -> Option<(Walk, u8)>
+    ensures { MatchOption result
+        ((walk.reader.line ≢ first_line 3) × (walk.reader.line ≢ first_line 4))
+        (λ begun. (begun.0 ≡ walk) × IsHeadVersion begun.1
+        × (walk.reader.line ≡ first_line begun.1)) }
+{
+    let line = walk.reader.line();
+    if line == b"stn-log 3".as_slice() {
+        Some((walk, 3))
+    } else if line == b"stn-log 4".as_slice() {
+        Some((walk, 4))
     } else {
         None
     }

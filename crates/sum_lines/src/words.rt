@@ -68,8 +68,8 @@ fn one_word(text: &[u8]) -> Option<&[u8]>
     }
 }
 
-// What stands after a blank up to the next one, and what follows from there on.
-fn first_word(text: &[u8]) -> Option<(&[u8], &[u8])>
+/// What stands after a blank up to the next one, and what follows from there on. None where the text does not begin with a blank.
+pub fn first_word(text: &[u8]) -> Option<(&[u8], &[u8])>
     ensures { CutsFirst text.now (option_map (λ cut. (cut.0.now, cut.1.now)) result) }
 {
     match text {
@@ -78,8 +78,8 @@ fn first_word(text: &[u8]) -> Option<(&[u8], &[u8])>
     }
 }
 
-// The first word, and what follows from the blank after it on.
-pub(crate) fn cut_word(text: &[u8]) -> (&[u8], &[u8])
+/// The first word, and what follows from the blank after it on.
+pub fn cut_word(text: &[u8]) -> (&[u8], &[u8])
     ensures { IsCut text.now result.0.now result.1.now }
 {
     match blank_place(text) {

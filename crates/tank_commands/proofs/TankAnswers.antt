@@ -12,12 +12,12 @@ use Rattle.time_grid.specs.PlanPoint.{IsPlanOf, point_starts}
 use Rattle.time_grid.specs.Slots.{slots}
 use Rattle.time_grid.proofs.SlotList.{length-slots}
 use Rattle.row_relax.specs.RowProofs.{RowTree}
-use Rattle.sum_slots.specs.declared.sum.Sum.{Sum}
 use Rattle.proof_log.specs.declared.claim.Claim.{Claim}
 use Rattle.proof_log.specs.declared.claim.Claim.TheVariants.{Optimal, Infeasible, Between, Below}
 use Rattle.log_lines.specs.declared.defect.Defect.{Defect}
 use Rattle.valid_log.specs.declared.verdict.LogVerdict.TheVariants.{No}
 use Rattle.valid_log.specs.PlantLogs.{IsAnyChecked}
+use Rattle.what_if.specs.declared.old.LogHead.{LogHead}
 use Rattle.what_if.specs.OldLogs.{HasPlan, IsValidFor}
 use Rattle.plant_text.specs.Reading.{reading}
 use Rattle.command_replies.specs.declared.reply.Reply.{Reply}
@@ -51,12 +51,12 @@ few_claimed plant (Below most) (Some plan) sound has = absurd (cc)
 -- ---- a log
 
 -- a log that is not too long and is valid
-pub valid_answer : {E : Type 0} (plant : Plant) (number : ℕ) (step : ℤ) (count : ℕ) (log : List ℕ) (sums : List Sum) (proof : RowTree) (claim : Claim) (r : Result Reply E) → length log ≤ 67108864 → IsValidFor plant log sums proof claim
-    → IfOk r (λ reply. reply.status ≡ 0) → IfOk r (λ reply. IsTankText plant number step count sums proof claim reply.text.items) → IfOk r (λ reply. OnTank plant number step count log reply.status reply.text.items)
-valid_answer plant number step count log sums proof claim (Ok reply) short valid status says =
+pub valid_answer : {E : Type 0} (plant : Plant) (number : ℕ) (step : ℤ) (count : ℕ) (log : List ℕ) (head : LogHead) (proof : RowTree) (claim : Claim) (r : Result Reply E) → length log ≤ 67108864 → IsValidFor plant log head proof claim
+    → IfOk r (λ reply. reply.status ≡ 0) → IfOk r (λ reply. IsTankText plant number step count head proof claim reply.text.items) → IfOk r (λ reply. OnTank plant number step count log reply.status reply.text.items)
+valid_answer plant number step count log head proof claim (Ok reply) short valid status says =
     let test : nat_lt 67108864 (length log) ≡ false = le-ltb 67108864 (length log) short in
-    rw test (inr (record { sums = sums; proof = proof; claim = claim; valid = valid; status_is = status; says = says }))
-valid_answer plant number step count log sums proof claim (Err e) short valid status says = tt
+    rw test (inr (record { head = head; proof = proof; claim = claim; valid = valid; status_is = status; says = says }))
+valid_answer plant number step count log head proof claim (Err e) short valid status says = tt
 
 -- a log that is not too long and has a defect
 pub defect_answer : {E : Type 0} (plant : Plant) (number : ℕ) (step : ℤ) (count : ℕ) (log : List ℕ) (defect : Defect) (r : Result Reply E) → length log ≤ 67108864 → IsAnyChecked plant log (No defect)

@@ -9,8 +9,8 @@ use Rattle.row_relax.specs.RowProofs.{RowTree}
 use Rattle.proof_log.specs.declared.claim.Claim.{Claim}
 use Rattle.log_lines.specs.declared.defect.Defect.{Defect}
 use Rattle.valid_log.specs.declared.verdict.LogVerdict.TheVariants.{No}
-use Rattle.sum_slots.specs.declared.sum.Sum.{Sum}
 use Rattle.valid_log.specs.PlantLogs.{IsAnyChecked}
+use Rattle.what_if.specs.declared.old.LogHead.{LogHead}
 use Rattle.what_if.specs.Estimate.{IsEstimate, IsProofCap}
 use Rattle.what_if.specs.OldLogs.{HasPlan, IsValidFor}
 use Rattle.what_if.specs.Raised.{raised}
@@ -44,16 +44,17 @@ abbrev pub IsStanding : Plant → Option (List Start) → List ℕ → Type 0
 IsStanding plant None text = text ≡ codes "-\n"
 IsStanding plant (Some plan) text = (status : ℕ) × Simulated Simulate plant plan status text
 
--- the caps of a plant by an old proof over declared sums are all the proof's own
-abbrev pub AreOwn : Plant → List Sum → RowTree → Type 0
-AreOwn plant sums proof = (cap : Option ℤ) → IsEstimate plant sums proof cap → IsProofCap plant sums proof cap
+-- the caps of a plant by the proof of an old log with a head all answer to the proof's own
+abbrev pub AreOwn : Plant → LogHead → RowTree → Type 0
+AreOwn plant head proof = (cap : Option ℤ) → IsEstimate plant head proof cap → IsProofCap plant head proof cap
 
--- The line of a plant: a number, what no plan of it earns more than by an old proof over declared sums, and what is printed of an
--- old plan. On the line of number 0, whose plant is the log's, it is the cap that the proof itself has.
-pub record IsTankLine (plant : Plant) (sums : List Sum) (proof : RowTree) (plan : Option (List Start)) (number : ℕ) (line : List ℕ) : Type 0 where
+-- The line of a plant: a number, what no plan of it earns more than by the proof of an old log with a head, and what is printed of an
+-- old plan. On the line of number 0, whose plant is the log's, it is the cap that the proof itself has; in version 4, where splits have
+-- caps of their own, it is at most that.
+pub record IsTankLine (plant : Plant) (head : LogHead) (proof : RowTree) (plan : Option (List Start)) (number : ℕ) (line : List ℕ) : Type 0 where
   pub cap : Option ℤ
-  pub estimate : IsEstimate plant sums proof cap
-  pub own : number ≡ 0 → IsProofCap plant sums proof cap
+  pub estimate : IsEstimate plant head proof cap
+  pub own : number ≡ 0 → IsProofCap plant head proof cap
   pub standing : List ℕ
   pub stands : IsStanding plant plan standing
   pub text_is : line ≡ line_head number cap ++ standing
@@ -65,11 +66,11 @@ AreLines IsLine (suc n) text = (before : List ℕ) × ((line : List ℕ) × (Are
 
 -- The text on a valid log: the state's name, and a line for each plant whose limits of the state are raised by no step, by
 -- one, and so on.
-pub record IsTankText (plant : Plant) (number : ℕ) (step : ℤ) (count : ℕ) (sums : List Sum) (proof : RowTree) (claim : Claim) (text : List ℕ) : Type 0 where
+pub record IsTankText (plant : Plant) (number : ℕ) (step : ℤ) (count : ℕ) (head : LogHead) (proof : RowTree) (claim : Claim) (text : List ℕ) : Type 0 where
   pub plan : Option (List Start)
   pub has : HasPlan plant claim plan
   pub lines : List ℕ
-  pub are : AreLines (λ times. IsTankLine (raised plant number step times) sums proof plan times) (count + 1) lines
+  pub are : AreLines (λ times. IsTankLine (raised plant number step times) head proof plan times) (count + 1) lines
   pub text_is : text ≡ text_head plant number ++ lines
 
 -- the bytes are a log of any version with this first defect, which the text says
@@ -81,12 +82,12 @@ pub record IsRefusedLog (plant : Plant) (log : List ℕ) (status : ℕ) (text : 
 
 -- the bytes are a valid log of any version, and the text is that of the raised plants
 pub record IsEstimated (plant : Plant) (number : ℕ) (step : ℤ) (count : ℕ) (log : List ℕ) (status : ℕ) (text : List ℕ) : Type 0 where
-  pub sums : List Sum
+  pub head : LogHead
   pub proof : RowTree
   pub claim : Claim
-  pub valid : IsValidFor plant log sums proof claim
+  pub valid : IsValidFor plant log head proof claim
   pub status_is : status ≡ 0
-  pub says : IsTankText plant number step count sums proof claim text
+  pub says : IsTankText plant number step count head proof claim text
 
 -- the answer for a state with limits: a log that is too long, or has a defect, or the text of the raised plants
 abbrev pub OnTank : Plant → ℕ → ℤ → ℕ → List ℕ → ℕ → List ℕ → Type 0

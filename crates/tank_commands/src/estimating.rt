@@ -210,10 +210,10 @@ fn estimate_plants(
     requires sound { Sound plant }
     requires there { number < length plant.states }
     requires over { IsClaimOver (length (slots plant)) log.now.claim }
-    requires own { AreOwn plant log.now.sums (tree_of log.now.tree) }
+    requires own { AreOwn plant log.now.head (tree_of log.now.tree) }
     ensures status { IfOk result (λ reply. reply.status ≡ 0) }
     ensures says { IfOk result (λ reply. IsTankText plant number steps.step steps.count
-        log.now.sums (tree_of log.now.tree) log.now.claim reply.text.items) }
+        log.now.head (tree_of log.now.tree) log.now.claim reply.text.items) }
 {
     let plan = claimed_plan(alloc, &plant, &log.claim)?;
     let mut text = text_head(alloc, &plant, number)?;
@@ -246,9 +246,9 @@ fn put_lines(
     requires sound { Sound plant }
     requires there { number < length plant.states }
     requires short { IfSome plan.now (λ starts. length starts < 2 ^ 32) }
-    requires own { AreOwn plant log.now.sums (tree_of log.now.tree) }
+    requires own { AreOwn plant log.now.head (tree_of log.now.tree) }
     ensures { OnOk result ((lines : Items ℕ) × ((text.new.items ≡ text.old.items ++ lines)
-        × AreLines (λ times. IsTankLine (raised plant number steps.step times) log.now.sums
+        × AreLines (λ times. IsTankLine (raised plant number steps.step times) log.now.head
         (tree_of log.now.tree) plan.now times)
         (steps.count + 1) lines)) }
 {
@@ -281,11 +281,11 @@ fn put_line(
 ) -> Result<(), AllocError>
     requires sound { Sound plant.now }
     requires short { IfSome plan.now (λ starts. length starts < 2 ^ 32) }
-    requires own { number ≡ 0 → AreOwn plant.now log.now.sums (tree_of log.now.tree) }
+    requires own { number ≡ 0 → AreOwn plant.now log.now.head (tree_of log.now.tree) }
     ensures { OnOk result ((line : Items ℕ) × ((text.new.items ≡ text.old.items ++ line)
-        × IsTankLine plant.now log.now.sums (tree_of log.now.tree) plan.now number line)) }
+        × IsTankLine plant.now log.now.head (tree_of log.now.tree) plan.now number line)) }
 {
-    let cap = estimate(alloc, plant, log.sums.as_slice(), &log.tree)?;
+    let cap = estimate(alloc, plant, &log.head, &log.tree)?;
     let line = line_head(alloc, number, cap)?;
     let standing = standing(alloc, plant, plan)?;
     text.extend_from_slice(line.as_slice())?;

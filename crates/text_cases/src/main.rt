@@ -2,6 +2,7 @@
 #![tactic(auto)]
 
 mod files;
+mod heads;
 mod log_text;
 mod parts;
 mod words;
@@ -23,6 +24,7 @@ impl Kinds for TextKinds {
     ) -> Result<(), AllocError> {
         match kind {
             "words" => words::answer(alloc, steps, sheet),
+            "heads" => heads::answer(alloc, steps, sheet),
             "lines" => log_text::answer(alloc, steps, sheet),
             "stores" => files::answer(alloc, steps, sheet),
             _ => {

@@ -34,7 +34,7 @@ same-program a b rows profit base root tags changes = λ i. record {
 }
 
 -- a yes over a program is that over each that is the same, also where more splits may be open
-pub yes-again : (a b : Program) (ranges : List Domain) (depth more : ℕ) (bytes : List ℕ) (claim : Claim) (verdict : LogVerdict) → a ≡ b → depth ≤ more → IsAnyVerdict a ranges depth bytes (Yes claim) → IsAnyVerdict b ranges more bytes verdict
+pub yes-again : (a b : Program) (ranges root : List Domain) (depth more : ℕ) (bytes : List ℕ) (claim : Claim) (verdict : LogVerdict) → a ≡ b → depth ≤ more → IsAnyVerdict a ranges root depth bytes (Yes claim) → IsAnyVerdict b ranges root more bytes verdict
     → verdict ≡ Yes claim
-yes-again a b ranges depth more bytes claim verdict same less said right =
-    yes-stays b ranges depth more bytes claim verdict less (subst (λ (p : Program). IsAnyVerdict p ranges depth bytes (Yes claim)) same said) right
+yes-again a b ranges root depth more bytes claim verdict same less said right =
+    yes-stays b ranges root depth more bytes claim verdict less (subst (λ (p : Program). IsAnyVerdict p ranges root depth bytes (Yes claim)) same said) right

@@ -1,5 +1,5 @@
--- Programs with the same sums answer alike.
-use Rattle.std.proofs.Common.{◌≡◌, ℕ, ◌≤◌, Bool, true, false, ◌&&◌, nat_lt, List, [], ◌∷◌, ◌++◌, length, map, take, drop, None, inl, inr, refl, sym, ap, ◌∙◌, subst, arith, ℤ, pos, ◌+ℤ◌, ◌-ℤ◌, ◌*ℤ◌}
+-- Programs with the sums and derivations of one head answer alike.
+use Rattle.std.proofs.Common.{◌≡◌, ℕ, ◌≤◌, Bool, true, false, ◌&&◌, nat_lt, List, [], ◌∷◌, ◌++◌, length, map, take, drop, None, ◌⊎◌, inl, inr, refl, sym, ap, ap₂, ◌∙◌, subst, arith, ℤ, pos, ◌+ℤ◌, ◌-ℤ◌, ◌*ℤ◌}
 use Rattle.std.specs.Prelude.{int_le, Some, if◌then◌else◌}
 use Rattle.std.specs.List.{All, list_all}
 use Rattle.std.proofs.lemmas.List.{length-append, length-take-le, take-append-drop}
@@ -36,6 +36,10 @@ use Rattle.valid_log.specs.Verdict.{IsLog, IsSoundLog, IsValidLog, limits_of}
 use Rattle.sum_slots.specs.declared.sum.Sum.{Sum}
 use Rattle.sum_slots.specs.Larger.{IsWithSums, sum_domain, sum_tag}
 use Rattle.sum_slots.proofs.Lanes.{changeovers-with_lane}
+use Rattle.derivations.specs.declared.derivation.Derivation.{Derivation}
+use Rattle.derivations.specs.Growth.{Growth, after_all}
+use Rattle.derivations.specs.Larger.{IsWithDerivations, grown_by, met}
+use Rattle.valid_log.specs.AnyVersion.{IsWithHead, head_domains}
 
 -- programs have the same rows, root and profit, and lawful points are worth the same
 pub record IsAlike (a b : Program) : Type 0 where
@@ -57,26 +61,68 @@ same_costs program larger ranges sums point w long =
     ∙ ap (changeovers program.changes tags) (sym (take-append-drop n point))
     ∙ changeovers-with_lane program.changes program.tags w.lane sums (take n point) (drop n point) w.free (length-take-le n point long ∙ sym program.one_tag)
 
--- a lawful point has a value for each slot of the program without the sums
-long_enough : (program larger : Program) (ranges : List Domain) (sums : List Sum) (point : List ℕ) → IsWithSums program ranges sums larger → IsLawful larger point → length program.root ≤ length point
-long_enough program larger ranges sums point w lawful =
-    omega (arith, lawful.lies.same_length, ap length w.root, length-append program.root (map (sum_domain program ranges) sums))
-
--- two programs with the same sums are alike
-pub alike : (program a b : Program) (ranges : List Domain) (sums : List Sum) → IsWithSums program ranges sums a → IsWithSums program ranges sums b → IsAlike a b
-alike program a b ranges sums w w2 =
+-- points that are long enough are worth the same over two programs with the same sums
+same_worths : (program a b : Program) (ranges : List Domain) (sums : List Sum) → IsWithSums program ranges sums a → IsWithSums program ranges sums b → (point : List ℕ) → length program.root ≤ length point → worth_of a point ≡ worth_of b point
+same_worths program a b ranges sums w w2 point long =
     let profit : a.profit ≡ b.profit = w.profit ∙ sym w2.profit in
     let base : a.base ≡ b.base = w.base ∙ sym w2.base in
+    let costs = same_costs program a ranges sums point w long ∙ sym (same_costs program b ranges sums point w2 long) in
+    λ i. (base i +ℤ entries_sum (profit i) point) -ℤ pos (costs i)
+
+-- a point is worth the same over a program with derivations as over the one without them
+derived_worth : (given larger : Program) (domains : List Domain) (derivations : List Derivation) → IsWithDerivations given domains derivations larger → (point : List ℕ) → worth_of larger point ≡ worth_of given point
+derived_worth given larger domains derivations w point = λ i. (w.base i +ℤ entries_sum (w.profit i) point) -ℤ pos (changeovers (w.changes i) (w.tags i) point)
+
+-- a lawful point has a value for each slot of the program without sums
+long_enough : (program larger : Program) (judged : List Domain) (sums : List Sum) (point : List ℕ) → IsWithSums program judged sums larger → IsLawful larger point → length program.root ≤ length point
+long_enough program larger judged sums point w lawful = omega (arith, lawful.lies.same_length, ap length w.root, length-append program.root (map (sum_domain program judged) sums))
+
+-- so has one of a program with derivations besides
+long_derived : (program between larger : Program) (judged domains : List Domain) (sums : List Sum) (derivations : List Derivation) (point : List ℕ) → IsWithSums program judged sums between → IsWithDerivations between domains derivations larger → IsLawful larger point
+    → length program.root ≤ length point
+long_derived program between larger judged domains sums derivations point w d lawful =
+    omega (arith, lawful.lies.same_length, larger.one_tag, ap length d.tags, between.one_tag, ap length w.root, length-append program.root (map (sum_domain program judged) sums))
+
+-- two programs with the same sums are alike
+sums_alike : (program a b : Program) (judged : List Domain) (sums : List Sum) → IsWithSums program judged sums a → IsWithSums program judged sums b → IsAlike a b
+sums_alike program a b judged sums w w2 = record {
+  rows = w.rows ∙ sym w2.rows;
+  root = w.root ∙ sym w2.root;
+  profit = w.profit ∙ sym w2.profit;
+  base = w.base ∙ sym w2.base;
+  worth = λ point lawful. same_worths program a b judged sums w w2 point (long_enough program a judged sums point w lawful);
+}
+
+-- so are two that have the same derivations besides
+derived_alike : (program one other a b : Program) (judged domains : List Domain) (sums : List Sum) (derivations : List Derivation) → IsWithSums program judged sums one → IsWithSums program judged sums other
+    → IsWithDerivations one domains derivations a → IsWithDerivations other domains derivations b → IsAlike a b
+derived_alike program one other a b judged domains sums derivations w w2 d d2 =
+    let same = sums_alike program one other judged sums w w2 in
+    let grown : grown_by one domains derivations ≡ grown_by other domains derivations = ap (λ (rs : List Row). after_all (record { rows = rs; domains = domains }) derivations) same.rows in
     record {
-      rows = w.rows ∙ sym w2.rows;
-      root = w.root ∙ sym w2.root;
-      profit = profit;
-      base = base;
+      rows = d.rows ∙ ap (λ (g : Growth). g.rows) grown ∙ sym d2.rows;
+      root = d.root ∙ ap₂ met same.root (ap (λ (g : Growth). g.domains) grown) ∙ sym d2.root;
+      profit = d.profit ∙ same.profit ∙ sym d2.profit;
+      base = d.base ∙ same.base ∙ sym d2.base;
       worth = λ point lawful.
-          let long = long_enough program a ranges sums point w lawful in
-          let costs = same_costs program a ranges sums point w long ∙ sym (same_costs program b ranges sums point w2 long) in
-          λ i. (base i +ℤ entries_sum (profit i) point) -ℤ pos (costs i);
+          derived_worth one a domains derivations d point
+          ∙ same_worths program one other judged sums w w2 point (long_derived program one a judged domains sums derivations point w d lawful)
+          ∙ sym (derived_worth other b domains derivations d2 point);
     }
+
+-- two programs with the sums and derivations of one head are alike
+pub alike : (version : ℕ) (program a b : Program) (judged : List Domain) (sums : List Sum) (derivations : List Derivation) → IsWithHead version program judged sums derivations a → IsWithHead version program judged sums derivations b → IsAlike a b
+alike version program a b judged sums derivations w w2 = by_version w.grown w2.grown
+  where
+    domains : List Domain
+    domains = head_domains program judged sums
+
+    by_version : ((version ≡ 3) × (a ≡ w.between)) ⊎ ((version ≡ 4) × IsWithDerivations w.between domains derivations a) → ((version ≡ 3) × (b ≡ w2.between)) ⊎ ((version ≡ 4) × IsWithDerivations w2.between domains derivations b) → IsAlike a b
+    by_version (inl one) (inl other) =
+        subst (λ (p : Program). IsAlike p b) (sym one.1) (subst (IsAlike w.between) (sym other.1) (sums_alike program w.between w2.between judged sums w.with_sums w2.with_sums))
+    by_version (inl one) (inr other) = absurd (omega (arith, one.0, other.0))
+    by_version (inr one) (inl other) = absurd (omega (arith, one.0, other.0))
+    by_version (inr one) (inr other) = derived_alike program w.between w2.between a b judged domains sums derivations w.with_sums w2.with_sums one.1 other.1
 
 -- ---- the same steps
 

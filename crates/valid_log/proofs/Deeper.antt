@@ -24,8 +24,16 @@ use Rattle.sum_lines.specs.declared.head.Front.TheVariants.{Plain, Headed, Bad}
 use Rattle.sum_lines.specs.declared.head.Head.{Head}
 use Rattle.sum_lines.specs.Front.{IsFront}
 use Rattle.sum_lines.specs.Head.{AreKept}
+use Rattle.derivations.specs.declared.derivation.Derivation.{Derivation}
+use Rattle.derivations.specs.declared.derivation.Derivation.TheVariants as derivation
+use Rattle.derivation_lines.specs.declared.tail.Tail.{Tail}
+use Rattle.derivation_lines.specs.declared.tail.TailFront.{TailFront}
+use Rattle.derivation_lines.specs.declared.tail.TailFront.TheVariants as tailed
+use Rattle.derivation_lines.specs.declared.tail.TailFront.TheVariants.{Whole}
+use Rattle.derivation_lines.specs.Front.{IsTailed}
+use Rattle.derivation_lines.specs.Tail.{AreKeptAfter}
 use Rattle.proof_log.specs.Behind.{behind}
-use Rattle.valid_log.specs.AnyVersion.{IsAnyVerdict, IsFrontVerdict, IsShownVerdict, limits_with}
+use Rattle.valid_log.specs.AnyVersion.{IsAnyVerdict, IsFrontVerdict, IsHeadVerdict, IsShownVerdict, IsTail, IsTailVerdict, judged_over, limits_with}
 use Rattle.valid_log.specs.PlantLogs.{IsPlantVerdict}
 
 -- a choice among options that is none, where only the last differs
@@ -104,41 +112,76 @@ yes-deeper program depth more bytes claim less is =
     rw none given.1
 
 -- what a head keeps does not depend on how many splits may be open
-front-deeper : (program : Program) (depth more : ℕ) (bytes : List ℕ) (head : Head) → IsFront (limits_with program depth 0) bytes (Headed head) → IsFront (limits_with program more 0) bytes (Headed head)
+pub front-deeper : (program : Program) (depth more : ℕ) (bytes : List ℕ) (head : Head) → IsFront (limits_with program depth 0) bytes (Headed head) → IsFront (limits_with program more 0) bytes (Headed head)
 front-deeper program depth more bytes head is =
     let kept = is.kept in
-    let own : AreKept (limits_with program more 0) head.sums = record { declared = kept.sums.declared; rows_there = kept.sums.rows_there; slots = kept.sums.slots; rows = kept.sums.rows } in
+    let own : AreKept head.version (limits_with program more 0) head.sums = record { declared = kept.sums.declared; rows_there = kept.sums.rows_there; slots = kept.sums.slots; rows = kept.sums.rows } in
     record {
-      kept = record { is = kept.is; sums = own; lines = kept.lines; count = kept.count; bytes_least = kept.bytes_least; bytes_most = kept.bytes_most };
+      kept = record { version = kept.version; is = kept.is; sums = own; lines = kept.lines; count = kept.count; bytes_least = kept.bytes_least; bytes_most = kept.bytes_most };
       is = is.is;
       ends = is.ends;
     }
 
--- the same of the answer over a program whose sums are shown
-shown-deeper : (program : Program) (ranges : List Domain) (depth more : ℕ) (bytes : List ℕ) (head : Head) (claim : Claim) (own : LogVerdict) → depth ≤ more → (is : IsShownVerdict program ranges depth bytes head (Yes claim)) → is.own ≡ own
-    → IsShownVerdict program ranges more bytes head (Yes claim)
-shown-deeper program ranges depth more bytes head claim (Yes said) less is same = record {
-  shown = is.shown;
+-- nor does what derivations keep
+pub derivations-deeper : (limits : Limits) (more before : ℕ) (ds : List Derivation) → AreKeptAfter limits before ds → AreKeptAfter (record limits { depth = more }) before ds
+derivations-deeper limits more before [] kept = kept
+derivations-deeper limits more before (derivation.Cut cut ∷ ds) kept = (kept.0, derivations-deeper limits more (before + 0) ds kept.1)
+derivations-deeper limits more before (derivation.Row derived ∷ ds) kept = (kept.0, derivations-deeper limits more (before + 1) ds kept.1)
+
+-- nor what stands behind a head
+pub tail-deeper : (limits : Limits) (more : ℕ) (head : Head) (bytes : List ℕ) (tail : Tail) → IsTail limits head bytes (Whole tail) → IsTail (record limits { depth = more }) head bytes (Whole tail)
+tail-deeper limits more head bytes tail (inl three) = inl three
+tail-deeper limits more head bytes tail (inr four) =
+    let own = four.1 in
+    let kept = own.kept in
+    let deeper : IsTailed (record limits { depth = more }) head bytes tail = record {
+      kept = record {
+        is = kept.is;
+        derivations = derivations-deeper limits more 0 tail.derivations kept.derivations;
+        lines = kept.lines;
+        count = kept.count;
+        bytes_least = kept.bytes_least;
+        bytes_most = kept.bytes_most;
+      };
+      is = own.is;
+      ends = own.ends;
+    } in
+    inr (four.0, deeper)
+
+-- the same of the answer over a program whose sums and derivations are shown
+shown-deeper : (program : Program) (judged : List Domain) (depth more : ℕ) (bytes : List ℕ) (head : Head) (tail : Tail) (claim : Claim) (own : LogVerdict) → depth ≤ more → (is : IsShownVerdict program judged depth bytes head tail (Yes claim)) → is.own ≡ own
+    → IsShownVerdict program judged more bytes head tail (Yes claim)
+shown-deeper program judged depth more bytes head tail claim (Yes said) less is same = record {
   larger = is.larger;
   enlarged = is.enlarged;
   own = Yes said;
-  right = yes-deeper is.larger depth more (behind head.bytes bytes) said less (rw same at is.right);
+  right = yes-deeper is.larger depth more (behind tail.bytes bytes) said less (rw same at is.right);
   is = rw same at is.is;
 }
-shown-deeper program ranges depth more bytes head claim (No defect) less is same = let e = is.is in cc
+shown-deeper program judged depth more bytes head tail claim (No defect) less is same = let e = is.is in cc
+
+-- the same behind a head
+head-deeper : (program : Program) (judged : List Domain) (depth more : ℕ) (bytes : List ℕ) (head : Head) (claim : Claim) (tail : TailFront) → depth ≤ more → IsTail (limits_with program depth (length head.sums)) head bytes tail
+    → IsTailVerdict program judged depth bytes head tail (Yes claim) → IsHeadVerdict program judged more bytes head (Yes claim)
+head-deeper program judged depth more bytes head claim (Whole tail) less follows' (inl unshown) = let e = unshown.is in cc
+head-deeper program judged depth more bytes head claim (Whole tail) less follows' (inr shown) = record {
+  tail = Whole tail;
+  follows = tail-deeper (limits_with program depth (length head.sums)) more head bytes tail follows';
+  right = inr (shown-deeper program judged depth more bytes head tail claim shown.own less shown refl);
+}
+head-deeper program judged depth more bytes head claim (tailed.Bad defect) less follows' right = cc
 
 -- a log of any version that is valid at one depth is so at a greater one
-any-front-deeper : (program : Program) (ranges : List Domain) (depth more : ℕ) (bytes : List ℕ) (claim : Claim) (front : Front) → depth ≤ more → IsFront (limits_with program depth 0) bytes front
-    → IsFrontVerdict program ranges depth bytes front (Yes claim) → IsAnyVerdict program ranges more bytes (Yes claim)
-any-front-deeper program ranges depth more bytes claim Plain less stands right = record { front = Plain; stands = stands; right = yes-deeper program depth more bytes claim less right }
-any-front-deeper program ranges depth more bytes claim (Headed head) less stands (inl unshown) = let e = unshown.2 in cc
-any-front-deeper program ranges depth more bytes claim (Headed head) less stands (inr shown) =
-    record { front = Headed head; stands = front-deeper program depth more bytes head stands; right = inr (shown-deeper program ranges depth more bytes head claim shown.own less shown refl) }
-any-front-deeper program ranges depth more bytes claim (Bad defect) less stands right = cc
+any-front-deeper : (program : Program) (ranges root : List Domain) (depth more : ℕ) (bytes : List ℕ) (claim : Claim) (front : Front) → depth ≤ more → IsFront (limits_with program depth 0) bytes front
+    → IsFrontVerdict program ranges root depth bytes front (Yes claim) → IsAnyVerdict program ranges root more bytes (Yes claim)
+any-front-deeper program ranges root depth more bytes claim Plain less stands right = record { front = Plain; stands = stands; right = yes-deeper program depth more bytes claim less right }
+any-front-deeper program ranges root depth more bytes claim (Headed head) less stands right =
+    record { front = Headed head; stands = front-deeper program depth more bytes head stands; right = head-deeper program (judged_over ranges root head.version) depth more bytes head claim right.tail less right.follows right.right }
+any-front-deeper program ranges root depth more bytes claim (Bad defect) less stands right = cc
 
-pub any-deeper : (program : Program) (ranges : List Domain) (depth more : ℕ) (bytes : List ℕ) (claim : Claim) → depth ≤ more → IsAnyVerdict program ranges depth bytes (Yes claim) → IsAnyVerdict program ranges more bytes (Yes claim)
-any-deeper program ranges depth more bytes claim less is = any-front-deeper program ranges depth more bytes claim is.front less is.stands is.right
+pub any-deeper : (program : Program) (ranges root : List Domain) (depth more : ℕ) (bytes : List ℕ) (claim : Claim) → depth ≤ more → IsAnyVerdict program ranges root depth bytes (Yes claim) → IsAnyVerdict program ranges root more bytes (Yes claim)
+any-deeper program ranges root depth more bytes claim less is = any-front-deeper program ranges root depth more bytes claim is.front less is.stands is.right
 
 -- the same of a log over a part of a plant's choices
 pub plant-deeper : (plant : Plant) (part : Program) (depth more : ℕ) (bytes : List ℕ) (claim : Claim) → depth ≤ more → IsPlantVerdict plant part depth bytes (Yes claim) → IsPlantVerdict plant part more bytes (Yes claim)
-plant-deeper plant part depth more bytes claim less is = any-deeper part (plant_root plant) depth more bytes claim less is
+plant-deeper plant part depth more bytes claim less is = any-deeper part (plant_root plant) (plant_root plant) depth more bytes claim less is

@@ -1,6 +1,6 @@
 -- Bytes have one front.
-use Rattle.std.proofs.Common.{◌≡◌, ◌⊎◌, inl, inr, ℕ, ◌+◌, ◌*◌, ◌<◌, ◌≤◌, ◌^◌, Bool, true, ◌&&◌, cond, List, [], ◌∷◌, ◌++◌, length, length-append, map, drop, get_or, Option, Some, None, refl, sym, ap, suc, ◌∙◌, subst, arith, append_assoc, append-nil}
-use Rattle.std.specs.Prelude.{unsigned_abs, false}
+use Rattle.std.proofs.Common.{◌≡◌, ◌⊎◌, inl, inr, ℕ, ◌+◌, ◌*◌, ◌<◌, ◌≤◌, ◌^◌, Bool, true, ◌&&◌, cond, ap₂, List, [], ◌∷◌, ◌++◌, length, length-append, map, drop, get_or, Option, Some, None, refl, sym, ap, suc, ◌∙◌, subst, arith, append_assoc, append-nil}
+use Rattle.std.specs.Prelude.{unsigned_abs, false, nat_le}
 use Rattle.std.specs.List.{All}
 use Rattle.std.specs.List.Sorted.{IsStrictlyIncreasing}
 use Rattle.std.proofs.Math.Seq.{drop-append_seam}
@@ -19,7 +19,7 @@ use Rattle.sum_lines.specs.declared.head.Head.{Head}
 use Rattle.sum_lines.specs.declared.line.HeadLine.{HeadLine}
 use Rattle.sum_lines.specs.declared.line.HeadLine.TheVariants as line
 use Rattle.sum_lines.specs.Front.{BeginsWith, IsBadAt, IsBadAtSum, IsBadAtTerm, IsBadHead, IsBadTerm, IsHeaded, MayOpen, NoneFirst, has_room, is_there, opening_defect}
-use Rattle.sum_lines.specs.Head.{AreKept, HasRows, IsThere, first_line, head_of, last_slot, lines_of, lines_text, open_lines, opening_line, term_line, text_with}
+use Rattle.sum_lines.specs.Head.{AreKept, HasRows, IsHeadVersion, IsThere, first_line, head_of, last_slot, lines_of, lines_text, most_rows, most_slots, open_lines, opening_line, term_line, text_with}
 use Rattle.sum_lines.specs.Line.{IsHeadLine, head_line_text}
 use Rattle.sum_lines.proofs.Feeds.{feed_unique, line_late, text_fits, text_unique}
 use Rattle.sum_lines.proofs.LineTexts.{lines_text-append}
@@ -34,15 +34,12 @@ record IsWell (limits : Limits) (sum : Sum) : Type 0 where
   rows : HasRows limits.rows sum
 
 -- limits of some program's logs
-record AreSmall (limits : Limits) : Type 0 where
-  slots : limits.slots ≤ 512
-  rows : limits.rows ≤ 45904
+pub record AreSmall (limits : Limits) : Type 0 where
+  pub slots : limits.slots ≤ 4096
+  pub rows : limits.rows ≤ 400000
 
-small : (limits : Limits) (sums : List Sum) → AreKept limits sums → AreSmall limits
-small limits sums kept = record { slots = omega (arith, kept.slots); rows = omega (arith, kept.rows) }
-
-well : (limits : Limits) (sums : List Sum) → AreKept limits sums → All (IsWell limits) sums
-well limits sums kept = λ k d within. record { declared = kept.declared k d within; rows = kept.rows_there k d within }
+well : (version : ℕ) (limits : Limits) (sums : List Sum) → AreKept version limits sums → All (IsWell limits) sums
+well version limits sums kept = λ k d within. record { declared = kept.declared k d within; rows = kept.rows_there k d within }
 
 -- a term keeps the bounds of a sum's
 record IsTerm (slots : ℕ) (term : Entry) : Type 0 where
@@ -60,7 +57,7 @@ terms_are slots sum declared = λ k d within. record {
 }
 
 -- its line may be written
-term_written : (slots : ℕ) (term : Entry) → slots ≤ 512 → IsTerm slots term → IsHeadLine (term_line term)
+term_written : (slots : ℕ) (term : Entry) → slots ≤ 4096 → IsTerm slots term → IsHeadLine (term_line term)
 term_written slots term few is = (omega (arith, is.there), is.fixed, is.per, is.counts)
 
 -- the first line of a sum may open it
@@ -117,7 +114,7 @@ record HasMoreTerms (xs ys : List Entry) (x y : List ℕ) : Type 0 where
   rest : x ≡ lines_text (map term_line more) ++ y
 
 -- of two lists of terms with one text the shorter is a first part of the longer
-terms_front : (slots : ℕ) (xs ys : List Entry) (x y : List ℕ) → slots ≤ 512 → All (IsTerm slots) xs → All (IsTerm slots) ys → length xs ≤ length ys
+terms_front : (slots : ℕ) (xs ys : List Entry) (x y : List ℕ) → slots ≤ 4096 → All (IsTerm slots) xs → All (IsTerm slots) ys → length xs ≤ length ys
     → lines_text (map term_line xs) ++ x ≡ lines_text (map term_line ys) ++ y → HasMoreTerms xs ys x y
 terms_front slots [] ys x y few are are2 short same = record { more = ys; are = refl; rest = sym (no_lines x) ∙ same }
 terms_front slots (a ∷ xs) [] x y few are are2 short same = absurd (omega arith)
@@ -134,7 +131,7 @@ none_more xs ys [] same is = refl
 none_more xs ys (z ∷ more) same is = absurd (omega (arith, ap length is, length-append xs (z ∷ more)))
 
 -- as many terms with one text are the same
-terms_same : (slots : ℕ) (xs ys : List Entry) (x y : List ℕ) → slots ≤ 512 → All (IsTerm slots) xs → All (IsTerm slots) ys → length xs ≡ length ys
+terms_same : (slots : ℕ) (xs ys : List Entry) (x y : List ℕ) → slots ≤ 4096 → All (IsTerm slots) xs → All (IsTerm slots) ys → length xs ≡ length ys
     → lines_text (map term_line xs) ++ x ≡ lines_text (map term_line ys) ++ y → (xs ≡ ys) × (x ≡ y)
 terms_same slots xs ys x y few are are2 long same =
     let has = terms_front slots xs ys x y few are are2 (omega (arith, long)) same in
@@ -207,12 +204,32 @@ well_more limits xs ys more is are = All-second (IsWell limits) xs more (subst (
 -- ---- one head
 
 -- what follows the first line of a head's text
-head_rest : (lines : List HeadLine) (bytes rest : List ℕ) → bytes ≡ text_with lines ++ rest → bytes ≡ first_line ++ 10 ∷ (lines_text lines ++ rest)
-head_rest lines bytes rest is = is ∙ append_assoc first_line (10 ∷ lines_text lines) rest
+head_rest : (version : ℕ) (lines : List HeadLine) (bytes rest : List ℕ) → bytes ≡ text_with version lines ++ rest → bytes ≡ first_line version ++ 10 ∷ (lines_text lines ++ rest)
+head_rest version lines bytes rest is = is ∙ append_assoc (first_line version) (10 ∷ lines_text lines) rest
 
--- it is one
-rest_same : (xs ys : List HeadLine) (bytes x y : List ℕ) → bytes ≡ text_with xs ++ x → bytes ≡ text_with ys ++ y → lines_text xs ++ x ≡ lines_text ys ++ y
-rest_same xs ys bytes x y is is2 = ap (drop 10) (sym (head_rest xs bytes x is) ∙ head_rest ys bytes y is2)
+-- what follows the first line of either version
+after_first : (version : ℕ) (rest : List ℕ) → IsHeadVersion version → drop 10 (first_line version ++ 10 ∷ rest) ≡ rest
+after_first version rest (inl is) = subst (λ (v : ℕ). drop 10 (first_line v ++ 10 ∷ rest) ≡ rest) (sym is) refl
+after_first version rest (inr is) = subst (λ (v : ℕ). drop 10 (first_line v ++ 10 ∷ rest) ≡ rest) (sym is) refl
+
+-- the digit of a version
+version_digit : (version : ℕ) (rest : List ℕ) → IsHeadVersion version → get_or (first_line version ++ 10 ∷ rest) 8 0 ≡ version + 48
+version_digit version rest (inl is) = subst (λ (v : ℕ). get_or (first_line v ++ 10 ∷ rest) 8 0 ≡ v + 48) (sym is) refl
+version_digit version rest (inr is) = subst (λ (v : ℕ). get_or (first_line v ++ 10 ∷ rest) 8 0 ≡ v + 48) (sym is) refl
+
+-- bytes begin with the first line of one version
+same_version : (a b : ℕ) (bytes x y : List ℕ) → IsHeadVersion a → IsHeadVersion b → bytes ≡ first_line a ++ 10 ∷ x → bytes ≡ first_line b ++ 10 ∷ y → a ≡ b
+same_version a b bytes x y is is2 one other =
+    let first = ap (λ (l : List ℕ). get_or l 8 0) one ∙ version_digit a x is in
+    let second = ap (λ (l : List ℕ). get_or l 8 0) other ∙ version_digit b y is2 in
+    let e : a + 48 ≡ b + 48 = sym first ∙ second in
+    omega (arith, e)
+
+-- what follows it is one
+rest_same : (a b : ℕ) (xs ys : List HeadLine) (bytes x y : List ℕ) → IsHeadVersion a → IsHeadVersion b → bytes ≡ text_with a xs ++ x → bytes ≡ text_with b ys ++ y → lines_text xs ++ x ≡ lines_text ys ++ y
+rest_same a b xs ys bytes x y of_a of_b is is2 =
+    sym (ap (drop 10) (head_rest a xs bytes x is) ∙ after_first a (lines_text xs ++ x) of_a)
+    ∙ ap (drop 10) (head_rest b ys bytes y is2) ∙ after_first b (lines_text ys ++ y) of_b
 
 -- sums behind which none may open are not a first part of others
 not_more : (limits : Limits) (xs ys : List Sum) (x y : List ℕ) → AreSmall limits → All (IsWell limits) ys → NoneFirst (MayOpen limits.slots) x → HasMoreSums xs ys x y → ys ≡ xs
@@ -220,31 +237,41 @@ not_more limits xs ys x y few are none has =
     has.are ∙ ap (λ w. xs ++ w) (none_open limits has.more x y few (well_more limits xs ys has.more has.are are) none has.rest) ∙ append-nil xs
 
 -- two heads of the same bytes are the same
-pub heads_same : (limits : Limits) (bytes : List ℕ) (a b : Head) → IsHeaded limits bytes a → IsHeaded limits bytes b → a ≡ b
-heads_same limits bytes a b is is2 =
-    let few = small limits a.sums is.kept.sums in
-    let are = well limits a.sums is.kept.sums in
-    let are2 = well limits b.sums is2.kept.sums in
+pub heads_same : (limits : Limits) (bytes : List ℕ) (a b : Head) → AreSmall limits → IsHeaded limits bytes a → IsHeaded limits bytes b → a ≡ b
+heads_same limits bytes a b few is is2 =
+    let are = well a.version limits a.sums is.kept.sums in
+    let are2 = well b.version limits b.sums is2.kept.sums in
     let x = drop a.bytes bytes in
     let y = drop b.bytes bytes in
-    let sums : a.sums ≡ b.sums = elim (sums_front limits a.sums b.sums x y few are are2 (rest_same (lines_of a.sums) (lines_of b.sums) bytes x y is.is is2.is)) [
+    let version = same_version a.version b.version bytes _ _ is.kept.version is2.kept.version (head_rest a.version (lines_of a.sums) bytes x is.is) (head_rest b.version (lines_of b.sums) bytes y is2.is) in
+    let sums : a.sums ≡ b.sums = elim (sums_front limits a.sums b.sums x y few are are2 (rest_same a.version b.version (lines_of a.sums) (lines_of b.sums) bytes x y is.kept.version is2.kept.version is.is is2.is)) [
       | inl has ↦ sym (not_more limits a.sums b.sums x y few are2 is.ends has)
       | inr has ↦ not_more limits b.sums a.sums y x few are is2.ends has
     ] in
-    is.kept.is ∙ ap head_of sums ∙ sym is2.kept.is
+    is.kept.is ∙ ap₂ head_of version sums ∙ sym is2.kept.is
+
+-- no front has the first line of a head where there is none
+no_first : (version : ℕ) (bytes : List ℕ) → IsHeadVersion version → (¬ BeginsWith (first_line 3) bytes) × (¬ BeginsWith (first_line 4) bytes) → ¬ BeginsWith (first_line version) bytes
+no_first version bytes (inl is) none = subst (λ (v : ℕ). ¬ BeginsWith (first_line v) bytes) (sym is) none.0
+no_first version bytes (inr is) none = subst (λ (v : ℕ). ¬ BeginsWith (first_line v) bytes) (sym is) none.1
 
 -- a head begins with its first line
-pub head_first : (limits : Limits) (bytes : List ℕ) (head : Head) → IsHeaded limits bytes head → BeginsWith first_line bytes
-head_first limits bytes head is = record { after = lines_text (lines_of head.sums) ++ drop head.bytes bytes; is = head_rest (lines_of head.sums) bytes (drop head.bytes bytes) is.is }
+pub head_first : (limits : Limits) (bytes : List ℕ) (head : Head) → IsHeaded limits bytes head → ¬ ((¬ BeginsWith (first_line 3) bytes) × (¬ BeginsWith (first_line 4) bytes))
+head_first limits bytes head is none =
+    no_first head.version bytes is.kept.version none
+    (record { after = lines_text (lines_of head.sums) ++ drop head.bytes bytes; is = head_rest head.version (lines_of head.sums) bytes (drop head.bytes bytes) is.is })
 
 -- so does a head with a defect
-pub bad_first : (limits : Limits) (bytes : List ℕ) (defect : Defect) → IsBadHead limits bytes defect → BeginsWith first_line bytes
-bad_first limits bytes defect is = at is.bad
+bad_begins : (limits : Limits) (bytes : List ℕ) (defect : Defect) → (is : IsBadHead limits bytes defect) → BeginsWith (first_line is.version) bytes
+bad_begins limits bytes defect is = at is.bad
   where
-    at : IsBadAt limits (length is.sums) (lines_of is.sums) bytes defect → BeginsWith first_line bytes
-    at (inl bad) = record { after = lines_text (lines_of is.sums) ++ bad.rest; is = head_rest (lines_of is.sums) bytes bad.rest bad.is }
+    at : IsBadAt is.version limits (length is.sums) (lines_of is.sums) bytes defect → BeginsWith (first_line is.version) bytes
+    at (inl bad) = record { after = lines_text (lines_of is.sums) ++ bad.rest; is = head_rest is.version (lines_of is.sums) bytes bad.rest bad.is }
     at (inr bad) =
-        record { after = lines_text (lines_of is.sums ++ open_lines bad.sum bad.count) ++ bad.rest; is = head_rest (lines_of is.sums ++ open_lines bad.sum bad.count) bytes bad.rest bad.is }
+        record { after = lines_text (lines_of is.sums ++ open_lines bad.sum bad.count) ++ bad.rest; is = head_rest is.version (lines_of is.sums ++ open_lines bad.sum bad.count) bytes bad.rest bad.is }
+
+pub bad_first : (limits : Limits) (bytes : List ℕ) (defect : Defect) → IsBadHead limits bytes defect → ¬ ((¬ BeginsWith (first_line 3) bytes) × (¬ BeginsWith (first_line 4) bytes))
+bad_first limits bytes defect is none = no_first is.version bytes is.is_version none (bad_begins limits bytes defect is)
 
 -- ---- a head has no defect
 
@@ -253,33 +280,45 @@ there_test : (rows : ℕ) (row : Option ℕ) → IsThere rows row → is_there r
 there_test rows None there = refl
 there_test rows (Some row) there = grind (arith, nat_tests)
 
-room_test : (limits : Limits) (count : ℕ) → limits.slots + count ≤ 512 → limits.rows + 2 * count ≤ 45904 → has_room limits count ≡ true
-room_test limits count slots rows = grind (arith, nat_tests)
+-- two tests that both pass
+both_pass : (a b c d : ℕ) → a ≤ b → c ≤ d → nat_le a b && nat_le c d ≡ true
+both_pass a b c d one other = grind (arith, nat_tests)
+
+room_test : (version : ℕ) (limits : Limits) (count : ℕ) → limits.slots + count ≤ most_slots version → limits.rows + 2 * count ≤ most_rows version → has_room version limits count ≡ true
+room_test version limits count slots rows = both_pass (limits.slots + count) (most_slots version) (limits.rows + 2 * count) (most_rows version) slots rows
 
 -- the tests of a sum line all pass
 all_pass : (a b r : Bool) → a ≡ true → b ≡ true → r ≡ true → cond {A = Option ℕ} (a && b) (cond {A = Option ℕ} r None (Some 21)) (Some 4) ≡ None
 all_pass a b r e f g = rw (e, f, g) refl
 
+less : (a b most : ℕ) → a + b ≤ most → (n : ℕ) → n ≤ b → a + n ≤ most
+less a b most le n few = omega (arith, le, few)
+
+less_twice : (a b most : ℕ) → a + 2 * b ≤ most → (n : ℕ) → n ≤ b → a + 2 * n ≤ most
+less_twice a b most le n few = omega (arith, le, few)
+
 -- the line of a sum that is kept after others has no defect
-no_defect : (limits : Limits) (before later : List Sum) (sum : Sum) → AreKept limits (before ++ sum ∷ later) → IsWell limits sum → opening_defect limits (length before) (opening_line sum (length sum.terms)) ≡ None
-no_defect limits before later sum kept is =
-    let long = length-append before (sum ∷ later) in
-    all_pass (is_there limits.rows sum.low) (is_there limits.rows sum.high) (has_room limits (length before + 1)) (there_test limits.rows sum.low is.rows.0) (there_test limits.rows sum.high is.rows.1)
-    (room_test limits (length before + 1) (omega (arith, kept.slots, long)) (omega (arith, kept.rows, long)))
+no_defect : (version : ℕ) (limits : Limits) (before later : List Sum) (sum : Sum) → AreKept version limits (before ++ sum ∷ later) → IsWell limits sum → opening_defect version limits (length before) (opening_line sum (length sum.terms)) ≡ None
+no_defect version limits before later sum kept is =
+    let all = before ++ sum ∷ later in
+    let long : length all ≡ length before + (length later + 1) = omega (arith, length-append before (sum ∷ later)) in
+    let some : 0 < length all = omega (arith, long) in
+    let few : length before + 1 ≤ length all = omega (arith, long) in
+    all_pass (is_there limits.rows sum.low) (is_there limits.rows sum.high) (has_room version limits (length before + 1)) (there_test limits.rows sum.low is.rows.0) (there_test limits.rows sum.high is.rows.1)
+    (room_test version limits (length before + 1) (less limits.slots (length all) (most_slots version) (kept.slots some) (length before + 1) few) (less_twice limits.rows (length all) (most_rows version) (kept.rows some) (length before + 1) few))
 
 -- no option is none and some
 none_some : (found : Option ℕ) (kind : ℕ) → found ≡ None → found ≡ Some kind → ⊥
 none_some found kind is is2 = cc
 
 -- a head has no defect at a sum
-no_bad_sum : (limits : Limits) (bytes : List ℕ) (head : Head) (sums : List Sum) (defect : Defect) → IsHeaded limits bytes head → AreKept limits sums → IsBadAtSum limits (length sums) (lines_of sums) bytes defect → ⊥
-no_bad_sum limits bytes head sums defect is kept bad =
-    let few = small limits sums kept in
-    let are = well limits head.sums is.kept.sums in
+no_bad_sum : (version : ℕ) (limits : Limits) (bytes : List ℕ) (head : Head) (sums : List Sum) (defect : Defect) → AreSmall limits → IsHeadVersion version → version ≡ head.version → IsHeaded limits bytes head → AreKept version limits sums
+    → IsBadAtSum version limits (length sums) (lines_of sums) bytes defect → ⊥
+no_bad_sum version limits bytes head sums defect few of_version same is kept bad =
+    let are = well head.version limits head.sums is.kept.sums in
     let x = drop head.bytes bytes in
-    let may = bad.bad.opens in
-    elim (sums_front limits head.sums sums x bad.rest few are (well limits sums kept) (rest_same (lines_of head.sums) (lines_of sums) bytes x bad.rest is.is bad.is)) [
-      | inl has ↦ first_none has.more has.rest (none_open limits has.more x bad.rest few (well_more limits head.sums sums has.more has.are (well limits sums kept)) is.ends has.rest)
+    elim (sums_front limits head.sums sums x bad.rest few are (well version limits sums kept) (rest_same head.version version (lines_of head.sums) (lines_of sums) bytes x bad.rest is.kept.version of_version is.is bad.is)) [
+      | inl has ↦ first_none has.more has.rest (none_open limits has.more x bad.rest few (well_more limits head.sums sums has.more has.are (well version limits sums kept)) is.ends has.rest)
       | inr has ↦ later_none has.more has.are has.rest
     ]
   where
@@ -291,16 +330,16 @@ no_bad_sum limits bytes head sums defect is kept bad =
     later_none : (more : List Sum) → head.sums ≡ sums ++ more → bad.rest ≡ lines_text (lines_of more) ++ drop head.bytes bytes → ⊥
     later_none [] are rest = first_none [] (sym (rest ∙ no_lines (drop head.bytes bytes)) ∙ sym (no_lines bad.rest)) refl
     later_none (a ∷ more) are rest =
-        let few = small limits sums kept in
-        let one = All-head (IsWell limits) a more (well_more limits sums head.sums (a ∷ more) are (well limits head.sums is.kept.sums)) in
+        let one = All-head (IsWell limits) a more (well_more limits sums head.sums (a ∷ more) are (well head.version limits head.sums is.kept.sums)) in
         let opening = opening_line a (length a.terms) in
         let line = first_same bad.bad.line opening bad.rest _ (open_written limits.slots bad.bad.line bad.bad.opens) (open_written limits.slots opening (may_open limits a few one)) (rest ∙ sum_front a more (drop head.bytes bytes)) bad.bad.first in
-        none_some (opening_defect limits (length sums) opening) defect.kind (no_defect limits sums more a (subst (AreKept limits) are is.kept.sums) one) (sym (ap (opening_defect limits (length sums)) line) ∙ bad.bad.defect)
+        let own = subst (λ (v : ℕ). AreKept v limits head.sums) (sym same) is.kept.sums in
+        none_some (opening_defect version limits (length sums) opening) defect.kind (no_defect version limits sums more a (subst (AreKept version limits) are own) one) (sym (ap (opening_defect version limits (length sums)) line) ∙ bad.bad.defect)
 
 -- ---- nor at a term
 
 -- numbers that ascend do so after the first
-ascending_tail : (n : ℕ) (ns : List ℕ) → IsStrictlyIncreasing (n ∷ ns) → IsStrictlyIncreasing ns
+pub ascending_tail : (n : ℕ) (ns : List ℕ) → IsStrictlyIncreasing (n ∷ ns) → IsStrictlyIncreasing ns
 ascending_tail n ns up = λ k within.
     let next : suc k + 1 ≡ suc (k + 1) = omega arith in
     subst (λ m. get_or ns k 0 < get_or (n ∷ ns) m 0) next (up (suc k) (omega (arith, within)))
@@ -318,7 +357,7 @@ follows_last above (a ∷ xs) term later up begins =
     (λ first es is. next_above a first es (subst (λ (l : List Entry). IsStrictlyIncreasing (map (λ (t : Entry). t.slot) (a ∷ l))) is up))
 
 -- a term that follows and is there is no defect
-no_bad_term : (slots : ℕ) (above : Option ℕ) (term : Entry) (rest after : List ℕ) (kind : ℕ) → slots ≤ 512 → IsTerm slots term → follows above term.slot ≡ true → rest ≡ head_line_text (term_line term) ++ 10 ∷ after → IsBadTerm slots above rest kind → ⊥
+no_bad_term : (slots : ℕ) (above : Option ℕ) (term : Entry) (rest after : List ℕ) (kind : ℕ) → slots ≤ 4096 → IsTerm slots term → follows above term.slot ≡ true → rest ≡ head_line_text (term_line term) ++ 10 ∷ after → IsBadTerm slots above rest kind → ⊥
 no_bad_term slots above term rest after kind few is above_last next (inl cut) = line_late (head_line_text (term_line term)) rest after next cut.1
 no_bad_term slots above term rest after kind few is above_last next (inr (inl none)) = none.2 (term_line term) (term_written slots term few is, above_last) (record { after = after; is = next })
 no_bad_term slots above term rest after kind few is above_last next (inr (inr far)) =
@@ -339,16 +378,14 @@ no_bad_terms limits a xs rest z kind few is fewer has bad = at has.more has.are 
         (next ∙ line_front (term_line t) (map term_line more) z) bad
 
 -- a head has no defect at a term
-no_bad_at_term : (limits : Limits) (bytes : List ℕ) (head : Head) (sums : List Sum) (defect : Defect) → IsHeaded limits bytes head → AreKept limits sums → IsBadAtTerm limits (length sums) (lines_of sums) bytes defect → ⊥
-no_bad_at_term limits bytes head sums defect is kept bad =
-    elim (sums_front limits head.sums sums x y few (well limits head.sums is.kept.sums) (well limits sums kept) same) [
-      | inl has ↦ open_first (has.rest ∙ ap (λ w. lines_text (lines_of w) ++ y) (none_open limits has.more x y few (well_more limits head.sums sums has.more has.are (well limits sums kept)) is.ends has.rest) ∙ no_lines y)
+no_bad_at_term : (version : ℕ) (limits : Limits) (bytes : List ℕ) (head : Head) (sums : List Sum) (defect : Defect) → AreSmall limits → IsHeadVersion version → IsHeaded limits bytes head → AreKept version limits sums
+    → IsBadAtTerm version limits (length sums) (lines_of sums) bytes defect → ⊥
+no_bad_at_term version limits bytes head sums defect few of_version is kept bad =
+    elim (sums_front limits head.sums sums x y few (well head.version limits head.sums is.kept.sums) (well version limits sums kept) same) [
+      | inl has ↦ open_first (has.rest ∙ ap (λ w. lines_text (lines_of w) ++ y) (none_open limits has.more x y few (well_more limits head.sums sums has.more has.are (well version limits sums kept)) is.ends has.rest) ∙ no_lines y)
       | inr has ↦ later_first has.more has.are has.rest
     ]
   where
-    few : AreSmall limits
-    few = small limits sums kept
-
     x : List ℕ
     x = drop head.bytes bytes
 
@@ -366,7 +403,7 @@ no_bad_at_term limits bytes head sums defect is kept bad =
 
     same : lines_text (lines_of head.sums) ++ x ≡ lines_text (lines_of sums) ++ y
     same =
-        rest_same (lines_of head.sums) (lines_of sums ++ open_lines bad.sum bad.count) bytes x bad.rest is.is bad.is
+        rest_same head.version version (lines_of head.sums) (lines_of sums ++ open_lines bad.sum bad.count) bytes x bad.rest is.kept.version of_version is.is bad.is
         ∙ ap (λ w. w ++ bad.rest) (lines_text-append (lines_of sums) (open_lines bad.sum bad.count)) ∙ append_assoc (lines_text (lines_of sums)) (lines_text (open_lines bad.sum bad.count)) bad.rest
 
     -- no sum's line stands first behind the head
@@ -385,7 +422,7 @@ no_bad_at_term limits bytes head sums defect is kept bad =
     later_first : (more : List Sum) → head.sums ≡ sums ++ more → y ≡ lines_text (lines_of more) ++ x → ⊥
     later_first [] are rest = open_first (sym (rest ∙ no_lines x))
     later_first (a ∷ more) are rest =
-        let one = All-head (IsWell limits) a more (well_more limits sums head.sums (a ∷ more) are (well limits head.sums is.kept.sums)) in
+        let one = All-head (IsWell limits) a more (well_more limits sums head.sums (a ∷ more) are (well head.version limits head.sums is.kept.sums)) in
         let own = opening_line a (length a.terms) in
         let z = lines_text (lines_of more) ++ x in
         let first = one_line opening own after (lines_text (map term_line a.terms) ++ z) (open_written limits.slots opening bad.opens) (open_written limits.slots own (may_open limits a few one)) (sym begins ∙ rest ∙ sum_front a more x) in
@@ -395,9 +432,15 @@ no_bad_at_term limits bytes head sums defect is kept bad =
         (terms_front limits.slots bad.sum.terms a.terms bad.rest z few.slots terms (terms_are limits.slots a one.declared) (omega (arith, fewer)) first.1) bad.bad
 
 -- bytes with a head have no defect of a head
-pub head_sound : (limits : Limits) (bytes : List ℕ) (head : Head) (defect : Defect) → IsHeaded limits bytes head → IsBadHead limits bytes defect → ⊥
-head_sound limits bytes head defect is bad = at bad.bad
+pub head_sound : (limits : Limits) (bytes : List ℕ) (head : Head) (defect : Defect) → AreSmall limits → IsHeaded limits bytes head → IsBadHead limits bytes defect → ⊥
+head_sound limits bytes head defect few is bad = at bad.bad
   where
-    at : IsBadAt limits (length bad.sums) (lines_of bad.sums) bytes defect → ⊥
-    at (inl here) = no_bad_sum limits bytes head bad.sums defect is bad.kept here
-    at (inr here) = no_bad_at_term limits bytes head bad.sums defect is bad.kept here
+    same : bad.version ≡ head.version
+    same =
+        let x = drop head.bytes bytes in
+        let first = bad_begins limits bytes defect bad in
+        same_version bad.version head.version bytes first.after _ bad.is_version is.kept.version first.is (head_rest head.version (lines_of head.sums) bytes x is.is)
+
+    at : IsBadAt bad.version limits (length bad.sums) (lines_of bad.sums) bytes defect → ⊥
+    at (inl here) = no_bad_sum bad.version limits bytes head bad.sums defect few bad.is_version same is bad.kept here
+    at (inr here) = no_bad_at_term bad.version limits bytes head bad.sums defect few bad.is_version is bad.kept here

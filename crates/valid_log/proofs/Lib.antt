@@ -10,6 +10,8 @@ pub mod Deeper
 pub mod Excluded
 pub mod Alike
 pub mod Fronts
+pub mod TailLines
+pub mod Tails
 pub mod AnyVersions
 pub mod OneLog
 pub mod Again

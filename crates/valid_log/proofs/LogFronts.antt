@@ -1,5 +1,5 @@
 -- The fronts of the texts of logs, and valid logs behind them.
-use Rattle.std.proofs.Common.{◌≡◌, ◌≢◌, inr, ℕ, ◌+◌, ◌*◌, List, [], ◌∷◌, ◌++◌, length, flat_map, get_or, refl, sym, ap, ap₂, ◌∙◌, subst, arith}
+use Rattle.std.proofs.Common.{◌≡◌, ◌≢◌, inl, inr, ℕ, ◌+◌, ◌*◌, List, [], ◌∷◌, ◌++◌, length, flat_map, get_or, refl, sym, ap, ap₂, ◌∙◌, subst, arith}
 use Rattle.std.specs.Prelude.{codes}
 use Rattle.std.proofs.lemmas.Fmt.{decimal_digit}
 use Rattle.row_kit.specs.declared.domain.Domain.{Domain}
@@ -24,6 +24,10 @@ use Rattle.sum_lines.specs.declared.head.Front.TheVariants.{Headed, Plain}
 use Rattle.sum_lines.specs.Front.{BeginsWith, IsFront}
 use Rattle.sum_lines.specs.Head.{AreKept, first_line, head_of, head_text}
 use Rattle.sum_lines.proofs.SumLines.{heads_read}
+use Rattle.derivation_lines.specs.declared.tail.TailFront.TheVariants.{Whole}
+use Rattle.derivation_lines.specs.Tail.{tail_of, tail_text}
+use Rattle.derivation_lines.proofs.LineTexts.{lines_text-nil}
+use Rattle.proof_log.specs.Behind.{behind}
 use Rattle.valid_log.specs.AnyVersion.{IsAnyVerdict, IsShownVerdict, given_claim, limits_with}
 use Rattle.valid_log.specs.SumTexts.{MayHead, sums_text}
 
@@ -33,7 +37,7 @@ unfolding item_lines lines_text line_text number_text
 node_text items later = refl
 
 -- the lines of a proof begin with that of a node, whatever lines come later
-after_node : (tree : RowTree) (later : List Line) → (rest : List ℕ) × (lines_text (flat_map item_lines (tree_items tree) ++ later) ≡ codes "node" ++ 10 ∷ rest)
+pub after_node : (tree : RowTree) (later : List Line) → (rest : List ℕ) × (lines_text (flat_map item_lines (tree_items tree) ++ later) ≡ codes "node" ++ 10 ∷ rest)
 after_node (leaf cuts found end) later = (_, node_text _ later)
 after_node (split cuts found pick cert a b) later = (_, node_text _ later)
 
@@ -49,37 +53,39 @@ limits_same program depth =
     ap₂ (λ r s. limits_at depth r s) rows slots
 
 -- what sums keep does not depend on how many splits may be open
-kept_with : (program : Program) (depth other : ℕ) (sums : List Sum) → AreKept (limits_of program depth) sums → AreKept (limits_with program other 0) sums
+kept_with : (program : Program) (depth other : ℕ) (sums : List Sum) → AreKept 3 (limits_of program depth) sums → AreKept 3 (limits_with program other 0) sums
 kept_with program depth other sums kept =
-    let own : AreKept (limits_of program other) sums = record { declared = kept.declared; rows_there = kept.rows_there; slots = kept.slots; rows = kept.rows } in
-    subst (λ (limits : Limits). AreKept limits sums) (limits_same program other) own
+    let own : AreKept 3 (limits_of program other) sums = record { declared = kept.declared; rows_there = kept.rows_there; slots = kept.slots; rows = kept.rows } in
+    subst (λ (limits : Limits). AreKept 3 limits sums) (limits_same program other) own
 
 -- the head is not empty
-some_head : (sums : List Sum) → head_text sums ≢ []
+some_head : (sums : List Sum) → head_text 3 sums ≢ []
 some_head sums none = cc
 
 -- the front of the text of a log with sums is its head
 pub head-stands : (program : Program) (ranges : List Domain) (sums : List Sum) (depth : ℕ) (tree : RowTree) (claim : Claim) → MayHead program ranges sums
-    → IsFront (limits_with program depth 0) (sums_text sums tree claim) (Headed (head_of sums))
+    → IsFront (limits_with program depth 0) (sums_text sums tree claim) (Headed (head_of 3 sums))
 head-stands program ranges sums depth tree claim may =
     let first = after_node tree (claim_lines claim ++ End ∷ []) in
-    subst (λ text. IsFront (limits_with program depth 0) (head_text sums ++ text) (Headed (head_of sums))) (sym first.1)
-    (heads_read (limits_with program depth 0) sums first.0 (kept_with program may.depth depth sums may.kept) may.few_bytes)
+    subst (λ text. IsFront (limits_with program depth 0) (head_text 3 sums ++ text) (Headed (head_of 3 sums))) (sym first.1)
+    (heads_read 3 (limits_with program depth 0) sums first.0 (inl refl) (kept_with program may.depth depth sums may.kept) may.few_bytes)
 
 -- a valid log over the program with sums is, behind their head, a valid log of the program, of the claim cut back
-pub headed-verdict : (program larger : Program) (ranges : List Domain) (sums : List Sum) (depth : ℕ) (tree : RowTree) (own claim : Claim) → MayHead program ranges sums → IsWithSums program ranges sums larger
+pub headed-verdict : (program larger : Program) (ranges root : List Domain) (sums : List Sum) (depth : ℕ) (tree : RowTree) (own claim : Claim) → MayHead program ranges sums → IsWithSums program ranges sums larger
     → IsVerdict larger depth (log_text 2 (tree_items tree) own) (Yes own) → claim ≡ given_claim (length program.root) own
-    → IsAnyVerdict program ranges depth (sums_text sums tree own) (Yes claim)
-headed-verdict program larger ranges sums depth tree own claim may enlarged valid is =
-    let shown : IsShownVerdict program ranges depth (sums_text sums tree own) (head_of sums) (Yes claim) = record {
-      shown = may.shown;
+    → IsAnyVerdict program ranges root depth (sums_text sums tree own) (Yes claim)
+headed-verdict program larger ranges root sums depth tree own claim may enlarged valid is =
+    let head = head_of 3 sums in
+    let same : head.bytes + length (tail_text []) ≡ length (head_text 3 sums) = omega (arith, ap length lines_text-nil) in
+    let text = sym (ap (λ (n : ℕ). behind n (sums_text sums tree own)) same ∙ behind-head (head_text 3 sums) (tree_items tree) own (some_head sums)) in
+    let shown : IsShownVerdict program ranges depth (sums_text sums tree own) head (tail_of head []) (Yes claim) = record {
       larger = larger;
-      enlarged = enlarged;
+      enlarged = record { sums_shown = may.shown; between = larger; with_sums = enlarged; derivations_shown = tt; grown = inl (refl, refl) };
       own = Yes own;
-      right = subst (λ bytes. IsVerdict larger depth bytes (Yes own)) (sym (behind-head (head_text sums) (tree_items tree) own (some_head sums))) valid;
+      right = subst (λ bytes. IsVerdict larger depth bytes (Yes own)) text valid;
       is = ap Yes is;
     } in
-    record { front = Headed (head_of sums); stands = head-stands program ranges sums depth tree own may; right = inr shown }
+    record { front = Headed head; stands = head-stands program ranges sums depth tree own may; right = record { tail = Whole (tail_of head []); follows = inl (refl, refl); right = inr shown } }
 
 -- the text of a log of version 2 begins with its header
 header_text : (items : List RowItem) (claim : Claim) → log_text 2 items claim ≡ codes "stn-log 2" ++ 10 ∷ lines_text (flat_map item_lines items ++ (claim_lines claim ++ End ∷ []))
@@ -87,11 +93,13 @@ unfolding log_text log_lines lines_text line_text number_text
 header_text items claim = let e = decimal_digit 2 (omega arith) in rw e refl
 
 -- so it does not begin as a head does
-plain_front : (items : List RowItem) (claim : Claim) → ¬ BeginsWith first_line (log_text 2 items claim)
-plain_front items claim begins =
-    let apart : 50 ≡ 51 = ap (λ (bytes : List ℕ). get_or bytes 8 0) (sym (header_text items claim) ∙ begins.is) in omega (arith, apart)
+plain_front : (items : List RowItem) (claim : Claim) → (¬ BeginsWith (first_line 3) (log_text 2 items claim)) × (¬ BeginsWith (first_line 4) (log_text 2 items claim))
+plain_front items claim = (
+  λ begins. let apart : 50 ≡ 51 = ap (λ (bytes : List ℕ). get_or bytes 8 0) (sym (header_text items claim) ∙ begins.is) in omega (arith, apart),
+  λ begins. let apart : 50 ≡ 52 = ap (λ (bytes : List ℕ). get_or bytes 8 0) (sym (header_text items claim) ∙ begins.is) in omega (arith, apart),
+)
 
 -- so the answer on it is that on a log of any version
-pub plain-verdict : (program : Program) (ranges : List Domain) (depth : ℕ) (items : List RowItem) (claim : Claim) (verdict : LogVerdict) → IsVerdict program depth (log_text 2 items claim) verdict
-    → IsAnyVerdict program ranges depth (log_text 2 items claim) verdict
-plain-verdict program ranges depth items claim verdict right = record { front = Plain; stands = plain_front items claim; right = right }
+pub plain-verdict : (program : Program) (ranges root : List Domain) (depth : ℕ) (items : List RowItem) (claim : Claim) (verdict : LogVerdict) → IsVerdict program depth (log_text 2 items claim) verdict
+    → IsAnyVerdict program ranges root depth (log_text 2 items claim) verdict
+plain-verdict program ranges root depth items claim verdict right = record { front = Plain; stands = plain_front items claim; right = right }

@@ -7,9 +7,13 @@ use Rattle.valid_log.specs.declared.verdict.LogVerdict.{LogVerdict}
 use Rattle.valid_log.specs.Claims.{IsOfPlant, YesSays, YesSaysOf}
 use Rattle.valid_log.specs.AnyVersion.{IsAnyVerdict}
 
--- the answer on a log of any version over a part of a plant's choices: its sums are to be shown by what slots of the plant may have
+-- the answer on a log of any version over a part of a plant's choices: its head is judged over what slots of the plant may have, whatever they may have in the part
 abbrev pub IsPlantVerdict : Plant → Program → ℕ → List ℕ → LogVerdict → Type 0
-IsPlantVerdict plant part depth log verdict = IsAnyVerdict part (plant_root plant) depth log verdict
+IsPlantVerdict plant part depth log verdict = IsAnyVerdict part (plant_root plant) (plant_root plant) depth log verdict
+
+-- the answer on a log of any version over the choices that kept starts leave: its head is judged over these choices in version 4, and over what slots of the plant may have in version 3
+abbrev pub IsKeptVerdict : Plant → Program → ℕ → List ℕ → LogVerdict → Type 0
+IsKeptVerdict plant part depth log verdict = IsAnyVerdict part (plant_root plant) part.root depth log verdict
 
 -- The verdict on a log of any version is right of the plant: it is right over the plant's program, where at most 4,608 splits may be
 -- open, and the claim of a log that is valid holds of all plans.
@@ -23,4 +27,10 @@ pub record IsAnyChecked (plant : Plant) (log : List ℕ) (verdict : LogVerdict) 
 -- many splits may be open, and the claim of a log that is valid holds of all plans that the part admits.
 pub record IsAnyPartChecked (plant : Plant) (part : Program) (depth : ℕ) (log : List ℕ) (verdict : LogVerdict) : Type 0 where
   pub right : IsPlantVerdict plant part depth log verdict
+  pub holds : YesSaysOf plant part verdict
+
+-- The verdict on a log of any version is right of the choices that kept starts leave: it is right over their program, where at most so
+-- many splits may be open, and the claim of a log that is valid holds of all plans that they admit.
+pub record IsAnyKeptChecked (plant : Plant) (part : Program) (depth : ℕ) (log : List ℕ) (verdict : LogVerdict) : Type 0 where
+  pub right : IsKeptVerdict plant part depth log verdict
   pub holds : YesSaysOf plant part verdict

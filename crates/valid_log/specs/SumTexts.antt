@@ -18,8 +18,8 @@ use Rattle.valid_log.specs.Verdict.{limits_of}
 -- what sums keep with which a log of version 3 can be written over a program: they keep the limits of its logs, their head has fewer than 2^64 bytes, and each is shown
 pub record MayHead (program : Program) (ranges : List Domain) (sums : List Sum) : Type 0 where
   pub depth : ℕ
-  pub kept : AreKept (limits_of program depth) sums
-  pub few_bytes : length (head_text sums) < 2 ^ 64
+  pub kept : AreKept 3 (limits_of program depth) sums
+  pub few_bytes : length (head_text 3 sums) < 2 ^ 64
   pub shown : All (IsShown program ranges) sums
 
 -- a claim over a program with sums: its point followed by the values of the sums there
@@ -31,7 +31,7 @@ larger_claim sums (Below most) = Below most
 
 -- the text of a log of version 3: its head, the lines of the proof's items and of the claim, and the end
 abbrev pub sums_text : List Sum → RowTree → Claim → List ℕ
-sums_text sums tree claim = head_text sums ++ lines_text (flat_map item_lines (tree_items tree) ++ (claim_lines claim ++ End ∷ []))
+sums_text sums tree claim = head_text 3 sums ++ lines_text (flat_map item_lines (tree_items tree) ++ (claim_lines claim ++ End ∷ []))
 
 -- the text of a log: of version 2 where it declares no sums, and else of version 3
 abbrev pub any_text : List Sum → RowTree → Claim → List ℕ

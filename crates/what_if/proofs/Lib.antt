@@ -6,3 +6,4 @@ pub mod RaisedSound
 pub mod RaisedStates
 pub mod Same
 pub mod Shown
+pub mod Within

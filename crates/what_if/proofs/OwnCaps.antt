@@ -1,12 +1,12 @@
--- An estimate of the plant that a valid log is of is the cap of the log's own proof.
-use Rattle.std.proofs.Common.{◌≡◌, ◌≢◌, ℕ, ◌+◌, ◌*◌, ◌≤◌, List, [], ◌∷◌, ◌++◌, length, map, refl, sym, ap, ◌∙◌, subst, inl, inr, arith, ℤ, Option}
-use Rattle.std.specs.List.{All}
-use Rattle.std.proofs.lemmas.List.Elements.{All-nil}
+-- An estimate of the plant that a valid log is of answers to the cap of the log's own proof.
+use Rattle.std.proofs.Common.{◌≡◌, ◌≢◌, ◌⊎◌, ℕ, Bool, true, false, List, sym, ap, ◌∙◌, subst, inl, inr, ℤ, Option}
+use Rattle.std.specs.Prelude.{if◌then◌else◌}
 use Rattle.stn_model.specs.declared.plant.Plant.{Plant}
 use Rattle.row_kit.specs.declared.area.Area.{Area}
 use Rattle.row_kit.specs.declared.domain.Domain.{Domain}
 use Rattle.row_kit.specs.declared.found.Found.{Found}
 use Rattle.row_kit.specs.declared.program.Program.{Program}
+use Rattle.row_kit.specs.declared.row.Row.{Row}
 use Rattle.proof_tree.specs.declared.capped.Capped.{Capped}
 use Rattle.proof_tree.specs.declared.capped.Capped.TheVariants.{Bad}
 use Rattle.proof_tree.specs.Items.{tree_items}
@@ -18,40 +18,22 @@ use Rattle.row_relax.specs.declared.rows.Rows.{Rows}
 use Rattle.row_relax.specs.RowProofs.{RowTree}
 use Rattle.row_relax.specs.Steps.{row_steps}
 use Rattle.row_relax.specs.View.{view_of}
-use Rattle.stn_model.specs.Sound.{Sound}
 use Rattle.row_set.specs.PlantProgram.{IsMadeOf, plant_root}
-use Rattle.row_set.proofs.Limits.{made-rows, made-slots}
-use Rattle.sum_slots.specs.declared.sum.Sum.{Sum}
-use Rattle.sum_slots.specs.Larger.{IsWithSums}
-use Rattle.sum_slots.specs.Sum.{IsDeclared}
+use Rattle.derivations.specs.Anew.{IsWithAnew}
+use Rattle.derivations.specs.Growth.{AreShown}
+use Rattle.derivations.specs.Larger.{IsWithDerivations, begun}
+use Rattle.derivations.proofs.Again.{shown-stand}
 use Rattle.proof_log.specs.declared.claim.Claim.{Claim}
-use Rattle.sum_lines.specs.declared.head.Front.{Front}
-use Rattle.sum_lines.specs.declared.head.Front.TheVariants.{Plain, Headed, Bad as BadFront}
-use Rattle.sum_lines.specs.Front.{IsFront}
-use Rattle.valid_log.specs.AnyVersion.{front_sums, limits_with}
+use Rattle.valid_log.specs.AnyVersion.{IsWithHead, head_domains}
 use Rattle.valid_log.specs.Meaning.{IsProved}
 use Rattle.valid_log.proofs.Again.{same-program}
 use Rattle.valid_log.proofs.Alike.{alike, proved_alike}
-use Rattle.what_if.specs.Estimate.{AreSumsOf, IsEstimate, IsLooseWith, IsPlainWithout, IsProofCap}
+use Rattle.what_if.specs.declared.old.LogHead.{LogHead}
+use Rattle.what_if.specs.Estimate.{AreTaken, IsEstimate, IsLooseWith, IsProofCap, IsWithHeadAnew}
+use Rattle.what_if.specs.Head.{version_of}
 use Rattle.what_if.specs.OldLogs.{IsValidFor}
 
--- ---- the sums of a valid log can be taken over the plant's program
-
--- the sums of a front are declared
-declared_in : (program : Program) (depth : ℕ) (bytes : List ℕ) (front : Front) (sums : List Sum) → IsFront (limits_with program depth 0) bytes front → sums ≡ front_sums front → All (IsDeclared (length program.root)) sums
-declared_in program depth bytes Plain sums stands is = subst (All (IsDeclared (length program.root))) (sym is) (All-nil (IsDeclared (length program.root)))
-declared_in program depth bytes (Headed head) sums stands is =
-    let slots : length program.root + 0 ≡ length program.root = omega arith in
-    subst (All (IsDeclared (length program.root))) (sym is) (subst (λ (n : ℕ). All (IsDeclared n) head.sums) slots stands.kept.sums.declared)
-declared_in program depth bytes (BadFront defect) sums stands is = subst (All (IsDeclared (length program.root))) (sym is) (All-nil (IsDeclared (length program.root)))
-
--- and there is room for them
-room_in : (program : Program) (depth : ℕ) (bytes : List ℕ) (front : Front) (sums : List Sum) → length program.root ≤ 512 → length program.rows ≤ 45904 → IsFront (limits_with program depth 0) bytes front → sums ≡ front_sums front → (length program.root + length sums ≤ 512) × (length program.rows + 2 * length sums ≤ 45904)
-room_in program depth bytes Plain sums slots rows stands is = (omega (arith, slots, ap length is), omega (arith, rows, ap length is))
-room_in program depth bytes (Headed head) sums slots rows stands is =
-    let kept = stands.kept.sums in
-    (omega (arith, kept.slots, ap length is), omega (arith, kept.rows, ap length is))
-room_in program depth bytes (BadFront defect) sums slots rows stands is = (omega (arith, slots, ap length is), omega (arith, rows, ap length is))
+-- ---- the head of a valid log over the plant's program
 
 -- programs that are made of one plant are the same
 same_made : (plant : Plant) (a b : Program) → IsMadeOf plant a → IsMadeOf plant b → a ≡ b
@@ -59,18 +41,29 @@ same_made plant a b one other = same-program a b
     (one.rows_are ∙ sym other.rows_are) (one.profit_is ∙ sym other.profit_is) (one.base_is ∙ sym other.base_is)
     (one.root_is ∙ sym other.root_is) (one.tags_are ∙ sym other.tags_are) (one.changes_are ∙ sym other.changes_are)
 
--- the sums of a valid log can be taken over its program
-taken : (plant : Plant) → Sound plant → (bytes : List ℕ) (sums : List Sum) (proof : RowTree) (claim : Claim) (valid : IsValidFor plant bytes sums proof claim) → AreSumsOf valid.checked.program (plant_root plant) sums
-taken plant sound bytes sums proof claim valid =
-    let program = valid.checked.program in
-    let made = valid.checked.of_plant.made in
-    let declared = declared_in program 0 bytes valid.is_log.front sums valid.is_log.stands valid.is_log.declares in
-    let room = room_in program 0 bytes valid.is_log.front sums (made-slots plant program sound made) (made-rows plant program sound made) valid.is_log.stands valid.is_log.declares in
-    record {
-      each = λ i d lt. (declared i d lt, valid.is_log.shown i d lt);
-      slots = room.0;
-      rows = room.1;
-    }
+-- where the derivations of a head are shown, the program with it is also that in which they are looked at anew
+shown-head : (program one larger : Program) (ranges : List Domain) (head : LogHead) → IsWithHead (version_of head) program ranges head.sums head.derivations one → IsWithHeadAnew program ranges head larger
+    → IsWithHead (version_of head) program ranges head.sums head.derivations larger
+shown-head program one larger ranges head is anew = record {
+  sums_shown = is.sums_shown;
+  between = anew.between;
+  with_sums = anew.with_sums;
+  derivations_shown = shown;
+  grown = by_caps anew.grown;
+}
+  where
+    domains : List Domain
+    domains = head_domains program ranges head.sums
+
+    rows : is.between.rows ≡ anew.between.rows
+    rows = is.with_sums.rows ∙ sym anew.with_sums.rows
+
+    shown : AreShown (begun anew.between domains) head.derivations
+    shown = subst (λ (rs : List Row). AreShown (record { rows = rs; domains = domains }) head.derivations) rows is.derivations_shown
+
+    by_caps : ((head.capped ≡ false) × (larger ≡ anew.between)) ⊎ ((head.capped ≡ true) × IsWithAnew anew.between domains head.derivations larger) → ((version_of head ≡ 3) × (larger ≡ anew.between)) ⊎ ((version_of head ≡ 4) × IsWithDerivations anew.between domains head.derivations larger)
+    by_caps (inl none) = inl (ap (λ (capped : Bool). if capped then 4 else 3) none.0, none.1)
+    by_caps (inr some) = inr (ap (λ (capped : Bool). if capped then 4 else 3) some.0, shown-stand anew.between larger domains head.derivations shown some.1)
 
 -- ---- its proof has a cap there
 
@@ -84,26 +77,30 @@ defined program tree proof_cap proved =
     real (tree_cap (row_steps program) (view_of program.root) tree) proof_cap
     (sym (walked-whole Rows Area Found (row_steps program) tree (view_of program.root)) ∙ proved.led)
 
--- an estimate of the plant is the cap of the log's proof
-pub own_cap : (plant : Plant) → Sound plant → (bytes : List ℕ) (sums : List Sum) (proof : RowTree) (claim : Claim) (cap : Option ℤ) → IsValidFor plant bytes sums proof claim → IsEstimate plant sums proof cap → IsProofCap plant sums proof cap
-own_cap plant sound bytes sums proof claim cap valid estimate =
+-- an estimate of the plant answers to the cap of the log's proof
+pub own_cap : (plant : Plant) (bytes : List ℕ) (head : LogHead) (proof : RowTree) (claim : Claim) (cap : Option ℤ) → IsValidFor plant bytes head proof claim → IsEstimate plant head proof cap → IsProofCap plant head proof cap
+own_cap plant bytes head proof claim cap valid estimate =
     elim estimate.is [
       | inl loose ↦ loosely loose
-      | inr plain ↦ absurd (plain.untaken (subst (λ (p : Program). AreSumsOf p (plant_root plant) sums) same (taken plant sound bytes sums proof claim valid)))
+      | inr plain ↦ absurd (plain.untaken (subst (λ (p : Program). AreTaken p (plant_root plant) head) same valid.taken))
     ]
   where
     same : valid.checked.program ≡ estimate.program
     same = same_made plant valid.checked.program estimate.program valid.checked.of_plant.made estimate.made
 
-    loosely : IsLooseWith estimate.program (plant_root plant) sums proof cap → IsProofCap plant sums proof cap
+    loosely : IsLooseWith estimate.program (plant_root plant) head proof cap → IsProofCap plant head proof cap
     loosely loose =
-        let log = valid.is_log in
-        let over = subst (λ (p : Program). IsWithSums p (plant_root plant) sums log.larger) same log.enlarged in
-        let proved = proved_alike log.larger loose.larger (tree_items proof) valid.sound_log.proof_cap (alike estimate.program log.larger loose.larger (plant_root plant) sums over loose.enlarged) valid.sound_log.proved in
+        let log = valid.sound_log in
+        let version = version_of head in
+        let over = subst (λ (p : Program). IsWithHead version p (plant_root plant) head.sums head.derivations log.larger) same log.enlarged in
+        let own = shown-head estimate.program log.larger loose.larger (plant_root plant) head over loose.enlarged in
+        let proved = proved_alike log.larger loose.larger (tree_items proof) log.sound_log.proof_cap (alike version estimate.program log.larger loose.larger (plant_root plant) head.sums head.derivations over own) log.sound_log.proved in
+        let is_defined = defined loose.larger proof log.sound_log.proof_cap proved in
         record {
           program = estimate.program;
           made = estimate.made;
           larger = loose.larger;
-          enlarged = loose.enlarged;
-          is = loose.own (defined loose.larger proof valid.sound_log.proof_cap proved);
+          enlarged = own;
+          defined = is_defined;
+          is = loose.own is_defined;
         }

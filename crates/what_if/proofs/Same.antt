@@ -23,7 +23,7 @@ use Rattle.row_relax.specs.Steps.{row_steps}
 use Rattle.row_relax.specs.View.{Fits, domains_of, points_in}
 use Rattle.row_relax.specs.laws.Laws.{rows_sound}
 use Rattle.row_relax.proofs.PointCounts.{points-cut, points-empty, points-left, points-right, points-settled, points-some}
-use Rattle.what_if.specs.Loose.{after_all, loose_cap, loosened, no_mults, or_else}
+use Rattle.what_if.specs.Loose.{after_all, loose_cap, loosened, no_mults, or_else, within}
 
 at_most_none : (a b : ℕ) → a ≤ b → b ≡ 0 → a ≡ 0
 at_most_none a b h e = omega (arith, h, e)
@@ -71,11 +71,11 @@ loosened-defined program v own = by_empty ((row_steps program).empty v) refl
     by_empty false e = or_else-defined own ((row_steps program).cap v no_mults) (plain-defined program v e)
 
 -- the loose cap is defined
-pub loose_cap-defined : (program : Program) (tree : RowTree) (v : View) → loose_cap program v tree ≢ Bad
-loose_cap-defined program (leaf cuts found end) v = loosened-defined program (after_all program v cuts) (leaf_cap (row_steps program) (after_all program v cuts) end)
-loose_cap-defined program (split cuts found pick cert a b) v =
+pub loose_cap-defined : (capped : Bool) (program : Program) (tree : RowTree) (v : View) → loose_cap capped program v tree ≢ Bad
+loose_cap-defined capped program (leaf cuts found end) v = loosened-defined program (after_all program v cuts) (leaf_cap (row_steps program) (after_all program v cuts) end)
+loose_cap-defined capped program (split cuts found pick cert a b) v =
     let w = after_all program v cuts in
-    loosened-defined program w (greater (cap_if ((row_steps program).left w pick) (λ x. loose_cap program x a)) (cap_if ((row_steps program).right w pick) (λ x. loose_cap program x b)))
+    loosened-defined program w (within capped program w cert (greater (cap_if ((row_steps program).left w pick) (λ x. loose_cap capped program x a)) (cap_if ((row_steps program).right w pick) (λ x. loose_cap capped program x b))))
 
 -- ---- where the proof's own cap is defined
 
@@ -93,12 +93,12 @@ loosened-own program v own is none = by_empty ((row_steps program).empty v) refl
     by_empty false e = or_else-own own ((row_steps program).cap v no_mults) is
 
 -- the greater of two caps is defined where both are, and there is no point where neither has one
-greater-first : (a b : Capped) → greater a b ≢ Bad → a ≢ Bad
+pub greater-first : (a b : Capped) → greater a b ≢ Bad → a ≢ Bad
 greater-first Bad b is = is
 greater-first NoPoint b is = λ e. cc
 greater-first (AtMost n) b is = λ e. cc
 
-greater-second : (a b : Capped) → greater a b ≢ Bad → b ≢ Bad
+pub greater-second : (a b : Capped) → greater a b ≢ Bad → b ≢ Bad
 greater-second Bad b is = absurd (is refl)
 greater-second NoPoint b is = is
 greater-second (AtMost m) Bad is = is
@@ -109,7 +109,7 @@ greater-none : (a b : Capped) → a ≡ NoPoint → b ≡ NoPoint → greater a 
 greater-none a b first second = rw (first, second) refl
 
 -- a view that is there
-cap_if-there : (next : Option View) (cap_at : View → Capped) → cap_if next cap_at ≢ Bad → (w : View) × (next ≡ Some w)
+pub cap_if-there : (next : Option View) (cap_at : View → Capped) → cap_if next cap_at ≢ Bad → (w : View) × (next ≡ Some w)
 cap_if-there None cap_at is = absurd (is refl)
 cap_if-there (Some w) cap_at is = (w, refl)
 
@@ -125,7 +125,7 @@ module _ (program : Program) where
   first_cut cut cuts v w None is led = absurd (cc)
   first_cut cut cuts v w (Some x) is led = (x, (is, led))
 
-  after_all-same : (cuts : List RowCut) (v w : View) → Fits program v → after_cuts (row_steps program) v cuts ≡ Some w → (after_all program v cuts ≡ w) × Fits program w
+  pub after_all-same : (cuts : List RowCut) (v w : View) → Fits program v → after_cuts (row_steps program) v cuts ≡ Some w → (after_all program v cuts ≡ w) × Fits program w
   after_all-same [] v w fit led = let same : v ≡ w = cc in (same, subst (Fits program) same fit)
   after_all-same (cut ∷ cuts) v w fit led =
       let first = first_cut cut cuts v w ((row_steps program).cut v cut) refl led in
@@ -192,8 +192,8 @@ module _ (program : Program) where
   part-same None loose own same is = absurd (is refl)
   part-same (Some x) loose own same is = same x refl is
 
--- the loose cap is the proof's own, where that is defined
-pub loose_cap-same : (program : Program) (tree : RowTree) (v : View) → Fits program v → tree_cap (row_steps program) v tree ≢ Bad → loose_cap program v tree ≡ tree_cap (row_steps program) v tree
+-- the loose cap is the proof's own, where that is defined and splits have no caps of their own
+pub loose_cap-same : (program : Program) (tree : RowTree) (v : View) → Fits program v → tree_cap (row_steps program) v tree ≢ Bad → loose_cap false program v tree ≡ tree_cap (row_steps program) v tree
 loose_cap-same program (leaf cuts found end) v fit is =
     let s = row_steps program in
     let there = cap_if-there (after_cuts s v cuts) (λ w. leaf_cap s w end) is in
@@ -206,7 +206,7 @@ loose_cap-same program (leaf cuts found end) v fit is =
     ∙ sym own
 loose_cap-same program (split cuts found pick cert a b) v fit is =
     let s = row_steps program in
-    let loose_parts : View → Capped = λ w. greater (cap_if (s.left w pick) (λ x. loose_cap program x a)) (cap_if (s.right w pick) (λ x. loose_cap program x b)) in
+    let loose_parts : View → Capped = λ w. greater (cap_if (s.left w pick) (λ x. loose_cap false program x a)) (cap_if (s.right w pick) (λ x. loose_cap false program x b)) in
     let own_parts : View → Capped = λ w. greater (cap_if (s.left w pick) (λ x. tree_cap s x a)) (cap_if (s.right w pick) (λ x. tree_cap s x b)) in
     let there = cap_if-there (after_cuts s v cuts) own_parts is in
     let w = there.0 in
@@ -215,9 +215,9 @@ loose_cap-same program (split cuts found pick cert a b) v fit is =
     let defined : own_parts w ≢ Bad = λ e. is (own ∙ e) in
     let first = cap_if (s.left w pick) (λ x. tree_cap s x a) in
     let second = cap_if (s.right w pick) (λ x. tree_cap s x b) in
-    let left_same = part-same program (s.left w pick) (λ x. loose_cap program x a) (λ x. tree_cap s x a) (λ x to. loose_cap-same program a x ((rows_sound program).left_fits w x pick at.1 to)) (greater-first first second defined) in
-    let right_same = part-same program (s.right w pick) (λ x. loose_cap program x b) (λ x. tree_cap s x b) (λ x to. loose_cap-same program b x ((rows_sound program).right_fits w x pick at.1 to)) (greater-second first second defined) in
-    let same : loose_parts w ≡ own_parts w = ap (λ x. greater x (cap_if (s.right w pick) (λ y. loose_cap program y b))) left_same ∙ ap (λ x. greater first x) right_same in
+    let left_same = part-same program (s.left w pick) (λ x. loose_cap false program x a) (λ x. tree_cap s x a) (λ x to. loose_cap-same program a x ((rows_sound program).left_fits w x pick at.1 to)) (greater-first first second defined) in
+    let right_same = part-same program (s.right w pick) (λ x. loose_cap false program x b) (λ x. tree_cap s x b) (λ x to. loose_cap-same program b x ((rows_sound program).right_fits w x pick at.1 to)) (greater-second first second defined) in
+    let same : loose_parts w ≡ own_parts w = ap (λ x. greater x (cap_if (s.right w pick) (λ y. loose_cap false program y b))) left_same ∙ ap (λ x. greater first x) right_same in
     let empty_none : s.empty w ≡ true → own_parts w ≡ NoPoint = λ e. tree_cap-none program (split [] None pick cert a b) w (record { fits = at.1; none = points-empty program w e }) defined in
     ap (λ x. loosened program x (loose_parts x)) at.0
     ∙ ap (λ x. loosened program w x) same

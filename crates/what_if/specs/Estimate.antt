@@ -1,5 +1,5 @@
 -- What a proof says of the plans of a plant whose limits are no longer those that it was made for.
-use Rattle.std.specs.Prelude.{◌≡◌, ◌≢◌, ◌⊎◌, ◌+◌, ◌*◌, ◌≤◌, List, length, Option, Some, None, ℤ, ◌≤ℤ◌}
+use Rattle.std.specs.Prelude.{true, false, ◌≡◌, ◌≢◌, ◌⊎◌, ◌+◌, ◌*◌, ◌≤◌, List, length, Option, Some, None, ℤ, ◌≤ℤ◌}
 use Rattle.std.specs.List.{All}
 use Rattle.stn_model.specs.declared.plant.Plant.{Plant}
 use Rattle.stn_model.specs.declared.start.Start.{Start}
@@ -18,7 +18,12 @@ use Rattle.sum_slots.specs.declared.sum.Sum.{Sum}
 use Rattle.sum_slots.specs.Larger.{IsWithSums}
 use Rattle.sum_slots.specs.Shown.{IsShown}
 use Rattle.sum_slots.specs.Sum.{IsDeclared}
-use Rattle.what_if.specs.Loose.{loose_cap, no_mults, said}
+use Rattle.derivations.specs.Anew.{IsWithAnew}
+use Rattle.derivations.specs.Growth.{rows_of}
+use Rattle.valid_log.specs.AnyVersion.{IsWithHead, head_domains}
+use Rattle.what_if.specs.declared.old.LogHead.{LogHead}
+use Rattle.what_if.specs.Head.{version_of}
+use Rattle.what_if.specs.Loose.{AnswersTo, loose_cap, no_mults, said}
 
 -- no feasible plan of the plant earns more, and where it is none no plan is feasible
 abbrev pub CapsPlans : Plant → Option ℤ → Type 0
@@ -29,41 +34,48 @@ CapsPlans plant (Some cap) = (plan : List Start) → Feasible plant plan → pro
 abbrev pub IsSumOf : Program → List Domain → Sum → Type 0
 IsSumOf program ranges sum = IsDeclared (length program.root) sum × IsShown program ranges sum
 
--- sums can be taken over a program: each is declared and shown there, and there is room for a slot and two rows for each
-pub record AreSumsOf (program : Program) (ranges : List Domain) (sums : List Sum) : Type 0 where
-  pub each : All (IsSumOf program ranges) sums
-  pub slots : length program.root + length sums ≤ 512
-  pub rows : length program.rows + 2 * length sums ≤ 45904
+-- the head of a log can be taken over a program: each sum is declared and shown there, and there is room for a slot and two rows for each, and for the derived rows
+pub record AreTaken (program : Program) (ranges : List Domain) (head : LogHead) : Type 0 where
+  pub each : All (IsSumOf program ranges) head.sums
+  pub slots : length program.root + length head.sums ≤ 4096
+  pub rows : length program.rows + (2 * length head.sums + rows_of head.derivations) ≤ 400000
 
--- The cap is the loose cap of the proof over the root of the program with the sums, which can be taken there. It is the proof's own
--- cap over that program, where that is defined.
-pub record IsLooseWith (program : Program) (ranges : List Domain) (sums : List Sum) (proof : RowTree) (cap : Option ℤ) : Type 0 where
-  pub taken : AreSumsOf program ranges sums
+-- a program is another with the sums of a head, and with its derivations looked at anew over these domains; a head below version 4 has none
+pub record IsWithHeadAnew (program : Program) (ranges : List Domain) (head : LogHead) (larger : Program) : Type 0 where
+  pub between : Program
+  pub with_sums : IsWithSums program ranges head.sums between
+  pub grown : ((head.capped ≡ false) × (larger ≡ between)) ⊎ ((head.capped ≡ true) × IsWithAnew between (head_domains program ranges head.sums) head.derivations larger)
+
+-- The cap is the loose cap of the proof over the root of the program with the head, which can be taken there. It answers to the proof's
+-- own cap over that program, where that is defined.
+pub record IsLooseWith (program : Program) (ranges : List Domain) (head : LogHead) (proof : RowTree) (cap : Option ℤ) : Type 0 where
+  pub taken : AreTaken program ranges head
   pub larger : Program
-  pub enlarged : IsWithSums program ranges sums larger
-  pub is : said cap ≡ loose_cap larger (view_of larger.root) proof
-  pub own : tree_cap (row_steps larger) (view_of larger.root) proof ≢ Bad → said cap ≡ tree_cap (row_steps larger) (view_of larger.root) proof
+  pub enlarged : IsWithHeadAnew program ranges head larger
+  pub is : said cap ≡ loose_cap head.capped larger (view_of larger.root) proof
+  pub own : tree_cap (row_steps larger) (view_of larger.root) proof ≢ Bad → AnswersTo head.capped cap (tree_cap (row_steps larger) (view_of larger.root) proof)
 
--- The sums cannot be taken over the program, and the cap is that of its root by scale 1 without multipliers.
-pub record IsPlainWithout (program : Program) (ranges : List Domain) (sums : List Sum) (cap : Option ℤ) : Type 0 where
-  pub untaken : ¬ AreSumsOf program ranges sums
+-- The head cannot be taken over the program, and the cap is that of its root by scale 1 without multipliers.
+pub record IsPlainWithout (program : Program) (ranges : List Domain) (head : LogHead) (cap : Option ℤ) : Type 0 where
+  pub untaken : ¬ AreTaken program ranges head
   pub is : said cap ≡ (row_steps program).cap (view_of program.root) no_mults
 
--- the cap of a proof over declared sums, for a program: the loose cap over the program with the sums, and where they cannot be taken there that of scale 1 without multipliers
-abbrev pub IsCapOver : Program → List Domain → List Sum → RowTree → Option ℤ → Type 0
-IsCapOver program ranges sums proof cap = IsLooseWith program ranges sums proof cap ⊎ IsPlainWithout program ranges sums cap
+-- the cap of the proof of a log with a head, for a program: the loose cap over the program with the head, and where it cannot be taken there that of scale 1 without multipliers
+abbrev pub IsCapOver : Program → List Domain → LogHead → RowTree → Option ℤ → Type 0
+IsCapOver program ranges head proof cap = IsLooseWith program ranges head proof cap ⊎ IsPlainWithout program ranges head cap
 
--- The cap is the own cap of a proof over declared sums, for the plant's program with these sums.
-pub record IsProofCap (plant : Plant) (sums : List Sum) (proof : RowTree) (cap : Option ℤ) : Type 0 where
+-- The cap answers to the own cap of the proof of a log with a head, for the plant's program with it, whose derivations are shown there.
+pub record IsProofCap (plant : Plant) (head : LogHead) (proof : RowTree) (cap : Option ℤ) : Type 0 where
   pub program : Program
   pub made : IsMadeOf plant program
   pub larger : Program
-  pub enlarged : IsWithSums program (plant_root plant) sums larger
-  pub is : said cap ≡ tree_cap (row_steps larger) (view_of larger.root) proof
+  pub enlarged : IsWithHead (version_of head) program (plant_root plant) head.sums head.derivations larger
+  pub defined : tree_cap (row_steps larger) (view_of larger.root) proof ≢ Bad
+  pub is : AnswersTo head.capped cap (tree_cap (row_steps larger) (view_of larger.root) proof)
 
--- The cap is that of a proof over declared sums, for the plant's program, and caps the plant's plans.
-pub record IsEstimate (plant : Plant) (sums : List Sum) (proof : RowTree) (cap : Option ℤ) : Type 0 where
+-- The cap is that of the proof of a log with a head, for the plant's program, and caps the plant's plans.
+pub record IsEstimate (plant : Plant) (head : LogHead) (proof : RowTree) (cap : Option ℤ) : Type 0 where
   pub program : Program
   pub made : IsMadeOf plant program
-  pub is : IsCapOver program (plant_root plant) sums proof cap
+  pub is : IsCapOver program (plant_root plant) head proof cap
   pub caps : CapsPlans plant cap

@@ -1,4 +1,5 @@
 pub mod Loose
+pub mod Head
 pub mod Estimate
 pub mod OldLogs
 pub mod Raised

@@ -1,5 +1,6 @@
 -- The cap that a proof still gives where the rows are no longer those that it was made for.
-use Rattle.std.specs.Prelude.{ℤ, if◌then◌else◌, List, [], map, Option, Some, None, unwrap_or, fold}
+use Rattle.std.specs.Prelude.{◌≡◌, ℤ, ⊤, Bool, true, false, if◌then◌else◌, List, [], map, Option, Some, None, unwrap_or, fold}
+use Rattle.std.specs.Int.{int_min}
 use Rattle.row_kit.specs.declared.domain.Domain.{Domain}
 use Rattle.row_kit.specs.declared.program.Program.{Program}
 use Rattle.range_prop.specs.declared.row_cut.RowCut.{RowCut}
@@ -9,6 +10,7 @@ use Rattle.proof_tree.specs.declared.capped.Capped.TheVariants.{AtMost, NoPoint,
 use Rattle.proof_tree.specs.Cap.{greater}
 use Rattle.proof_tree.specs.Tree.{leaf, split, cap_if, leaf_cap}
 use Rattle.proof_tree.specs.Views.{View, present}
+use Rattle.plan_images.specs.Caps.{Allows}
 use Rattle.row_relax.specs.RowProofs.{RowTree}
 use Rattle.row_relax.specs.Steps.{row_steps}
 use Rattle.row_relax.specs.View.{view_of}
@@ -39,16 +41,44 @@ or_else (AtMost n) other = AtMost n
 abbrev pub loosened : Program → View → Capped → Capped
 loosened program v own = if (row_steps program).empty v then NoPoint else or_else own ((row_steps program).cap v no_mults)
 
--- the loose cap of a proof over a view: what its end gives after its cuts, where a split has the greater of its two parts' loose caps
-abbrev pub loose_cap : Program → View → RowTree → Capped
-loose_cap program v (leaf cuts found end) =
+-- the lesser of two caps that are defined, and else the one that is
+abbrev pub lesser : Capped → Capped → Capped
+lesser Bad other = other
+lesser NoPoint other = NoPoint
+lesser (AtMost a) Bad = AtMost a
+lesser (AtMost a) NoPoint = NoPoint
+lesser (AtMost a) (AtMost b) = AtMost (int_min a b)
+
+-- the cap of a certificate over a view, and that of scale 1 without multipliers where it has none
+abbrev pub certified : Program → View → Cert → Capped
+certified program v cert = or_else ((row_steps program).cap v cert) ((row_steps program).cap v no_mults)
+
+-- what its two parts give of a split: where splits have caps of their own, the lesser of that and the cap of its certificate
+abbrev pub within : Bool → Program → View → Cert → Capped → Capped
+within false program v cert parts = parts
+within true program v cert parts = lesser (certified program v cert) parts
+
+-- the loose cap of a proof over a view: what its end gives after its cuts, where a split has the greater of its two parts' loose caps, and where splits have caps of their own no more than that of its certificate
+abbrev pub loose_cap : Bool → Program → View → RowTree → Capped
+loose_cap capped program v (leaf cuts found end) =
     loosened program (after_all program v cuts) (leaf_cap (row_steps program) (after_all program v cuts) end)
-loose_cap program v (split cuts found pick cert a b) =
+loose_cap capped program v (split cuts found pick cert a b) =
     loosened program (after_all program v cuts)
-    (greater (cap_if ((row_steps program).left (after_all program v cuts) pick) (λ x. loose_cap program x a))
-    (cap_if ((row_steps program).right (after_all program v cuts) pick) (λ x. loose_cap program x b)))
+    (within capped program (after_all program v cuts) cert
+    (greater (cap_if ((row_steps program).left (after_all program v cuts) pick) (λ x. loose_cap capped program x a))
+    (cap_if ((row_steps program).right (after_all program v cuts) pick) (λ x. loose_cap capped program x b))))
 
 -- a number as a cap: none says that there is no point
 abbrev pub said : Option ℤ → Capped
 said None = NoPoint
 said (Some n) = AtMost n
+
+-- a number, none of which says that there is no point, is at most a cap
+abbrev pub IsAtMost : Option ℤ → Capped → Type 0
+IsAtMost None cap = ⊤
+IsAtMost (Some n) cap = Allows cap n
+
+-- a number answers to the own cap of a proof: it is that, and where splits have caps of their own it is at most that
+abbrev pub AnswersTo : Bool → Option ℤ → Capped → Type 0
+AnswersTo false number own = said number ≡ own
+AnswersTo true number own = IsAtMost number own

@@ -1,39 +1,48 @@
-//! What stands at the front of the bytes of a log.
-ghost use Rattle.std.specs.Prelude.{◌≡◌, ◌≤◌, IfOk, length};
+//! What stands at the front of the bytes of a log, and behind the sums of its head.
+ghost use Rattle.std.specs.Prelude.{◌≡◌, ◌≤◌, ◌<◌, ◌^◌, IfOk, length};
 ghost use Rattle.sum_lines.specs.Front.{IsFront, KeepsLimits};
-ghost use Rattle.valid_log.specs.Verdict.{limits_of};
-ghost use Rattle.valid_log.specs.AnyVersion.{limits_with};
+ghost use Rattle.sum_lines.specs.Head.{IsHeadVersion};
+ghost use Rattle.valid_log.specs.AnyVersion.{IsTail, limits_with};
+ghost use Rattle.plant_check.specs.Heads.{IsFrontHeld};
 
+use derivation_lines::TailFront;
 use log_lines::Limits;
-use plant_check::MOST_DEPTH;
+use plant_check::{MOST_DEPTH, limits_with, read_tail};
 use row_kit::Program;
 use std::alloc::{AllocError, Global};
 use stn_edge::FixedShelf;
-use sum_lines::{Front, read_head};
-
-// The limits of a log behind a head with so many sums.
-pub(crate) fn limits_with(program: &Program, sums: usize) -> Limits
-    requires { sums ≤ 512 }
-    ensures { result ≡ limits_with program.now 4608 sums }
-{
-    Limits {
-        rows: program.rows.len() as u32 + 2 * sums as u32,
-        slots: program.root.len() as u32 + sums as u32,
-        depth: MOST_DEPTH,
-    }
-}
+use sum_lines::{Front, Head, read_head};
 
 // What stands at the front of the bytes.
 pub(crate) fn front_of(alloc: Global, program: &Program, bytes: &[u8]) -> Result<Front, AllocError>
-    requires few_slots { length program.now.root ≤ 512 }
-    requires few_rows { length program.now.rows ≤ 45904 }
     ensures front { IfOk result (IsFront (limits_with program.now 4608 0) bytes.now) }
-    ensures kept { IfOk result (λ front. KeepsLimits (limits_of program.now 4608) front) }
+    ensures kept { IfOk result (KeepsLimits (limits_with program.now 4608 0)) }
 {
     let mut shelf = FixedShelf::new(alloc);
     shelf.put_file("log", bytes)?;
-    let limits = limits_with(program, 0);
+    let limits = limits_with(program, MOST_DEPTH, 0);
     match read_head(alloc, &limits, &mut shelf, "log") {
+        Ok(front) => Ok(front),
+        Err(_) => Err(AllocError),
+    }
+}
+
+// What stands behind the sums of a head of the bytes.
+pub(crate) fn tail_of(
+    alloc: Global,
+    limits: &Limits,
+    head: &Head,
+    bytes: &[u8],
+) -> Result<TailFront, AllocError>
+    requires rows { limits.now.rows ≤ 400000 }
+    requires version { IsHeadVersion head.now.version }
+    requires bytes { head.now.bytes < 2 ^ 64 }
+    ensures follows { IfOk result (IsTail limits.now head.now bytes.now) }
+    ensures held { IfOk result (IsFrontHeld limits.now head.now) }
+{
+    let mut shelf = FixedShelf::new(alloc);
+    shelf.put_file("log", bytes)?;
+    match read_tail(alloc, limits, head, &mut shelf, "log") {
         Ok(front) => Ok(front),
         Err(_) => Err(AllocError),
     }

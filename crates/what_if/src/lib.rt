@@ -2,7 +2,7 @@
 //!
 //! `loose` is the cap that the cuts and splits of a proof still give over rows whose limits have changed. `raise` gives a plant
 //! other limits of one state, and `estimate` says what no plan of a plant can earn more than, by a proof over another one and the
-//! sums that its log declares. `old_log` gives the log of some bytes, of any version, and `claimed_plan` the plan of its claim.
+//! head of its log. `old_log` gives the log of some bytes, of any version, and `claimed_plan` the plan of its claim.
 #![tactic(auto)]
 
 mod claimed;
@@ -18,6 +18,6 @@ mod reading;
 pub use claimed::claimed_plan;
 pub use estimating::estimate;
 pub use loosening::loose;
-pub use old::{OldLog, ValidLog};
+pub use old::{LogHead, OldLog, ValidLog};
 pub use raising::{raise, raised_law};
 pub use reading::old_log;

@@ -1,5 +1,5 @@
 //! The loose cap of a proof, over rows that may be others.
-ghost use Rattle.std.specs.Prelude.{◌≡◌, ◌≢◌, [], map, None, false};
+ghost use Rattle.std.specs.Prelude.{◌≡◌, ◌≢◌, [], map, None};
 ghost use Rattle.row_kit.specs.Point.{IsLawful, worth_of};
 ghost use Rattle.proof_tree.specs.declared.capped.Capped.TheVariants.{Bad};
 ghost use Rattle.proof_tree.specs.Cap.{Bounds};
@@ -7,7 +7,7 @@ ghost use Rattle.proof_tree.specs.Tree.{cap_if, leaf_cap, no_point, tree_at, tre
 ghost use Rattle.proof_tree.specs.Views.{KeepsViews};
 ghost use Rattle.row_relax.specs.Steps.{row_steps};
 ghost use Rattle.row_relax.specs.View.{Fits, IsIn, view_of};
-ghost use Rattle.what_if.specs.Loose.{after_all, after_cut, loose_cap, loosened, no_mults, said, shown};
+ghost use Rattle.what_if.specs.Loose.{AnswersTo, after_all, after_cut, lesser, loose_cap, no_mults, or_else, said, shown, within};
 ghost use Rattle.what_if.specs.laws.Own.{own_cap};
 
 use dual_bound::Cert;
@@ -19,26 +19,36 @@ use std::alloc::Global;
 
 /// The most that a lawful point of the area can be worth, by a proof that may be of other rows: none says that the area has no
 /// lawful point. The cuts are made, and a cut of a row or a slot that is not there is no cut. Where some domain is then empty
-/// there is no point. Else a split gives the greater of its parts' answers. Any other end gives its cap where it has one, and
-/// where it has none the cap of scale 1 without multipliers, as a split of a slot that is not there does.
+/// there is no point. Else a split gives the greater of its parts' answers, and where splits have caps of their own (`capped`) no
+/// more than the cap of its certificate. Any other end gives its cap. Where a certificate has no cap, that of scale 1 without
+/// multipliers serves, as for a split of a slot that is not there.
 ///
-/// It takes no memory: what it is passed serves the empty list of multipliers. It costs what the proof's cap costs.
-pub fn loose(alloc: Global, rows: &Rows, area: &mut Area, proof: &RowProof) -> Option<i128>
+/// It takes no memory: what it is passed serves the empty list of multipliers. It costs what the proof's cap costs, and where splits
+/// have caps of their own the caps of their certificates, of which one number is held for each open split.
+pub fn loose(
+    alloc: Global,
+    rows: &Rows,
+    area: &mut Area,
+    proof: &RowProof,
+    capped: bool,
+) -> Option<i128>
     requires fits { Fits rows.now.program (shown area.old) }
-    ensures cap { said result ≡ loose_cap rows.now.program (shown area.old) (tree_of proof.now) }
+    ensures cap { said result ≡ loose_cap capped rows.now.program (shown area.old)
+        (tree_of proof.now) }
 
     // No lawful point of the area is worth more, and where it is none the area has no lawful point.
     ensures bounds { Bounds (IsIn (shown area.old)) (IsLawful rows.now.program)
         (worth_of rows.now.program)
         (said result) }
 
-    // It is the proof's own cap, where that is defined.
+    // It is the proof's own cap, where that is defined; where splits have caps of their own, it is at most that.
     ensures own { tree_cap (row_steps rows.now.program) (shown area.old) (tree_of proof.now) ≢ Bad
-        → said result ≡ tree_cap (row_steps rows.now.program) (shown area.old) (tree_of proof.now) }
+        → AnswersTo capped result
+        (tree_cap (row_steps rows.now.program) (shown area.old) (tree_of proof.now)) }
     ensures same { area.new ≡ area.old }
 {
     let plain = no_mults(alloc);
-    number_of(node_cap(rows, area, &plain, proof))
+    number_of(node_cap(rows, area, &plain, capped, proof))
 }
 
 // A cap that is defined, as a number.
@@ -65,10 +75,10 @@ pub(crate) fn no_mults(alloc: Global) -> Cert
 
 // The loose cap of a node over the area.
 #[cycle(loose)]
-fn node_cap(rows: &Rows, area: &mut Area, plain: &Cert, proof: &RowProof) -> Capped
+fn node_cap(rows: &Rows, area: &mut Area, plain: &Cert, capped: bool, proof: &RowProof) -> Capped
     requires fits { Fits rows.now.program (shown area.old) }
     requires plain { plain.now ≡ no_mults }
-    ensures cap { result ≡ loose_cap rows.now.program (shown area.old) (tree_of proof.now) }
+    ensures cap { result ≡ loose_cap capped rows.now.program (shown area.old) (tree_of proof.now) }
     ensures same { map view_of area.new ≡ map view_of area.old }
 {
     let mark = rows.mark(area);
@@ -76,7 +86,7 @@ fn node_cap(rows: &Rows, area: &mut Area, plain: &Cert, proof: &RowProof) -> Cap
     let cap = if rows.empty(area) {
         Capped::NoPoint
     } else {
-        let own = end_cap(rows, area, plain, &proof.end);
+        let own = end_cap(rows, area, plain, capped, &proof.end);
         or_plain(rows, area, plain, own)
     };
     rows.back(area, mark);
@@ -89,11 +99,13 @@ fn end_cap(
     rows: &Rows,
     area: &mut Area,
     plain: &Cert,
+    capped: bool,
     end: &End<RowCut, Cert, RowPick, Found>,
 ) -> Capped
     requires fits { Fits rows.now.program (shown area.old) }
     requires plain { plain.now ≡ no_mults }
-    ensures cap { result ≡ own_cap rows.now.program (shown area.old) (tree_at [] None end.now) }
+    ensures cap { result
+        ≡ own_cap capped rows.now.program (shown area.old) (tree_at [] None end.now) }
     ensures same { map view_of area.new ≡ map view_of area.old }
 {
     match end {
@@ -101,45 +113,67 @@ fn end_cap(
         End::Dual(cert) => rows.cap(area, cert),
         End::Point => rows.settle(area),
         End::Pending(cert) => rows.cap(area, cert),
-        End::Split(pick, _, left, right) => {
-            let left_cap = left_cap(rows, area, plain, pick, left);
-            greater_cap(left_cap, right_cap(rows, area, plain, pick, right))
+        End::Split(pick, cert, left, right) => {
+            let left_cap = left_cap(rows, area, plain, capped, pick, left);
+            let right_cap = right_cap(rows, area, plain, capped, pick, right);
+            within(
+                rows,
+                area,
+                plain,
+                capped,
+                cert,
+                greater_cap(left_cap, right_cap),
+            )
         }
     }
 }
 
 // The loose cap of a left part, `Bad` where the pick names none.
 #[cycle(loose)]
-fn left_cap(rows: &Rows, area: &mut Area, plain: &Cert, pick: &RowPick, part: &RowProof) -> Capped
+fn left_cap(
+    rows: &Rows,
+    area: &mut Area,
+    plain: &Cert,
+    capped: bool,
+    pick: &RowPick,
+    part: &RowProof,
+) -> Capped
     requires fits { Fits rows.now.program (shown area.old) }
     requires plain { plain.now ≡ no_mults }
     ensures cap { result ≡ cap_if ((row_steps rows.now.program).left (shown area.old) pick.now)
-        (λ view. loose_cap rows.now.program view (tree_of part.now)) }
+        (λ view. loose_cap capped rows.now.program view (tree_of part.now)) }
     ensures same { map view_of area.new ≡ map view_of area.old }
 {
     let mark = rows.mark(area);
     if !rows.left(area, pick) {
         return Capped::Bad;
     }
-    let cap = node_cap(rows, area, plain, part);
+    let cap = node_cap(rows, area, plain, capped, part);
     rows.back(area, mark);
     cap
 }
 
 // The loose cap of a right part, `Bad` where the pick names none.
 #[cycle(loose)]
-fn right_cap(rows: &Rows, area: &mut Area, plain: &Cert, pick: &RowPick, part: &RowProof) -> Capped
+fn right_cap(
+    rows: &Rows,
+    area: &mut Area,
+    plain: &Cert,
+    capped: bool,
+    pick: &RowPick,
+    part: &RowProof,
+) -> Capped
     requires fits { Fits rows.now.program (shown area.old) }
     requires plain { plain.now ≡ no_mults }
     ensures cap { result ≡ cap_if ((row_steps rows.now.program).right (shown area.old) pick.now)
-        (λ view. loose_cap rows.now.program view (tree_of part.now)) }
+        (λ view. loose_cap capped rows.now.program view (tree_of part.now)) }
     ensures same { map view_of area.new ≡ map view_of area.old }
 {
     let mark = rows.mark(area);
     if !rows.right(area, pick) {
         return Capped::Bad;
     }
-    let cap = node_cap(rows, area, plain, part);
+    let cap = node_cap(rows, area, plain, capped, part);
     rows.back(area, mark);
     cap
 }
@@ -178,15 +212,49 @@ fn empty_cap(rows: &Rows, area: &Area) -> Capped
     }
 }
 
-// A cap over an area without an empty domain, or that of scale 1 without multipliers where it is `Bad`.
+// What a split gives whose parts give this.
+fn within(
+    rows: &Rows,
+    area: &Area,
+    plain: &Cert,
+    capped: bool,
+    cert: &Cert,
+    parts: Capped,
+) -> Capped
+    requires fits { Fits rows.now.program (shown area.now) }
+    requires plain { plain.now ≡ no_mults }
+    ensures { result ≡ within capped rows.now.program (shown area.now) cert.now parts }
+{
+    if capped {
+        let own = rows.cap(area, cert);
+        lesser_cap(or_plain(rows, area, plain, own), parts)
+    } else {
+        parts
+    }
+}
+
+// A cap over an area, or that of scale 1 without multipliers where it is `Bad`.
 fn or_plain(rows: &Rows, area: &Area, plain: &Cert, own: Capped) -> Capped
     requires fits { Fits rows.now.program (shown area.now) }
     requires plain { plain.now ≡ no_mults }
-    requires open_ { (row_steps rows.now.program).empty (shown area.now) ≡ false }
-    ensures { result ≡ loosened rows.now.program (shown area.now) own }
+    ensures { result
+        ≡ or_else own ((row_steps rows.now.program).cap (shown area.now) no_mults) }
 {
     match own {
         Capped::Bad => rows.cap(area, plain),
         cap => cap,
+    }
+}
+
+// The lesser of two caps, or the one that is not `Bad`.
+fn lesser_cap(one: Capped, other: Capped) -> Capped
+    ensures { result ≡ lesser one other }
+{
+    match (one, other) {
+        (Capped::Bad, cap) => cap,
+        (cap, Capped::Bad) => cap,
+        (Capped::NoPoint, _) => Capped::NoPoint,
+        (_, Capped::NoPoint) => Capped::NoPoint,
+        (Capped::AtMost(a), Capped::AtMost(b)) => Capped::AtMost(a.min(b)),
     }
 }

@@ -1,5 +1,5 @@
 //! An old log of any version, read of its bytes.
-ghost use Rattle.std.specs.Prelude.{◌≡◌, ◌≤◌, [], Err, IfOk, length};
+ghost use Rattle.std.specs.Prelude.{◌≡◌, Err, IfOk};
 ghost use Rattle.stn_model.specs.Sound.{Sound};
 ghost use Rattle.proof_tree.specs.Tree.{tree_of};
 ghost use Rattle.sum_slots.specs.Shown.{AreRanges};
@@ -8,12 +8,12 @@ ghost use Rattle.valid_log.specs.declared.verdict.LogVerdict.TheVariants.{No};
 ghost use Rattle.valid_log.specs.Verdict.{IsVerdict};
 ghost use Rattle.valid_log.specs.AnyVersion.{IsAnyVerdict};
 ghost use Rattle.what_if.specs.OldLogs.{IsOldLog};
-ghost use Rattle.what_if.specs.laws.Judged.{IsAnyOwnLog, IsOwnLog};
+ghost use Rattle.what_if.specs.laws.Judged.{IsAnyOwnLog, IsNoHead, IsOwnLog};
 
 use crate::front::front_of;
 use crate::headed::headed_log;
 use crate::judging::own_log;
-use crate::old::{OldLog, ValidLog};
+use crate::old::{LogHead, OldLog, ValidLog};
 use proof_log::LogStop;
 use row_kit::{Domain, List, Program};
 use row_relax::Rows;
@@ -45,11 +45,9 @@ fn any_log(
     bytes: &[u8],
 ) -> Result<ValidLog, LogStop>
     requires ranges { AreRanges program ranges.now }
-    requires few_slots { length program.root ≤ 512 }
-    requires few_rows { length program.rows ≤ 45904 }
     ensures log { IfOk result (IsAnyOwnLog program ranges.now bytes.now) }
     ensures defect { (defect : Defect) → result ≡ Err (LogStop.Defect defect)
-        → IsAnyVerdict program ranges.now 4608 bytes.now (No defect) }
+        → IsAnyVerdict program ranges.now ranges.now 4608 bytes.now (No defect) }
 {
     match front_of(alloc, &program, bytes) {
         Ok(Front::Plain) => plain_log(alloc, program, bytes),
@@ -61,7 +59,7 @@ fn any_log(
 
 // The log of bytes without a head, of version 1 or 2.
 fn plain_log(alloc: Global, program: Program, bytes: &[u8]) -> Result<ValidLog, LogStop>
-    ensures sums { IfOk result (λ log. log.sums ≡ []) }
+    ensures head { IfOk result (λ log. IsNoHead log.head) }
     ensures log { IfOk result (λ log. IsOwnLog program bytes.now (tree_of log.tree) log.claim) }
     ensures defect { (defect : Defect) → result ≡ Err (LogStop.Defect defect)
         → IsVerdict program 4608 bytes.now (No defect) }
@@ -69,8 +67,19 @@ fn plain_log(alloc: Global, program: Program, bytes: &[u8]) -> Result<ValidLog, 
     let rows = Rows { program };
     let log = own_log(alloc, &rows, bytes)?;
     Ok(ValidLog {
-        sums: List::new(alloc),
+        head: no_head(alloc),
         tree: log.tree,
         claim: log.claim,
     })
+}
+
+// The head of a log that has none.
+fn no_head(alloc: Global) -> LogHead
+    ensures { IsNoHead result }
+{
+    LogHead {
+        capped: false,
+        sums: List::new(alloc),
+        derivations: List::new(alloc),
+    }
 }

@@ -10,12 +10,13 @@ use Rattle.row_kit.specs.Point.{IsLawful}
 use Rattle.row_set.specs.PlantProgram.{IsMadeOf, plant_root, plant_rows}
 use Rattle.sum_slots.specs.declared.sum.Sum.{Sum}
 use Rattle.sum_slots.specs.Shown.{IsShown}
-use Rattle.sum_lines.specs.Head.{head_text}
+use Rattle.derivations.specs.Growth.{rows_of}
+use Rattle.log_parts.specs.declared.heads.Declared.{Declared}
 use Rattle.proof_tree.specs.declared.item.Item.TheVariants.{Node, Split}
 use Rattle.proof_tree.specs.Items.{tree_items}
 use Rattle.row_relax.specs.RowProofs.{RowItem, RowTree}
 use Rattle.log_lines.specs.declared.grammar.Limits.{Limits}
-use Rattle.log_lines.specs.declared.line.Line.TheVariants.{Header, End}
+use Rattle.log_lines.specs.declared.line.Line.TheVariants.{End}
 use Rattle.log_lines.specs.TextDefect.{log_text_defect}
 use Rattle.proof_log.specs.declared.claim.Claim.{Claim}
 use Rattle.proof_log.specs.declared.writer.LogWriter.{LogWriter}
@@ -27,13 +28,18 @@ use Rattle.log_parts.specs.declared.joins.Joined.TheVariants.{Done, No}
 use Rattle.log_parts.specs.Joining.{plan_of}
 use Rattle.log_parts.specs.PartLogs.{logs_of, no_mults, no_tree, tree_over}
 
--- the limits of the logs of a plant's parts over their programs with so many sums
-abbrev pub part_limits : Plant → ℕ → ℕ → Limits
-part_limits plant levels count = record { rows = length (plant_rows plant) + 2 * count; slots = length (slots plant) + count; depth = 4608 - levels }
+-- limits of logs over programs with what a head declares: a slot and two rows more for each sum, and a row for each that is derived
+abbrev pub limits_declared : Limits → Declared → Limits
+limits_declared limits declared =
+    let count = length declared.sums in record { rows = limits.rows + 2 * count + rows_of declared.derivations; slots = limits.slots + count; depth = limits.depth }
+
+-- the limits of the logs of a plant's parts over their programs with what they declare
+abbrev pub part_limits : Plant → ℕ → Declared → Limits
+part_limits plant levels declared = limits_declared (record { rows = length (plant_rows plant); slots = length (slots plant); depth = 4608 - levels }) declared
 
 -- the same from the plant's program
-abbrev pub limits_over : Program → ℕ → ℕ → Limits
-limits_over program levels count = record { rows = length program.rows + 2 * count; slots = length program.root + count; depth = 4608 - levels }
+abbrev pub limits_over : Program → ℕ → Declared → Limits
+limits_over program levels declared = limits_declared (record { rows = length program.rows; slots = length program.root; depth = 4608 - levels }) declared
 
 -- the point of a claim, where it has one, is lawful
 abbrev pub IsPointed : Program → Claim → Type 0
@@ -42,11 +48,6 @@ IsPointed program claim = IfSome (plan_of claim) (λ plan. IsLawful program plan
 -- sums are shown over the plant's program, and the point of a claim is lawful there
 abbrev pub IsFit : Plant → List Sum → Claim → Type 0
 IsFit plant sums claim = (program : Program) → IsMadeOf plant program → All (IsShown program (plant_root plant)) sums × IsPointed program claim
-
--- the text in the place of a log's first line: that line of version 2 where there are no sums, and else their head
-abbrev pub front_text : List Sum → List ℕ
-front_text [] = lines_text (Header 2 ∷ [])
-front_text (sum ∷ sums) = head_text (sum ∷ sums)
 
 -- the name of the file that a writer writes
 abbrev pub name_of : LogWriter → List ℕ

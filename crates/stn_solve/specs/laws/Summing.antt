@@ -14,6 +14,6 @@ use Rattle.stn_solve.specs.declared.summing.Summed.{Summed}
 pub record IsSummed (plant : Plant) (part : Program) (summed : Summed) : Type 0 where
   pub may : MayHead part (plant_root plant) summed.sums
   pub enlarged : IsWithSums part (plant_root plant) summed.sums summed.rows.program
-  pub head : summed.head.items ≡ head_text summed.sums
+  pub head : summed.head.items ≡ head_text 3 summed.sums
   pub given : summed.given ≡ length part.root
   pub least : summed.least ≡ least_found part

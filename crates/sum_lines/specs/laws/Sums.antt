@@ -7,8 +7,8 @@ use Rattle.sum_slots.specs.Sum.{IsDeclared}
 use Rattle.sum_lines.specs.Front.{has_room}
 use Rattle.sum_lines.specs.Head.{HasRows}
 
--- a sum is declared, its rows are there, and there is room for it after so many
-pub record IsSumKept (limits : Limits) (before : ℕ) (sum : Sum) : Type 0 where
+-- a sum is declared, its rows are there, and a head of a version has room for it after so many
+pub record IsSumKept (version : ℕ) (limits : Limits) (before : ℕ) (sum : Sum) : Type 0 where
   pub declared : IsDeclared limits.slots sum
   pub rows : HasRows limits.rows sum
-  pub room : has_room limits (before + 1) ≡ true
+  pub room : has_room version limits (before + 1) ≡ true

@@ -1,5 +1,5 @@
 -- Stands in specs/ since clauses of private functions cite it; no public clause does.
-use Rattle.std.specs.Prelude.{◌≡◌, ◌≢◌, [], None, Option, ℤ}
+use Rattle.std.specs.Prelude.{◌≡◌, ◌≢◌, Bool, [], None, Option, ℤ}
 use Rattle.row_kit.specs.declared.program.Program.{Program}
 use Rattle.row_kit.specs.Point.{IsLawful, worth_of}
 use Rattle.proof_tree.specs.declared.capped.Capped.TheVariants.{Bad}
@@ -8,7 +8,7 @@ use Rattle.proof_tree.specs.Tree.{leaf, pending, tree_cap}
 use Rattle.row_relax.specs.RowProofs.{RowTree}
 use Rattle.row_relax.specs.Steps.{row_steps}
 use Rattle.row_relax.specs.View.{IsIn, view_of}
-use Rattle.what_if.specs.Loose.{loose_cap, no_mults, said}
+use Rattle.what_if.specs.Loose.{AnswersTo, loose_cap, no_mults, said}
 
 -- the proof that says nothing: a node without cuts that ends in the certificate of scale 1 without multipliers
 abbrev pub plain_proof : RowTree
@@ -18,8 +18,8 @@ plain_proof = leaf [] None (pending no_mults)
 abbrev pub BoundsRoot : Program → Option ℤ → Type 0
 BoundsRoot program cap = Bounds (IsIn (view_of program.root)) (IsLawful program) (worth_of program) (said cap)
 
--- the cap is the loose cap of a proof over the root of a program, bounds its lawful points, and is the proof's own where that is defined
-pub record IsRootCap (program : Program) (proof : RowTree) (cap : Option ℤ) : Type 0 where
-  pub is : said cap ≡ loose_cap program (view_of program.root) proof
+-- the cap is the loose cap of a proof over the root of a program, bounds its lawful points, and answers to the proof's own where that is defined
+pub record IsRootCap (capped : Bool) (program : Program) (proof : RowTree) (cap : Option ℤ) : Type 0 where
+  pub is : said cap ≡ loose_cap capped program (view_of program.root) proof
   pub bounds : BoundsRoot program cap
-  pub own : tree_cap (row_steps program) (view_of program.root) proof ≢ Bad → said cap ≡ tree_cap (row_steps program) (view_of program.root) proof
+  pub own : tree_cap (row_steps program) (view_of program.root) proof ≢ Bad → AnswersTo capped cap (tree_cap (row_steps program) (view_of program.root) proof)

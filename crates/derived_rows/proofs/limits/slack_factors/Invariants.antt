@@ -8,5 +8,5 @@ use Rattle.derived_rows.proofs.limits.slack_factors.Given as goal
 abbrev pub invariant-loop-factor : goal.invariant-loop-factor
 invariant-loop-factor l = record {
   value : l.slacks ≡ map (slack_factor (round_of l.derived)) (take l.factor-index l.derived.factors);
-  small : All (IsSmallFactor (length l.program.rows)) l.slacks;
+  small : All (IsSmallFactor (length l.rows)) l.slacks;
 }

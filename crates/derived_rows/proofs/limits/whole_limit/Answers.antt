@@ -15,14 +15,14 @@ overflow_sub-result-2 c = omega (arith, ints, c.phi.ensures.small, c.starts_sum.
 pub returns-clause-value : goal.returns-clause-value
 returns-clause-value c =
     let derived = c.args.derived.now in
-    let rows = c.args.program.now.rows in
+    let rows = c.args.rows.now in
     let round = phi derived.divisor derived.rest in
     let exact : to_z w128 (of_z w128 (to_z w128 (of_z w128 (to_z w128 (of_z w128 c.phi.result) -ℤ to_z w128 (of_z w128 c.starts_sum.result))) -ℤ to_z w128 (of_z w128 c.mixed_limit.result))) ≡ (c.phi.result -ℤ c.starts_sum.result) -ℤ c.mixed_limit.result =
     omega (arith, ints, c.phi.ensures.small, c.starts_sum.ensures.small, c.mixed_limit.ensures.small) in
     let left : to_z w128 (of_z w128 c.shifted_limit-left.result) ≡ c.shifted_limit-left.result = omega (arith, ints, c.shifted_limit-left.ensures.small) in
-    let shifted = left ∙ c.shifted_limit-left.ensures.value ∙ ap (λ (rs : List Row). mixed_limit rs derived.factors -ℤ shifts_sum derived.groups) c.as_slice-rows.ensures in
+    let shifted = left ∙ c.shifted_limit-left.ensures.value in
     let starts = c.starts_sum.ensures.value ∙ ap (starts_sum round) c.as_slice.ensures in
-    let slack = c.mixed_limit.ensures.value ∙ ap₂ (λ (rs : List Row) (fs : List Factor). mixed_limit rs fs) c.as_slice-rows.ensures c.requires.slacks in
+    let slack = c.mixed_limit.ensures.value ∙ ap (mixed_limit rows) c.requires.slacks in
     exact
     ∙ ap (λ (x : ℤ). (x -ℤ c.starts_sum.result) -ℤ c.mixed_limit.result) (c.phi.ensures.value ∙ ap round shifted)
     ∙ ap₂ (λ (x y : ℤ). (round (mixed_limit rows derived.factors -ℤ shifts_sum derived.groups) -ℤ x) -ℤ y) starts slack

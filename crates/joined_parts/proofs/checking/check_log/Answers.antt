@@ -1,30 +1,24 @@
--- A right verdict over the rows of a part, and the sums at the front of its log.
+-- A right verdict over the rows of a part, and the head of its log.
 use Rattle.std.proofs.Common.{◌∙◌, ◌-◌, subst, IfSome}
 use Rattle.stn_edge.specs.Files.{file_of}
 use Rattle.valid_log.specs.declared.verdict.LogVerdict.{LogVerdict}
 use Rattle.valid_log.specs.Claims.{YesSaysOf}
 use Rattle.valid_log.specs.PlantLogs.{IsAnyPartChecked}
-use Rattle.log_parts.proofs.PartsChecked.{no_checked, part-rows, part-slots, part_said, yes_checked}
+use Rattle.log_parts.proofs.PartsChecked.{no_checked, part_said, yes_checked}
 use Rattle.joined_parts.proofs.checking.check_log.Goals as goal
-
-pub read_front-requires-clause-few_slots : goal.read_front-requires-clause-few_slots
-read_front-requires-clause-few_slots g c = part-slots c.args.plant.now c.in_ok-rows.rows.program c.requires.sound c.in_ok-rows.ensures.part
-
-pub read_front-requires-clause-few_rows : goal.read_front-requires-clause-few_rows
-read_front-requires-clause-few_rows g c = part-rows c.args.plant.now c.in_ok-rows.rows.program c.requires.sound c.in_ok-rows.ensures.part
 
 pub returns-in-Yes-clause-checked : goal.returns-in-Yes-clause-checked
 returns-in-Yes-clause-checked g c =
     let program = c.in_ok-rows.rows.program in
     let mid = g.F.Shelf.files c.read_front.new.files in
     let right = subst (λ (said : LogVerdict). IfSome mid (λ m. IsAnyPartChecked c.args.plant.now program (4608 - c.args.levels) (file_of m c.as_str-file.result.now) said)) c.in-Yes.is c.in_ok-claim.ensures.checked in
-    yes_checked c.args.plant.now c.args.levels c.args.part program (g.F.Shelf.files c.args.files.now) mid c.as_str-file.result.now c.args.stem.now c.args.sums.now c.in_ok-front.front c.in-Yes.claim c.compared.result
+    yes_checked c.args.plant.now c.args.levels c.args.part program (g.F.Shelf.files c.args.files.now) mid c.as_str-file.result.now c.args.stem.now c.args.declared.now c.in_ok-front.front c.in-Yes.claim c.compared.result
     (c.as_str-file.ensures.value ∙ c.in_ok-name.ensures) c.in_ok-front.ensures.same c.in_ok-rows.ensures.part c.in_ok-rows.ensures.root c.in_ok-front.ensures.front right c.compared.ensures
 
 pub returns-in-Yes-clause-says : goal.returns-in-Yes-clause-says
 returns-in-Yes-clause-says g c =
     let program = c.in_ok-rows.rows.program in
-    part_said c.args.plant.now c.args.levels c.args.part program c.args.sums.now c.in_ok-front.front c.in-Yes.claim c.compared.result c.in_ok-rows.ensures.exact
+    part_said c.args.plant.now c.args.levels c.args.part program c.args.declared.now c.in_ok-front.front c.in-Yes.claim c.compared.result c.in_ok-rows.ensures.exact
     (subst (YesSaysOf c.args.plant.now program) c.in-Yes.is c.in_ok-claim.ensures.says) c.compared.ensures
 
 pub returns-clause-checked : goal.returns-clause-checked
@@ -32,5 +26,5 @@ returns-clause-checked g c =
     let program = c.in_ok-rows.rows.program in
     let mid = g.F.Shelf.files c.read_front.new.files in
     let right = subst (λ (said : LogVerdict). IfSome mid (λ m. IsAnyPartChecked c.args.plant.now program (4608 - c.args.levels) (file_of m c.as_str-file.result.now) said)) c.in-No.is c.in_ok-claim.ensures.checked in
-    no_checked c.args.plant.now c.args.levels c.args.part program (g.F.Shelf.files c.args.files.now) mid c.as_str-file.result.now c.args.stem.now c.args.sums.now c.in-No.defect
+    no_checked c.args.plant.now c.args.levels c.args.part program (g.F.Shelf.files c.args.files.now) mid c.as_str-file.result.now c.args.stem.now c.args.declared.now c.in-No.defect
     (c.as_str-file.ensures.value ∙ c.in_ok-name.ensures) c.in_ok-front.ensures.same c.in_ok-rows.ensures.part c.in_ok-rows.ensures.root right

@@ -1,18 +1,21 @@
--- The sums of the first log, or the defect of its head.
+-- The head of the first log, or the defect of its head.
 use Rattle.std.proofs.Common.{Option, IfSome, sym, subst}
 use Rattle.stn_edge.specs.Files.{FileMap}
-use Rattle.log_parts.specs.declared.fronts.Declared.{Declared}
-use Rattle.log_parts.specs.declared.fronts.Declared.TheVariants as declared
+use Rattle.log_parts.specs.declared.heads.LogFront.{LogFront}
+use Rattle.log_parts.specs.declared.heads.LogFront.TheVariants.{Whole}
 use Rattle.log_parts.specs.PartLogs.{logs_of}
-use Rattle.log_parts.specs.laws.Checked.{AreSumsOf}
+use Rattle.log_parts.specs.laws.Checked.{IsFrontKept, IsFrontOf, head_limits}
 use Rattle.log_parts.proofs.PartsChecked.{first_refused}
 use Rattle.joined_parts.proofs.checking.check_parts.Goals as goal
 
+pub check_logs-requires-clause-declared : goal.check_logs-requires-clause-declared
+check_logs-requires-clause-declared g c = (subst (IsFrontKept (head_limits c.args.plant.now c.args.levels)) c.in-Whole.is c.in_ok-first.ensures.kept).0
+
 pub check_logs-requires-clause-first : goal.check_logs-requires-clause-first
 check_logs-requires-clause-first g c =
-    let at = λ (said : Declared) (told : Option FileMap). IfSome told (λ m. AreSumsOf c.args.plant.now c.args.levels 0 (logs_of m c.args.stem.now 0) said) in
-    subst (at (declared.Sums c.in-Sums.sums)) (sym c.in_ok-sums.ensures.same) (subst (λ (said : Declared). at said (g.F.Shelf.files c.args.files.now)) c.in-Sums.is c.in_ok-sums.ensures.sums)
+    let at = λ (said : LogFront) (told : Option FileMap). IfSome told (λ m. IsFrontOf c.args.plant.now c.args.levels 0 (logs_of m c.args.stem.now 0) said) in
+    subst (at (Whole c.in-Whole.first)) (sym c.in_ok-first.ensures.same) (subst (λ (said : LogFront). at said (g.F.Shelf.files c.args.files.now)) c.in-Whole.is c.in_ok-first.ensures.front)
 
 pub returns-in-Bad-clause-checked : goal.returns-in-Bad-clause-checked
 returns-in-Bad-clause-checked g c =
-    first_refused c.args.plant.now c.args.levels c.args.stem.now (g.F.Shelf.files c.args.files.now) c.in_ok-sums.field-0 c.in-Bad.defect c.in-Bad.is c.in_ok-sums.ensures.sums
+    first_refused c.args.plant.now c.args.levels c.args.stem.now (g.F.Shelf.files c.args.files.now) c.in_ok-first.field-0 c.in-Bad.defect c.in-Bad.is c.in_ok-first.ensures.front

@@ -1,35 +1,63 @@
--- The first sum that is not the same, or one list is a first part of the other.
-use Rattle.std.proofs.Common.{◌≡◌, ◌∙◌, ◌<◌, length, sym, ap, arith}
+-- The first item that is not the same, or one head is a first part of the other.
+use Rattle.std.proofs.Common.{◌≡◌, ◌<◌, ◌∙◌, ℕ, List, slice_index_or, length, sym, ap, arith}
 use Rattle.std.proofs.lemmas.Bool.{false≢true}
-use Rattle.std.proofs.Common.{refl}
-use Rattle.log_parts.proofs.SumsDiffer.{begins_long, first_other, more_own, more_sums}
+use Rattle.log_parts.specs.Heads.{items_of, lines_on}
+use Rattle.log_parts.proofs.HeadsDiffer.{all_same, first_other, lines_long, more_given, more_own, same_more}
 use Rattle.log_parts.proofs.fronts.other_line.Goals as goal
-use Rattle.log_parts.proofs.fronts.other_line.Goals.{then-sums-own, else-sums-own}
+use Rattle.log_parts.proofs.fronts.other_line.Goals.{then-all-own_all, else-all-own_all}
+
+pub offset_bounds-lines-place : goal.offset_bounds-lines-place
+offset_bounds-lines-place c = elim c.if-all-own_all.branch [
+  | then-all-own_all w ↦ omega (arith, c.loop-place-test.true, w.few-is, c.count_of-all.ensures.small)
+  | else-all-own_all w ↦ omega (arith, c.loop-place-test.true, w.few-is, c.count_of-own_all.ensures.small)
+]
 
 pub bounds-lines-place : goal.bounds-lines-place
 bounds-lines-place c =
-    let long : length c.args.lines.now ≡ length c.args.own.now = ap length c.requires ∙ begins_long 2 c.args.own.now in
-    elim c.if-sums-own.branch [
-      | then-sums-own w ↦ omega (arith, long, c.loop-place-test.true, w.few-is, w.if-sums-own.true)
-      | else-sums-own w ↦ omega (arith, long, c.loop-place-test.true, w.few-is, w.if-sums-own.false)
+    let long : length c.args.lines.now ≡ length (items_of c.args.own.now) = ap length c.requires ∙ lines_long c.args.own.now in
+    elim c.if-all-own_all.branch [
+      | then-all-own_all w ↦ omega (arith, long, c.loop-place-test.true, w.few-is, w.if-all-own_all.true, c.count_of-own_all.ensures.count)
+      | else-all-own_all w ↦ omega (arith, long, c.loop-place-test.true, w.few-is, c.count_of-own_all.ensures.count)
     ]
 
-pub returns-then-not-is_same : goal.returns-then-not-is_same
-returns-then-not-is_same c =
-    let both : (c.loop-place.place < length c.args.sums.now) × (c.loop-place.place < length c.args.own.now) =
-    elim c.if-sums-own.branch [
-      | then-sums-own w ↦ (omega (arith, c.loop-place-test.true, w.few-is, w.if-sums-own.true), omega (arith, c.loop-place-test.true, w.few-is, w.if-sums-own.true))
-      | else-sums-own w ↦ (omega (arith, c.loop-place-test.true, w.few-is, w.if-sums-own.false), omega (arith, c.loop-place-test.true, w.few-is, w.if-sums-own.false))
+pub returns-then-not-is_same_at : goal.returns-then-not-is_same_at
+returns-then-not-is_same_at c =
+    let both : (c.loop-place.place < length (items_of c.args.given.now)) × (c.loop-place.place < length (items_of c.args.own.now)) =
+    elim c.if-all-own_all.branch [
+      | then-all-own_all w ↦ (omega (arith, c.loop-place-test.true, w.few-is, c.count_of-all.ensures.count), omega (arith, c.loop-place-test.true, w.few-is, w.if-all-own_all.true, c.count_of-own_all.ensures.count))
+      | else-all-own_all w ↦ (omega (arith, c.loop-place-test.true, w.few-is, w.if-all-own_all.false, c.count_of-all.ensures.count), omega (arith, c.loop-place-test.true, w.few-is, c.count_of-own_all.ensures.count))
     ] in
-    first_other c.args.sums.now c.args.own.now c.args.lines.now c.loop-place.place _ c.index-sums-place.result c.index-own-place.result c.requires both.0 both.1 c.loop-place.invariant c.index-sums-place.is c.index-own-place.is
-    (λ is. false≢true (sym c.if-not-is_same.true ∙ c.is_same.ensures.1 (sym is))) refl
+    first_other (items_of c.args.given.now) (items_of c.args.own.now) (lines_on c.args.own.now) c.loop-place.place _ both.0 both.1 c.loop-place.invariant
+    (λ is. false≢true (sym c.if-not-is_same_at.true ∙ c.is_same_at.ensures.1 is)) (ap (λ (ls : List ℕ). slice_index_or ls c.loop-place.place 0) c.requires)
 
-pub returns-else-sums-own-2 : goal.returns-else-sums-own-2
-returns-else-sums-own-2 c =
-    let apart = c.if-sums-own-2.false in
-    elim c.if-sums-own.branch [
-      | then-sums-own w ↦
-          more_own c.args.sums.now c.args.own.now c.loop-place.place (omega (arith, c.loop-place-test.false, w.few-is, w.if-sums-own.true)) (omega (arith, w.if-sums-own.true)) c.loop-place.invariant
-      | else-sums-own w ↦
-          more_sums c.args.sums.now c.args.own.now c.loop-place.place (omega (arith, c.loop-place-test.false, w.few-is, w.if-sums-own.false)) (omega (arith, w.if-sums-own.false, apart)) c.loop-place.invariant
+pub loop-place-preserved : goal.loop-place-preserved
+loop-place-preserved c =
+    let both : (c.loop-place.place < length (items_of c.args.given.now)) × (c.loop-place.place < length (items_of c.args.own.now)) =
+    elim c.if-all-own_all.branch [
+      | then-all-own_all w ↦ (omega (arith, c.loop-place-test.true, w.few-is, c.count_of-all.ensures.count), omega (arith, c.loop-place-test.true, w.few-is, w.if-all-own_all.true, c.count_of-own_all.ensures.count))
+      | else-all-own_all w ↦ (omega (arith, c.loop-place-test.true, w.few-is, w.if-all-own_all.false, c.count_of-all.ensures.count), omega (arith, c.loop-place-test.true, w.few-is, c.count_of-own_all.ensures.count))
+    ] in
+    same_more (items_of c.args.given.now) (items_of c.args.own.now) c.loop-place.place both.0 both.1 c.loop-place.invariant (c.is_same_at.ensures.0 c.if-not-is_same_at.false)
+
+pub returns-then-all-own_all-2 : goal.returns-then-all-own_all-2
+returns-then-all-own_all-2 c =
+    let same = c.if-all-own_all-2.true in
+    let few : (c.loop-place.place ≡ c.count_of-all.result) × (c.loop-place.place ≡ c.count_of-own_all.result) =
+    elim c.if-all-own_all.branch [
+      | then-all-own_all w ↦ (omega (arith, c.loop-place-test.false, w.few-is, same), omega (arith, c.loop-place-test.false, w.few-is, same))
+      | else-all-own_all w ↦ (omega (arith, c.loop-place-test.false, w.few-is, same), omega (arith, c.loop-place-test.false, w.few-is, same))
+    ] in
+    all_same c.args.given.now c.args.own.now c.loop-place.place (few.0 ∙ c.count_of-all.ensures.count) (few.1 ∙ c.count_of-own_all.ensures.count) c.loop-place.invariant
+
+pub returns-else-all-own_all-2 : goal.returns-else-all-own_all-2
+returns-else-all-own_all-2 c =
+    let apart = c.if-all-own_all-2.false in
+    let given = items_of c.args.given.now in
+    let own = items_of c.args.own.now in
+    let lines = lines_on c.args.own.now in
+    elim c.if-all-own_all.branch [
+      | then-all-own_all w ↦
+          more_own given own lines c.loop-place.place (omega (arith, c.loop-place-test.false, w.few-is, c.count_of-all.ensures.count)) (omega (arith, w.if-all-own_all.true, c.count_of-all.ensures.count, c.count_of-own_all.ensures.count)) c.loop-place.invariant
+      | else-all-own_all w ↦
+          more_given given own lines c.loop-place.place (omega (arith, c.loop-place-test.false, w.few-is, c.count_of-own_all.ensures.count)) (omega (arith, w.if-all-own_all.false, apart, c.count_of-all.ensures.count, c.count_of-own_all.ensures.count)) c.loop-place.invariant
     ]

@@ -2,7 +2,8 @@
 use Rattle.std.proofs.Common.{◌∙◌, ◌^◌, ◌-◌, Option, subst}
 use Rattle.log_parts.specs.declared.joins.Joined.TheVariants.{No}
 use Rattle.log_parts.specs.declared.writing.BadPart.{BadPart}
-use Rattle.log_parts.specs.laws.Copying.{front_text, items_over, HasJoined}
+use Rattle.log_parts.specs.Heads.{front_text}
+use Rattle.log_parts.specs.laws.Copying.{items_over, HasJoined}
 use Rattle.log_parts.proofs.Copies.{err_of}
 use Rattle.log_parts.proofs.PartsCopied.{powered}
 use Rattle.log_parts.proofs.JoinWritten.{left_begin, left_broken, left_finish, bad_written, all_written}
@@ -13,14 +14,14 @@ returns-in_err-writer-clause-err g c =
     let old = g.F.Shelf.files c.args.files.now in
     let new = g.F.Shelf.files c.begin_log.new.files in
     err_of c.from_residual.result
-    (left_begin c.args.logs.limits c.args.logs.levels c.args.logs.stem.now c.args.logs.heads.now c.args.name.now (front_text c.args.sums.now) c.args.larger.now old new c.in_err-writer.ensures.err)
+    (left_begin c.args.logs.limits c.args.logs.levels c.args.logs.stem.now c.args.logs.heads.now c.args.name.now (front_text c.args.version c.args.declared.now) c.args.larger.now old new c.in_err-writer.ensures.err)
 
 pub returns-in_err-part-clause-err : goal.returns-in_err-part-clause-err
 returns-in_err-part-clause-err g c =
     let limits = c.args.logs.limits in
     let stem = c.args.logs.stem.now in
     let name = c.args.name.now in
-    let front = front_text c.args.sums.now in
+    let front = front_text c.args.version c.args.declared.now in
     let larger = c.args.larger.now in
     let old = g.F.Shelf.files c.args.files.now in
     let mid = g.F.Shelf.files c.begin_log.new.files in
@@ -38,7 +39,7 @@ returns-in_err-finish_log-in-None-clause-err g c =
     let limits = c.args.logs.limits in
     let stem = c.args.logs.stem.now in
     let name = c.args.name.now in
-    let front = front_text c.args.sums.now in
+    let front = front_text c.args.version c.args.declared.now in
     let larger = c.args.larger.now in
     let old = g.F.Shelf.files c.args.files.now in
     let mid = g.F.Shelf.files c.begin_log.new.files in
@@ -59,7 +60,7 @@ returns-in-Some-clause-written g c =
     let limits = c.args.logs.limits in
     let stem = c.args.logs.stem.now in
     let name = c.args.name.now in
-    let front = front_text c.args.sums.now in
+    let front = front_text c.args.version c.args.declared.now in
     let larger = c.args.larger.now in
     let old = g.F.Shelf.files c.args.files.now in
     let mid = g.F.Shelf.files c.begin_log.new.files in
@@ -78,7 +79,7 @@ returns-in_ok-finish_log-in-None-clause-written g c =
     let limits = c.args.logs.limits in
     let stem = c.args.logs.stem.now in
     let name = c.args.name.now in
-    let front = front_text c.args.sums.now in
+    let front = front_text c.args.version c.args.declared.now in
     let larger = c.args.larger.now in
     let old = g.F.Shelf.files c.args.files.now in
     let mid = g.F.Shelf.files c.begin_log.new.files in

@@ -1,4 +1,3 @@
-use Rattle.std.proofs.Common.{inr}
 use Rattle.part_commands.proofs.JoinLemmas.{joined_leaves}
 use Rattle.part_commands.proofs.joining.join_logs.Goals as goal
 

@@ -1,4 +1,4 @@
-use Rattle.std.proofs.Common.{◌≡◌, ◌<◌, ℕ, length, get_or, arith}
+use Rattle.std.proofs.Common.{◌≡◌, ◌<◌, length, get_or, arith}
 use Rattle.time_grid.specs.Slots.{slots}
 use Rattle.time_grid.proofs.SlotList.{grid-are}
 use Rattle.part_commands.specs.Parting.{slot_lines}

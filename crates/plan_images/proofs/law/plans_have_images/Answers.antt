@@ -2,7 +2,7 @@
 use Rattle.stn_model.specs.Profit.{profit}
 use Rattle.row_set.specs.Parts.{IsAdmitted}
 use Rattle.plan_images.proofs.Allowing.{floored}
-use Rattle.plan_images.proofs.Imaging.{composed, shown-extend, with-rows}
+use Rattle.plan_images.proofs.Imaging.{composed, derived-extend, shown-extend, with-rows}
 use Rattle.plan_images.proofs.Losing.{none-lost, rows-settle, tree-caps}
 use Rattle.plan_images.proofs.Plans.{part-relaxes}
 use Rattle.plan_images.proofs.Telling.{borne, told}
@@ -14,8 +14,11 @@ returns-clause-parts c = part-relaxes
 pub returns-clause-sums : goal.returns-clause-sums
 returns-clause-sums c = shown-extend
 
+pub returns-clause-derivations : goal.returns-clause-derivations
+returns-clause-derivations c = derived-extend
+
 pub returns-clause-rows : goal.returns-clause-rows
-returns-clause-rows c = λ plant part given larger alone more is keep added. with-rows (IsAdmitted plant part) (profit plant) given larger alone more is keep added
+returns-clause-rows c = λ plant part given larger alone more domains is keep added. with-rows (IsAdmitted plant part) (profit plant) given larger alone more domains is keep added
 
 pub returns-clause-compose : goal.returns-clause-compose
 returns-clause-compose c = λ plant part given larger alone larger_alone first second. composed (IsAdmitted plant part) (profit plant) given larger alone larger_alone first second

@@ -4,7 +4,6 @@ use Rattle.std.specs.Prelude.{IfOk, IfSome}
 use Rattle.stn_edge.specs.Files.{file_of}
 use Rattle.row_kit.specs.declared.domain.Domain.{Domain}
 use Rattle.valid_log.proofs.Saying.{says_if}
-use Rattle.row_set.proofs.Limits.{made-rows, made-slots}
 use Rattle.sum_slots.specs.Shown.{AreRanges}
 use Rattle.valid_log.specs.AnyVersion.{IsAnyVerdict}
 use Rattle.plant_check.proofs.PlantSaying.{any_checked}
@@ -13,14 +12,13 @@ use Rattle.plant_check.proofs.plant.check_stream.Goals as goal
 
 pub check_any-requires-clause-ranges : goal.check_any-requires-clause-ranges
 check_any-requires-clause-ranges g c =
-    subst (λ (ds : List Domain). AreRanges c.in_ok-program.program ds) (sym (c.as_slice.ensures ∙ c.in_ok-ranges.ensures))
+    subst (λ (ds : List Domain). AreRanges c.in_ok-program.program ds) (sym (c.as_slice-ranges.ensures ∙ c.in_ok-ranges.ensures))
     (plant-ranges c.args.plant.now c.in_ok-program.program c.in_ok-program.ensures.made)
 
-pub check_any-requires-clause-few_slots : goal.check_any-requires-clause-few_slots
-check_any-requires-clause-few_slots g c = made-slots c.args.plant.now c.in_ok-program.program c.requires.sound c.in_ok-program.ensures.made
-
-pub check_any-requires-clause-few_rows : goal.check_any-requires-clause-few_rows
-check_any-requires-clause-few_rows g c = made-rows c.args.plant.now c.in_ok-program.program c.requires.sound c.in_ok-program.ensures.made
+pub check_any-requires-clause-root : goal.check_any-requires-clause-root
+check_any-requires-clause-root g c =
+    subst (λ (ds : List Domain). AreRanges c.in_ok-program.program ds) (sym (c.as_slice-ranges.ensures ∙ c.in_ok-ranges.ensures))
+    (plant-ranges c.args.plant.now c.in_ok-program.program c.in_ok-program.ensures.made)
 
 pub returns-clause-says : goal.returns-clause-says
 returns-clause-says g c = says_if c.args.plant.now c.in_ok-program.program c.check_any.result c.requires.sound c.in_ok-program.ensures.means c.check_any.ensures.holds
@@ -32,5 +30,5 @@ returns-clause-checked g c =
     let files = g.F.Shelf.files c.args.files.now in
     let name = c.args.name.now in
     any_checked plant program files name c.check_any.result c.requires.sound c.in_ok-program.ensures.made c.in_ok-program.ensures.means
-    (subst (λ (ds : List Domain). IfOk c.check_any.result (λ verdict. IfSome files (λ m. IsAnyVerdict program ds 4608 (file_of m name) verdict))) (c.as_slice.ensures ∙ c.in_ok-ranges.ensures) c.check_any.ensures.verdict)
+    (subst (λ (ds : List Domain). IfOk c.check_any.result (λ verdict. IfSome files (λ m. IsAnyVerdict program ds ds 4608 (file_of m name) verdict))) (c.as_slice-ranges.ensures ∙ c.in_ok-ranges.ensures) c.check_any.ensures.verdict)
     (says_if plant program c.check_any.result c.requires.sound c.in_ok-program.ensures.means c.check_any.ensures.holds)

@@ -10,7 +10,7 @@ use Rattle.stn_solve.proofs.Searchable.{summed-searchable}
 use Rattle.stn_solve.proofs.summed.plan_summed.Goals as goal
 
 pub search_only-requires-clause-searchable : goal.search_only-requires-clause-searchable
-search_only-requires-clause-searchable g c = summed-searchable c.args.plant.now c.args.part c.in_ok-rows.field-0 c.requires.part c.in_ok-rows.ensures
+search_only-requires-clause-searchable g c = summed-searchable c.args.plant.now c.args.part c.in_ok-rows.field-0 c.requires.sound c.requires.part c.in_ok-rows.ensures
 
 pub told_of-requires-clause-places : goal.told_of-requires-clause-places
 told_of-requires-clause-places g c =

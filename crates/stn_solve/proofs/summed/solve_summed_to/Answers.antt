@@ -19,7 +19,7 @@ use Rattle.stn_solve.proofs.Searchable.{summed-searchable}
 use Rattle.stn_solve.proofs.summed.solve_summed_to.Goals as goal
 
 pub search_logged-requires-clause-searchable : goal.search_logged-requires-clause-searchable
-search_logged-requires-clause-searchable g c = summed-searchable c.args.plant.now c.args.part c.in_ok-rows.field-0 c.requires.part c.in_ok-rows.ensures
+search_logged-requires-clause-searchable g c = summed-searchable c.args.plant.now c.args.part c.in_ok-rows.field-0 c.requires.sound c.requires.part c.in_ok-rows.ensures
 
 pub told_of-requires-clause-places : goal.told_of-requires-clause-places
 told_of-requires-clause-places g c =

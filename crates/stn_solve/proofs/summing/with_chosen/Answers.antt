@@ -29,8 +29,8 @@ returns c =
     let sums = c.in_ok-sums.sums in
     let chosen = c.in_ok-sums.ensures in
     let shown : All (IsShown part ranges) sums = subst (λ (ds : List Domain). All (IsShown part ds) sums) (c.as_slice.ensures ∙ c.in_ok-ranges.ensures) chosen.shown in
-    let head : c.put_head.new.into.items ≡ head_text sums = c.in_ok-put_head.ensures.ok ∙ ap₂ (λ (xs : List ℕ) (ss : List Sum). xs ++ head_text ss) c.new-head.ensures.items c.as_slice-2.ensures in
-    let few : length (head_text sums) < 2 ^ 64 = subst (λ (text : List ℕ). length text < 2 ^ 64) head (omega (arith, c.put_head.new.into.ok, c.put_head.new.into.small)) in
+    let head : c.put_head.new.into.items ≡ head_text 3 sums = c.in_ok-put_head.ensures.ok ∙ ap₂ (λ (xs : List ℕ) (ss : List Sum). xs ++ head_text 3 ss) c.new-head.ensures.items c.as_slice-2.ensures in
+    let few : length (head_text 3 sums) < 2 ^ 64 = subst (λ (text : List ℕ). length text < 2 ^ 64) head (omega (arith, c.put_head.new.into.ok, c.put_head.new.into.small)) in
     let in_ranges : IsWithSums part ranges c.as_slice-4.result.now c.in_ok-program.program =
     subst (λ (ds : List Domain). IsWithSums part ds c.as_slice-4.result.now c.in_ok-program.program) (c.as_slice-3.ensures ∙ c.in_ok-ranges.ensures) c.in_ok-program.ensures.made in
     record {

@@ -11,10 +11,10 @@ invariant-sums g l = record {
   writable : g.F.Shelf.may_write l.files ≡ g.F.Shelf.may_write l.initial.files;
   no_write : g.F.Shelf.write_faults l.files ≡ g.F.Shelf.write_faults l.initial.files;
   later : g.F.Shelf.read_faults l.initial.files ≤ g.F.Shelf.read_faults l.files;
-  kept : AreKept l.limits l.sums;
+  kept : AreKept l.version l.limits l.sums;
   begins : l.lines ≡ begins_on 2 l.sums;
-  passed : HasPassed (g.F.Shelf.files l.initial.files) l.name (lines_of l.sums) l.walk;
+  passed : HasPassed (g.F.Shelf.files l.initial.files) l.name l.version (lines_of l.sums) l.walk;
 }
 
 abbrev pub decreases-sums : goal.decreases-sums
-decreases-sums g l = 512 - length l.sums
+decreases-sums g l = 4096 - length l.sums

@@ -1,4 +1,4 @@
-use Rattle.std.proofs.Common.{◌≡◌, ◌≤◌, ◌-◌, ◌++◌, List, length, map, None}
+use Rattle.std.proofs.Common.{◌≡◌, ℕ, ◌≤◌, ◌-◌, ◌++◌, List, length, map, None}
 use Rattle.sum_lines.specs.declared.line.HeadLine.{HeadLine}
 use Rattle.sum_lines.specs.Head.{AreTerms, last_slot, term_line}
 use Rattle.sum_lines.specs.laws.Walk.{HasPassed}
@@ -15,7 +15,7 @@ invariant-terms g l = record {
   few : length l.terms ≤ l.count;
   above : l.above ≡ last_slot None l.terms;
   are : AreTerms l.slots l.terms;
-  goes : (lines : List HeadLine) → HasPassed (g.F.Shelf.files l.initial.files) l.name lines l.initial.walk → HasPassed (g.F.Shelf.files l.initial.files) l.name (lines ++ map term_line l.terms) l.walk;
+  goes : (version : ℕ) (lines : List HeadLine) → HasPassed (g.F.Shelf.files l.initial.files) l.name version lines l.initial.walk → HasPassed (g.F.Shelf.files l.initial.files) l.name version (lines ++ map term_line l.terms) l.walk;
 }
 
 abbrev pub decreases-terms : goal.decreases-terms

@@ -11,19 +11,19 @@ pub estimate_plants-requires-clause-over : goal.estimate_plants-requires-clause-
 estimate_plants-requires-clause-over c =
     let log = c.in-Valid.log in
     let valid = subst (IsOldLog c.args.plant c.args.bytes.now) c.in-Valid.is c.in_ok-log.ensures in
-    valid-claim_over c.args.plant c.args.bytes.now log.sums (tree_of log.tree) log.claim valid
+    valid-claim_over c.args.plant c.args.bytes.now log.head (tree_of log.tree) log.claim valid
 
 pub estimate_plants-requires-clause-own : goal.estimate_plants-requires-clause-own
 estimate_plants-requires-clause-own c cap estimate =
     let log = c.in-Valid.log in
     let valid = subst (IsOldLog c.args.plant c.args.bytes.now) c.in-Valid.is c.in_ok-log.ensures in
-    own_cap c.args.plant c.requires.sound c.args.bytes.now log.sums (tree_of log.tree) log.claim cap valid estimate
+    own_cap c.args.plant c.args.bytes.now log.head (tree_of log.tree) log.claim cap valid estimate
 
 pub returns-in-Valid : goal.returns-in-Valid
 returns-in-Valid c =
     let log = c.in-Valid.log in
     let valid = subst (IsOldLog c.args.plant c.args.bytes.now) c.in-Valid.is c.in_ok-log.ensures in
-    valid_answer c.args.plant c.args.number c.args.steps.step c.args.steps.count c.args.bytes.now log.sums (tree_of log.tree) log.claim c.estimate_plants.result c.requires.short valid c.estimate_plants.ensures.status c.estimate_plants.ensures.says
+    valid_answer c.args.plant c.args.number c.args.steps.step c.args.steps.count c.args.bytes.now log.head (tree_of log.tree) log.claim c.estimate_plants.result c.requires.short valid c.estimate_plants.ensures.status c.estimate_plants.ensures.says
 
 pub returns-in-Defective : goal.returns-in-Defective
 returns-in-Defective c =

@@ -1,10 +1,7 @@
 -- The line is the number with the cap, and what is printed of the plan.
-use Rattle.std.proofs.Common.{◌≡◌, ℕ, List, ◌++◌, ap, ◌∙◌, subst, arith}
+use Rattle.std.proofs.Common.{◌≡◌, ℕ, List, ◌++◌, ap, ◌∙◌, arith}
 use Rattle.std.proofs.lemmas.Grind.{common_steps}
 use Rattle.std.proofs.lemmas.List.{append_assoc}
-use Rattle.proof_tree.specs.Tree.{tree_of}
-use Rattle.sum_slots.specs.declared.sum.Sum.{Sum}
-use Rattle.what_if.specs.Estimate.{IsEstimate}
 use Rattle.tank_commands.proofs.estimating.put_line.Goals as goal
 
 pub returns : goal.returns
@@ -12,8 +9,7 @@ returns c =
     let text = c.args.text.now.items in
     let line = c.in_ok-line.line.items in
     let standing = c.in_ok-standing.standing.items in
-    let proof = tree_of c.args.log.now.tree in
-    let estimate = subst (λ (sums : List Sum). IsEstimate c.args.plant.now sums proof c.in_ok-cap.cap) c.as_slice.ensures c.in_ok-cap.ensures in
+    let estimate = c.in_ok-cap.ensures in
     let one : c.extend_from_slice.new.self.items ≡ text ++ line = grind (arith, common_steps) in
     let two : c.extend_from_slice-2.new.self.items ≡ c.extend_from_slice.new.self.items ++ standing = grind (arith, common_steps) in (
       line ++ standing,

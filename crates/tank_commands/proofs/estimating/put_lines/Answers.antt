@@ -32,7 +32,7 @@ put_line-requires-clause-own c first =
     let is = raised_plant whole c.loop-times.raised c.raise.new.plant c.as_slice.result.now c.args.number c.multiple-amount.result step times
     c.loop-times.invariant.same (grind (arith, common_steps)) (c.multiple-amount.ensures ∙ ap (λ (n : ℤ). pos times *ℤ n) exact) (grind (arith, common_steps)) in
     let none = raised-none whole c.args.number step c.requires.sound c.requires.there in
-    subst (λ (p : Plant). AreOwn p c.args.log.now.sums (tree_of c.args.log.now.tree))
+    subst (λ (p : Plant). AreOwn p c.args.log.now.head (tree_of c.args.log.now.tree))
     (sym (is ∙ ap (raised whole c.args.number step) first ∙ none)) c.requires.own
 
 pub loop-times-init : goal.loop-times-init
@@ -47,10 +47,10 @@ loop-times-preserved c =
     let is = raised_plant whole c.loop-times.raised c.raise.new.plant c.as_slice.result.now c.args.number c.multiple-amount.result step times
     c.loop-times.invariant.same (grind (arith, common_steps)) (c.multiple-amount.ensures ∙ ap (λ (n : ℤ). pos times *ℤ n) exact) (grind (arith, common_steps)) in
     let put = c.in_ok-put_line.ensures in
-    let line = subst (λ (p : Plant). IsTankLine p c.args.log.now.sums (tree_of c.args.log.now.tree) c.args.plan.now times put.0) is put.1.1 in
+    let line = subst (λ (p : Plant). IsTankLine p c.args.log.now.head (tree_of c.args.log.now.tree) c.args.plan.now times put.0) is put.1.1 in
     record {
       same = is_but_states whole c.raise.new.plant (raised_states c.args.number (pos times *ℤ step) whole.states) is;
-      lines = more_lines (λ n. IsTankLine (raised whole c.args.number step n) c.args.log.now.sums (tree_of c.args.log.now.tree) c.args.plan.now n) times c.args.text.now.items c.loop-times.invariant.lines.0 put.0 c.loop-times.text.items c.put_line.new.text.items
+      lines = more_lines (λ n. IsTankLine (raised whole c.args.number step n) c.args.log.now.head (tree_of c.args.log.now.tree) c.args.plan.now n) times c.args.text.now.items c.loop-times.invariant.lines.0 put.0 c.loop-times.text.items c.put_line.new.text.items
           c.loop-times.invariant.lines.1.0 c.loop-times.invariant.lines.1.1 put.1.0 line;
     }
 
@@ -58,4 +58,4 @@ pub returns : goal.returns
 returns c =
     let lines = c.loop-times.invariant.lines in
     let all : c.loop-times.times ≡ c.args.steps.count + 1 = grind (arith, common_steps) in
-    (lines.0, (lines.1.0, subst (λ (k : ℕ). AreLines (λ n. IsTankLine (raised c.args.plant c.args.number c.args.steps.step n) c.args.log.now.sums (tree_of c.args.log.now.tree) c.args.plan.now n) k lines.0) all lines.1.1))
+    (lines.0, (lines.1.0, subst (λ (k : ℕ). AreLines (λ n. IsTankLine (raised c.args.plant c.args.number c.args.steps.step n) c.args.log.now.head (tree_of c.args.log.now.tree) c.args.plan.now n) k lines.0) all lines.1.1))

@@ -9,5 +9,5 @@ abbrev pub invariant-loop-times : goal.invariant-loop-times
 invariant-loop-times l = record {
   same : l.raised ≡ with_states l.fn.plant l.raised.states;
   lines : (lines : List ℕ) × ((l.text.items ≡ l.initial.text.items ++ lines)
-      × AreLines (λ times. IsTankLine (raised l.fn.plant l.number l.steps.step times) l.log.sums (tree_of l.log.tree) l.plan times) l.times lines);
+      × AreLines (λ times. IsTankLine (raised l.fn.plant l.number l.steps.step times) l.log.head (tree_of l.log.tree) l.plan times) l.times lines);
 }

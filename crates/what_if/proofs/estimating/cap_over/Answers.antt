@@ -1,4 +1,4 @@
--- The sums are taken, or the cap is plain.
+-- The head is taken, or the cap is plain.
 use Rattle.std.proofs.Common.{sym, ◌∙◌}
 use Rattle.std.proofs.lemmas.Bool.{false≢true}
 use Rattle.proof_tree.specs.Tree.{tree_of}
@@ -7,12 +7,12 @@ use Rattle.what_if.proofs.estimating.cap_over.Goals as goal
 
 pub returns-in_ok-larger-clause-is : goal.returns-in_ok-larger-clause-is
 returns-in_ok-larger-clause-is c =
-    loose_with c.args.program c.in_ok-larger.larger c.args.ranges.now c.args.sums.now (tree_of c.args.proof.now) c.root_cap.result (c.are_sums_of.ensures.0 c.if-are_sums_of.true) c.in_ok-larger.ensures.made c.root_cap.ensures
+    loose_with c.args.program c.in_ok-larger.larger c.args.ranges.now c.args.head.now (tree_of c.args.proof.now) c.root_cap.result (c.is_taken.ensures.0 c.if-is_taken.true) c.in_ok-larger.ensures c.root_cap.ensures
 
 pub returns-in_ok-larger-clause-bounds : goal.returns-in_ok-larger-clause-bounds
 returns-in_ok-larger-clause-bounds c =
-    loose_bounds c.args.program c.in_ok-larger.larger c.args.sums.now (tree_of c.args.proof.now) c.root_cap.result c.in_ok-larger.ensures.means c.root_cap.ensures
+    loose_bounds c.args.program c.in_ok-larger.larger c.args.ranges.now c.args.head.now (tree_of c.args.proof.now) c.root_cap.result c.requires.root (c.is_taken.ensures.0 c.if-is_taken.true) c.in_ok-larger.ensures c.root_cap.ensures
 
-pub returns-else-are_sums_of-clause-is : goal.returns-else-are_sums_of-clause-is
-returns-else-are_sums_of-clause-is c =
-    plain_without c.args.program c.args.ranges.now c.args.sums.now (tree_of c.args.proof.now) c.plain_cap.result c.requires.open_ (λ is. false≢true (sym c.if-are_sums_of.false ∙ c.are_sums_of.ensures.1 is)) c.plain_cap.ensures
+pub returns-else-is_taken-clause-is : goal.returns-else-is_taken-clause-is
+returns-else-is_taken-clause-is c =
+    plain_without c.args.program c.args.ranges.now c.args.head.now (tree_of c.args.proof.now) c.plain_cap.result c.requires.open_ (λ is. false≢true (sym c.if-is_taken.false ∙ c.is_taken.ensures.1 is)) c.plain_cap.ensures

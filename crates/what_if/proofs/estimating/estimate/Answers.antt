@@ -10,5 +10,5 @@ cap_over-requires-clause-open_ c = made-open c.args.plant.now c.in_ok-program.pr
 
 pub returns : goal.returns
 returns c =
-    is_estimate c.args.plant.now c.in_ok-program.program c.as_slice.result.now c.args.sums.now (tree_of c.args.proof.now) c.cap_over.result c.in_ok-program.ensures.made c.in_ok-program.ensures.means
+    is_estimate c.args.plant.now c.in_ok-program.program c.as_slice.result.now c.args.head.now (tree_of c.args.proof.now) c.cap_over.result c.in_ok-program.ensures.made c.in_ok-program.ensures.means
     (c.as_slice.ensures ∙ c.in_ok-ranges.ensures) c.cap_over.ensures.is c.cap_over.ensures.bounds

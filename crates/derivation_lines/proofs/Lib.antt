@@ -1,0 +1,9 @@
+pub mod NumberLists
+pub mod Lines
+pub mod LineTexts
+pub mod NumberForms
+pub mod NextLines
+pub mod Beginnings
+pub mod PartLines
+pub mod PartsRead
+pub mod TailsRead

@@ -1,0 +1,4 @@
+pub mod Again
+pub mod Holding
+pub mod OneMore
+pub mod Shares

@@ -1,0 +1,22 @@
+-- What the cut leaves is what it leaves of the domains.
+use Rattle.std.proofs.Common.{refl, ap, arith, ◌∙◌}
+use Rattle.row_kit.specs.Area.{present}
+use Rattle.row_kit.specs.Row.{row_at}
+use Rattle.row_kit.proofs.Marks.{present-with_domain}
+use Rattle.range_prop.specs.Cut.{cut_domain}
+use Rattle.derivations.specs.Larger.{begun}
+use Rattle.derivations.proofs.growing.cut_down.Goals as goal
+
+pub returns : goal.returns
+returns c =
+    let rows = c.args.program.rows in
+    let marks = c.args.area.now in
+    let left = cut_domain (row_at rows c.args.made.row) c.args.made.slot (present marks) in
+    record {
+      shown = ((omega arith, omega arith), tt);
+      growth = ap (begun c.args.program) (ap present c.cut.ensures.marks ∙ present-with_domain marks c.args.made.slot left (omega arith));
+      slots = c.cut.ensures.slots;
+      count = omega arith;
+      root = refl;
+      rest = record { profit = refl; base = refl; tags = refl; changes = refl };
+    }

@@ -1,0 +1,8 @@
+-- The program has grown by the derivations so far.
+use Rattle.std.proofs.Common.{take}
+use Rattle.row_kit.specs.Area.{present}
+use Rattle.derivations.specs.laws.Growing.{HasGrownBy}
+use Rattle.derivations.proofs.growing.grow.Given as goal
+
+abbrev pub invariant-loop-place : goal.invariant-loop-place
+invariant-loop-place l = HasGrownBy l.fn.program (present l.fn.area) (take l.place l.derivations) (present l.area) l.grown

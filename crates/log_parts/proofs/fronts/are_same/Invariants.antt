@@ -1,6 +1,0 @@
--- The terms so far are the same.
-use Rattle.std.proofs.Common.{◌≡◌, take}
-use Rattle.log_parts.proofs.fronts.are_same.Given as goal
-
-abbrev pub invariant-loop-place : goal.invariant-loop-place
-invariant-loop-place l = take l.place l.one ≡ take l.place l.other
