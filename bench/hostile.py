@@ -5,7 +5,7 @@
     python3 bench/hostile.py --table    # and a row for each case, with processor seconds and peak memory
 
 The program is that of STN_PROGRAM, or the one that `./stn` or a gate that passed has left in built/; where there is none, this says
-'skipped'. Each run has 10 seconds of processor time, 100 on the clock, 600 MiB of address space and no core file. Large files are made
+'skipped'. Each run has 10 seconds of processor time, heads of many rows 60, 100 on the clock, 600 MiB of address space and no core file. Large files are made
 in a folder of their own, as empty stretches where that does, and go with it.
 """
 import os, resource, shutil, signal, subprocess, sys, tempfile
@@ -13,6 +13,8 @@ import os, resource, shutil, signal, subprocess, sys, tempfile
 top = os.path.dirname(os.path.dirname(os.path.abspath(__file__)))
 BUILT = os.environ.get("STN_PROGRAM") or os.path.join(top, "built", "stn")
 SECONDS, ON_THE_CLOCK, MEMORY = 10, 100, 600 << 20
+# How many rows the heads of many rows have: as many as may stand there for the table, else an eighth, which takes an eighth of the time.
+MOST_ROWS = 4096 if "--table" in sys.argv else 512
 NOBODY = 65534
 TINY = ["dual 1 0", "claim optimal 60 2", "value 0 3", "value 1 3", "end"]
 
@@ -26,7 +28,7 @@ class Case:
     def limits(self):
         """What is set in the process before the program starts."""
         resource.setrlimit(resource.RLIMIT_AS, (MEMORY, MEMORY))
-        resource.setrlimit(resource.RLIMIT_CPU, (SECONDS, SECONDS))
+        resource.setrlimit(resource.RLIMIT_CPU, (self.how.get("seconds", SECONDS),) * 2)
         resource.setrlimit(resource.RLIMIT_CORE, (0, 0))
         if "size" in self.how:
             signal.signal(signal.SIGXFSZ, signal.SIG_IGN)
@@ -155,7 +157,7 @@ def of_heads(room):
     """Heads that are as large as they may be, and rows at and past their limits; row 642 is the first that a head derives."""
     plant, yes = wide(room), "yes below 999999999\n"
     for number, (what, text) in enumerate(great_rows()):
-        yield Case(f"4,096 rows: {what}", ["check", plant, head(room, f"h{number}", (text, 4096))], 0, yes)
+        yield Case(f"{MOST_ROWS:,} rows: {what}", ["check", plant, head(room, f"h{number}", (text, MOST_ROWS))], 0, yes, seconds=60)
     row, a_sum = "row 3 1 1 1 1 {} 0\nby {} 2\n".format, "sum 1 0 - - 1\nterm 0 1 0\n"
     limits = "row 1000000000 999999999 1000000000 1000000000 1 1 0\nby 576 -1000000\nlift 0 1000000000000\n"
     heads = (("4,097 rows", row(0, 576), 4097, "no 8194 21\n"), ("3,584 sums", a_sum, 3584, yes),
