@@ -1,65 +1,80 @@
 #!/usr/bin/env python3
-"""HiGHS, through scipy, over the rows of tools/plant_program.py: what a mixed-integer solver makes of a plant.
+"""HiGHS, through scipy, over the mixed-integer program of bench/lp.py: what such a solver makes of a plant.
 
-    /usr/bin/python3 bench/highs.py PLANT SECONDS   # prints `PROFIT BOUND optimal`, or `open` in place of `optimal`
+    /usr/bin/python3 bench/highs.py PLANT SECONDS        # prints `PROFIT BOUND optimal`, or `open` in place of `optimal`
+    /usr/bin/python3 bench/highs.py PLANT SECONDS PLAN   # and writes its plan to the file PLAN
 
-It needs Debian's python3-scipy. Each slot is two numbers, whether it starts and its quanta; costs of changeovers are in no row, so a
-plant that has some is not asked: `- - changeovers`.
+It needs Debian's python3-scipy. The plan is looked at again by tools/plant_program.py, without rounding: where it breaks a row or
+earns something else, that is an error.
 """
-import os, sys
+import sys
 
 import numpy as np
 from scipy.optimize import Bounds, LinearConstraint, milp
 from scipy.sparse import csr_matrix
 
-TOP = os.path.dirname(os.path.dirname(os.path.abspath(__file__)))
-sys.path.insert(0, os.path.join(TOP, "tools"))
-import plant_program as plain
+import lp
+from lp import plain
 
 
 def solved(program, gap, seconds):
-    """What HiGHS finds for a program: whether each slot starts, then its quanta."""
-    count = len(program.slots)
-    aims = np.array([-f for f, _ in program.profits] + [-p for _, p in program.profits], dtype=float)
-    places, values, most = [], [], []
-    for row in program.rows:
-        for slot, (fixed, per) in row.entries.items():
-            places += [(len(most), slot), (len(most), count + slot)]
-            values += [fixed, per]
-        most.append(row.limit)
-    for slot, domain in enumerate(program.domains):
-        for sign, bound in ((1, domain[-1]), (-1, domain[1])):
-            places += [(len(most), slot), (len(most), count + slot)]
-            values += [-sign * bound, sign]
-            most.append(0)
-    rows = csr_matrix((values, tuple(zip(*places))), shape=(len(most), 2 * count), dtype=float)
-    greatest = np.array([1] * count + [domain[-1] for domain in program.domains], dtype=float)
+    """What HiGHS finds for a program: whether each slot starts, then its quanta, then flows."""
+    made = lp.mixed(program)
+    held = [(number, j, it) for number, (entries, _, _) in enumerate(made.rows) for j, it in entries.items()]
+    places, values = ([it[0] for it in held], [it[1] for it in held]), [it[2] for it in held]
+    rows = csr_matrix((values, places), shape=(len(made.rows), len(made.names)), dtype=float)
+    low = np.array([-np.inf if low is None else low for _, low, _ in made.rows], dtype=float)
+    high = np.array([high for *_, high in made.rows], dtype=float)
+    most = np.array(made.most, dtype=float)
     return milp(
-        aims,
-        constraints=LinearConstraint(rows, ub=np.array(most, dtype=float)),
-        bounds=Bounds(np.zeros(2 * count), greatest),
-        integrality=np.ones(2 * count),
+        np.array(made.costs, dtype=float),
+        constraints=LinearConstraint(rows, low, high),
+        bounds=Bounds(np.zeros(len(most)), most),
+        integrality=np.array(made.whole, dtype=int),
         options={"mip_rel_gap": gap, "time_limit": seconds},
     )
 
 
 def read(path):
     """The plant of a file, and its program."""
-    with open(path, "rb") as it:
-        plant = plain.read_plant(it.read())
-    return plant, plain.program_of(plant)
+    program = lp.read(path)
+    return program.plant, program
 
 
-def main(path, seconds):
-    plant, program = read(path)
-    if any(gap[4] for gap in plant.gaps):
-        print("- - changeovers")
-        return
-    found = solved(program, 0.0, seconds)
-    profit = "-" if found.x is None else program.base - round(found.fun)
-    bound = "-" if found.mip_dual_bound is None else round(program.base - found.mip_dual_bound)
+def point_of(program, found):
+    """The quanta of the slots that start."""
+    count = len(program.slots)
+    return {j: round(found.x[count + j]) for j in range(count) if round(found.x[j])}
+
+
+def profit_of(program, point):
+    """What a point earns, which has to keep every row."""
+    for number, row in enumerate(program.rows):
+        if sum(plain.entry_at(row.entries[j], point.get(j, 0)) for j in row.entries) > row.limit:
+            sys.exit(f"row {number} is broken")
+    return plain.worth(program, point)
+
+
+def plan_text(program, point):
+    """The starts of a point as a plan file."""
+    plant, starts = program.plant, sorted((program.slots[j].period, program.slots[j].run, j) for j in point)
+    runs = [(period, plant.runs[run], point[j]) for period, run, j in starts]
+    return "".join(f"{period} {plant.units[run.unit]} {plant.tasks[run.task].name} {quanta}\n" for period, run, quanta in runs)
+
+
+def main(path, seconds, plan=None):
+    _, program = read(path)
+    found = solved(program, 0.0, float(seconds))
+    point = None if found.x is None else point_of(program, found)
+    profit = "-" if point is None else profit_of(program, point)
+    if point is not None and profit != program.base - round(found.fun):
+        sys.exit(f"the plan earns {profit}, and the solver says {program.base - found.fun}")
+    bound = "-" if found.mip_dual_bound is None else int(np.floor(program.base - found.mip_dual_bound + 1e-6))
     print(profit, bound, "optimal" if found.status == 0 else "infeasible" if found.status == 2 else "open")
+    if plan and point is not None:
+        with open(plan, "w", encoding="utf-8") as out:
+            out.write(plan_text(program, point))
 
 
 if __name__ == "__main__":
-    main(sys.argv[1], float(sys.argv[2]))
+    main(*sys.argv[1:])

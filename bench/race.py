@@ -5,13 +5,15 @@
     python3 bench/race.py ../shared/plants ../shared/search   # and the trial in plain Rust, which is built first
     python3 bench/race.py --runs 1 examples                   # the examples of the repository, once each
     python3 bench/race.py ../shared/plants -- power-14 make-01   # these plants alone
+    python3 bench/race.py --boxes 300 --seconds 60 --peers no bench/plants   # with another budget and limit, without other solvers
 
-The program is that of STN_PROGRAM, else the one in built/, which `./stn` leaves there. The budget is 100,000 boxes, and that of BUDGETS
-where a plant stands there. `glpsol` and `cbc` run on the LP files of the folder's lp/, HiGHS (bench/highs.py) where Debian's
-python3-scipy is installed; each run of any of them ends after two minutes. Seconds are of the processor, the median of three runs of the
-program, of one of the others; all run in turn, plant by plant.
+The program is that of STN_PROGRAM, else the one in built/, which `./stn` leaves there. The budget is that of --boxes, and without it
+100,000 boxes, and that of BUDGETS where a plant stands there. `glpsol` and `cbc` run on the LP files of the folder's lp/, and on what
+bench/lp.py makes of a plant that has none there; HiGHS (bench/highs.py) where Debian's python3-scipy is installed. Each run of any of
+them ends after two minutes, or the seconds of --seconds: the program after so many of the processor. Seconds are of the processor, the
+median of three runs of the program, of one of the others; all run in turn, plant by plant.
 """
-import datetime, gzip, os, platform, re, resource, shutil, statistics, subprocess, sys, tempfile
+import argparse, datetime, gzip, os, platform, re, resource, shutil, statistics, subprocess, sys, tempfile
 
 TOP = os.path.dirname(os.path.dirname(os.path.abspath(__file__)))
 PROGRAM = os.environ.get("STN_PROGRAM") or os.path.join(TOP, "built", "stn")
@@ -28,8 +30,9 @@ def timed(words, folder=None):
     """What a command printed, its processor seconds and its peak memory in MiB, in a process of its own; no text where time ran out."""
     reader, writer = os.pipe()
     if os.fork() == 0:
+        resource.setrlimit(resource.RLIMIT_CPU, (MOST + 10, MOST + 10))
         try:
-            text = subprocess.run(words, capture_output=True, text=True, timeout=MOST + 10, cwd=folder).stdout
+            text = subprocess.run(words, capture_output=True, text=True, timeout=10 * MOST, cwd=folder).stdout
         except subprocess.TimeoutExpired:
             text = ""
         used = resource.getrusage(resource.RUSAGE_CHILDREN)
@@ -75,13 +78,24 @@ def highs(plant):
     return "-" if profit == bound == "-" else f"{profit}..{bound}"
 
 
+def lp_file(folder, name, room):
+    """The LP file of a plant: that of the folder's lp/, else one that is made."""
+    path, made = os.path.join(folder, "lp", name + ".lp"), os.path.join(room, name + ".lp")
+    if os.path.exists(path + ".gz"):
+        with gzip.open(path + ".gz") as it, open(made, "wb") as out:
+            shutil.copyfileobj(it, out)
+        return made
+    if not os.path.exists(path):
+        words = [sys.executable, os.path.join(TOP, "bench", "lp.py"), os.path.join(folder, name + ".toml")]
+        with open(made, "w", encoding="utf-8") as out:
+            subprocess.run(words, check=True, stdout=out)
+        return made
+    return path
+
+
 def others(folder, name, room):
     """The columns of the solvers over LP files, and of HiGHS."""
-    path, found = os.path.join(folder, "lp", name + ".lp"), []
-    if os.path.exists(path + ".gz"):
-        packed, path = path + ".gz", os.path.join(room, name + ".lp")
-        with gzip.open(packed) as it, open(path, "wb") as out:
-            shutil.copyfileobj(it, out)
+    path, found = lp_file(folder, name, room), []
     for tool, words, done in SOLVERS:
         if not shutil.which(tool) or not os.path.exists(path):
             found.append("-")
@@ -91,24 +105,38 @@ def others(folder, name, room):
     return " | ".join(found + [highs(os.path.join(folder, name + ".toml"))])
 
 
-def main():
-    words, runs = sys.argv[1:], 3
-    if words[0] == "--runs":
-        runs, words = int(words[1]), words[2:]
+def asked(words):
+    """What the words ask for."""
+    reader = argparse.ArgumentParser(usage=__doc__)
+    reader.add_argument("folders", nargs="+")
+    reader.add_argument("--runs", type=int, default=3)
+    reader.add_argument("--boxes")
+    reader.add_argument("--seconds", type=int, default=MOST)
+    reader.add_argument("--peers", choices=("yes", "no"), default="yes")
     words, names = (words[: words.index("--")], words[words.index("--") + 1 :]) if "--" in words else (words, [])
-    folder, room = os.path.abspath(words[0]), tempfile.mkdtemp(prefix="race-")
-    if len(words) > 1:
-        subprocess.run([os.path.join(os.path.abspath(words[1]), "build.sh"), room], check=True, capture_output=True)
+    return reader.parse_args(words), names
+
+
+def line(found, folder, name, room):
+    """The line of a plant."""
+    budget = found.boxes or BUDGETS.get(name, "100000")
+    own = ours(os.path.join(folder, name + ".toml"), budget, room, found.runs)
+    beside = trial(room, name) if len(found.folders) > 1 else "- | - | -"
+    return f"| {name} | {own} | {beside} | {others(folder, name, room) if found.peers == 'yes' else '- | - | -'} |"
+
+
+def main():
+    global MOST
+    found, names = asked(sys.argv[1:])
+    MOST, folder, room = found.seconds, os.path.abspath(found.folders[0]), tempfile.mkdtemp(prefix="race-")
+    if len(found.folders) > 1:
+        subprocess.run([os.path.join(os.path.abspath(found.folders[1]), "build.sh"), room], check=True, capture_output=True)
     print(f"{datetime.date.today()}, {platform.machine()}, {os.cpu_count()} processors, load {os.getloadavg()[0]:.1f}\n")
     print("| plant | answer | boxes | s | MiB | log bytes | check s | trial | trial boxes | trial s | glpsol s | cbc s | HiGHS s |")
     print("|---" * 13 + "|")
-    for file in sorted(os.listdir(folder)):
-        name, kind = os.path.splitext(file)
-        if kind == ".toml" and (not names or name in names):
-            budget = BUDGETS.get(name, "100000")
-            own = ours(os.path.join(folder, file), budget, room, runs)
-            beside = trial(room, name) if len(words) > 1 else "- | - | -"
-            print(f"| {name} | {own} | {beside} | {others(folder, name, room)} |", flush=True)
+    for name in sorted(it[:-5] for it in os.listdir(folder) if it.endswith(".toml")):
+        if not names or name in names:
+            print(line(found, folder, name, room), flush=True)
     shutil.rmtree(room)
 
 

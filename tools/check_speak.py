@@ -604,19 +604,19 @@ def of_files():
 
 def of_answers():
     """What is said after an answer that is no fault."""
-    five, due = READ("examples", "five.toml"), READ("examples", "due.toml")
+    kondili, due = READ("examples", "kondili.toml"), READ("examples", "due.toml")
     short = due.replace("periods = 3", "periods = 1").replace("time = 3", "time = 1")
-    files = {"five.toml": five, "due.toml": due, "short.toml": short, "a.plan": "0 U make 1\n"}
+    files = {"kondili.toml": kondili, "due.toml": due, "short.toml": short, "a.plan": "0 U make 1\n"}
     yield Case("infeasible", ["solve", "short.toml", "9"], "# infeasible", "no plan is feasible", "least PLANT BUDGET", files=files, says=("answer", "infeasible"))
     yield Case("infeasible, kept", ["replan", "due.toml", "a.plan", "3", "9"], "# infeasible", "keeps the starts", files=files)
     yield Case("no horizon", ["least", "short.toml", "9"], "# no-horizon", "within any number of periods", files=files, says=("answer", "no horizon"))
     with tempfile.TemporaryDirectory(prefix="speak-") as room:
-        with open(os.path.join(room, "five.toml"), "w", encoding="utf-8") as out:
-            out.write(five)
-        _, first = start(room, ["solve", "five.toml", "1"])
+        with open(os.path.join(room, "kondili.toml"), "w", encoding="utf-8") as out:
+            out.write(kondili)
+        _, first = start(room, ["solve", "kondili.toml", "1"])
     words = first.split()
     percent = -(-1000 * (int(words[3]) - int(words[2])) // int(words[2])) / 10
-    yield Case("budget spent", ["solve", "five.toml", "1"], first, "the budget of 1 box was spent", f"a gap of {percent} percent", "Give more boxes", files=files, says=("answer", "budget spent"))
+    yield Case("budget spent", ["solve", "kondili.toml", "1"], first, "the budget of 1 box was spent", f"a gap of {percent} percent", "Give more boxes", files=files, says=("answer", "budget spent"))
 
 
 def cases():

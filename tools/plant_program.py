@@ -8,7 +8,7 @@ import tomllib
 from collections import Counter
 from dataclasses import dataclass, field, replace
 from fractions import Fraction
-from re import ASCII, fullmatch
+from re import ASCII, DOTALL, compile, fullmatch
 
 BILLION, MILLION = 10**9, 10**6
 GREATEST_FILE, GREATEST_DEPTH, GREATEST_SLOTS, GREATEST_PAIRS = 1 << 20, 80, 512, 8192
@@ -286,12 +286,39 @@ def is_in_range(value, depth=0):
     return type(value) is not int or -(2**63) <= value < 2**63
 
 
+TOKEN = compile(r'"""(?:\\.|[^\\])*?"{3,5}|\'\'\'.*?\'{3,5}|"(?:\\.|[^"\\\n])*"|\'[^\'\n]*\'|(?:[ \t\n]|\r\n|#[^\n]*)+|.', DOTALL)
+
+
+def on_one_line(text):
+    """The text with each inline table on one line: `tomllib` reads TOML 1.0, and 1.1 allows more there.
+
+    That is new lines and comments after `{`, beside a comma and before `}`, and a comma before `}`.
+    """
+    parts, stack, before = [], [], ""
+    tokens = TOKEN.findall(text)
+    for place, token in enumerate(tokens):
+        after = tokens[place + 1][0] if place + 1 < len(tokens) else ""
+        is_gap, in_table = token[0] in " \t\n#" or token[:2] == "\r\n", bool(stack) and stack[-1] == "{"
+        if in_table and is_gap and (before in "{," or after in ",}"):
+            token = " "
+        elif in_table and token == "," and before not in "{,":
+            ends = next((it for it in tokens[place + 1 :] if it[0] not in " \t\r\n#"), "")
+            token = "" if ends == "}" else ","
+        if token in ("{", "["):
+            stack.append(token)
+        elif token in ("}", "]") and stack:
+            stack.pop()
+        before = before if is_gap or not token else token
+        parts.append(token)
+    return "".join(parts)
+
+
 def document_of(data):
-    """The TOML document of a file. `tomllib` reads TOML 1.0: what 1.1 alone allows is refused here."""
+    """The TOML document of a file."""
     if len(data) > GREATEST_FILE:
         Table({}, "top").refuse(1)
     try:
-        document = tomllib.loads(data.decode("utf-8-sig"))
+        document = tomllib.loads(on_one_line(data.decode("utf-8-sig")))
     except (UnicodeDecodeError, tomllib.TOMLDecodeError, RecursionError):
         Table({}, "top").refuse(2)
     if not is_in_range(document):

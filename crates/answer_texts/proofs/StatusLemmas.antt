@@ -5,7 +5,7 @@ use Rattle.stn_model.specs.declared.start.Start.{Start}
 use Rattle.stn_model.specs.Feasible as feasible
 use Rattle.plan_sim.specs.declared.verdict.Verdict.{Verdict}
 use Rattle.plan_sim.specs.declared.verdict.Verdict.TheVariants.{Feasible, Broken}
-use Rattle.plan_sim.specs.Verdicts.{IsVerdict}
+use Rattle.plan_sim.specs.Verdicts.{IsPlanVerdict}
 use Rattle.stn_model.specs.declared.answer.Answer.{Answer}
 use Rattle.stn_model.specs.declared.answer.Answer.TheVariants.{Optimal, Infeasible, BudgetSpent}
 use Rattle.command_replies.specs.Answers.{IsUnwritten}
@@ -21,7 +21,7 @@ solved-status Infeasible status is none = written status (λ s. omega (arith, is
 solved-status (BudgetSpent plan earned cap) status is none = written status (λ s. omega (arith, is, s)) (λ s. omega (arith, is, s)) (λ s. omega (arith, is, s)) (λ s. omega (arith, is, s)) none
 
 -- a plan is feasible whose verdict has the status 0
-verdict-feasible : (plant : Plant) (start : List Start) (verdict : Verdict) (status : ℕ) → IsVerdict plant start verdict → status ≡ verdict_status verdict → status ≡ 0 → feasible.Feasible plant start
+verdict-feasible : (plant : Plant) (start : List Start) (verdict : Verdict) (status : ℕ) → IsPlanVerdict plant start verdict → status ≡ verdict_status verdict → status ≡ 0 → feasible.Feasible plant start
 verdict-feasible plant start (Feasible earned) status right is none = right.0
 verdict-feasible plant start (Broken violation) status right is none = absurd (omega (arith, is, none))
 

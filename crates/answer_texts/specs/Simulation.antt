@@ -7,7 +7,7 @@ use Rattle.stn_model.specs.declared.violation.Violation.{Violation}
 use Rattle.stn_model.specs.declared.violation.Violation.TheVariants.{Unfit, Busy, Gap, StockLow, StockHigh, Load}
 use Rattle.plan_sim.specs.declared.verdict.Verdict.{Verdict}
 use Rattle.plan_sim.specs.declared.verdict.Verdict.TheVariants.{Feasible, Broken}
-use Rattle.plan_sim.specs.Verdicts.{IsVerdict}
+use Rattle.plan_sim.specs.Verdicts.{IsPlanVerdict}
 use Rattle.gantt_report.specs.Report.{report_text}
 use Rattle.plan_picture.specs.Picture.{picture_text}
 use Rattle.plan_tables.specs.Tables.{table_text}
@@ -71,6 +71,6 @@ IsOfPlant plant (Load utility period) = utility < length plant.utilities
 -- the answer of `simulate`, `report`, `picture`, `table` and `violations`: the right verdict on the plan, with its status and its text
 pub record Simulated (usage : PlanUse) (plant : Plant) (plan : List Start) (status : ℕ) (text : List ℕ) : Type 0 where
   pub verdict : Verdict
-  pub right : IsVerdict plant plan verdict
+  pub right : IsPlanVerdict plant plan verdict
   pub status_is : status ≡ verdict_status verdict
   pub text_is : text ≡ use_text usage plant plan verdict

@@ -8,9 +8,11 @@ use crate::explorer::{Explored, explore};
 use crate::kept_guide::KeptGuide;
 use crate::kept_hinter::KeptHinter;
 use box_advice::{Advice, Advisers, Guide, Hinter};
+use derivations::Derivation;
 use explored_tree::Lead;
 use plan_hints::PlanHinter;
-use row_kit::{Area, Program};
+use row_kit::{Area, Domain, List, Program};
+use row_separation::{Effort, separate};
 use split_advice::{PlainGuide, PlanGuide};
 use std::alloc::{AllocError, Global};
 
@@ -36,10 +38,25 @@ pub struct BestFirst;
 // Roots with more points are explored best first.
 const MOST_POINTS: u64 = 50_000;
 
+// How far rows are derived at the root.
+const EFFORT: Effort = Effort {
+    rounds: 25,
+    work: 40_000_000,
+    pivots: 20_000,
+};
+
 impl Advisers for BestFirst {
     type Guide = SearchGuide;
 
     type Hinter = SearchHinter;
+
+    fn derived(
+        alloc: Global,
+        program: &Program,
+        domains: &[Domain],
+    ) -> Result<List<Derivation>, AllocError> {
+        separate(alloc, program, domains, EFFORT)
+    }
 
     fn advised(
         alloc: Global,

@@ -1,19 +1,28 @@
 //! What makes the advisers of a search.
 use crate::guide::Guide;
 use crate::hinter::Hinter;
-use row_kit::Program;
+use derivations::Derivation;
+use row_kit::{Domain, List, Program};
 use std::alloc::{AllocError, Global};
 
 /// What makes the advisers of searches, so that a search is proved whoever advises it. It promises nothing of what they advise.
 ///
-/// The slots from the number `given` on are those of sums, of which the last rows of the program are, two for each; where there are
-/// none, `given` is the number of slots.
+/// The slots from the number `given` on are those of sums, each with two rows, from the first row on that counts such a slot; derived
+/// rows may stand behind them. Where there are no sums, `given` is the number of slots.
 pub trait Advisers {
     /// The guide of a search.
     type Guide: Guide + Drop;
 
     /// The hinter of a search.
     type Hinter: Hinter + Drop;
+
+    /// The cuts and rows that a search of a program with its sums may declare over domains, one for each slot. They name rows by their
+    /// numbers, derived ones behind the program's own.
+    fn derived(
+        alloc: Global,
+        program: &Program,
+        domains: &[Domain],
+    ) -> Result<List<Derivation>, AllocError>;
 
     /// The guide and the hinter of a search of at most so many boxes; the guide may leave boxes open though budget is left.
     fn advised(

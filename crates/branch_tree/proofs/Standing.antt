@@ -37,7 +37,7 @@ use Rattle.branch_tree.specs.declared.reached.Ground.{Ground}
 use Rattle.branch_tree.specs.declared.reached.Reached.{Reached}
 use Rattle.branch_tree.specs.Justified.{IsGroup, IsParted}
 use Rattle.branch_tree.specs.Searched.{IsBest}
-use Rattle.branch_tree.specs.laws.Grounds.{IsOwnBest, IsPartOf, IsSplitAt, StandsIn, program_of, seen}
+use Rattle.branch_tree.specs.laws.Grounds.{IsOwnBest, IsSplitPart, IsSplitAt, StandsIn, program_of, seen}
 use Rattle.branch_tree.proofs.Caps.{total-fit}
 use Rattle.branch_tree.proofs.Depths.{CutsLeave, splits-left, splits-right}
 use Rattle.branch_tree.proofs.Opened.{none_bare-open}
@@ -179,7 +179,7 @@ right_stands ground v x pick cert depth old new stands room cause moved places c
     }
 
 -- a part whose domains are open is a part of the split
-part_is : {given : ℕ} (program : Program) (v x : View) (ds : List Domain) (pick : RowPick) (cert : Cert) → IsSplitAt program given v pick cert → domains_of x ≡ ds → All IsOpen ds → IsPartOf program x cert
+part_is : {given : ℕ} (program : Program) (v x : View) (ds : List Domain) (pick : RowPick) (cert : Cert) → IsSplitAt program given v pick cert → domains_of x ≡ ds → All IsOpen ds → IsSplitPart program x cert
 unfolding row_steps
 part_is program v x ds pick cert cause same each =
     let fit = total-fit program (domains_of v) cert cause.polished.total in
@@ -188,10 +188,10 @@ part_is program v x ds pick cert cause same each =
       capped = subst (λ (xs : List Domain). cert_cap program xs cert ≢ Bad) (sym same) (capped_open program ds cert fit cause.polished.scale each);
     }
 
-pub left_is : {given : ℕ} (program : Program) (v x : View) (pick : RowPick) (cert : Cert) → IsSplitAt program given v pick cert → (row_steps program).left v pick ≡ Some x → IsPartOf program x cert
+pub left_is : {given : ℕ} (program : Program) (v x : View) (pick : RowPick) (cert : Cert) → IsSplitAt program given v pick cert → (row_steps program).left v pick ≡ Some x → IsSplitPart program x cert
 left_is program v x pick cert cause moved = part_is program v x (kept_at (domains_of v) pick.slot (up_to pick.max)) pick cert cause (left_domains program v x pick moved) cause.parted.left
 
-pub right_is : {given : ℕ} (program : Program) (v x : View) (pick : RowPick) (cert : Cert) → IsSplitAt program given v pick cert → (row_steps program).right v pick ≡ Some x → IsPartOf program x cert
+pub right_is : {given : ℕ} (program : Program) (v x : View) (pick : RowPick) (cert : Cert) → IsSplitAt program given v pick cert → (row_steps program).right v pick ≡ Some x → IsSplitPart program x cert
 right_is program v x pick cert cause moved = part_is program v x (kept_at (domains_of v) pick.slot (over pick.max)) pick cert cause (right_domains program v x pick moved) cause.parted.right
 
 -- each part has fewer points

@@ -30,7 +30,7 @@ use Rattle.row_relax.proofs.Marks.{domains-views}
 use Rattle.branch_tree.specs.Justified.{HasCause, IsGroup, IsParted}
 use Rattle.row_relax.specs.RowProofs.{RowItem}
 use Rattle.branch_tree.specs.Searched.{IsBest, IsFitItem}
-use Rattle.branch_tree.specs.laws.Ends.{ClosedBy, IsVerdict, ItemEnds, Reaches, view_splits}
+use Rattle.branch_tree.specs.laws.Ends.{ClosedBy, IsBoxVerdict, ItemEnds, Reaches, view_splits}
 use Rattle.branch_tree.specs.laws.Grounds.{IsOwnBest, seen}
 use Rattle.branch_tree.proofs.Best.{above-same, closed-same, not_over-closed, over-above, reached-closed}
 use Rattle.branch_tree.proofs.Caps.{cap-total, not_over-not_bad, total-fit, within-not_bad}
@@ -71,7 +71,7 @@ exhausted_of rows ds each done =
 -- what is judged of a box ends it
 pub verdict-ends : (program : Program) (given : ℕ) (marks : List (List Domain)) (item : RowItem) (found best : Option Found) (before : List Found)
     → AreDone program.rows (present marks) → All IsOpen (present marks) → (All IsSingle (present marks) → Reaches (settled program (present marks)) found)
-    → IsBest best (before ++ option_to_list found) → IsVerdict program given (present marks) (option_map (λ f. f.value) best) item → ItemEnds program given (seen marks) (before ++ option_to_list found) item
+    → IsBest best (before ++ option_to_list found) → IsBoxVerdict program given (present marks) (option_map (λ f. f.value) best) item → ItemEnds program given (seen marks) (before ++ option_to_list found) item
 unfolding row_steps
 verdict-ends program given marks (Dual cert) found best before done each only is verdict =
     subst (λ (ds : List Domain). ClosedBy (cert_cap program ds cert) (before ++ option_to_list found)) (sym (domains-views marks)) (not_over-closed (cert_cap program (present marks) cert) best (before ++ option_to_list found) is verdict)
@@ -99,7 +99,7 @@ max_most d m n some =
     (cases_lt m 255)
 
 -- and its item is fit
-pub verdict-fit : (program : Program) (given : ℕ) (ds : List Domain) (best : Option ℤ) (item : RowItem) → All IsNormal ds → length ds ≡ length program.root → IsVerdict program given ds best item → IsFitItem program item
+pub verdict-fit : (program : Program) (given : ℕ) (ds : List Domain) (best : Option ℤ) (item : RowItem) → All IsNormal ds → length ds ≡ length program.root → IsBoxVerdict program given ds best item → IsFitItem program item
 verdict-fit program given ds best (Dual cert) normal' slots verdict =
     total-fit program ds cert (cap-total cert.scale (total_at program ds cert) (not_over-not_bad (cert_cap program ds cert) best verdict))
 verdict-fit program given ds best Point normal' slots verdict = tt

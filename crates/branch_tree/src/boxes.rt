@@ -12,7 +12,7 @@ ghost use Rattle.row_relax.specs.View.{Fits, domains_of, view_of};
 ghost use Rattle.branch_tree.specs.Justified.{IsGroup, HasCause};
 ghost use Rattle.branch_tree.specs.Searched.{IsBest, IsFitItem};
 ghost use Rattle.branch_tree.specs.laws.Ends.{ItemEnds};
-ghost use Rattle.branch_tree.specs.laws.Grounds.{StandsIn, IsOwnBest, IsPartOf, IsSplitAt, program_of, seen};
+ghost use Rattle.branch_tree.specs.laws.Grounds.{StandsIn, IsOwnBest, IsSplitPart, IsSplitAt, program_of, seen};
 ghost use Rattle.branch_tree.specs.laws.Handed.{LookHanded, TailHanded, PartsHanded, BoxHanded};
 ghost use Rattle.branch_tree.specs.laws.Stops.{LookStopped, TailStopped, PartsStopped, BoxStopped};
 
@@ -281,7 +281,7 @@ fn search_part<H: Hinter, G: Guide, O, T: NodeTaker<Rows, O>>(
     requires stands { StandsIn ground.now (seen area.old) depth reached.old }
     requires within { reached.old.spent ≤ ground.now.budget }
     requires none { reached.old.own ≡ None }
-    requires part { IsPartOf (program_of ground.now) (seen area.old) cert.now }
+    requires part { IsSplitPart (program_of ground.now) (seen area.old) cert.now }
     requires ready { T.ready taker.old out.old }
     ensures as_before { OnOk result (map view_of area.new ≡ map view_of area.old) }
     ensures ready { OnOk result (T.ready taker.new out.new) }

@@ -5,7 +5,7 @@ ghost use Rattle.row_kit.specs.Area.{present};
 ghost use Rattle.row_kit.specs.Domain.{IsOpen, IsSingle};
 ghost use Rattle.dual_bound.specs.Cap.{cert_cap};
 ghost use Rattle.dual_bound.specs.Plain.{plain_cert, IsNoWorseThanPlain};
-ghost use Rattle.branch_tree.specs.laws.Ends.{is_over, says_more, IsVerdict};
+ghost use Rattle.branch_tree.specs.laws.Ends.{is_over, says_more, IsBoxVerdict};
 ghost use Rattle.branch_tree.specs.laws.Grounds.{IsGround, program_of};
 
 use crate::picking::pick_of;
@@ -103,7 +103,7 @@ pub(crate) fn judge(
     requires ground { IsGround ground.now }
     requires slots { length (present area.now) ≡ length (program_of ground.now).root }
     requires each_open { All IsOpen (present area.now) }
-    ensures { IfOk result (IsVerdict (program_of ground.now) ground.now.given
+    ensures { IfOk result (IsBoxVerdict (program_of ground.now) ground.now.given
         (present area.now) best) }
 {
     let Advice { cert, slot, max } = advice;
@@ -132,7 +132,7 @@ fn settle_or_split(
     requires more { ¬ All IsSingle (present area.now) }
     requires no_higher { IsNoWorseThanPlain (program_of ground.now) (present area.now) cert }
     requires over { is_over (cert_cap (program_of ground.now) (present area.now) cert) best ≡ true }
-    ensures { IfOk result (IsVerdict (program_of ground.now) ground.now.given
+    ensures { IfOk result (IsBoxVerdict (program_of ground.now) ground.now.given
         (present area.now) best) }
 {
     let mut cert = cert;

@@ -16,7 +16,8 @@ impl Simplex {
         self.kept.forget();
         self.kernel.clear(&mut self.own);
         self.own.clear();
-        self.columns.fill(program, domains, chains.given, chains.up);
+        self.columns
+            .fill(program, domains, chains.sums.given, chains.up);
         self.put_columns_low();
         self.put_row_limits(chains, program, domains);
         if start.is_empty() {
@@ -39,7 +40,7 @@ impl Simplex {
     // are basic.
     fn put_row_limits(&mut self, chains: &Chains, program: &Program, domains: &[Domain]) {
         for row in 0..chains.count() {
-            let scaled = match row_limit(program, domains, chains.given, chains.row_at(row)) {
+            let scaled = match row_limit(program, domains, &chains.sums, chains.row_at(row)) {
                 None => TOP,
                 Some(limit) => of_whole(&limit, chains.shift_at(row)).min(TOP - 1),
             };

@@ -112,7 +112,7 @@ pub record IsLevels (word : List ℕ) (levels : ℕ) : Type 0 where
   pub most : levels ≤ 8
 
 -- the word is the number of one of the parts of so many levels, in decimal digits, without sign and leading zeros
-pub record IsPart (word : List ℕ) (levels part : ℕ) : Type 0 where
+pub record IsPartNumber (word : List ℕ) (levels part : ℕ) : Type 0 where
   pub digits : word ≡ decimal part
   pub within : part < 2 ^ levels
 
@@ -165,7 +165,7 @@ Says words (CheckingConflict plant stem) = (words ≡ codes "check-conflict" ∷
 Says words (Parting plant levels) = (word : List ℕ) × ((words ≡ codes "parts" ∷ plant ∷ word ∷ []) × (plant ≢ []) × IsLevels word levels)
 Says words (PartSolving plant levels part budget log) =
     (parts : List ℕ) × ((number : List ℕ) × ((most : List ℕ) × ((words ≡ codes "solve-part" ∷ plant ∷ parts ∷ number ∷ most ∷ log ∷ [])
-    × (plant ≢ []) × (log ≢ []) × (log ≢ plant) × IsLevels parts levels × IsPart number levels part × IsBudget most budget)))
+    × (plant ≢ []) × (log ≢ []) × (log ≢ plant) × IsLevels parts levels × IsPartNumber number levels part × IsBudget most budget)))
 Says words (Joining plant levels stem log) =
     (parts : List ℕ) × ((words ≡ codes "join" ∷ plant ∷ parts ∷ stem ∷ log ∷ [])
     × (plant ≢ []) × (stem ≢ []) × (log ≢ []) × (log ≢ plant) × IsNoPartLog log stem levels × IsLevels parts levels)

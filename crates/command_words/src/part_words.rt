@@ -5,7 +5,7 @@ ghost use Rattle.command_words.specs.Words.{
   NoParts,
   IsBudget,
   IsLevels,
-  IsPart,
+  IsPartNumber,
   IsNoPartLog,
   Parting,
   PartSolving,
@@ -138,9 +138,9 @@ struct Numbers {
 
 fn numbers_of(levels: &str, number: &str, most: &str) -> Option<Numbers>
     ensures { MatchOption result ((n part budget : ℕ)
-        → IsLevels levels.now n → IsPart number.now n part → ¬ IsBudget most.now budget)
+        → IsLevels levels.now n → IsPartNumber number.now n part → ¬ IsBudget most.now budget)
         (λ numbers. IsLevels levels.now numbers.part.levels.number
-        × IsPart number.now numbers.part.levels.number numbers.part.number
+        × IsPartNumber number.now numbers.part.levels.number numbers.part.number
         × IsBudget most.now numbers.budget.boxes) }
 {
     match part_of(levels, number) {
@@ -154,9 +154,9 @@ fn numbers_of(levels: &str, number: &str, most: &str) -> Option<Numbers>
 
 fn part_of(levels: &str, number: &str) -> Option<Part>
     ensures { MatchOption result ((n part : ℕ)
-        → IsLevels levels.now n → ¬ IsPart number.now n part)
+        → IsLevels levels.now n → ¬ IsPartNumber number.now n part)
         (λ part. IsLevels levels.now part.levels.number
-        × IsPart number.now part.levels.number part.number) }
+        × IsPartNumber number.now part.levels.number part.number) }
 {
     match levels_of(levels) {
         Some(levels) => match number_of(number, levels) {
@@ -172,8 +172,8 @@ fn part_of(levels: &str, number: &str) -> Option<Part>
 
 // The number of a part of so many levels.
 fn number_of(word: &str, levels: Levels) -> Option<u32>
-    ensures { MatchOption result ((n : ℕ) → ¬ IsPart word.now levels.number n)
-        (λ number. IsPart word.now levels.number number) }
+    ensures { MatchOption result ((n : ℕ) → ¬ IsPartNumber word.now levels.number n)
+        (λ number. IsPartNumber word.now levels.number number) }
 {
     match read_number(word.as_bytes(), u64::from(part_count(levels))) {
         Some(number) => Some(number as u32),

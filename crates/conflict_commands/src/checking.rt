@@ -49,7 +49,8 @@ pub fn check_conflict_file<F: Shelf>(
     requires plant_readable { IsTrue (F.may_read files.old plant.now) }
     requires text_readable { IsTrue (F.may_read files.old (log_name stem.now 0)) }
     requires log_readable { IsTrue (F.may_read files.old (log_name stem.now 1)) }
-    ensures answer { IfReplied result (λ reply. IsPlantAnswer (F.files files.old) (F.files files.new)
+    ensures answer { IfReplied result (λ reply. IsPlantAnswer (F.files files.old)
+        (F.files files.new)
         plant.now (log_name stem.now 0 ∷ log_name stem.now 1 ∷ [])
         (λ _. ConflictChecked (F.files files.old) stem.now) reply.status reply.text.items) }
     ensures fault { result ≡ Err Stopped.ReadFault

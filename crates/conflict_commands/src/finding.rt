@@ -7,7 +7,7 @@ ghost use Rattle.command_replies.specs.Sources.{IfReplied};
 ghost use Rattle.conflict_commands.specs.Finding.{Found};
 
 use crate::texts::reply_of;
-use best_first::BestFirst;
+use box_advice::Advisers;
 use command_replies::{Reply, Stopped, plant_in};
 use command_words::Budget;
 use order_conflict::conflict;
@@ -17,14 +17,15 @@ use stn_model::Plant;
 
 /// Finds deliveries of the plant in a file that can't be met together, with at most so many boxes for each step. The files are as
 /// before.
-pub fn find_file<F: Shelf>(
+pub fn find_file<A: Advisers, F: Shelf>(
     alloc: Global,
     files: &mut F,
     name: &str,
     budget: Budget,
 ) -> Result<Reply, Stopped>
     requires { IsTrue (F.may_read files.old name.now) }
-    ensures answer { IfReplied result (λ reply. IsPlantAnswer (F.files files.old) (F.files files.new)
+    ensures answer { IfReplied result (λ reply. IsPlantAnswer (F.files files.old)
+        (F.files files.new)
         name.now [] (λ _. Found budget.boxes) reply.status reply.text.items) }
     ensures fault { result ≡ Err Stopped.ReadFault
         → Rose (F.read_faults files.old) (F.read_faults files.new) }
@@ -36,15 +37,19 @@ pub fn find_file<F: Shelf>(
     ensures no_write { F.write_faults files.new ≡ F.write_faults files.old }
 {
     let plant = plant_in(alloc, files, name)?;
-    Ok(find_plant(alloc, &plant, budget)?)
+    Ok(find_plant::<A>(alloc, &plant, budget)?)
 }
 
 // The answer of finding a conflict of a plant.
-fn find_plant(alloc: Global, plant: &Plant, budget: Budget) -> Result<Reply, AllocError>
+fn find_plant<A: Advisers>(
+    alloc: Global,
+    plant: &Plant,
+    budget: Budget,
+) -> Result<Reply, AllocError>
     requires { Sound plant.now }
     ensures { IfOk result
         (λ reply. Found budget.boxes plant.now reply.status reply.text.items) }
 {
-    let said = conflict::<BestFirst>(alloc, plant, budget.boxes)?;
+    let said = conflict::<A>(alloc, plant, budget.boxes)?;
     reply_of(alloc, plant, &said)
 }

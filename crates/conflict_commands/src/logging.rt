@@ -19,7 +19,7 @@ ghost use Rattle.conflict_commands.specs.Logging.{
 };
 
 use crate::texts::reply_of;
-use best_first::BestFirst;
+use box_advice::Advisers;
 use command_replies::{Reply, Stopped, plant_in};
 use command_words::Budget;
 use order_conflict::{ConflictAnswer, conflict_to};
@@ -30,7 +30,7 @@ use stn_model::Plant;
 
 /// Finds deliveries of the plant in a file that can't be met together, with at most so many boxes for each step. The log that shows
 /// it is written to STEM.1, and the answer's text then to STEM.0. No other file is written, and none before the plant is read.
-pub fn find_log_file<F: Shelf>(
+pub fn find_log_file<A: Advisers, F: Shelf>(
     alloc: Global,
     files: &mut F,
     name: &str,
@@ -40,8 +40,10 @@ pub fn find_log_file<F: Shelf>(
     requires plant_readable { IsTrue (F.may_read files.old name.now) }
     requires text_writable { IsTrue (F.may_write files.old (log_name stem.now 0)) }
     requires log_writable { IsTrue (F.may_write files.old (log_name stem.now 1)) }
-    ensures answer { IfReplied result (λ reply. IsPlantAnswer (F.files files.old) (F.files files.new)
-        name.now [] (λ _. FoundWithLog budget.boxes stem.now (F.files files.old) (F.files files.new))
+    ensures answer { IfReplied result (λ reply. IsPlantAnswer (F.files files.old)
+        (F.files files.new)
+        name.now [] (λ _. FoundWithLog budget.boxes stem.now (F.files files.old)
+        (F.files files.new))
         reply.status reply.text.items) }
     ensures refused { IfReplied result (λ reply. IsUnwritten reply.status
         → F.files files.new ≡ F.files files.old) }
@@ -61,11 +63,11 @@ pub fn find_log_file<F: Shelf>(
     ensures writes { F.write_faults files.old ≤ F.write_faults files.new }
 {
     let plant = plant_in(alloc, files, name)?;
-    find_log_plant(alloc, files, &plant, budget, stem)
+    find_log_plant::<A, _>(alloc, files, &plant, budget, stem)
 }
 
 // The answer of finding a conflict of a plant, which is written with its log.
-fn find_log_plant<F: Shelf>(
+fn find_log_plant<A: Advisers, F: Shelf>(
     alloc: Global,
     files: &mut F,
     plant: &Plant,
@@ -90,7 +92,7 @@ fn find_log_plant<F: Shelf>(
     ensures writes { F.write_faults files.old ≤ F.write_faults files.new }
 {
     let name = log_name(alloc, stem, 1)?;
-    match conflict_to::<BestFirst, _>(alloc, plant, budget.boxes, files, name.as_str()) {
+    match conflict_to::<A, _>(alloc, plant, budget.boxes, files, name.as_str()) {
         Ok(said) => put_answer(alloc, files, plant, stem, &said),
         Err(Stop::Failed) => Err(Stopped::WriteFault),
         Err(Stop::Memory) => Err(Stopped::Memory),

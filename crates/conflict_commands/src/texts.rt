@@ -84,7 +84,8 @@ fn plan_text(
     plan: &List<Start>,
 ) -> Result<Vec<u8>, AllocError>
     requires { All (IsNamed plant.now) plan.now }
-    ensures { IfOk result (λ text. text.items ≡ answer_text plant.now (Planned profit.now plan.now)) }
+    ensures { IfOk result (λ text. text.items
+        ≡ answer_text plant.now (Planned profit.now plan.now)) }
 {
     let head = plan_head(alloc, profit)?;
     with_plan(alloc, plant, head.as_str(), plan.as_slice())

@@ -9,7 +9,7 @@ ghost use Rattle.answer_texts.specs.Planning.{profit_word, status_of};
 ghost use Rattle.demo_commands.specs.Demo.{shown_plant, answer_line, demo_head, Shown};
 
 use answer_texts::{amount_line, checked};
-use best_first::BestFirst;
+use box_advice::Advisers;
 use command_replies::Reply;
 use plant_check::check_stream;
 use plant_make::{make, put_plant};
@@ -28,12 +28,12 @@ const BOXES: u32 = 500;
 
 /// Makes the plant of a seed, prints and reads it, plans it, and checks the log of its proof, all in
 /// memory.
-pub fn show(alloc: Global, seed: u32) -> Result<Reply, AllocError>
+pub fn show<A: Advisers>(alloc: Global, seed: u32) -> Result<Reply, AllocError>
     ensures { IfOk result (λ reply. Shown seed reply.status reply.text.items) }
 {
     let plant = read_made(alloc, seed)?;
     let mut files = FixedShelf::new(alloc);
-    match solve_to::<BestFirst, _>(alloc, &plant, BOXES, &mut files, "log") {
+    match solve_to::<A, _>(alloc, &plant, BOXES, &mut files, "log") {
         Ok(outcome) => {
             let line = check_line(alloc, &plant, &mut files, "log")?;
             let text = demo_text(alloc, seed, &plant, &outcome.answer, &line)?;

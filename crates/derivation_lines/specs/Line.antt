@@ -2,7 +2,7 @@
 use Rattle.std.specs.Prelude.{◌≡◌, ◌≢◌, ◌<◌, ◌≤◌, ℕ, ℤ, pos, false, unsigned_abs, Option, MatchOption, List, [], ◌∷◌, ◌++◌, map, codes}
 use Rattle.std.specs.Fmt.{signed_decimal}
 use Rattle.row_kit.specs.Row.{is_nothing}
-use Rattle.sum_lines.specs.Line.{IsPart, IsShort, words_text}
+use Rattle.sum_lines.specs.Line.{IsTermPart, IsShort, words_text}
 use Rattle.derivation_lines.specs.declared.line.TailLine.{TailLine}
 use Rattle.derivation_lines.specs.declared.line.TailLine.TheVariants as line
 
@@ -55,7 +55,7 @@ IsTailLine (line.Row divisor rest up down factors groups entries) = IsScale divi
 IsTailLine (line.By row by) = IsShort row × IsFactorNumber by
 IsTailLine (line.Shift row shift) = IsShort row × IsShiftNumber shift
 IsTailLine (line.Lift slot shift) = IsShort slot × IsShiftNumber shift
-IsTailLine (line.Entry slot fixed per) = IsShort slot × IsPart fixed × IsPart per × (is_nothing (fixed, per) ≡ false)
+IsTailLine (line.Entry slot fixed per) = IsShort slot × IsTermPart fixed × IsTermPart per × (is_nothing (fixed, per) ≡ false)
 
 -- the answer is the line whose text the bytes are, among those that may be written, and none only where there is none
 abbrev pub IsLineOf : List ℕ → Option TailLine → Type 0

@@ -2,7 +2,7 @@
 ghost use Rattle.std.specs.Prelude.{◌≡◌, ◌↔◌, codes, false, length, IsTrue, pos};
 ghost use Rattle.std.specs.List.{All};
 ghost use Rattle.row_kit.specs.Row.{is_nothing};
-ghost use Rattle.sum_lines.specs.Line.{IsPart};
+ghost use Rattle.sum_lines.specs.Line.{IsTermPart};
 ghost use Rattle.derivation_lines.specs.Line.{AreCounts, IsScale, IsTailLine, line_name, line_numbers};
 ghost use Rattle.derivation_lines.specs.laws.Reading.{AreShort, IsSmall, ReadsNamed};
 
@@ -119,7 +119,8 @@ pub(crate) fn entry_of(numbers: &[i128]) -> Option<TailLine>
 
 // Whether these are the parts of an entry.
 fn are_parts(fixed: i128, per: i128) -> bool
-    ensures { IsTrue result ↔ (IsPart fixed × IsPart per × (is_nothing (fixed, per) ≡ false)) }
+    ensures { IsTrue result
+        ↔ (IsTermPart fixed × IsTermPart per × (is_nothing (fixed, per) ≡ false)) }
 {
     fixed.unsigned_abs() <= MOST_PART && per.unsigned_abs() <= MOST_PART && (fixed != 0 || per != 0)
 }

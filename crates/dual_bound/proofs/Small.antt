@@ -23,7 +23,7 @@ use Rattle.row_kit.proofs.Values.{part_above, reached_at}
 use Rattle.dual_bound.specs.declared.cert.Cert.{Cert}
 use Rattle.dual_bound.specs.declared.cert.Mult.{Mult}
 use Rattle.dual_bound.specs.declared.line.Line.{Line}
-use Rattle.dual_bound.specs.Cap.{IsBelow, scaled_cap}
+use Rattle.dual_bound.specs.Cap.{IsSmallCap, scaled_cap}
 use Rattle.dual_bound.specs.Line.{line_at, slot_line, IsWithin}
 use Rattle.dual_bound.specs.Total.{rows_at, limits_sum, gain, greatest, slots_total, total_of, IsFitMult, IsUsable}
 
@@ -161,13 +161,13 @@ quotient_small n (pos a) = div-le_self a n
 quotient_small n (negsuc a) = omega (arith, div-le_self a n)
 
 -- a cap is no greater than the total, in absolute value
-pub cap_small : (scale most : ℕ) (t : ℤ) → unsigned_abs t < most → IsBelow most (scaled_cap scale (Some t))
+pub cap_small : (scale most : ℕ) (t : ℤ) → unsigned_abs t < most → IsSmallCap most (scaled_cap scale (Some t))
 cap_small scale most t h = by_scale (eqb scale 0)
   where
-    by_sign : (b : Bool) → IsBelow most (cond b NoPoint Bad)
+    by_sign : (b : Bool) → IsSmallCap most (cond b NoPoint Bad)
     by_sign true = tt
     by_sign false = tt
 
-    by_scale : (z : Bool) → IsBelow most (cond z (cond (int_lt t (pos 0)) NoPoint Bad) (AtMost (int_div_euclid t (pos scale))))
+    by_scale : (z : Bool) → IsSmallCap most (cond z (cond (int_lt t (pos 0)) NoPoint Bad) (AtMost (int_div_euclid t (pos scale))))
     by_scale true = by_sign (int_lt t (pos 0))
     by_scale false = omega (arith, h, quotient_small scale t)

@@ -29,9 +29,9 @@ IsFloor scale (Some total) (AtMost cap) = ((pos scale *ℤ cap) ≤ℤ total) ×
 IsFloor scale _ _ = Unit {0}
 
 -- a cap is below a bound in absolute value, where it is a number
-abbrev pub IsBelow : ℕ → Capped → Type 0
-IsBelow most (AtMost cap) = unsigned_abs cap < most
-IsBelow most _ = Unit {0}
+abbrev pub IsSmallCap : ℕ → Capped → Type 0
+IsSmallCap most (AtMost cap) = unsigned_abs cap < most
+IsSmallCap most _ = Unit {0}
 
 -- a cap holds of the points of these domains that keep every row
 abbrev pub CapHolds : Program → List Domain → Capped → Type 0

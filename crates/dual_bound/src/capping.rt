@@ -2,7 +2,7 @@
 ghost use Rattle.std.specs.Prelude.{◌≡◌, ◌<◌, ◌^◌, length, unsigned_abs, Some};
 ghost use Rattle.row_kit.specs.Area.{present};
 ghost use Rattle.dual_bound.specs.Total.{total_at};
-ghost use Rattle.dual_bound.specs.Cap.{cert_cap, scaled_cap, IsBelow, IsFloor, CapHolds};
+ghost use Rattle.dual_bound.specs.Cap.{cert_cap, scaled_cap, IsSmallCap, IsFloor, CapHolds};
 
 use crate::cert::Cert;
 use crate::totals::total;
@@ -18,7 +18,7 @@ pub fn cap(program: &Program, area: &Area, cert: &Cert) -> Capped
     ensures cap { result ≡ cert_cap program.now (present area.now) cert.now }
     ensures floor { IsFloor cert.now.scale
         (total_at program.now (present area.now) cert.now) result }
-    ensures small { IsBelow (10 ^ 30) result }
+    ensures small { IsSmallCap (10 ^ 30) result }
     ensures holds { CapHolds program.now (present area.now) result }
 {
     match total(program, area, cert) {

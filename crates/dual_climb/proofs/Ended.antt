@@ -9,7 +9,7 @@ use Rattle.dual_bound.specs.declared.cert.Mult.{Mult}
 use Rattle.dual_bound.specs.Cap.{cert_cap, scaled_cap}
 use Rattle.dual_bound.specs.Total.{are_fit, total_at, total_of}
 use Rattle.dual_climb.specs.Factors.{cert_of}
-use Rattle.dual_climb.specs.Polished.{after, IsKeptOrLower, IsPolished, IsReached, NeverRises}
+use Rattle.dual_climb.specs.Polished.{after, IsKeptOrLower, IsPolishedFrom, IsReached, NeverRises}
 use Rattle.dual_climb.specs.RowBest.{RowBest}
 use Rattle.dual_climb.specs.laws.Sums.{HaveSameSums, IsLoweredBy}
 use Rattle.dual_climb.proofs.Lowered.{after_same, each_same, lowered_none}
@@ -18,7 +18,7 @@ use Rattle.dual_climb.proofs.Told.{after_tells, fit_tells, same_factors}
 use Rattle.dual_climb.proofs.Usable.{has_other, keeps, never_rises, total_is}
 
 -- changes of factors with the same sums are changes of a certificate
-polished : (p : Program) (ds : List Domain) (old : Cert) (ms new list : List Mult) → are_fit (length p.rows) 0 old.mults ≡ true → are_fit (length p.rows) 0 list ≡ true → HaveSameSums ms old.mults → HaveSameSums list new → IsLoweredBy old.scale p ds old.scale ms new → IsPolished p ds old (cert_of old.scale list)
+polished : (p : Program) (ds : List Domain) (old : Cert) (ms new list : List Mult) → are_fit (length p.rows) 0 old.mults ≡ true → are_fit (length p.rows) 0 list ≡ true → HaveSameSums ms old.mults → HaveSameSums list new → IsLoweredBy old.scale p ds old.scale ms new → IsPolishedFrom p ds old (cert_of old.scale list)
 polished p ds old ms new list fit fit_new same same_new lowered =
     let xs = lowered.changes in
     record {
@@ -41,7 +41,7 @@ pub record Descended (p : Program) (ds : List Domain) (old : Cert) (stop : Optio
 -- what is promised of a polished certificate
 pub record IsDone (p : Program) (ds : List Domain) (old new : Cert) (stop : Option ℤ) : Type 0 where
   pub total : NeverRises (total_at p ds old) (total_at p ds new)
-  pub changes : IsPolished p ds old new
+  pub changes : IsPolishedFrom p ds old new
   pub kept : IsKeptOrLower p ds old new
   pub best : RowBest p ds new ⊎ IsReached stop (cert_cap p ds new)
 

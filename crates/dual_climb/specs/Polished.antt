@@ -27,7 +27,7 @@ EachLowersBy fall program domains scale mults (change ∷ changes) =
     × EachLowersBy fall program domains scale (changed (cert_of scale mults) change).mults changes
 
 -- a certificate has the factors of another after changes of one row's factor at a time, each of which lowers the total by the scale or more
-pub record IsPolished (program : Program) (domains : List Domain) (old new : Cert) : Type 0 where
+pub record IsPolishedFrom (program : Program) (domains : List Domain) (old new : Cert) : Type 0 where
   pub changes : List Mult
   pub in_range : All (IsFitMult (length program.rows)) changes
   pub lowers : EachLowersBy old.scale program domains old.scale old.mults changes

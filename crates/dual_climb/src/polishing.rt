@@ -6,7 +6,7 @@ ghost use Rattle.row_kit.specs.Domain.{IsOpen};
 ghost use Rattle.dual_bound.specs.Cap.{cert_cap, scaled_cap};
 ghost use Rattle.dual_bound.specs.Total.{total_at, IsUsable};
 ghost use Rattle.dual_climb.specs.Factors.{cert_of};
-ghost use Rattle.dual_climb.specs.Polished.{IsPolished, IsKeptOrLower, NeverRises, IsReached};
+ghost use Rattle.dual_climb.specs.Polished.{IsPolishedFrom, IsKeptOrLower, NeverRises, IsReached};
 ghost use Rattle.dual_climb.specs.RowBest.{BestBy, RowBestBy, RowBest};
 ghost use Rattle.dual_climb.specs.laws.Held.{IsHeld, CanMove};
 ghost use Rattle.dual_climb.specs.laws.Sums.{HaveSameSums, IsLoweredBy};
@@ -41,7 +41,7 @@ pub fn polish(
     ensures scale { cert.new.scale ≡ cert.old.scale }
     ensures total { NeverRises (total_at program.now (present area.now) cert.old)
         (total_at program.now (present area.now) cert.new) }
-    ensures changes { IsPolished program.now (present area.now) cert.old cert.new }
+    ensures changes { IsPolishedFrom program.now (present area.now) cert.old cert.new }
     ensures kept { IsKeptOrLower program.now (present area.now) cert.old cert.new }
     ensures err { OnErr result (cert.new ≡ cert.old) }
     ensures best { IfOk result (λ _. RowBest program.now (present area.now) cert.new

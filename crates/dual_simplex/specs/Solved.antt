@@ -12,10 +12,10 @@ use Rattle.dual_bound.specs.Plain.{plain_cert}
 use Rattle.dual_bound.specs.Total.{total_at}
 
 -- a cap is NoPoint, or AtMost a number that is below another's
-abbrev pub IsBelow : Capped → Capped → Type 0
-IsBelow NoPoint other = Unit {0}
-IsBelow (AtMost cap) (AtMost other) = cap <ℤ other
-IsBelow _ _ = ⊥
+abbrev pub IsLowerCap : Capped → Capped → Type 0
+IsLowerCap NoPoint other = Unit {0}
+IsLowerCap (AtMost cap) (AtMost other) = cap <ℤ other
+IsLowerCap _ _ = ⊥
 
 -- a certificate has a total over domains
 abbrev pub HasTotal : Program → List Domain → Cert → Type 0
@@ -27,4 +27,4 @@ HasTotals program cert = (domains : List Domain) → All IsOpen domains → IsSo
 
 -- a certificate is scale 1 without multipliers, or its cap over domains is NoPoint or below that one's
 abbrev pub IsPlainOrBetter : Program → List Domain → Cert → Type 0
-IsPlainOrBetter program domains cert = (cert ≡ plain_cert) ⊎ IsBelow (cert_cap program domains cert) (cert_cap program domains plain_cert)
+IsPlainOrBetter program domains cert = (cert ≡ plain_cert) ⊎ IsLowerCap (cert_cap program domains cert) (cert_cap program domains plain_cert)

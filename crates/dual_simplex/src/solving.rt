@@ -4,7 +4,7 @@ ghost use Rattle.std.specs.List.{All};
 ghost use Rattle.row_kit.specs.Area.{present};
 ghost use Rattle.row_kit.specs.Domain.{IsOpen};
 ghost use Rattle.dual_bound.specs.Plain.{IsNoWorseThanPlain};
-ghost use Rattle.dual_simplex.specs.Solved.{HasTotal, IsPlainOrBetter, IsBelow};
+ghost use Rattle.dual_simplex.specs.Solved.{HasTotal, IsPlainOrBetter, IsLowerCap};
 
 use crate::workspace::{Outcome, Workspace};
 use chain_simplex::Basis;
@@ -62,7 +62,7 @@ fn found_cert(alloc: Global, program: &Program, area: &Area) -> Result<Cert, All
 
 // Whether a cap is below another.
 fn is_below(cap: &Capped, other: &Capped) -> bool
-    ensures { IsTrue result ↔ IsBelow cap.now other.now }
+    ensures { IsTrue result ↔ IsLowerCap cap.now other.now }
 {
     match (*cap, *other) {
         (Capped::NoPoint, _) => true,

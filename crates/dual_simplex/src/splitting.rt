@@ -18,7 +18,7 @@ pub struct Split {
 impl Split {
     /// The split of a slot with this domain, or of the sum of a slot, after a value.
     pub fn new(program: &Program, chains: &Chains, slot: u32, domain: &Domain, max: u8) -> Split {
-        match sides_of(program, chains.given, slot) {
+        match sides_of(program, &chains.sums, slot) {
             None if domain.zero => Split::of_start(slot),
             None => Split::of_quanta(slot, domain, max),
             Some(sides) => {

@@ -52,7 +52,7 @@ pub struct Workspace {
 }
 
 impl Workspace {
-    /// A workspace for a program. The slots from `given` on are those of sums, of which the last rows are, two for each: they need
+    /// A workspace for a program. The slots from `given` on are those of sums, each with two rows (`SumRows`): they need
     /// no columns, and count in each row with the end of their domain that is best for it. Where there are no sums, `given` is the
     /// number of slots.
     pub fn new(alloc: Global, program: &Program, given: u32) -> Result<Workspace, AllocError> {
@@ -219,7 +219,7 @@ impl Workspace {
     /// fraction: from 0 to 1 where the split at that value cuts the solution off on both sides. None where the slot is not one of a
     /// sum.
     pub fn sum_above(&self, program: &Program, slot: u32, max: u8) -> Option<i64> {
-        let sides = sides_of(program, self.chains.given, slot)?;
+        let sides = sides_of(program, &self.chains.sums, slot)?;
         let terms = terms_of(program, sides.row);
         let count = self.sum_count(terms);
         let most = most_at(&sides, max).saturating_mul(i128::from(ONE));
@@ -229,7 +229,7 @@ impl Workspace {
     /// The value of the sum of a slot, rounded down, where its terms come to what they do; None where the slot is not one of a sum,
     /// or fewer than two of its terms' slots have two values.
     pub fn sum_value(&self, program: &Program, slot: u32) -> Option<i64> {
-        let sides = sides_of(program, self.chains.given, slot)?;
+        let sides = sides_of(program, &self.chains.sums, slot)?;
         let terms = terms_of(program, sides.row);
         if !are_two_free(terms, self.domains.as_slice()) || sides.width < 1 {
             return None;

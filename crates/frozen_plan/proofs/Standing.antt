@@ -18,7 +18,7 @@ use Rattle.stn_model.specs.Violations.{BreaksFirst, Before, order_of, start_at, 
 use Rattle.stn_model.proofs.Fitting.{ends_later}
 use Rattle.plan_sim.specs.declared.verdict.Verdict.{Verdict}
 use Rattle.plan_sim.specs.declared.verdict.Verdict.TheVariants as verdict
-use Rattle.plan_sim.specs.Verdicts.{IsVerdict}
+use Rattle.plan_sim.specs.Verdicts.{IsPlanVerdict}
 use Rattle.plan_sim.proofs.Firsts.{fit_all, apart_all}
 use Rattle.time_grid.specs.PlanPoint.{HasPoint}
 use Rattle.time_grid.proofs.Reordered.{AllPairs-permutation}
@@ -54,7 +54,7 @@ later-together plant starts violation breaks unfit busy = record {
 }
 
 -- a right verdict on starts says what they break alone, or they stand together
-pub verdict-starts : (plant : Plant) (starts : List Start) (said : Verdict) → IsVerdict plant starts said
+pub verdict-starts : (plant : Plant) (starts : List Start) (said : Verdict) → IsPlanVerdict plant starts said
     → MatchOption (broken_start said) (StandTogether plant starts) (λ violation. IsOfStarts violation × BreaksFirst plant starts violation)
 verdict-starts plant starts (verdict.Feasible earned) right = record { fits = right.0.fits; apart = right.0.apart }
 verdict-starts plant starts (verdict.Broken (Unfit place)) right = (tt, right)

@@ -26,7 +26,8 @@ pub fn audit_file<F: Shelf>(
 ) -> Result<Reply, Stopped>
     requires plant_readable { IsTrue (F.may_read files.old plant.now) }
     requires logs_readable { AreAllowed (F.may_read files.old) stem.now horizon }
-    ensures answer { IfReplied result (λ reply. IsPlantAnswer (F.files files.old) (F.files files.new)
+    ensures answer { IfReplied result (λ reply. IsPlantAnswer (F.files files.old)
+        (F.files files.new)
         plant.now (log_names stem.now horizon) (λ _. Audited (F.files files.old) horizon stem.now)
         reply.status reply.text.items) }
     ensures fault { result ≡ Err Stopped.ReadFault

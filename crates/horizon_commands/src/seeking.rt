@@ -22,7 +22,7 @@ ghost use Rattle.horizon_commands.specs.Seeking.{
 };
 
 use answer_texts::{bounded, with_plan};
-use best_first::BestFirst;
+use box_advice::Advisers;
 use command_replies::{Reply, Stopped, plant_in};
 use command_words::Budget;
 use least_horizon::{LeastAnswer, least, least_to};
@@ -31,14 +31,15 @@ use stn_edge::{Shelf, Stop};
 use stn_model::{List, Plant, Start};
 
 /// Finds the least horizon of the plant in a file, with at most so many boxes for each. The files are as before.
-pub fn seek_file<F: Shelf>(
+pub fn seek_file<A: Advisers, F: Shelf>(
     alloc: Global,
     files: &mut F,
     name: &str,
     budget: Budget,
 ) -> Result<Reply, Stopped>
     requires { IsTrue (F.may_read files.old name.now) }
-    ensures answer { IfReplied result (λ reply. IsPlantAnswer (F.files files.old) (F.files files.new)
+    ensures answer { IfReplied result (λ reply. IsPlantAnswer (F.files files.old)
+        (F.files files.new)
         name.now [] (λ _ plant. Sought budget.boxes plant (λ _. None) (λ _. Unit {0}))
         reply.status reply.text.items) }
     ensures fault { result ≡ Err Stopped.ReadFault
@@ -51,12 +52,12 @@ pub fn seek_file<F: Shelf>(
     ensures no_write { F.write_faults files.new ≡ F.write_faults files.old }
 {
     let plant = plant_in(alloc, files, name)?;
-    Ok(seek_plant(alloc, &plant, budget)?)
+    Ok(seek_plant::<A>(alloc, &plant, budget)?)
 }
 
 /// Finds the least horizon of the plant in a file, with at most so many boxes for each, and writes the log of each horizon to the
 /// file of the stem, a dot and the horizon. No other file is written, and none before the plant is read.
-pub fn trace_file<F: Shelf>(
+pub fn trace_file<A: Advisers, F: Shelf>(
     alloc: Global,
     files: &mut F,
     name: &str,
@@ -65,7 +66,8 @@ pub fn trace_file<F: Shelf>(
 ) -> Result<Reply, Stopped>
     requires plant_readable { IsTrue (F.may_read files.old name.now) }
     requires logs_writable { AreAllowed (F.may_write files.old) stem.now 337 }
-    ensures answer { IfReplied result (λ reply. IsPlantAnswer (F.files files.old) (F.files files.new)
+    ensures answer { IfReplied result (λ reply. IsPlantAnswer (F.files files.old)
+        (F.files files.new)
         name.now [] (λ _ plant. Sought budget.boxes plant (logs_in stem.now (F.files files.new))
         (λ horizon. OthersStayBelow stem.now horizon (F.files files.old) (F.files files.new)))
         reply.status reply.text.items) }
@@ -87,23 +89,27 @@ pub fn trace_file<F: Shelf>(
     ensures writes { F.write_faults files.old ≤ F.write_faults files.new }
 {
     let plant = plant_in(alloc, files, name)?;
-    trace_plant(alloc, files, &plant, budget, stem)
+    trace_plant::<A, _>(alloc, files, &plant, budget, stem)
 }
 
 // The answer of finding the least horizon of a plant.
-fn seek_plant(alloc: Global, plant: &Plant, budget: Budget) -> Result<Reply, AllocError>
+fn seek_plant<A: Advisers>(
+    alloc: Global,
+    plant: &Plant,
+    budget: Budget,
+) -> Result<Reply, AllocError>
     requires { Sound plant.now }
     ensures { IfOk result
         (λ reply. Sought budget.boxes plant.now (λ _. None) (λ _. Unit {0})
         reply.status reply.text.items) }
 {
-    let said = least::<BestFirst>(alloc, plant, budget.boxes)?;
+    let said = least::<A>(alloc, plant, budget.boxes)?;
     in_money(&said);
     found(alloc, plant, &said)
 }
 
 // The answer of finding the least horizon of a plant, whose logs are written.
-fn trace_plant<F: Shelf>(
+fn trace_plant<A: Advisers, F: Shelf>(
     alloc: Global,
     files: &mut F,
     plant: &Plant,
@@ -128,7 +134,7 @@ fn trace_plant<F: Shelf>(
     ensures no_read { F.read_faults files.new ≡ F.read_faults files.old }
     ensures writes { F.write_faults files.old ≤ F.write_faults files.new }
 {
-    match least_to::<BestFirst, _>(alloc, plant, budget.boxes, files, stem) {
+    match least_to::<A, _>(alloc, plant, budget.boxes, files, stem) {
         Ok(said) => {
             in_money(&said);
             Ok(found(alloc, plant, &said)?)

@@ -8,7 +8,7 @@ use Rattle.sum_lines.specs.declared.head.Front.{Front}
 use Rattle.sum_lines.specs.declared.head.Front.TheVariants.{Bad}
 use Rattle.sum_lines.specs.declared.head.Head.{Head}
 use Rattle.sum_lines.specs.Front.{IsFront}
-use Rattle.sum_lines.specs.Head.{IsHeadVersion, IsKept, begins_on, head_text, lines_of}
+use Rattle.sum_lines.specs.Head.{IsHeadVersion, IsKeptHead, begins_on, head_text, lines_of}
 use Rattle.derivation_lines.specs.declared.tail.Tail.{Tail}
 use Rattle.derivation_lines.specs.Tail.{begins_on as derivations_begin_on, tail_text}
 use Rattle.valid_log.specs.Verdict.{limits_of}
@@ -29,7 +29,7 @@ bad_read program depth (Some m) name f defect is stands =
     record { front = Bad defect; stands = subst (λ (l : Limits). IsFront l (file_of m name) (Bad defect)) (sym (limits_same program depth)) own; has = refl }
 
 -- a head that is kept, with the derivations behind it, can be declared
-pub head_declared : (program : Program) (depth : ℕ) (own : Head) (tail : Tail) → IsKept (limits_of program depth) own → IsTailHeld (limits_with program depth (length own.sums)) own tail → IsFrontKept (limits_of program depth) (head.Whole (head_with own tail))
+pub head_declared : (program : Program) (depth : ℕ) (own : Head) (tail : Tail) → IsKeptHead (limits_of program depth) own → IsTailHeld (limits_with program depth (length own.sums)) own tail → IsFrontKept (limits_of program depth) (head.Whole (head_with own tail))
 head_declared program depth own tail kept held = (
   record {
     known = inr kept.version;

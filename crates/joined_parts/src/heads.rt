@@ -2,7 +2,7 @@
 ghost use Rattle.std.specs.Prelude.{◌≡◌, ◌≤◌, IsTrue, IfOk, IfSome, Err};
 ghost use Rattle.stn_edge.specs.Count.{Rose};
 ghost use Rattle.stn_edge.specs.Files.{file_of};
-ghost use Rattle.sum_lines.specs.Head.{IsKept};
+ghost use Rattle.sum_lines.specs.Head.{IsKeptHead};
 ghost use Rattle.valid_log.specs.Verdict.{limits_of};
 ghost use Rattle.log_parts.specs.laws.Checked.{IsFrontKept, IsHeadFront, IsLogFront};
 
@@ -53,7 +53,7 @@ fn read_behind<F: Shelf>(
     name: &str,
 ) -> Result<LogFront, CheckStop>
     requires allowed { IsTrue (F.may_read files.old name.now) }
-    requires kept { IsKept (limits_of program.now depth) head }
+    requires kept { IsKeptHead (limits_of program.now depth) head }
     ensures front { IfOk result (λ front. IfSome (F.files files.old)
         (λ m. IsHeadFront (limits_of program.now depth) (file_of m name.now) head front)) }
     ensures kept { IfOk result (IsFrontKept (limits_of program.now depth)) }

@@ -11,7 +11,7 @@ use Rattle.stn_model.specs.Sound.{Within}
 use Rattle.least_horizon.specs.declared.answer.LeastAnswer.{LeastAnswer}
 use Rattle.least_horizon.specs.declared.answer.LeastAnswer.TheVariants.{At, Nowhere, Open}
 use Rattle.shorter_plant.specs.PlantAt.{plant_at}
-use Rattle.least_horizon.specs.Least.{NoneBelow, IsRight, AreInfeasible, IsSettled, IsSolved, IsLast, IsLeast, settled, reached, untried}
+use Rattle.least_horizon.specs.Least.{NoneBelow, IsRight, AreInfeasible, IsHorizonSettled, IsSolved, IsLast, IsLeast, settled, reached, untried}
 use Rattle.least_horizon.proofs.Judged.{up_to}
 
 -- where shorter horizons were found to have no feasible plan, they have none
@@ -36,14 +36,14 @@ right_if plant budget horizon used (answer.BudgetSpent None earned cap) found wi
     let e : Open horizon ≡ found = cc in
     subst (λ (f : LeastAnswer). IsRight plant f × ((reached plant f ≡ horizon) × (untried plant f ≡ horizon + 1))) e ((within, none), (refl, refl))
 
-last_is : (plant : Plant) (budget : ℕ) (logs : ℕ → Option (List ℕ)) (horizon : ℕ) (found : LeastAnswer) → reached plant found ≡ horizon → IsSettled plant budget logs horizon (Some found) → IsLast plant budget logs found
-last_is plant budget logs horizon (At own earned plan) same is = subst (λ n. IsSettled plant budget logs n (Some (At own earned plan))) (sym same) is
+last_is : (plant : Plant) (budget : ℕ) (logs : ℕ → Option (List ℕ)) (horizon : ℕ) (found : LeastAnswer) → reached plant found ≡ horizon → IsHorizonSettled plant budget logs horizon (Some found) → IsLast plant budget logs found
+last_is plant budget logs horizon (At own earned plan) same is = subst (λ n. IsHorizonSettled plant budget logs n (Some (At own earned plan))) (sym same) is
 last_is plant budget logs horizon Nowhere same is = tt
-last_is plant budget logs horizon (Open own) same is = subst (λ n. IsSettled plant budget logs n (Some (Open own))) (sym same) is
+last_is plant budget logs horizon (Open own) same is = subst (λ n. IsHorizonSettled plant budget logs n (Some (Open own))) (sym same) is
 
 -- what is settled within a horizon is the answer, where shorter ones were found to have no feasible plan
 pub found_least : (plant : Plant) (budget : ℕ) (logs : ℕ → Option (List ℕ)) (horizon : ℕ) (found : LeastAnswer) → Within 1 plant.periods horizon
-    → AreInfeasible plant budget logs horizon → IsSettled plant budget logs horizon (Some found) → IsLeast plant budget logs found
+    → AreInfeasible plant budget logs horizon → IsHorizonSettled plant budget logs horizon (Some found) → IsLeast plant budget logs found
 found_least plant budget logs horizon found within before is =
     let known = right_if plant budget horizon is.outcome.boxes is.outcome.answer found within (none_below plant budget logs horizon before) is.solved.right.answer is.is in
     record {
@@ -54,7 +54,7 @@ found_least plant budget logs horizon found within before is =
 
 -- and the next horizon is the first that was not tried
 pub found_untried : (plant : Plant) (budget : ℕ) (logs : ℕ → Option (List ℕ)) (horizon : ℕ) (found : LeastAnswer) → Within 1 plant.periods horizon
-    → AreInfeasible plant budget logs horizon → IsSettled plant budget logs horizon (Some found) → untried plant found ≡ horizon + 1
+    → AreInfeasible plant budget logs horizon → IsHorizonSettled plant budget logs horizon (Some found) → untried plant found ≡ horizon + 1
 found_untried plant budget logs horizon found within before is =
     (right_if plant budget horizon is.outcome.boxes is.outcome.answer found within (none_below plant budget logs horizon before) is.solved.right.answer is.is).1.1
 
@@ -69,7 +69,7 @@ infeasible_if horizon (answer.BudgetSpent (Some plan) earned cap) is = absurd cc
 infeasible_if horizon (answer.BudgetSpent None earned cap) is = absurd cc
 
 -- a horizon within which nothing is settled is one more without a feasible plan
-pub one_more : (plant : Plant) (budget : ℕ) (logs : ℕ → Option (List ℕ)) (horizon : ℕ) → AreInfeasible plant budget logs horizon → IsSettled plant budget logs horizon None → AreInfeasible plant budget logs (horizon + 1)
+pub one_more : (plant : Plant) (budget : ℕ) (logs : ℕ → Option (List ℕ)) (horizon : ℕ) → AreInfeasible plant budget logs horizon → IsHorizonSettled plant budget logs horizon None → AreInfeasible plant budget logs (horizon + 1)
 one_more plant budget logs horizon before is =
     up_to (λ g. (outcome : Outcome) × ((outcome.answer ≡ answer.Infeasible) × IsSolved plant budget logs g outcome)) horizon before
     (is.outcome, (infeasible_if horizon is.outcome.answer is.is, is.solved))

@@ -47,16 +47,16 @@ settled horizon (answer.BudgetSpent (Some plan) earned cap) = Some (At horizon e
 settled horizon (answer.BudgetSpent None earned cap) = Some (Open horizon)
 
 -- planning within a horizon came to an outcome that settles this
-pub record IsSettled (plant : Plant) (budget : ℕ) (logs : ℕ → Option (List ℕ)) (horizon : ℕ) (found : Option LeastAnswer) : Type 0 where
+pub record IsHorizonSettled (plant : Plant) (budget : ℕ) (logs : ℕ → Option (List ℕ)) (horizon : ℕ) (found : Option LeastAnswer) : Type 0 where
   pub outcome : Outcome
   pub is : found ≡ settled horizon outcome.answer
   pub solved : IsSolved plant budget logs horizon outcome
 
 -- an answer that names a horizon is what planning within it settles
 abbrev pub IsLast : Plant → ℕ → (ℕ → Option (List ℕ)) → LeastAnswer → Type 0
-IsLast plant budget logs (At horizon earned plan) = IsSettled plant budget logs horizon (Some (At horizon earned plan))
+IsLast plant budget logs (At horizon earned plan) = IsHorizonSettled plant budget logs horizon (Some (At horizon earned plan))
 IsLast plant budget logs Nowhere = ⊤
-IsLast plant budget logs (Open horizon) = IsSettled plant budget logs horizon (Some (Open horizon))
+IsLast plant budget logs (Open horizon) = IsHorizonSettled plant budget logs horizon (Some (Open horizon))
 
 -- the horizon up to which no plan is feasible: the one that is answered, or the one after the plant's last
 abbrev pub reached : Plant → LeastAnswer → ℕ

@@ -7,7 +7,7 @@ ghost use Rattle.plan_told.specs.Proofs.{IsLeftOf};
 ghost use Rattle.shorter_plant.specs.PlantAt.{plant_at};
 ghost use Rattle.proof_log.specs.LogNames.{log_name};
 ghost use Rattle.least_horizon.specs.LogNames.{logs_in, AreAllowed, OthersStayBelow};
-ghost use Rattle.least_horizon.specs.Least.{settled, untried, IsLeast, IsSettled, IsStopped};
+ghost use Rattle.least_horizon.specs.Least.{settled, untried, IsLeast, IsHorizonSettled, IsStopped};
 
 use crate::answer::LeastAnswer;
 use box_advice::Advisers;
@@ -80,7 +80,7 @@ fn least_at<A: Advisers>(
     requires sound { Sound plant.now }
     requires budget { (1 ≤ budget) × (budget ≤ 100000) }
     requires within { Within 1 plant.now.periods horizon }
-    ensures { IfOk result (IsSettled plant.now budget (λ _. None) horizon) }
+    ensures { IfOk result (IsHorizonSettled plant.now budget (λ _. None) horizon) }
 {
     let short = plant_at(alloc, plant, horizon)?;
     let Outcome { answer, .. } = plan::<A>(alloc, &short, budget)?;
@@ -100,7 +100,7 @@ fn log_at<A: Advisers, F: Shelf>(
     requires budget { (1 ≤ budget) × (budget ≤ 100000) }
     requires within { Within 1 plant.now.periods horizon }
     requires allowed { IsTrue (F.may_write files.old (log_name stem.now horizon)) }
-    ensures settled { IfOk result (IsSettled plant.now budget
+    ensures settled { IfOk result (IsHorizonSettled plant.now budget
         (logs_in stem.now (F.files files.new)) horizon) }
     ensures err { OnErr result (IsLeftOf (plant_at plant.now horizon) (log_name stem.now horizon)
         (F.files files.old) (F.files files.new)) }

@@ -5,7 +5,7 @@ ghost use Rattle.stn_model.specs.Sound.{Sound};
 ghost use Rattle.time_grid.specs.PlanPoint.{IsPlanOf};
 ghost use Rattle.row_set.specs.Parts.{plan_of_values};
 ghost use Rattle.plan_text.specs.ReadsBack.{IsWritable};
-ghost use Rattle.valid_log.specs.Claims.{Says};
+ghost use Rattle.valid_log.specs.Claims.{SaysOfPlans};
 ghost use Rattle.listing_commands.specs.Showing.{IsClaimedPlan};
 ghost use Rattle.listing_commands.specs.Amounts.{IsClaimInMoney};
 
@@ -19,7 +19,7 @@ use time_grid::Grid;
 /// none where it has no point. It takes memory for the slots.
 pub fn claimed_plan(alloc: Global, plant: &Plant, claim: &Claim) -> Result<List<Start>, AllocError>
     requires sound { Sound plant.now }
-    requires says { Says plant.now claim.now }
+    requires says { SaysOfPlans plant.now claim.now }
     ensures plan { IfOk result (IsClaimedPlan plant.now claim.now) }
     ensures writable { IfOk result (λ plan. All (IsWritable plant.now) plan) }
     ensures few { IfOk result (λ plan. length plan ≤ 512) }

@@ -4,7 +4,7 @@ ghost use Rattle.std.specs.Option.{option_map};
 ghost use Rattle.stn_edge.specs.Count.{Rose};
 ghost use Rattle.stn_edge.specs.Files.{file_of};
 ghost use Rattle.stn_model.specs.Sound.{Sound};
-ghost use Rattle.valid_log.specs.Claims.{Says, YesSays};
+ghost use Rattle.valid_log.specs.Claims.{SaysOfPlans, YesSays};
 ghost use Rattle.command_replies.specs.Answers.{IsPlantAnswer};
 ghost use Rattle.command_replies.specs.Sources.{IfReplied, IfRefused};
 ghost use Rattle.listing_commands.specs.Showing.{IsPlanText, PlanShown, TellsPlan};
@@ -93,7 +93,7 @@ fn tell(alloc: Global, plant: &Plant, verdict: &LogVerdict) -> Result<Reply, All
 // The text on a claim that holds.
 fn plan_text(alloc: Global, plant: &Plant, claim: &Claim) -> Result<Vec<u8>, AllocError>
     requires sound { Sound plant.now }
-    requires says { Says plant.now claim.now }
+    requires says { SaysOfPlans plant.now claim.now }
     ensures { IfOk result (λ text. IsPlanText plant.now claim.now text.items) }
 {
     let plan = claimed_plan(alloc, plant, claim)?;

@@ -27,7 +27,7 @@ use Rattle.log_check.specs.declared.course.Course.{Course}
 use Rattle.log_check.specs.declared.course.Course.TheVariants.{Going, Faulty}
 use Rattle.valid_log.specs.Meaning.{RowSteps, IsWorth, PointDefect, CapDefect, ItemDefect, HasDefect, HaveNone, IsItemDefect, IsTested}
 use Rattle.valid_log.proofs.Items.{leads_on}
-use Rattle.log_check.specs.Course.{RowWalk, StandsAt, IsReady, IsNamed, MayTake, end_kind, course_of}
+use Rattle.log_check.specs.Course.{RowWalk, StandsAt, IsReady, NamesWhatIsThere, MayTake, end_kind, course_of}
 
 -- the right part of each open split is there
 abbrev RightsNamed : RowSteps → List (Opened RowPick) → Type 0
@@ -73,7 +73,7 @@ empty_cap-Bad true e = cc
 empty_cap-Bad false e = refl
 
 -- a tested item that leads nowhere has a defect
-pub leads_nowhere : (s : RowSteps) (program : Program) (splits : List (Opened RowPick)) (v : View) (item : RowItem) → RightsNamed s splits → IsNamed s v item → IsTested s program v item → taken s splits v item ≡ undefined → ItemDefect s program v item (end_kind item)
+pub leads_nowhere : (s : RowSteps) (program : Program) (splits : List (Opened RowPick)) (v : View) (item : RowItem) → RightsNamed s splits → NamesWhatIsThere s v item → IsTested s program v item → taken s splits v item ≡ undefined → ItemDefect s program v item (end_kind item)
 leads_nowhere s program splits v Node rights named tested nowhere = cc
 leads_nowhere s program splits v (Cut cut) rights named tested nowhere = at (s.cut v cut) named nowhere
   where

@@ -39,7 +39,7 @@ use Rattle.valid_log.specs.declared.verdict.LogVerdict.{LogVerdict}
 use Rattle.valid_log.specs.declared.verdict.LogVerdict.TheVariants.{Yes, No}
 use Rattle.valid_log.proofs.FoundSound.{claim_sound}
 use Rattle.log_check.specs.Course.{RowWalk, StandsAt, IsEndVerdict}
-use Rattle.valid_log.specs.Meaning.{RowSteps, Holds, ClaimDefect, IsSoundClaim, IsProved}
+use Rattle.valid_log.specs.Meaning.{RowSteps, HoldsOfPoints, ClaimDefect, IsSoundClaim, IsProved}
 use Rattle.valid_log.specs.Verdict.{IsLog, IsMeaningVerdict, IsVerdictGiven, IsVerdict, YesHolds, limits_of}
 
 -- a text without a defect is that of a log over the program's slots
@@ -61,7 +61,7 @@ ended_real s v items proof_cap led is =
     cc
 
 -- what a sound claim of a proof says holds of all points
-pub proved_holds : (program : Program) (items : List RowItem) (proof_cap : Capped) (claim : Claim) → All IsNormal program.root → IsProved (row_steps program) program (view_of program.root) items proof_cap → IsSoundClaim program proof_cap claim → Holds program claim
+pub proved_holds : (program : Program) (items : List RowItem) (proof_cap : Capped) (claim : Claim) → All IsNormal program.root → IsProved (row_steps program) program (view_of program.root) items proof_cap → IsSoundClaim program proof_cap claim → HoldsOfPoints program claim
 proved_holds program items proof_cap claim normal' proved sound =
     borne (IsLawful program) (worth_of program) (λ point. point) proof_cap claim (ended_real (row_steps program) (view_of program.root) items proof_cap proved.led)
     (bounds-cap (IsLawful program) (worth_of program) program (IsIn (view_of program.root)) proof_cap (itself-relaxes program) (root-lies program)
@@ -113,7 +113,7 @@ pub end_holds : (program : Program) (items : List RowItem) (claim : Claim) (cour
     → All IsNormal program.root → StandsAt (row_steps program) program (view_of program.root) items course walk views → IsEndVerdict program course began claim verdict → YesHolds program verdict
 end_holds program items claim Going walk views began verdict normal' stand answer = absurd answer
 end_holds program items claim (Faulty defect) walk views began verdict normal' stand answer = subst (YesHolds program) (sym answer) tt
-end_holds program items claim (Ended proof_cap) walk views began (Yes own) normal' stand answer = subst (Holds program) (sym answer.0) (proved_holds program items proof_cap claim normal' stand answer.1)
+end_holds program items claim (Ended proof_cap) walk views began (Yes own) normal' stand answer = subst (HoldsOfPoints program) (sym answer.0) (proved_holds program items proof_cap claim normal' stand answer.1)
 end_holds program items claim (Ended proof_cap) walk views began (No defect) normal' stand answer = tt
 
 -- after whole items a check does not go on

@@ -17,7 +17,7 @@ use Rattle.proof_log.specs.Gathered.{IsThere}
 use Rattle.row_relax.specs.RowProofs.{RowItem}
 use Rattle.log_check.specs.declared.course.Course.{Course}
 use Rattle.log_check.specs.declared.course.Course.TheVariants.{Going, Ended, Faulty}
-use Rattle.log_check.specs.Course.{RowWalk, StandsAt, IsNamed, MayTake}
+use Rattle.log_check.specs.Course.{RowWalk, StandsAt, NamesWhatIsThere, MayTake}
 use Rattle.valid_log.specs.Verdict.{limits_of}
 
 test_true : (a b : ℕ) → a < b → nat_lt a b ≡ true
@@ -31,7 +31,7 @@ shown true domains is none = cc
 shown false domains is none = cc
 
 -- what the limits allow to be named is there
-there_of : (program : Program) (depth : ℕ) (v : View) (item : RowItem) → Fits program v → IsThere (limits_of program depth) item → IsNamed (row_steps program) v item
+there_of : (program : Program) (depth : ℕ) (v : View) (item : RowItem) → Fits program v → IsThere (limits_of program depth) item → NamesWhatIsThere (row_steps program) v item
 unfolding row_steps
 there_of program depth v Node fit there = tt
 there_of program depth v (Cut cut) fit there =

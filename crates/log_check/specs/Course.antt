@@ -40,19 +40,19 @@ IsReady s (Ended proof_cap) walk views = ⊤
 IsReady s (Faulty defect) walk views = ⊤
 
 -- a cut and a split name something that is there
-abbrev pub IsNamed : RowSteps → View → RowItem → Type 0
-IsNamed s v Node = ⊤
-IsNamed s v (Cut cut) = s.cut v cut ≢ None
-IsNamed s v (FoundItem found) = ⊤
-IsNamed s v Empty = ⊤
-IsNamed s v (Dual cert) = ⊤
-IsNamed s v Point = ⊤
-IsNamed s v (Pending cert) = ⊤
-IsNamed s v (Split pick cert) = s.left v pick ≢ None
+abbrev pub NamesWhatIsThere : RowSteps → View → RowItem → Type 0
+NamesWhatIsThere s v Node = ⊤
+NamesWhatIsThere s v (Cut cut) = s.cut v cut ≢ None
+NamesWhatIsThere s v (FoundItem found) = ⊤
+NamesWhatIsThere s v Empty = ⊤
+NamesWhatIsThere s v (Dual cert) = ⊤
+NamesWhatIsThere s v Point = ⊤
+NamesWhatIsThere s v (Pending cert) = ⊤
+NamesWhatIsThere s v (Split pick cert) = s.left v pick ≢ None
 
 -- an item may be taken: while the walk goes on it is one that may come and names what is there, and none may come after the end
 abbrev pub MayTake : RowSteps → Course → RowWalk → View → RowItem → Type 0
-MayTake s Going walk v item = IsTrue (may_come walk.expected item) × IsNamed s v item
+MayTake s Going walk v item = IsTrue (may_come walk.expected item) × NamesWhatIsThere s v item
 MayTake s (Ended proof_cap) walk v item = ⊥
 MayTake s (Faulty defect) walk v item = ⊤
 

@@ -1,7 +1,7 @@
 //! What is wrong with a claim.
 ghost use Rattle.std.specs.Prelude.{◌≡◌, ℕ, MatchOption, IsTrue, ◌↔◌};
 ghost use Rattle.proof_tree.specs.declared.capped.Capped.{Capped};
-ghost use Rattle.valid_log.specs.Meaning.{CappedDefect, ClaimDefect, IsWorth, IsSoundClaim, IsAbove, AllowsPoint};
+ghost use Rattle.valid_log.specs.Meaning.{CappedDefect, ClaimDefect, IsWorth, IsSoundClaim, AllowsMore, AllowsPoint};
 
 use crate::points::point_defect;
 use proof_log::Claim;
@@ -10,7 +10,7 @@ use row_kit::Program;
 
 /// Whether a cap allows more than a number.
 fn is_above(cap: Capped, most: &i128) -> bool
-    ensures { IsTrue result ↔ IsAbove cap most.now }
+    ensures { IsTrue result ↔ AllowsMore cap most.now }
 {
     match cap {
         Capped::AtMost(n) => *most < n,
@@ -39,7 +39,7 @@ fn capped_defect(
     point: &[u8],
 ) -> Option<u8>
     ensures { MatchOption result (IsWorth program.now value.now point.now
-        × (¬ IsAbove cap most.now))
+        × (¬ AllowsMore cap most.now))
         (λ kind. CappedDefect program.now cap value.now most.now point.now kind) }
 {
     let kind = point_defect(program, value, point);

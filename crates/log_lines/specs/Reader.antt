@@ -51,11 +51,11 @@ EndsPart file place new part Long = 200 < line_length (drop place file)
 EndsPart file place new part Nothing = drop place file ≡ []
 
 -- the part that was read, whatever the file is
-abbrev pub IsPart : ℕ → ℕ → List ℕ → LineEnd → Type 0
-IsPart place next part Whole = (length part ≤ 200) × HasNoFeed part × (next ≡ place + length part + 1)
-IsPart place next part Cut = (0 < length part) × (length part ≤ 200) × HasNoFeed part
-IsPart place next part Long = Unit {0}
-IsPart place next part Nothing = Unit {0}
+abbrev pub IsLinePart : ℕ → ℕ → List ℕ → LineEnd → Type 0
+IsLinePart place next part Whole = (length part ≤ 200) × HasNoFeed part × (next ≡ place + length part + 1)
+IsLinePart place next part Cut = (0 < length part) × (length part ≤ 200) × HasNoFeed part
+IsLinePart place next part Long = Unit {0}
+IsLinePart place next part Nothing = Unit {0}
 
 -- how a line ends at the file's end, after so many bytes
 abbrev pub file_end : ℕ → LineEnd
@@ -72,7 +72,7 @@ EndsLine file old new Nothing = drop old.place file ≡ []
 -- the same, whatever the file is: a line has at most 200 bytes and no line feed, the place is past a whole line, and the reader
 -- has ended after everything else
 abbrev pub IsEnd : Reading → Reading → LineEnd → Type 0
-IsEnd old new Whole = (new.ended ≡ false) × IsPart old.place new.place new.line Whole
-IsEnd old new Cut = (new.ended ≡ true) × IsPart old.place new.place new.line Cut
+IsEnd old new Whole = (new.ended ≡ false) × IsLinePart old.place new.place new.line Whole
+IsEnd old new Cut = (new.ended ≡ true) × IsLinePart old.place new.place new.line Cut
 IsEnd old new Long = (new.ended ≡ true) × (new.line ≡ old.line)
 IsEnd old new Nothing = (new.ended ≡ true) × (new.line ≡ old.line)

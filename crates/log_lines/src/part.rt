@@ -2,7 +2,7 @@
 ghost use Rattle.std.specs.Prelude.{◌≡◌, ◌≤◌, length, take, IsTrue, IfOk, IfSome, OnErr};
 ghost use Rattle.stn_edge.specs.Count.{Rose};
 ghost use Rattle.stn_edge.specs.Files.{file_of};
-ghost use Rattle.log_lines.specs.Reader.{EndsPart, IsAhead, IsPart, file_end};
+ghost use Rattle.log_lines.specs.Reader.{EndsPart, IsAhead, IsLinePart, file_end};
 
 use crate::ahead::Ahead;
 use crate::kinds::MOST_BYTES;
@@ -24,7 +24,7 @@ pub(crate) fn read_part<F: Shelf>(
     ensures told { IfOk result (λ read. IfSome (F.files files.old)
         (λ m. EndsPart (file_of m name.now) ahead.old.place ahead.new (take read.1 part.new)
         read.0)) }
-    ensures part { IfOk result (λ read. IsPart ahead.old.place ahead.new.place
+    ensures part { IfOk result (λ read. IsLinePart ahead.old.place ahead.new.place
         (take read.1 part.new) read.0) }
     ensures same { F.files files.new ≡ F.files files.old }
     ensures readable { F.may_read files.new ≡ F.may_read files.old }

@@ -20,7 +20,7 @@ use Rattle.proof_log.specs.OneText.{IsLogOver}
 use Rattle.valid_log.specs.Verdict.{limits_of}
 use Rattle.valid_log.specs.AnyVersion.{IsWithHead}
 use Rattle.valid_log.specs.SumTexts.{larger_claim}
-use Rattle.valid_log.specs.Claims.{Says}
+use Rattle.valid_log.specs.Claims.{SaysOfPlans}
 use Rattle.log_parts.specs.declared.heads.Declared.{Declared}
 use Rattle.log_parts.specs.declared.joins.Joined.{Joined}
 use Rattle.log_parts.specs.declared.joins.Joined.TheVariants.{Done, No}
@@ -157,8 +157,8 @@ joining_in plant levels stem name declared newest heads claim (Some m) new said 
 
 -- ---- what is said, kept and left
 
-pub said_of_claim : (plant : Plant) (claim : Claim) (said : Joined) → Says plant claim → IsClaim claim said → JoinSays plant said
-said_of_claim plant claim (Done own) says is = subst (Says plant) (sym is) says
+pub said_of_claim : (plant : Plant) (claim : Claim) (said : Joined) → SaysOfPlans plant claim → IsClaim claim said → JoinSays plant said
+said_of_claim plant claim (Done own) says is = subst (SaysOfPlans plant) (sym is) says
 said_of_claim plant claim (No part defect) says is = tt
 
 untold_stays : (name other : List ℕ) (new : Option FileMap) → other ≢ name → OthersStay name None new → new ≡ None

@@ -16,10 +16,10 @@ use Rattle.row_set.specs.Parts.{plan_of_values}
 use Rattle.proof_log.specs.declared.claim.Claim.{Claim}
 use Rattle.proof_log.specs.declared.claim.Claim.TheVariants.{Optimal, Infeasible, Between, Below}
 use Rattle.proof_log.specs.ClaimSays.{HasWorth, NoneAbove}
-use Rattle.valid_log.specs.Claims.{SaysOf, Says}
+use Rattle.valid_log.specs.Claims.{SaysOf, SaysOfPlans}
 use Rattle.log_parts.specs.declared.joining.ClaimedPlan.{ClaimedPlan}
 use Rattle.plant_parts.specs.PlantParts.{IsOfPart}
-use Rattle.log_parts.specs.Joining.{plan_of, cap_of, EarnsAtMost, EarnsBelow, IsCapped, IsBestOf, IsGreatestCap, IsBestPlan, IsBestCap, claim_with, IsJoined, EachSays, better, greater}
+use Rattle.log_parts.specs.Joining.{plan_of, cap_of, EarnsAtMost, ProfitBelow, IsCapped, IsBestOf, IsGreatestCap, IsBestPlan, IsBestCap, claim_with, IsJoined, EachSays, better, greater}
 use Rattle.plant_parts.proofs.Meaning.{of-some}
 
 -- what holds of both numbers of a test holds of the one that it takes
@@ -87,11 +87,11 @@ none-feasible plant levels claims long each none plan feasible =
 
 -- what the best plan and the greatest cap claim holds
 with-says : (plant : Plant) (levels : ℕ) (claims : List Claim) (plan : Option ClaimedPlan) (cap : Option ℤ) → length claims ≡ 2 ^ levels → EachSays plant levels claims →
-    IsBestPlan claims plan → IsBestCap claims cap → Says plant (claim_with plan cap)
+    IsBestPlan claims plan → IsBestCap claims cap → SaysOfPlans plant (claim_with plan cap)
 with-says plant levels claims (Some plan) (Some cap) long each best greatest =
     let holds = best-holds plant levels claims plan each best in
     let above = none-above plant levels claims cap long each greatest in
-    by-less plan.profit cap (Says plant) (Between plan.profit cap plan.point) (Optimal plan.profit plan.point)
+    by-less plan.profit cap (SaysOfPlans plant) (Between plan.profit cap plan.point) (Optimal plan.profit plan.point)
     (λ less. (holds, above))
     (λ least. (holds, λ other feasible. let most = above other feasible in omega (arith, ints, least, most)))
 with-says plant levels claims (Some plan) None long each best none =
@@ -100,9 +100,9 @@ with-says plant levels claims None (Some cap) long each best greatest = none-abo
 with-says plant levels claims None None long each best none = none-feasible plant levels claims long each none
 
 -- where each claim holds of its part, the joined claim holds of all feasible plans
-pub joined-says : (plant : Plant) (levels : ℕ) (claims : List Claim) (claim : Claim) → IsJoined claims claim → length claims ≡ 2 ^ levels → EachSays plant levels claims → Says plant claim
+pub joined-says : (plant : Plant) (levels : ℕ) (claims : List Claim) (claim : Claim) → IsJoined claims claim → length claims ≡ 2 ^ levels → EachSays plant levels claims → SaysOfPlans plant claim
 joined-says plant levels claims claim is long each =
-    subst (Says plant) (sym is.is) (with-says plant levels claims is.plan is.cap long each is.best_plan is.best_cap)
+    subst (SaysOfPlans plant) (sym is.is) (with-says plant levels claims is.plan is.cap long each is.best_plan is.best_cap)
 
 -- what is below a number is below a greater one
 raised : (o : Option ClaimedPlan) (a b : ℤ) → a <ℤ b → IfSome o (λ plan. plan.profit ≤ℤ a) → IfSome o (λ plan. plan.profit <ℤ b)
@@ -114,12 +114,12 @@ weakened None a is = tt
 weakened (Some plan) a is = omega (arith, ints, is)
 
 -- all claims earn below what is above the best
-all-below : (claims : List Claim) (plan : ClaimedPlan) (more : ℤ) → IsBestOf claims plan → plan.profit <ℤ more → All (EarnsBelow more) claims
+all-below : (claims : List Claim) (plan : ClaimedPlan) (more : ℤ) → IsBestOf claims plan → plan.profit <ℤ more → All (ProfitBelow more) claims
 all-below claims plan more best less =
-    subst (All (EarnsBelow more)) (sym best.are)
-    (All-append (EarnsBelow more) best.before (best.claim ∷ best.after)
+    subst (All (ProfitBelow more)) (sym best.are)
+    (All-append (ProfitBelow more) best.before (best.claim ∷ best.after)
     (λ k d l. raised (plan_of (get_or best.before k d)) plan.profit more less (weakened (plan_of (get_or best.before k d)) plan.profit (best.more k d l)))
-    (All-cons (EarnsBelow more) best.claim best.after
+    (All-cons (ProfitBelow more) best.claim best.after
     (subst (λ (o : Option ClaimedPlan). IfSome o (λ own. own.profit <ℤ more)) (sym best.has) less)
     (λ k d l. raised (plan_of (get_or best.after k d)) plan.profit more less (best.no_less k d l))))
 
@@ -136,7 +136,7 @@ stays claims claim plan best most = record {
 }
 
 -- the last plan is best
-last-best : (claims : List Claim) (claim : Claim) (plan : ClaimedPlan) → plan_of claim ≡ Some plan → All (EarnsBelow plan.profit) claims → IsBestOf (claims ++ claim ∷ []) plan
+last-best : (claims : List Claim) (claim : Claim) (plan : ClaimedPlan) → plan_of claim ≡ Some plan → All (ProfitBelow plan.profit) claims → IsBestOf (claims ++ claim ∷ []) plan
 last-best claims claim plan has more = record { before = claims; claim = claim; after = []; are = refl; has = has; more = more; no_less = λ k d l. absurd (omega arith) }
 
 plan-step : (claims : List Claim) (claim : Claim) (first second : Option ClaimedPlan) → plan_of claim ≡ second → IsBestPlan claims first → IsBestPlan (claims ++ claim ∷ []) (better first second)

@@ -11,7 +11,7 @@ use Rattle.proof_tree.specs.declared.capped.Capped.TheVariants.{AtMost, NoPoint,
 use Rattle.proof_tree.specs.Cap.{greater}
 use Rattle.proof_log.specs.declared.claim.Claim.{Claim}
 use Rattle.proof_log.specs.declared.claim.Claim.TheVariants.{Optimal, Infeasible, Between, Below}
-use Rattle.valid_log.specs.Meaning.{IsAbove, AllowsPoint, CappedDefect, ClaimDefect}
+use Rattle.valid_log.specs.Meaning.{AllowsMore, AllowsPoint, CappedDefect, ClaimDefect}
 use Rattle.valid_log.proofs.FoundSound.{IsFinePoint, no_capped}
 use Rattle.log_parts.specs.declared.joining.ClaimedPlan.{ClaimedPlan}
 use Rattle.log_parts.specs.Joining.{plan_of, cap_of, IsBestOf, claim_with}
@@ -28,7 +28,7 @@ greater-real (AtMost m) (AtMost n) one other = λ e. cc
 
 -- a cap is not above a number
 abbrev pub IsNotAbove : ℤ → Capped → Type 0
-IsNotAbove most proof_cap = ¬ IsAbove proof_cap most
+IsNotAbove most proof_cap = ¬ AllowsMore proof_cap most
 
 max_above : (n a b : ℤ) → n <ℤ int_max a b → (¬ (n <ℤ a)) → (¬ (n <ℤ b)) → ⊥
 max_above n a b above one other = grind (arith, ints, clamps, one, other)

@@ -18,7 +18,7 @@ use Rattle.plan_images.proofs.Imaging.{HaveSamePoints}
 use Rattle.valid_log.specs.AnyVersion.{given_claim}
 use Rattle.valid_log.specs.SumTexts.{larger_claim}
 use Rattle.log_parts.specs.declared.joining.ClaimedPlan.{ClaimedPlan}
-use Rattle.log_parts.specs.Joining.{plan_of, cap_of, EarnsAtMost, EarnsBelow, IsCapped, IsBestPlan, IsBestCap, claim_with, IsJoined}
+use Rattle.log_parts.specs.Joining.{plan_of, cap_of, EarnsAtMost, ProfitBelow, IsCapped, IsBestPlan, IsBestCap, claim_with, IsJoined}
 use Rattle.log_parts.specs.laws.Copying.{IsPointed}
 use Rattle.log_parts.proofs.JoinedClaims.{by-less}
 use Rattle.log_parts.proofs.JoinedSound.{HasNoDefect, best-place, plan-fine}
@@ -41,7 +41,7 @@ cap-larger sums Infeasible = refl
 cap-larger sums (Between profit most point) = refl
 cap-larger sums (Below most) = refl
 
-below-larger : (sums : List Sum) (profit : ℤ) (claim : Claim) → EarnsBelow profit claim → EarnsBelow profit (larger_claim sums claim)
+below-larger : (sums : List Sum) (profit : ℤ) (claim : Claim) → ProfitBelow profit claim → ProfitBelow profit (larger_claim sums claim)
 below-larger sums profit (Optimal own point) is = is
 below-larger sums profit Infeasible is = is
 below-larger sums profit (Between own most point) is = is
@@ -75,8 +75,8 @@ best-larger sums claims (Some plan) best = record {
   after = map (larger_claim sums) best.after;
   are = ap (map (larger_claim sums)) best.are ∙ map-append (larger_claim sums) best.before (best.claim ∷ best.after);
   has = plan-larger sums best.claim ∙ ap (option_map (larger_plan sums)) best.has;
-  more = All-map (EarnsBelow plan.profit) (larger_claim sums) best.before
-      (All-weaker (EarnsBelow plan.profit) (λ (claim : Claim). EarnsBelow plan.profit (larger_claim sums claim)) (below-larger sums plan.profit) best.before best.more);
+  more = All-map (ProfitBelow plan.profit) (larger_claim sums) best.before
+      (All-weaker (ProfitBelow plan.profit) (λ (claim : Claim). ProfitBelow plan.profit (larger_claim sums claim)) (below-larger sums plan.profit) best.before best.more);
   no_less = All-map (EarnsAtMost plan.profit) (larger_claim sums) best.after
       (All-weaker (EarnsAtMost plan.profit) (λ (claim : Claim). EarnsAtMost plan.profit (larger_claim sums claim)) (most-larger sums plan.profit) best.after best.no_less);
 }

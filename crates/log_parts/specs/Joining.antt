@@ -27,8 +27,8 @@ abbrev pub EarnsAtMost : ℤ → Claim → Type 0
 EarnsAtMost most claim = IfSome (plan_of claim) (λ plan. plan.profit ≤ℤ most)
 
 -- a claim's plan, where it has one, has a profit below this
-abbrev pub EarnsBelow : ℤ → Claim → Type 0
-EarnsBelow profit claim = IfSome (plan_of claim) (λ plan. plan.profit <ℤ profit)
+abbrev pub ProfitBelow : ℤ → Claim → Type 0
+ProfitBelow profit claim = IfSome (plan_of claim) (λ plan. plan.profit <ℤ profit)
 
 -- a claim's cap, where it has one, is at most this
 abbrev pub IsCapped : ℤ → Claim → Type 0
@@ -41,7 +41,7 @@ pub record IsBestOf (claims : List Claim) (plan : ClaimedPlan) : Type 0 where
   pub after : List Claim
   pub are : claims ≡ before ++ claim ∷ after
   pub has : plan_of claim ≡ Some plan
-  pub more : All (EarnsBelow plan.profit) before
+  pub more : All (ProfitBelow plan.profit) before
   pub no_less : All (EarnsAtMost plan.profit) after
 
 -- the greatest of the claims' caps

@@ -13,7 +13,7 @@ use Rattle.log_lines.specs.declared.defect.Defect.{Defect}
 use Rattle.proof_log.specs.LogNames.{log_name}
 use Rattle.valid_log.specs.declared.verdict.LogVerdict.{LogVerdict}
 use Rattle.valid_log.specs.declared.verdict.LogVerdict.TheVariants as verdict
-use Rattle.valid_log.specs.Claims.{Says}
+use Rattle.valid_log.specs.Claims.{SaysOfPlans}
 use Rattle.valid_log.specs.AnyVersion.{IsAnyLog}
 use Rattle.valid_log.specs.PlantLogs.{IsAnyChecked, IsAnyPartChecked}
 use Rattle.valid_log.specs.SumTexts.{larger_claim}
@@ -107,7 +107,7 @@ IsJoiningIn plant levels stem name old new said =
 
 -- what the joined claim says holds of all plans
 abbrev pub JoinSays : Plant → Joined → Type 0
-JoinSays plant (Done claim) = Says plant claim
+JoinSays plant (Done claim) = SaysOfPlans plant claim
 JoinSays plant (No part defect) = ⊤
 
 -- a part was named whose log is refused

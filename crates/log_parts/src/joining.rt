@@ -1,7 +1,7 @@
 //! The claim of all parts.
 ghost use Rattle.std.specs.Prelude.{◌≡◌, ℕ, ◌^◌, length};
 ghost use Rattle.stn_model.specs.declared.plant.Plant.{Plant};
-ghost use Rattle.valid_log.specs.Claims.{Says};
+ghost use Rattle.valid_log.specs.Claims.{SaysOfPlans};
 ghost use Rattle.log_parts.specs.Joining.{plan_of, cap_of, better, greater, claim_with, IsJoined, EachSays};
 
 use proof_log::Claim;
@@ -20,7 +20,7 @@ struct ClaimedPlan {
 pub fn joined(claims: Vec<Claim>) -> Claim
     ensures joined { IsJoined claims.items result }
     ensures says { (plant : Plant) (levels : ℕ) → length claims.items ≡ 2 ^ levels
-        → EachSays plant levels claims.items → Says plant result }
+        → EachSays plant levels claims.items → SaysOfPlans plant result }
 {
     let mut plan = None;
     let mut cap = None;

@@ -22,7 +22,7 @@ use Rattle.order_text.specs.Marks.{is_left, left_of}
 use Rattle.order_conflict.specs.declared.answer.ConflictAnswer.{ConflictAnswer}
 use Rattle.order_conflict.specs.declared.answer.ConflictAnswer.TheVariants as said
 use Rattle.order_conflict.specs.Conflict.{left_plant, without, mark_of, MarkSays, TrialSays, AreMarks, IsConflict, planned}
-use Rattle.order_conflict.specs.Passes.{all_open, IsSettled, IsPassed}
+use Rattle.order_conflict.specs.Passes.{all_open, IsMarkedAnew, IsPassed}
 
 -- a right answer of planning without a delivery says what its mark says
 pub trial_says : (plant : Plant) (budget used : ℕ) (a : Answer) → IsOutcome plant budget (record { answer = a; boxes = used }) → TrialSays (mark_of a) budget plant
@@ -54,7 +54,7 @@ not_planned plant budget used (answer.BudgetSpent (Some plan) earned cap) right 
 
 -- a delivery that is left was marked anew
 pub settled_by : (plant : Plant) (budget place : ℕ) (old : List Mark) (mark : Mark) → is_left (get_or old place Out) ≡ true → TrialSays mark budget (alone plant (without place old))
-    → IsSettled plant budget place old (set old place mark) (not (is_left mark))
+    → IsMarkedAnew plant budget place old (set old place mark) (not (is_left mark))
 settled_by plant budget place old Out left says = (left, refl, says)
 settled_by plant budget place old Needed left says = inr (Needed, (left, refl, refl, says))
 settled_by plant budget place old Open left says = inr (Open, (left, refl, refl, says))
@@ -137,7 +137,7 @@ passed_kept plant budget old now changed place mark within passed before after s
 
 -- a pass goes on past a place that was marked anew
 pub passed_next : (plant : Plant) (budget : ℕ) (old now next : List Mark) (changed : Bool) (place : ℕ) (out : Bool) → place < length now → IsPassed plant budget old now changed place
-    → IsSettled plant budget place now next out → IsPassed plant budget old next (cond out true changed) (place + 1)
+    → IsMarkedAnew plant budget place now next out → IsPassed plant budget old next (cond out true changed) (place + 1)
 passed_next plant budget old now next changed place true within passed is =
     subst (λ (marks : List Mark). IsPassed plant budget old marks true (place + 1)) (sym is.1) (passed_out plant budget old now changed place within passed is.0 is.2)
 passed_next plant budget old now next changed place false within passed (inl is) =

@@ -10,7 +10,7 @@ use Rattle.stn_model.specs.declared.answer.Answer.TheVariants.{Optimal, Infeasib
 use Rattle.stn_model.specs.declared.answer.Outcome.{Outcome}
 use Rattle.stn_model.specs.Answers.{IsOutcome}
 use Rattle.row_kit.specs.declared.program.Program.{Program}
-use Rattle.row_set.specs.PlantProgram.{IsMadeOf, IsProgramOf}
+use Rattle.row_set.specs.PlantProgram.{IsMadeOf, IsProgramOf, plant_root}
 use Rattle.plan_told.specs.Proofs.{HasPlantProof, IsSomeLogBegun, bytes_in}
 use Rattle.order_text.specs.declared.mark.Mark.{Mark}
 use Rattle.order_conflict.specs.declared.answer.ConflictAnswer.{ConflictAnswer}
@@ -48,7 +48,7 @@ IsLogOf plant budget name old new (Unproved marks) = IsConflict plant budget (Am
 
 -- the bytes are a first part of a log over the plant's program
 abbrev pub IsBegunLog : Plant → Option (List ℕ) → Type 0
-IsBegunLog plant log = (program : Program) × (IsMadeOf plant program × (IsProgramOf plant program × IfSome log (IsSomeLogBegun plant program)))
+IsBegunLog plant log = (program : Program) × (IsMadeOf plant program × (IsProgramOf plant program × IfSome log (IsSomeLogBegun program (plant_root plant))))
 
 -- what is left of an answer that was not reached: the file as it was, or the log of right marks, begun
 abbrev pub LeavesLog : Plant → ℕ → List ℕ → Option FileMap → Option FileMap → Type 0

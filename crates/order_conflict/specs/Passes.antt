@@ -14,10 +14,10 @@ all_open plant = map (λ _. Open) plant.deliveries
 
 -- The delivery at a place was marked anew: it goes, since no plan meets the others that are left; or it stays as it was, left out or with
 -- a mark that is right.
-abbrev pub IsSettled : Plant → ℕ → ℕ → List Mark → List Mark → Bool → Type 0
-IsSettled plant budget place old new true =
+abbrev pub IsMarkedAnew : Plant → ℕ → ℕ → List Mark → List Mark → Bool → Type 0
+IsMarkedAnew plant budget place old new true =
     (is_left (slice_index_or old place Out) ≡ true) × (new ≡ slice_set old place Out) × NoPlan (alone plant (without place old))
-IsSettled plant budget place old new false =
+IsMarkedAnew plant budget place old new false =
     ((slice_index_or old place Out ≡ Out) × (new ≡ old))
     ⊎ ((mark : Mark) × ((is_left (slice_index_or old place Out) ≡ true) × (is_left mark ≡ true) × (new ≡ slice_set old place mark)
     × MarkSays mark budget (alone plant (without place old))))

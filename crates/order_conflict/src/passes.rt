@@ -10,7 +10,7 @@ ghost use Rattle.order_conflict.specs.Conflict.{
   AreMarks,
   IsConflict,
 };
-ghost use Rattle.order_conflict.specs.Passes.{all_open, IsPassed, IsSettled};
+ghost use Rattle.order_conflict.specs.Passes.{all_open, IsPassed, IsMarkedAnew};
 
 use crate::answer::ConflictAnswer;
 use crate::trials::trial;
@@ -117,7 +117,7 @@ fn settle<A: Advisers>(
     requires budget { (1 ≤ budget) × (budget ≤ 100000) }
     requires each { length marks.old.items ≡ length plant.now.deliveries }
     requires within { place < length marks.old.items }
-    ensures { IfOk result (IsSettled plant.now budget place marks.old.items marks.new.items) }
+    ensures { IfOk result (IsMarkedAnew plant.now budget place marks.old.items marks.new.items) }
 {
     if !is_left_at(marks.as_slice(), place) {
         return Ok(false);

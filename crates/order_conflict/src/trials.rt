@@ -24,7 +24,8 @@ pub fn trial<A: Advisers>(
     requires budget { (1 ≤ budget) × (budget ≤ 100000) }
     requires each { length marks.now ≡ length plant.now.deliveries }
     requires within { place < length marks.now }
-    ensures { IfOk result (λ mark. TrialSays mark budget (alone plant.now (without place marks.now))) }
+    ensures { IfOk result (λ mark. TrialSays mark budget (alone plant.now
+        (without place marks.now))) }
 {
     let kept = kept_without(alloc, marks, place)?;
     let fewer = alone(alloc, plant, kept.as_slice())?;

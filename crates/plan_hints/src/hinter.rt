@@ -73,7 +73,7 @@ const MOST_TOTAL: u64 = 300_000_000;
 const CHANCES: u32 = 24;
 
 impl PlanHinter {
-    /// A hinter for a program, of which the slots from `given` on are those of sums, and the last rows, two for each, too. It has room
+    /// A hinter for a program, of which the slots from `given` on are those of sums. It has room
     /// for all that can come.
     pub fn new(alloc: Global, program: &Program, given: u32) -> Result<PlanHinter, AllocError> {
         let own = without_sums(alloc, program, given)?;

@@ -7,7 +7,7 @@ use Rattle.proof_tree.specs.declared.capped.Capped.{Capped}
 use Rattle.proof_tree.specs.declared.capped.Capped.TheVariants.{AtMost, NoPoint, Bad}
 use Rattle.proof_tree.specs.Cap.{Bounds, greater}
 use Rattle.proof_tree.specs.Views.{Point}
-use Rattle.plan_images.specs.Caps.{Allows, AllowsPoint, Caps, IsAbove}
+use Rattle.plan_images.specs.Caps.{Allows, AllowsPoint, Caps, AllowsMore}
 
 -- what allows so much allows less
 pub allows-less : (cap : Capped) (low high : ℤ) → low ≤ℤ high → Allows cap high → Allows cap low
@@ -54,7 +54,7 @@ allows-each P L worth NoPoint each = each
 allows-each P L worth Bad each = tt
 
 -- what a cap allows is at most what it is not above
-pub allowed-most : (cap : Capped) (most earned : ℤ) → cap ≢ Bad → (¬ IsAbove cap most) → Allows cap earned → earned ≤ℤ most
+pub allowed-most : (cap : Capped) (most earned : ℤ) → cap ≢ Bad → (¬ AllowsMore cap most) → Allows cap earned → earned ≤ℤ most
 allowed-most (AtMost n) most earned real not is = not_above n most earned not is
   where
     not_above : (a b c : ℤ) → (¬ (b <ℤ a)) → c ≤ℤ a → c ≤ℤ b

@@ -14,10 +14,10 @@ abbrev pub Caps : {X : Type 0} → (X → Type 0) → (X → ℤ) → Capped →
 Caps {X = X} admits earned cap = (x : X) → admits x → Allows cap (earned x)
 
 -- a cap allows more than a number
-abbrev pub IsAbove : Capped → ℤ → Type 0
-IsAbove (AtMost most) n = n <ℤ most
-IsAbove NoPoint n = ⊥
-IsAbove Bad n = ⊥
+abbrev pub AllowsMore : Capped → ℤ → Type 0
+AllowsMore (AtMost most) n = n <ℤ most
+AllowsMore NoPoint n = ⊥
+AllowsMore Bad n = ⊥
 
 -- a cap allows some point
 abbrev pub AllowsPoint : Capped → Type 0

@@ -1,10 +1,11 @@
 //! Programs with sums, and without.
 use row_activity::numbered;
+use row_chains::SumRows;
 use row_kit::{Entry, List, Program, Row};
 use std::alloc::{AllocError, Global};
 
-/// The program without its sums: its first slots, so many, and all its rows but the last, two for each slot more. None where there
-/// are no sums.
+/// The program without its sums: its first slots, so many, and the rows before those of sums. What is derived behind them is left out,
+/// too. None where there are no sums.
 pub fn without_sums(
     alloc: Global,
     program: &Program,
@@ -14,8 +15,7 @@ pub fn without_sums(
     if slots >= program.root.len() || slots > program.tags.len() {
         return Ok(None);
     }
-    let sums = program.root.len() - slots;
-    let count = program.rows.len().saturating_sub(sums.saturating_mul(2));
+    let count = SumRows::new(program, given).first as usize;
     let rows = first_rows(alloc, program.rows.as_slice(), count)?;
     Ok(Program::checked(
         rows,
@@ -41,16 +41,13 @@ fn first_rows(alloc: Global, rows: &[Row], count: usize) -> Result<List<Row>, Al
 
 /// Writes the values of the sums of a program, of which the slots from `given` on are theirs, into a point with values for the others.
 pub fn put_sums(program: &Program, given: u32, point: &mut [u8]) {
-    let slots = program.root.len();
     let rows = program.rows.as_slice();
-    let sums = slots.saturating_sub(given as usize);
-    let first = rows.len().saturating_sub(sums.saturating_mul(2));
-    for number in 0..sums {
-        let slot = (given as usize).saturating_add(number);
-        if let Some(row) = rows.get(first.saturating_add(number.saturating_mul(2))) {
-            let value = value_of(row, numbered(slot), point);
-            if slot < point.len() {
-                point[slot] = value;
+    let sums = SumRows::new(program, given);
+    for slot in given..numbered(program.root.len()) {
+        if let Some(row) = rows.get(sums.row_of(slot) as usize) {
+            let value = value_of(row, slot, point);
+            if (slot as usize) < point.len() {
+                point[slot as usize] = value;
             }
         }
     }

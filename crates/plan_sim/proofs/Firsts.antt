@@ -16,7 +16,7 @@ use Rattle.stn_model.specs.Load.{load}
 use Rattle.stn_model.specs.Sound.{Sound}
 use Rattle.plan_sim.specs.declared.verdict.Verdict.{Verdict}
 use Rattle.plan_sim.specs.declared.verdict.Verdict.TheVariants.{Broken, Feasible as FeasibleVerdict}
-use Rattle.plan_sim.specs.Verdicts.{IsVerdict, IsOfLevel, says_feasible}
+use Rattle.plan_sim.specs.Verdicts.{IsPlanVerdict, IsOfLevel, says_feasible}
 use Rattle.stn_model.proofs.Fitting.{ends_later}
 use Rattle.stn_model.specs.Feasible.{Feasible, StockKept, LoadKept}
 use Rattle.stn_model.specs.Violations.{Breaks, BreaksFirst, Before, order_of, start_at, no_start, TooSoon}
@@ -302,6 +302,6 @@ pub feasible_exactly : (plant : Plant) (plan : List Start) → Feasible plant pl
 feasible_exactly plant plan = (feasible_breaks_nothing plant plan, nothing_broken_is_feasible plant plan)
 
 -- a right verdict says 'feasible' exactly of feasible plans
-pub says_exactly : (plant : Plant) (plan : List Start) (verdict : Verdict) → IsVerdict plant plan verdict → IsTrue (says_feasible verdict) ↔ Feasible plant plan
+pub says_exactly : (plant : Plant) (plan : List Start) (verdict : Verdict) → IsPlanVerdict plant plan verdict → IsTrue (says_feasible verdict) ↔ Feasible plant plan
 says_exactly plant plan (FeasibleVerdict earned) h = (λ _. h.0, λ _. refl)
 says_exactly plant plan (Broken v) h = (λ e. absurd (false≢true e), λ f. absurd (feasible_breaks_nothing plant plan f v h.breaks))

@@ -13,9 +13,9 @@ use Rattle.plan_sim.specs.declared.verdict.Verdict.{Verdict}
 use Rattle.plan_sim.specs.declared.verdict.Verdict.TheVariants.{Feasible, Broken}
 
 -- the verdict is right of the plan: it is feasible and earns the profit, or the violation is the first
-abbrev pub IsVerdict : Plant → List Start → Verdict → Type 0
-IsVerdict plant plan (Feasible earned) = feasible.Feasible plant plan × (earned ≡ profit plant plan)
-IsVerdict plant plan (Broken violation) = BreaksFirst plant plan violation
+abbrev pub IsPlanVerdict : Plant → List Start → Verdict → Type 0
+IsPlanVerdict plant plan (Feasible earned) = feasible.Feasible plant plan × (earned ≡ profit plant plan)
+IsPlanVerdict plant plan (Broken violation) = BreaksFirst plant plan violation
 
 -- the verdict says that the plan is feasible
 abbrev pub says_feasible : Verdict → Bool

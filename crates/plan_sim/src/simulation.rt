@@ -27,7 +27,7 @@ ghost use Rattle.stn_model.specs.Sound.{Sound};
 ghost use Rattle.plan_sim.specs.Faults.{level, LevelKept};
 ghost use Rattle.plan_sim.specs.Tables.{IsStockTable, IsLoadTable};
 ghost use Rattle.plan_sim.specs.Units.{UnitsKept, NoTwins};
-ghost use Rattle.plan_sim.specs.Verdicts.{IsVerdict, IsOfLevel, says_feasible};
+ghost use Rattle.plan_sim.specs.Verdicts.{IsPlanVerdict, IsOfLevel, says_feasible};
 
 use crate::faults::{Fault, first_fault};
 use crate::loads::loads;
@@ -45,7 +45,7 @@ use stn_model::{Plant, Start, Violation};
 pub fn simulate(alloc: Global, plant: &Plant, plan: &[Start]) -> Result<Verdict, AllocError>
     requires sound { Sound plant.now }
     requires few { length plan.now < 2 ^ 32 }
-    ensures verdict { IfOk result (IsVerdict plant.now plan.now) }
+    ensures verdict { IfOk result (IsPlanVerdict plant.now plan.now) }
     ensures feasible { IfOk result
         (λ verdict. IsTrue (says_feasible verdict) ↔ Feasible plant.now plan.now) }
 {
@@ -92,7 +92,7 @@ fn course(alloc: Global, plant: &Plant, plan: &[Start]) -> Result<Verdict, Alloc
     requires sound { Sound plant.now }
     requires few { length plan.now < 2 ^ 32 }
     requires units { UnitsKept plant.now plan.now }
-    ensures verdict { IfOk result (IsVerdict plant.now plan.now) }
+    ensures verdict { IfOk result (IsPlanVerdict plant.now plan.now) }
     ensures feasible { IfOk result
         (λ verdict. IsTrue (says_feasible verdict) ↔ Feasible plant.now plan.now) }
 {
@@ -109,7 +109,7 @@ fn verdict_of(plant: &Plant, plan: &[Start], stocks: &[i128], loads: &[u128]) ->
     requires small { All (λ level. unsigned_abs level ≤ 2 ^ 66) stocks.now }
     requires loads { IsLoadTable plant.now plan.now loads.now }
     requires light { sum loads.now ≤ 2 ^ 76 }
-    ensures verdict { IsVerdict plant.now plan.now result }
+    ensures verdict { IsPlanVerdict plant.now plan.now result }
     ensures feasible { IsTrue (says_feasible result) ↔ Feasible plant.now plan.now }
 {
     match first_fault(plant, stocks, loads) {

@@ -16,7 +16,7 @@ use Rattle.time_grid.specs.PlanPoint.{IsPlanOf, plan_point}
 use Rattle.row_kit.specs.declared.found.Found.{Found}
 use Rattle.row_kit.specs.declared.program.Program.{Program}
 use Rattle.row_kit.specs.Point.{IsLawful, worth_of}
-use Rattle.dual_bound.specs.Cap.{IsBelow}
+use Rattle.dual_bound.specs.Cap.{IsSmallCap}
 use Rattle.row_set.proofs.PartPoints.{admitted-lawful, admitted-worth}
 use Rattle.row_set.specs.Parts.{IsAdmitted, IsPartOf}
 use Rattle.proof_tree.specs.declared.capped.Capped.{Capped}
@@ -53,7 +53,7 @@ pub record IsEnd (plant : Plant) (part : Program) (budget : ℕ) (Open : Type 0)
   pub group : IfSome ended.best (IsGroup part)
   pub least : IsLawful part (only_point part.root) → IsSomeAnd ended.best (λ best. worth_of part (only_point part.root) ≤ℤ best.value)
   pub caps : Caps (IsAdmitted plant part) (profit plant) ended.cap
-  pub short : IsBelow (10 ^ 30) ended.cap
+  pub short : IsSmallCap (10 ^ 30) ended.cap
   pub shut : ended.left_open ≡ false → IsShut ended.cap ended.best
   pub over : ended.left_open ≡ true → (IsOver ended.cap ended.best × Open) × ((ended.spent ≡ budget) × (budget < whole_count part))
   pub some : 0 < ended.spent

@@ -11,7 +11,7 @@ use Rattle.row_kit.specs.Point.{worth_of}
 use Rattle.range_prop.specs.declared.row_cut.RowCut.{RowCut}
 use Rattle.range_prop.specs.Cut.{is_bare}
 use Rattle.dual_bound.specs.declared.cert.Cert.{Cert}
-use Rattle.dual_bound.specs.Cap.{IsBelow, cert_cap, scaled_cap}
+use Rattle.dual_bound.specs.Cap.{IsSmallCap, cert_cap, scaled_cap}
 use Rattle.dual_bound.specs.Total.{are_fit, is_fit, has_total, total_of, IsUsable}
 use Rattle.dual_bound.proofs.Fit.{fit_all}
 use Rattle.dual_bound.proofs.Small.{cap_small, total_small}
@@ -37,34 +37,34 @@ usable_of rows cert fit =
     record { scale = leb-true cert.scale 1048576 q.0; few = leb-true (length cert.mults) 50000 q.1; fit = fit_all rows 0 cert.mults p.1 }
 
 -- the cap of a certificate
-cert_short : (program : Program) (ds : List Domain) (cert : Cert) → All IsNormal ds → length ds ≡ length program.root → IsBelow (10 ^ 30) (cert_cap program ds cert)
+cert_short : (program : Program) (ds : List Domain) (cert : Cert) → All IsNormal ds → length ds ≡ length program.root → IsSmallCap (10 ^ 30) (cert_cap program ds cert)
 cert_short program ds cert normal same = at (has_total program ds cert) refl
   where
-    at : (there : Bool) → has_total program ds cert ≡ there → IsBelow (10 ^ 30) (scaled_cap cert.scale (if there then Some (total_of program ds cert) else None))
+    at : (there : Bool) → has_total program ds cert ≡ there → IsSmallCap (10 ^ 30) (scaled_cap cert.scale (if there then Some (total_of program ds cert) else None))
     at true is =
         let parts = and_parts (is_fit (length program.rows) cert) (list_all (λ (d : Domain). ltb 0 (count_of d)) ds) is in
         cap_small cert.scale (10 ^ 30) (total_of program ds cert) (total_small program ds cert (usable_of (length program.rows) cert parts.0) normal same)
     at false is = tt
 
 -- what settling gives
-settled_short : (program : Program) (ds : List Domain) → IsBelow (10 ^ 30) (settled program ds)
+settled_short : (program : Program) (ds : List Domain) → IsSmallCap (10 ^ 30) (settled program ds)
 unfolding settled
 settled_short program ds = by_single (are_single ds)
   where
-    by_lawful : (lawful : Bool) → is_lawful program (only_point ds) ≡ lawful → IsBelow (10 ^ 30) (cond lawful (AtMost (worth_of program (only_point ds))) NoPoint)
+    by_lawful : (lawful : Bool) → is_lawful program (only_point ds) ≡ lawful → IsSmallCap (10 ^ 30) (cond lawful (AtMost (worth_of program (only_point ds))) NoPoint)
     by_lawful true is = worth_short program (only_point ds) (true_lawful program (only_point ds) is)
     by_lawful false is = tt
 
-    by_single : (single : Bool) → IsBelow (10 ^ 30) (cond single (cond (is_lawful program (only_point ds)) (AtMost (worth_of program (only_point ds))) NoPoint) Bad)
+    by_single : (single : Bool) → IsSmallCap (10 ^ 30) (cond single (cond (is_lawful program (only_point ds)) (AtMost (worth_of program (only_point ds))) NoPoint) Bad)
     by_single true = by_lawful (is_lawful program (only_point ds)) refl
     by_single false = tt
 
-empty_short : (empty : Bool) → IsBelow (10 ^ 30) (cond empty NoPoint Bad)
+empty_short : (empty : Bool) → IsSmallCap (10 ^ 30) (cond empty NoPoint Bad)
 empty_short true = tt
 empty_short false = tt
 
 -- the cap of a leaf
-leaf_short : (program : Program) (v : View) (end : Leaf Cert) → Fits program v → IsBelow (10 ^ 30) (leaf_cap (row_steps program) v end)
+leaf_short : (program : Program) (v : View) (end : Leaf Cert) → Fits program v → IsSmallCap (10 ^ 30) (leaf_cap (row_steps program) v end)
 unfolding row_steps
 leaf_short program v no_point fit = empty_short (list_any is_bare (domains_of v))
 leaf_short program v (dual cert) fit = cert_short program (domains_of v) cert fit.normal fit.slots
@@ -75,14 +75,14 @@ max_short : (most : ℕ) (a b : ℤ) → unsigned_abs a < most → unsigned_abs 
 max_short most a b low high = omega (arith, ints, clamps)
 
 -- the greater of two caps
-greater_short : (most : ℕ) (a b : Capped) → IsBelow most a → IsBelow most b → IsBelow most (greater a b)
+greater_short : (most : ℕ) (a b : Capped) → IsSmallCap most a → IsSmallCap most b → IsSmallCap most (greater a b)
 greater_short most Bad b low high = tt
 greater_short most NoPoint b low high = high
 greater_short most (AtMost a) Bad low high = tt
 greater_short most (AtMost a) NoPoint low high = low
 greater_short most (AtMost a) (AtMost b) low high = max_short most a b low high
 
-if_short : (most : ℕ) (next : Option View) (cap_at : View → Capped) → ((w : View) → next ≡ Some w → IsBelow most (cap_at w)) → IsBelow most (cap_if next cap_at)
+if_short : (most : ℕ) (next : Option View) (cap_at : View → Capped) → ((w : View) → next ≡ Some w → IsSmallCap most (cap_at w)) → IsSmallCap most (cap_if next cap_at)
 if_short most None cap_at each = tt
 if_short most (Some w) cap_at each = each w refl
 
@@ -99,7 +99,7 @@ cuts_fit program (u ∷ us) v w fit is = first (λ x there led. cuts_fit program
     first rest (Some x) to led = rest x ((rows_sound program).cut_fits v x u fit to) led
 
 -- the cap of a tree
-tree_short : (program : Program) (tree : RowTree) (v : View) → Fits program v → IsBelow (10 ^ 30) (tree_cap (row_steps program) v tree)
+tree_short : (program : Program) (tree : RowTree) (v : View) → Fits program v → IsSmallCap (10 ^ 30) (tree_cap (row_steps program) v tree)
 tree_short program (leaf cuts found end) v fit =
     if_short (10 ^ 30) (after_cuts (row_steps program) v cuts) (λ w. leaf_cap (row_steps program) w end) (λ w is. leaf_short program w end (cuts_fit program cuts v w fit is))
 tree_short program (split cuts found pick cert a b) v fit =
@@ -112,5 +112,5 @@ tree_short program (split cuts found pick cert a b) v fit =
     (if_short (10 ^ 30) ((row_steps program).right w pick) (λ x. tree_cap (row_steps program) x b) (λ x to. tree_short program b x ((rows_sound program).right_fits w x pick inner to))))
 
 -- the cap of a proof over the root
-pub root_short : (program : Program) (tree : RowTree) → IsBelow (10 ^ 30) (tree_cap (row_steps program) (view_of program.root) tree)
+pub root_short : (program : Program) (tree : RowTree) → IsSmallCap (10 ^ 30) (tree_cap (row_steps program) (view_of program.root) tree)
 root_short program tree = tree_short program tree (view_of program.root) (fits_of program program.root refl program.root_normal)

@@ -1,28 +1,26 @@
 -- At a lawful point the sums have values that are bytes.
 use Rattle.std.proofs.Common.{ℕ, List, sym, subst, arith}
 use Rattle.std.specs.List.{All}
-use Rattle.stn_model.specs.declared.plant.Plant.{Plant}
+use Rattle.row_kit.specs.declared.domain.Domain.{Domain}
 use Rattle.row_kit.specs.declared.program.Program.{Program}
 use Rattle.row_kit.specs.Point.{IsLawful}
-use Rattle.row_set.specs.Parts.{IsPartOf}
-use Rattle.row_set.specs.PlantProgram.{plant_root}
 use Rattle.proof_log.specs.declared.claim.Claim.{Claim}
 use Rattle.proof_log.specs.declared.claim.Claim.TheVariants.{Optimal, Infeasible, Between, Below}
 use Rattle.sum_slots.specs.declared.sum.Sum.{Sum}
-use Rattle.sum_slots.specs.Larger.{IsWithSums}
+use Rattle.sum_slots.specs.Shown.{AreRanges}
 use Rattle.sum_slots.specs.Sum.{IsDeclared}
 use Rattle.sum_slots.proofs.Ranges.{value_byte}
-use Rattle.valid_log.specs.SumTexts.{MayHead}
-use Rattle.valid_log.proofs.PlantRanges.{part-ranges}
+use Rattle.derivations.specs.declared.derivation.Derivation.{Derivation}
 use Rattle.plan_told.specs.Claims.{HaveBytes, IfPoint}
+use Rattle.plan_told.specs.Heads.{CanHead}
 
-module _ (plant : Plant) (part larger : Program) (sums : List Sum) (is : IsPartOf plant part) (may : MayHead part (plant_root plant) sums) (enlarged : IsWithSums part (plant_root plant) sums larger) where
+module _ (part larger : Program) (judged : List Domain) (sums : List Sum) (derivations : List Derivation) (wide : AreRanges part judged) (can : CanHead part judged sums derivations larger) where
   -- at a lawful point
   have_bytes : (point : List ℕ) → IsLawful part point → HaveBytes sums point
   have_bytes point lawful = record {
     few = omega (arith, lawful.lies.same_length, part.few_slots);
-    declared = subst (λ (n : ℕ). All (IsDeclared n) sums) (sym lawful.lies.same_length) may.kept.declared;
-    bytes = λ k d lt. value_byte part (plant_root plant) _ point (part-ranges plant part is) (may.kept.declared k d lt) (may.shown k d lt) lawful;
+    declared = subst (λ (n : ℕ). All (IsDeclared n) sums) (sym lawful.lies.same_length) can.sums_kept.declared;
+    bytes = λ k d lt. value_byte part judged _ point wide (can.sums_kept.declared k d lt) (can.enlarged.sums_shown k d lt) lawful;
   }
 
   -- at the point of a claim, where it is lawful

@@ -1,9 +1,12 @@
--- The proof of a search has no meaning defect.
-use Rattle.std.proofs.Common.{◌≡◌, ℕ, sym, ap, ◌∙◌}
+-- A proof that may be written, and whose cap is defined, has no meaning defect.
+use Rattle.std.proofs.Common.{◌≡◌, ◌≢◌, sym, ap, ◌∙◌}
 use Rattle.std.proofs.lemmas.List.Elements.{All-weaker}
 use Rattle.row_kit.specs.declared.area.Area.{Area}
 use Rattle.row_kit.specs.declared.found.Found.{Found}
 use Rattle.row_kit.specs.declared.program.Program.{Program}
+use Rattle.proof_tree.specs.declared.capped.Capped.{Capped}
+use Rattle.proof_tree.specs.declared.capped.Capped.TheVariants.{Bad}
+use Rattle.proof_tree.specs.Tree.{tree_cap}
 use Rattle.proof_tree.specs.declared.item.Item.TheVariants.{Node, Cut, Found as FoundItem, Empty, Dual, Point, Pending, Split}
 use Rattle.proof_tree.specs.Items.{tree_items}
 use Rattle.proof_tree.specs.Walk.{ended, outcome_of, walked, start}
@@ -12,8 +15,7 @@ use Rattle.row_relax.specs.declared.rows.Rows.{Rows}
 use Rattle.row_relax.specs.RowProofs.{RowItem, RowTree}
 use Rattle.row_relax.specs.Steps.{row_steps}
 use Rattle.row_relax.specs.View.{view_of}
-use Rattle.branch_tree.specs.declared.ended.Ended.{Ended}
-use Rattle.branch_tree.specs.Searched.{IsFitItem, IsSearch}
+use Rattle.branch_tree.specs.Searched.{IsFitItem, IsWritable}
 use Rattle.valid_log.specs.Meaning.{IsProved}
 use Rattle.valid_log.proofs.FoundSound.{IsFine, items_sound, real_outcome}
 use Rattle.valid_log.proofs.Items.{worth-sound}
@@ -29,16 +31,14 @@ item_fine program Point fit = tt
 item_fine program (Pending cert) fit = tt
 item_fine program (Split pick cert) fit = tt
 
--- the items of the proof of a search lead to its cap
-search_led : {given : ℕ} (program : Program) (budget : ℕ) (tree : RowTree) (over : Ended) → IsSearch program given budget tree over → walked {R = Rows} {A = Area} {F = Found} (row_steps program) (start (view_of program.root)) (tree_items tree) ≡ ended over.cap
-search_led program budget tree over made =
-    walked-whole Rows Area Found (row_steps program) tree (view_of program.root)
-    ∙ (ap outcome_of (sym made.cap) ∙ real_outcome over.cap made.defined)
+module _ (program : Program) (tree : RowTree) (cap : Capped) (writable : IsWritable program tree) (is : cap ≡ tree_cap (row_steps program) (view_of program.root) tree) (defined : cap ≢ Bad) where
+  -- the items of a proof lead to its cap
+  items_led : walked {R = Rows} {A = Area} {F = Found} (row_steps program) (start (view_of program.root)) (tree_items tree) ≡ ended cap
+  items_led = walked-whole Rows Area Found (row_steps program) tree (view_of program.root) ∙ (ap outcome_of (sym is) ∙ real_outcome cap defined)
 
--- the proof of a search has no defect, and leads to its cap
-pub search_proved : {given : ℕ} (program : Program) (budget : ℕ) (tree : RowTree) (over : Ended) → IsSearch program given budget tree over → IsProved (row_steps program) program (view_of program.root) (tree_items tree) over.cap
-search_proved program budget tree over made = record {
-  sound = items_sound program (start (view_of program.root)) (tree_items tree) over.cap (All-weaker (IsFitItem program) (IsFine program) (item_fine program) (tree_items tree) made.writable.fit)
-      (search_led program budget tree over made);
-  led = search_led program budget tree over made;
-}
+  -- a proof that may be written, and whose cap is defined, has no defect, and leads to its cap
+  pub tree-proved : IsProved (row_steps program) program (view_of program.root) (tree_items tree) cap
+  tree-proved = record {
+    sound = items_sound program (start (view_of program.root)) (tree_items tree) cap (All-weaker (IsFitItem program) (IsFine program) (item_fine program) (tree_items tree) writable.fit) items_led;
+    led = items_led;
+  }

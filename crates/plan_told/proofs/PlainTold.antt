@@ -42,7 +42,7 @@ use Rattle.plan_told.specs.declared.telling.Told.{Told}
 use Rattle.plan_told.proofs.Answering.{IsEnd, IsOver, IsShut, told-with}
 use Rattle.plan_told.proofs.PartPlans.{group-places}
 use Rattle.plan_told.proofs.Texts.{plain-is}
-use Rattle.plan_told.proofs.ValidLog.{search-cap_short, valid-search}
+use Rattle.plan_told.proofs.ValidLog.{cap-short, valid-tree}
 
 -- the found points of a search are lawful, and stand with their worth
 groups_of : {given : ℕ} (program : Program) (budget : ℕ) (tree : RowTree) (ended : Ended) → IsSearch program given budget tree ended → All (IsGroup program) (found_points tree)
@@ -103,7 +103,7 @@ module _ (plant : Plant) (part : Program) (sound : Sound plant) (is : IsPartOf p
         group = best-group part budget tree ended of.search;
         least = of.search.least;
         caps = bounds-cap (IsAdmitted plant part) (profit plant) part (LiesIn part.root) ended.cap (part-relaxes plant part is) (λ point lawful. lawful.lies) of.search.bounds;
-        short = search-cap_short part budget tree ended of.search;
+        short = cap-short part tree ended.cap of.search.cap;
         shut = λ closed. shut_of ended.cap ended.best (of.search.settled closed);
         over = λ left.
             let was = of.search.left_open left in
@@ -118,11 +118,12 @@ module _ (plant : Plant) (part : Program) (sound : Sound plant) (is : IsPartOf p
   pub told-right : (told : Told) → IsTold plant ended told → IsToldRight plant part budget tree told
   told-right told says =
       let with' = told-with plant part sound is budget (HasOpenBox part (view_of part.root) tree) (λ outcome. IsProofOf plant part outcome tree) ended plain_end
-      (λ said borne small most left. record {
+      (λ said borne small most left judged. record {
         boxes = sym of.search.spent;
         justified = of.search.justified;
-        is = plain-is plant part tree (claim_of plant said);
-        valid = plain-verdict part (plant_root plant) (plant_root plant) (depth_over part.root) (tree_items tree) (claim_of plant said) (Yes (claim_of plant said)) (valid-search part budget tree ended (claim_of plant said) of.search borne small);
+        is = plain-is part judged tree (claim_of plant said);
+        valid = plain-verdict part (plant_root plant) judged (depth_over part.root) (tree_items tree) (claim_of plant said) (Yes (claim_of plant said))
+            (valid-tree part tree ended.cap of.search.cap (claim_of plant said) of.search.writable of.search.defined borne small);
         cap = subst (IsCapOf said) of.search.cap most;
         left_open = left;
       }) told says in

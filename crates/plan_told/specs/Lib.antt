@@ -1,6 +1,7 @@
 pub mod Claims
 pub mod Ended
 pub mod Given
+pub mod Heads
 pub mod Law
 pub mod Outcomes
 pub mod Proofs

@@ -26,9 +26,10 @@ use Rattle.proof_log.specs.declared.claim.Claim.TheVariants as claim
 use Rattle.proof_log.specs.Log.{log_text}
 use Rattle.valid_log.specs.declared.verdict.LogVerdict.TheVariants.{Yes}
 use Rattle.sum_slots.specs.declared.sum.Sum.{Sum}
-use Rattle.sum_slots.specs.Larger.{IsWithSums}
-use Rattle.valid_log.specs.PlantLogs.{IsPlantVerdict}
-use Rattle.valid_log.specs.SumTexts.{larger_claim, sums_text}
+use Rattle.derivations.specs.declared.derivation.Derivation.{Derivation}
+use Rattle.valid_log.specs.AnyVersion.{IsAnyVerdict, IsWithHead}
+use Rattle.valid_log.specs.SumTexts.{larger_claim}
+use Rattle.plan_told.specs.Heads.{headed_text}
 
 -- the claim of an answer: its profit, its cap, and the point of its plan
 abbrev pub claim_of : Plant → Answer → Claim
@@ -53,21 +54,22 @@ IsCapOf (answer.Optimal plan earned) capped = ⊤
 IsCapOf answer.Infeasible capped = ⊤
 IsCapOf (answer.BudgetSpent plan earned cap) capped = capped ≡ AtMost cap
 
--- The text is that of a log of a part, of this proof and this claim over this program: of version 2 over the part's own, or of version 3
--- over that with the sums which it declares.
-abbrev pub IsLogText : Plant → Program → List Sum → Program → RowTree → Claim → List ℕ → Type 0
-IsLogText plant part sums larger tree own text =
-    ((sums ≡ []) × (larger ≡ part) × (text ≡ log_text 2 (tree_items tree) own)) ⊎ (IsWithSums part (plant_root plant) sums larger × (text ≡ sums_text sums tree own))
+-- The text is that of a log of a part, of this proof and this claim over this program: of version 2 over the part's own, or of version 4
+-- over that with the sums and derivations which its head declares, judged over domains. No log of another version is written.
+abbrev pub IsLogText : Program → List Domain → List Sum → List Derivation → Program → RowTree → Claim → List ℕ → Type 0
+IsLogText part judged sums derivations larger tree own text =
+    ((sums ≡ []) × (derivations ≡ []) × (larger ≡ part) × (text ≡ log_text 2 (tree_items tree) own))
+    ⊎ (IsWithHead 4 part judged sums derivations larger × (text ≡ headed_text sums derivations tree own))
 
--- A proof of an outcome over the part's program with sums, or without: no box was split without cause, as many boxes are counted as the
--- outcome says, and its text with the claim of the answer is a valid log. Where the budget was spent, CAP is the proof's cap, and a
--- box with a point is open.
-pub record IsProofOver (plant : Plant) (part : Program) (sums : List Sum) (larger : Program) (outcome : Outcome) (tree : RowTree) (text : List ℕ) : Type 0 where
+-- A proof of an outcome over the part's program with sums and derivations, or without: no box was split without cause, as many boxes are
+-- counted as the outcome says, and its text with the claim of the answer is a valid log, whose head is judged over these domains. Where
+-- the budget was spent, CAP is the proof's cap, and a box with a point is open.
+pub record IsProofOver (plant : Plant) (part : Program) (judged : List Domain) (sums : List Sum) (derivations : List Derivation) (larger : Program) (outcome : Outcome) (tree : RowTree) (text : List ℕ) : Type 0 where
   pub boxes : counted tree ≡ outcome.boxes
   -- the slots of the part are the plant's own, all later ones a sum's
   pub justified : IsJustified larger (length part.root) tree
-  pub is : IsLogText plant part sums larger tree (larger_claim sums (claim_of plant outcome.answer)) text
-  pub valid : IsPlantVerdict plant part (depth_over part.root) text (Yes (claim_of plant outcome.answer))
+  pub is : IsLogText part judged sums derivations larger tree (larger_claim sums (claim_of plant outcome.answer)) text
+  pub valid : IsAnyVerdict part (plant_root plant) judged (depth_over part.root) text (Yes (claim_of plant outcome.answer))
   pub cap : IsCapOf outcome.answer (tree_cap (row_steps larger) (view_of larger.root) tree)
   pub left_open : IfSpent outcome.answer (HasOpenBox larger (view_of larger.root) tree)
 
@@ -75,25 +77,28 @@ pub record IsProofOver (plant : Plant) (part : Program) (sums : List Sum) (large
 abbrev pub proof_text : Plant → Answer → RowTree → List ℕ
 proof_text plant answer tree = log_text 2 (tree_items tree) (claim_of plant answer)
 
--- the text of the log of a proof over a program with sums, with the claim of an answer, whose point the values of the sums follow
-abbrev pub sums_proof_text : Plant → Answer → List Sum → RowTree → List ℕ
-sums_proof_text plant answer sums tree = sums_text sums tree (larger_claim sums (claim_of plant answer))
+-- the text of the log of a proof behind a head, with the claim of an answer, whose point the values of the sums follow
+abbrev pub headed_proof_text : Plant → Answer → List Sum → List Derivation → RowTree → List ℕ
+headed_proof_text plant answer sums derivations tree = headed_text sums derivations tree (larger_claim sums (claim_of plant answer))
 
 -- a proof of an outcome over the part's own program
 abbrev pub IsProofOf : Plant → Program → Outcome → RowTree → Type 0
-IsProofOf plant part outcome tree = IsProofOver plant part [] part outcome tree (proof_text plant outcome.answer tree)
+IsProofOf plant part outcome tree = (judged : List Domain) → IsProofOver plant part judged [] [] part outcome tree (proof_text plant outcome.answer tree)
 
--- a proof of an outcome over the part's program with sums
-abbrev pub IsSumsProofOf : Plant → Program → List Sum → Outcome → RowTree → Type 0
-IsSumsProofOf plant part sums outcome tree = (larger : Program) × IsProofOver plant part sums larger outcome tree (sums_proof_text plant outcome.answer sums tree)
+-- a proof of an outcome over the part's program with the sums and derivations of a head that is judged over domains
+abbrev pub IsHeadedProofOf : Plant → Program → List Domain → List Sum → List Derivation → Outcome → RowTree → Type 0
+IsHeadedProofOf plant part judged sums derivations outcome tree =
+    (larger : Program) × IsProofOver plant part judged sums derivations larger outcome tree (headed_proof_text plant outcome.answer sums derivations tree)
 
--- there is a proof of the outcome, over the part's own program or over that with sums; where bytes are told, they are the text of its log
-pub record HasProof (plant : Plant) (part : Program) (log : Option (List ℕ)) (outcome : Outcome) : Type 0 where
+-- there is a proof of the outcome, over the part's own program or over that with what a head declares that is judged over these domains;
+-- where bytes are told, they are the text of its log
+pub record HasProof (plant : Plant) (part : Program) (judged : List Domain) (log : Option (List ℕ)) (outcome : Outcome) : Type 0 where
   pub sums : List Sum
+  pub derivations : List Derivation
   pub larger : Program
   pub tree : RowTree
   pub text : List ℕ
-  pub proof : IsProofOver plant part sums larger outcome tree text
+  pub proof : IsProofOver plant part judged sums derivations larger outcome tree text
   pub told : IfSome log (λ bytes. bytes ≡ text)
 
 -- the bytes of the file of this name, where files are told
@@ -101,18 +106,19 @@ abbrev pub bytes_in : List ℕ → Option FileMap → Option (List ℕ)
 bytes_in name files = option_map (λ m. file_of m name) files
 
 -- bytes are a first part of the text of a log of either version, whose found points are lawful and stand with their worth
-pub record IsSomeLogBegun (plant : Plant) (part : Program) (bytes : List ℕ) : Type 0 where
+pub record IsSomeLogBegun (part : Program) (judged : List Domain) (bytes : List ℕ) : Type 0 where
   pub sums : List Sum
+  pub derivations : List Derivation
   pub larger : Program
   pub tree : RowTree
   pub own : Claim
   pub rest : List ℕ
-  pub is : IsLogText plant part sums larger tree own (bytes ++ rest)
+  pub is : IsLogText part judged sums derivations larger tree own (bytes ++ rest)
   pub writable : IsWritable larger tree
 
 -- what an attempt leaves that did not end: the files are as they were, or the file of this name is a log that was begun
-abbrev pub IsLeft : Plant → Program → List ℕ → Option FileMap → Option FileMap → Type 0
-IsLeft plant part name old new = (new ≡ old) ⊎ IfSome (bytes_in name new) (IsSomeLogBegun plant part)
+abbrev pub LeavesSomeBegun : Program → List Domain → List ℕ → Option FileMap → Option FileMap → Type 0
+LeavesSomeBegun part judged name old new = (new ≡ old) ⊎ IfSome (bytes_in name new) (IsSomeLogBegun part judged)
 
 -- a proof of an outcome over the whole program of a plant
 pub record IsPlantProof (plant : Plant) (outcome : Outcome) (tree : RowTree) : Type 0 where
@@ -126,8 +132,8 @@ pub record HasPlantProof (plant : Plant) (log : Option (List ℕ)) (outcome : Ou
   pub program : Program
   pub made : IsMadeOf plant program
   pub means : IsProgramOf plant program
-  pub has : HasProof plant program log outcome
+  pub has : HasProof plant program (plant_root plant) log outcome
 
 -- what an attempt leaves that did not end: the files are as they were, or the file of this name is a log over the plant's program that was begun
 abbrev pub IsLeftOf : Plant → List ℕ → Option FileMap → Option FileMap → Type 0
-IsLeftOf plant name old new = (new ≡ old) ⊎ ((program : Program) × (IsMadeOf plant program × (IsProgramOf plant program × IsLeft plant program name old new)))
+IsLeftOf plant name old new = (new ≡ old) ⊎ ((program : Program) × (IsMadeOf plant program × (IsProgramOf plant program × LeavesSomeBegun program (plant_root plant) name old new)))

@@ -11,7 +11,7 @@ use Rattle.stn_model.specs.Sound.{Sound}
 use Rattle.row_kit.specs.declared.program.Program.{Program}
 use Rattle.time_grid.specs.PlanPoint.{HasPoint, plan_point}
 use Rattle.row_set.specs.Parts.{IsAdmitted, IsPartOf}
-use Rattle.row_set.specs.PlantProgram.{IsMadeOf, IsProgramOf}
+use Rattle.row_set.specs.PlantProgram.{IsMadeOf, IsProgramOf, plant_root}
 use Rattle.plan_told.specs.Outcomes.{IsPartOutcome, least_plan, whole_count}
 use Rattle.plan_told.specs.Proofs.{HasPlantProof, HasProof}
 use Rattle.plan_told.proofs.WholePlant.{whole-outcome}
@@ -64,10 +64,10 @@ module _ (plant : Plant) (program : Program) (made : IsMadeOf plant program) (me
   }
 
   -- and its proof
-  pub plant-proof : (log : Option (List ℕ)) (outcome : Outcome) → HasProof plant program log outcome → HasPlantProof plant log outcome
+  pub plant-proof : (log : Option (List ℕ)) (outcome : Outcome) → HasProof plant program (plant_root plant) log outcome → HasPlantProof plant log outcome
   plant-proof log outcome has = record { program = program; made = made; means = means; has = has }
 
   -- what is left over it
-  pub leaves-plant : (name : List ℕ) (old new : Option FileMap) → LeavesLog plant program name old new → LeavesPlant plant name old new
+  pub leaves-plant : (name : List ℕ) (old new : Option FileMap) → LeavesLog plant program (plant_root plant) name old new → LeavesPlant plant name old new
   leaves-plant name old new (inl left) = inl (inr (program, (made, (means, left))))
   leaves-plant name old new (inr whole) = inr (whole.0, record { program = program; made = made; means = means; has = whole.1 })

@@ -7,6 +7,7 @@ use Rattle.stn_model.specs.Answers.{IsOutcomeOf}
 use Rattle.plant_text.specs.Reading.{reading}
 use Rattle.time_grid.specs.Slots.{slots}
 use Rattle.row_kit.specs.declared.program.Program.{Program}
+use Rattle.row_set.specs.PlantProgram.{plant_root}
 use Rattle.valid_log.specs.declared.verdict.LogVerdict.TheVariants.{Yes}
 use Rattle.valid_log.specs.PlantLogs.{IsPlantVerdict}
 use Rattle.plan_told.specs.Outcomes.{least_plan, whole_count}
@@ -20,7 +21,7 @@ use Rattle.planning_commands.specs.Replanning.{LeavesLog}
 -- there is a proof of the outcome whose log is valid also where at most 4,608 splits less one for each level may be open; where
 -- bytes are told, they are the text of its log
 pub record HasPartProof (plant : Plant) (levels : ℕ) (program : Program) (log : Option (List ℕ)) (outcome : Outcome) : Type 0 where
-  pub has : HasProof plant program log outcome
+  pub has : HasProof plant program (plant_root plant) log outcome
   pub shallow : IsPlantVerdict plant program (4608 - levels) has.text (Yes (claim_of plant outcome.answer))
 
 -- The answer over a program of a part of the plant: a right outcome of planning among the feasible plans of the part within the
@@ -38,7 +39,7 @@ PartSolved budget plant levels part log status text =
 -- a program of the part
 abbrev pub LeavesPart : Plant → ℕ → ℕ → List ℕ → Option FileMap → Option FileMap → Type 0
 LeavesPart plant levels part log old new =
-    (new ≡ old) ⊎ ((levels ≤ length (slots plant)) × ((program : Program) × (IsPartProgram plant levels part program × LeavesLog plant program log old new)))
+    (new ≡ old) ⊎ ((levels ≤ length (slots plant)) × ((program : Program) × (IsPartProgram plant levels part program × LeavesLog plant program (plant_root plant) log old new)))
 
 -- the plant in a file was read, and the file of a log is as it was, or holds a log over a part of the plant
 pub record HoldsPart (old new : Option FileMap) (name : List ℕ) (levels part : ℕ) (log : List ℕ) : Type 0 where

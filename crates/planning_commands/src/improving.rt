@@ -11,6 +11,7 @@ ghost use Rattle.planning_commands.specs.PlanningOn.{CanGoOn, LeftOn};
 
 use crate::planning::plan_plant;
 use answer_texts::simulate_plan;
+use box_advice::Advisers;
 use command_replies::{Reply, Stopped};
 use command_words::{Budget, PlanUse};
 use std::alloc::Global;
@@ -19,7 +20,7 @@ use stn_model::{Plant, Start};
 
 /// The answer of planning that begins with a plan: what the plan breaks first where it is not feasible. The log of the proof is
 /// written where it is named.
-pub fn improve<F: Shelf>(
+pub fn improve<A: Advisers, F: Shelf>(
     alloc: Global,
     files: &mut F,
     plant: &Plant,
@@ -47,11 +48,12 @@ pub fn improve<F: Shelf>(
     ensures writable { F.may_write files.new ≡ F.may_write files.old }
     ensures no_read { F.read_faults files.new ≡ F.read_faults files.old }
     ensures writes { F.write_faults files.old ≤ F.write_faults files.new }
-    ensures no_write { named_log log.entry ≡ None → F.write_faults files.new ≡ F.write_faults files.old }
+    ensures no_write { named_log log.entry ≡ None
+        → F.write_faults files.new ≡ F.write_faults files.old }
 {
     let simulated = simulate_plan(alloc, PlanUse::Simulate, plant, plan)?;
     if simulated.status == 0 {
-        plan_plant(alloc, files, plant, plan, Some(0), budget, log)
+        plan_plant::<A, _>(alloc, files, plant, plan, Some(0), budget, log)
     } else {
         Ok(simulated)
     }

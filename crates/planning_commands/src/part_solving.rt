@@ -14,16 +14,18 @@ ghost use Rattle.planning_commands.specs.PartSolving.{HoldsPart, LeavesPart, Par
 
 use crate::planning::plan_part;
 use answer_texts::{has_slots, refused_levels};
+use box_advice::Advisers;
 use command_replies::{Reply, Stopped, plant_in};
 use command_words::{Budget, Part};
 use plant_parts::part_rows;
+use row_set::plant_root;
 use std::alloc::Global;
 use stn_edge::Shelf;
 use stn_model::Plant;
 
 /// Plans a part of the plant in a file, with at most so many boxes, and writes the log of the proof to another. No file is written
 /// but the log, and none before the plant is read and found to have a slot for each level.
-pub fn solve_part_file<F: Shelf>(
+pub fn solve_part_file<A: Advisers, F: Shelf>(
     alloc: Global,
     files: &mut F,
     name: &str,
@@ -33,7 +35,8 @@ pub fn solve_part_file<F: Shelf>(
 ) -> Result<Reply, Stopped>
     requires plant_readable { IsTrue (F.may_read files.old name.now) }
     requires log_writable { IsTrue (F.may_write files.old log.now) }
-    ensures answer { IfReplied result (λ reply. IsPlantAnswer (F.files files.old) (F.files files.new)
+    ensures answer { IfReplied result (λ reply. IsPlantAnswer (F.files files.old)
+        (F.files files.new)
         name.now [] (λ _ plant. OnLevels plant part.levels.number (PartSolved budget.boxes plant
         part.levels.number part.number (bytes_in log.now (F.files files.new))))
         reply.status reply.text.items) }
@@ -56,11 +59,11 @@ pub fn solve_part_file<F: Shelf>(
     ensures writes { F.write_faults files.old ≤ F.write_faults files.new }
 {
     let plant = plant_in(alloc, files, name)?;
-    solve_part(alloc, files, &plant, part, budget, log)
+    solve_part::<A, _>(alloc, files, &plant, part, budget, log)
 }
 
 // The answer of planning a part of a plant, whose log is written.
-fn solve_part<F: Shelf>(
+fn solve_part<A: Advisers, F: Shelf>(
     alloc: Global,
     files: &mut F,
     plant: &Plant,
@@ -90,14 +93,14 @@ fn solve_part<F: Shelf>(
     ensures writes { F.write_faults files.old ≤ F.write_faults files.new }
 {
     if has_slots(alloc, plant, part.levels)? {
-        log_rows_of_part(alloc, files, plant, part, budget, log)
+        log_rows_of_part::<A, _>(alloc, files, plant, part, budget, log)
     } else {
         Ok(refused_levels(alloc)?)
     }
 }
 
 // The answer where the plant has a slot for each level.
-fn log_rows_of_part<F: Shelf>(
+fn log_rows_of_part<A: Advisers, F: Shelf>(
     alloc: Global,
     files: &mut F,
     plant: &Plant,
@@ -124,11 +127,13 @@ fn log_rows_of_part<F: Shelf>(
 {
     let levels = part.levels.number;
     let rows = part_rows(alloc, plant, levels, part.number)?;
-    plan_part(
+    let judged = plant_root(alloc, plant)?;
+    plan_part::<A, _>(
         alloc,
         files,
         plant,
         rows.program,
+        judged,
         levels,
         &[],
         None,

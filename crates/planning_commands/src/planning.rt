@@ -4,6 +4,7 @@ ghost use Rattle.stn_edge.specs.Count.{Rose};
 ghost use Rattle.stn_edge.specs.Files.{OthersStay};
 ghost use Rattle.stn_model.specs.Sound.{Sound};
 ghost use Rattle.row_set.specs.Parts.{IsPartOf};
+ghost use Rattle.sum_slots.specs.Shown.{AreRanges};
 ghost use Rattle.plan_told.specs.Outcomes.{IsPartOutcome};
 ghost use Rattle.plan_told.specs.Proofs.{HasPlantProof, HasProof};
 ghost use Rattle.stn_solve.specs.Begun.{EarnsPoint};
@@ -23,11 +24,11 @@ ghost use Rattle.planning_commands.specs.Replanning.{IsBegunOutcome, LeavesLog};
 ghost use Rattle.planning_commands.specs.Solving.{LeavesPlant};
 
 use answer_texts::{counted_since, in_money, planned};
-use best_first::BestFirst;
+use box_advice::Advisers;
 use command_replies::{Reply, Stopped};
 use command_words::Budget;
-use row_kit::Program;
-use row_set::program_of;
+use row_kit::{Domain, List, Program};
+use row_set::{plant_root, program_of};
 use std::alloc::{AllocError, Global};
 use stn_edge::{Shelf, Stop};
 use stn_model::{Outcome, Plant, Start};
@@ -35,7 +36,7 @@ use stn_solve::{plan_rows, point_of, solve_rows_to};
 
 /// The answer of planning a plant, beginning with a plan, of whose starts those are counted that have changed since a period, if one
 /// is given. The log of the proof is written where it is named.
-pub fn plan_plant<F: Shelf>(
+pub fn plan_plant<A: Advisers, F: Shelf>(
     alloc: Global,
     files: &mut F,
     plant: &Plant,
@@ -56,7 +57,8 @@ pub fn plan_plant<F: Shelf>(
     ensures write_fault { result ≡ Err Stopped.WriteFault
         → Rose (F.write_faults files.old) (F.write_faults files.new) }
     ensures named { result ≡ Err Stopped.WriteFault → named_log log.entry ≢ None }
-    ensures left { LogLeft (named_log log.entry) (λ name. LeavesPlant plant.now name (F.files files.old)
+    ensures left { LogLeft (named_log log.entry)
+        (λ name. LeavesPlant plant.now name (F.files files.old)
         (F.files files.new)) (F.files files.old) (F.files files.new) }
     ensures others { LogLeft (named_log log.entry) (λ name. OthersStay name (F.files files.old)
         (F.files files.new)) (F.files files.old) (F.files files.new) }
@@ -64,19 +66,25 @@ pub fn plan_plant<F: Shelf>(
     ensures writable { F.may_write files.new ≡ F.may_write files.old }
     ensures no_read { F.read_faults files.new ≡ F.read_faults files.old }
     ensures writes { F.write_faults files.old ≤ F.write_faults files.new }
-    ensures no_write { named_log log.entry ≡ None → F.write_faults files.new ≡ F.write_faults files.old }
+    ensures no_write { named_log log.entry ≡ None
+        → F.write_faults files.new ≡ F.write_faults files.old }
 {
     let program = program_of(alloc, plant)?;
-    plan_part(alloc, files, plant, program, 0, start, since, budget, log)
+    let judged = plant_root(alloc, plant)?;
+    plan_part::<A, _>(
+        alloc, files, plant, program, judged, 0, start, since, budget, log,
+    )
 }
 
 /// The answer of planning over the program of a part of a plant's choices, as `plan_plant` answers over the plant. The part is one of
-/// those that are told apart by so many first slots, 0 where there is none beside it.
-pub fn plan_part<F: Shelf>(
+/// those that are told apart by so many first slots, 0 where there is none beside it. The head of the log is judged over domains: those
+/// of the plant's slots, and where starts are kept the part's own.
+pub fn plan_part<A: Advisers, F: Shelf>(
     alloc: Global,
     files: &mut F,
     plant: &Plant,
     part: Program,
+    judged: List<Domain>,
     levels: u32,
     start: &[Start],
     since: Option<u32>,
@@ -85,18 +93,20 @@ pub fn plan_part<F: Shelf>(
 ) -> Result<Reply, Stopped>
     requires sound { Sound plant.now }
     requires part { IsPartOf plant.now part }
+    requires ranges { AreRanges part judged }
     requires short { length start.now < 2 ^ 32 }
     requires allowed { IfSome (named_log log) (λ name. IsTrue (F.may_write files.old name)) }
     ensures answer { IfOk result (λ reply. Planned plant.now (counted_since since start.now)
         (IsBegunOutcome plant.now part start.now budget.boxes)
-        (HasProof plant.now part (told_log (named_log log.entry) (F.files files.new)))
+        (HasProof plant.now part judged (told_log (named_log log.entry) (F.files files.new)))
         reply.status reply.text.items) }
     ensures none { IfRefused result (λ _. ⊥) }
     ensures no_fault { result ≢ Err Stopped.ReadFault }
     ensures write_fault { result ≡ Err Stopped.WriteFault
         → Rose (F.write_faults files.old) (F.write_faults files.new) }
     ensures named { result ≡ Err Stopped.WriteFault → named_log log.entry ≢ None }
-    ensures left { LogLeft (named_log log.entry) (λ name. LeavesLog plant.now part name (F.files files.old)
+    ensures left { LogLeft (named_log log.entry)
+        (λ name. LeavesLog plant.now part judged name (F.files files.old)
         (F.files files.new)) (F.files files.old) (F.files files.new) }
     ensures others { LogLeft (named_log log.entry) (λ name. OthersStay name (F.files files.old)
         (F.files files.new)) (F.files files.old) (F.files files.new) }
@@ -104,19 +114,23 @@ pub fn plan_part<F: Shelf>(
     ensures writable { F.may_write files.new ≡ F.may_write files.old }
     ensures no_read { F.read_faults files.new ≡ F.read_faults files.old }
     ensures writes { F.write_faults files.old ≤ F.write_faults files.new }
-    ensures no_write { named_log log.entry ≡ None → F.write_faults files.new ≡ F.write_faults files.old }
+    ensures no_write { named_log log.entry ≡ None
+        → F.write_faults files.new ≡ F.write_faults files.old }
 {
     let point = point_of(alloc, plant, start)?;
-    let outcome = outcome_of(alloc, files, plant, part, levels, budget, &point, log)?;
+    let outcome = outcome_of::<A, _>(
+        alloc, files, plant, part, judged, levels, budget, &point, log,
+    )?;
     Ok(reply_of(alloc, plant, &outcome, start, since)?)
 }
 
 // What planning over the part comes to, beginning with a point.
-fn outcome_of<F: Shelf>(
+fn outcome_of<A: Advisers, F: Shelf>(
     alloc: Global,
     files: &mut F,
     plant: &Plant,
     part: Program,
+    judged: List<Domain>,
     levels: u32,
     budget: Budget,
     point: &[u8],
@@ -124,17 +138,19 @@ fn outcome_of<F: Shelf>(
 ) -> Result<Outcome, Stopped>
     requires sound { Sound plant.now }
     requires part { IsPartOf plant.now part }
+    requires ranges { AreRanges part judged }
     requires allowed { IfSome (named_log log) (λ name. IsTrue (F.may_write files.old name)) }
     ensures outcome { IfOk result (IsPartOutcome plant.now part budget.boxes) }
     ensures proof { IfOk result
-        (HasProof plant.now part (told_log (named_log log.entry) (F.files files.new))) }
+        (HasProof plant.now part judged (told_log (named_log log.entry) (F.files files.new))) }
     ensures begun { IfOk result (λ outcome. EarnsPoint part point.now outcome.answer) }
     ensures none { IfRefused result (λ _. ⊥) }
     ensures no_fault { result ≢ Err Stopped.ReadFault }
     ensures write_fault { result ≡ Err Stopped.WriteFault
         → Rose (F.write_faults files.old) (F.write_faults files.new) }
     ensures named { result ≡ Err Stopped.WriteFault → named_log log.entry ≢ None }
-    ensures left { LogLeft (named_log log.entry) (λ name. LeavesLog plant.now part name (F.files files.old)
+    ensures left { LogLeft (named_log log.entry)
+        (λ name. LeavesLog plant.now part judged name (F.files files.old)
         (F.files files.new)) (F.files files.old) (F.files files.new) }
     ensures others { LogLeft (named_log log.entry) (λ name. OthersStay name (F.files files.old)
         (F.files files.new)) (F.files files.old) (F.files files.new) }
@@ -142,15 +158,17 @@ fn outcome_of<F: Shelf>(
     ensures writable { F.may_write files.new ≡ F.may_write files.old }
     ensures no_read { F.read_faults files.new ≡ F.read_faults files.old }
     ensures writes { F.write_faults files.old ≤ F.write_faults files.new }
-    ensures no_write { named_log log.entry ≡ None → F.write_faults files.new ≡ F.write_faults files.old }
+    ensures no_write { named_log log.entry ≡ None
+        → F.write_faults files.new ≡ F.write_faults files.old }
 {
     let Some(name) = log else {
-        return Ok(plan_rows::<BestFirst>(alloc, plant, part, levels, budget.boxes, point)?);
+        return Ok(plan_rows::<A>(alloc, plant, part, judged, levels, budget.boxes, point)?);
     };
-    match solve_rows_to::<BestFirst, _>(
+    match solve_rows_to::<A, _>(
         alloc,
         plant,
         part,
+        judged,
         levels,
         budget.boxes,
         point,

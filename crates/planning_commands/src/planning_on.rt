@@ -14,6 +14,7 @@ ghost use Rattle.planning_commands.specs.PlanningOn.{CanGoOn, GoesOn, HoldsOn, L
 
 use crate::improving::improve;
 use crate::replanning::replan;
+use box_advice::Advisers;
 use command_replies::{Reply, Stopped, plan_in, plant_in};
 use command_words::Budget;
 use std::alloc::Global;
@@ -23,7 +24,7 @@ use stn_model::{Plant, Start};
 /// Plans on from the plan in a file, on the plant in another, with at most so many boxes. Its starts before the period `kept` are
 /// kept; where no period is given, none are, the plan has to be feasible, and the answer earns no less. The log of the proof is written
 /// where it is named; no other file changes, and none before planning can go on.
-pub fn plan_on_file<F: Shelf>(
+pub fn plan_on_file<A: Advisers, F: Shelf>(
     alloc: Global,
     files: &mut F,
     plant: &str,
@@ -37,7 +38,8 @@ pub fn plan_on_file<F: Shelf>(
     requires log_writable { IfSome (named_log log) (λ name. IsTrue (F.may_write files.old name)) }
     ensures answer { IfReplied result (λ reply. IsPlanAnswer (F.files files.old) (F.files files.new)
         plant.now plan.now [] (λ plant starts. PlannedOn kept budget.boxes plant starts
-        (told_log (named_log log.entry) (F.files files.new)) (F.files files.new ≡ F.files files.old))
+        (told_log (named_log log.entry) (F.files files.new)) (F.files files.new
+        ≡ F.files files.old))
         reply.status reply.text.items) }
     ensures refused { IfReplied result (λ reply. IsUnwritten reply.status
         → F.files files.new ≡ F.files files.old) }
@@ -58,14 +60,15 @@ pub fn plan_on_file<F: Shelf>(
     ensures writable { F.may_write files.new ≡ F.may_write files.old }
     ensures later { F.read_faults files.old ≤ F.read_faults files.new }
     ensures writes { F.write_faults files.old ≤ F.write_faults files.new }
-    ensures no_write { named_log log.entry ≡ None → F.write_faults files.new ≡ F.write_faults files.old }
+    ensures no_write { named_log log.entry ≡ None
+        → F.write_faults files.new ≡ F.write_faults files.old }
 {
     let plant = plant_in(alloc, files, plant)?;
-    plan_on(alloc, files, &plant, plan, kept, budget, log)
+    plan_on::<A, _>(alloc, files, &plant, plan, kept, budget, log)
 }
 
 // The answer on a plant that was read of a file, whatever its name is, and what is left.
-fn plan_on<F: Shelf>(
+fn plan_on<A: Advisers, F: Shelf>(
     alloc: Global,
     files: &mut F,
     plant: &Plant,
@@ -80,7 +83,8 @@ fn plan_on<F: Shelf>(
     ensures answer { (name : List ℕ) → IsReadOf reading (F.files files.old) name (Ok plant.now)
         → IfReplied result (λ reply. IsPlanAnswer (F.files files.old) (F.files files.new)
         name plan.now [] (λ plant starts. PlannedOn kept budget.boxes plant starts
-        (told_log (named_log log.entry) (F.files files.new)) (F.files files.new ≡ F.files files.old))
+        (told_log (named_log log.entry) (F.files files.new)) (F.files files.new
+        ≡ F.files files.old))
         reply.status reply.text.items) }
     ensures refused { IfReplied result (λ reply. IsUnwritten reply.status
         → F.files files.new ≡ F.files files.old) }
@@ -95,21 +99,23 @@ fn plan_on<F: Shelf>(
         × CanGoOn kept plant.now starts) }
     ensures left { (F.files files.new ≡ F.files files.old) ⊎ ((starts : List Start)
         × (IsReadOf (plan_of_text plant.now) (F.files files.old) plan.now (Ok starts)
-        × LeftOn kept plant.now starts (named_log log.entry) (F.files files.old) (F.files files.new))) }
+        × LeftOn kept plant.now starts (named_log log.entry) (F.files files.old)
+        (F.files files.new))) }
     ensures others { LogLeft (named_log log.entry) (λ name. OthersStay name (F.files files.old)
         (F.files files.new)) (F.files files.old) (F.files files.new) }
     ensures readable { F.may_read files.new ≡ F.may_read files.old }
     ensures writable { F.may_write files.new ≡ F.may_write files.old }
     ensures later { F.read_faults files.old ≤ F.read_faults files.new }
     ensures writes { F.write_faults files.old ≤ F.write_faults files.new }
-    ensures no_write { named_log log.entry ≡ None → F.write_faults files.new ≡ F.write_faults files.old }
+    ensures no_write { named_log log.entry ≡ None
+        → F.write_faults files.new ≡ F.write_faults files.old }
 {
     let plan = plan_in(alloc, files, plant, plan)?;
-    go_on(alloc, files, plant, plan.as_slice(), kept, budget, log)
+    go_on::<A, _>(alloc, files, plant, plan.as_slice(), kept, budget, log)
 }
 
 // The answer of planning on from a plan.
-fn go_on<F: Shelf>(
+fn go_on<A: Advisers, F: Shelf>(
     alloc: Global,
     files: &mut F,
     plant: &Plant,
@@ -138,10 +144,11 @@ fn go_on<F: Shelf>(
     ensures writable { F.may_write files.new ≡ F.may_write files.old }
     ensures no_read { F.read_faults files.new ≡ F.read_faults files.old }
     ensures writes { F.write_faults files.old ≤ F.write_faults files.new }
-    ensures no_write { named_log log.entry ≡ None → F.write_faults files.new ≡ F.write_faults files.old }
+    ensures no_write { named_log log.entry ≡ None
+        → F.write_faults files.new ≡ F.write_faults files.old }
 {
     match kept {
-        Some(period) => replan(alloc, files, plant, plan, period, budget, log),
-        None => improve(alloc, files, plant, plan, budget, log),
+        Some(period) => replan::<A, _>(alloc, files, plant, plan, period, budget, log),
+        None => improve::<A, _>(alloc, files, plant, plan, budget, log),
     }
 }

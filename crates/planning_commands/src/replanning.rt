@@ -11,15 +11,17 @@ ghost use Rattle.planning_commands.specs.Replanning.{Replanned};
 
 use crate::planning::plan_part;
 use answer_texts::broken;
+use box_advice::Advisers;
 use command_replies::{Reply, Stopped};
 use command_words::Budget;
 use frozen_plan::{Keeping, keep};
+use row_kit::List;
 use std::alloc::Global;
 use stn_edge::Shelf;
 use stn_model::{Plant, Start};
 
 /// The answer of planning on from the starts of a plan before a period. The log of the proof is written where it is named.
-pub fn replan<F: Shelf>(
+pub fn replan<A: Advisers, F: Shelf>(
     alloc: Global,
     files: &mut F,
     plant: &Plant,
@@ -48,16 +50,19 @@ pub fn replan<F: Shelf>(
     ensures writable { F.may_write files.new ≡ F.may_write files.old }
     ensures no_read { F.read_faults files.new ≡ F.read_faults files.old }
     ensures writes { F.write_faults files.old ≤ F.write_faults files.new }
-    ensures no_write { named_log log.entry ≡ None → F.write_faults files.new ≡ F.write_faults files.old }
+    ensures no_write { named_log log.entry ≡ None
+        → F.write_faults files.new ≡ F.write_faults files.old }
 {
     match keep(alloc, plant, plan, period)? {
         Keeping::Open(rows) => {
             let since = Some(period);
-            plan_part(
+            let judged = List::from_slice(alloc, rows.program.root.as_slice())?;
+            plan_part::<A, _>(
                 alloc,
                 files,
                 plant,
                 rows.program,
+                judged,
                 0,
                 plan,
                 since,

@@ -11,6 +11,7 @@ ghost use Rattle.planning_commands.specs.NamedLog.{LogLeft, told_log};
 ghost use Rattle.planning_commands.specs.Solving.{HoldsLog, Solved};
 
 use crate::planning::plan_plant;
+use box_advice::Advisers;
 use command_replies::{Reply, Stopped, plant_in};
 use command_words::Budget;
 use std::alloc::Global;
@@ -18,7 +19,7 @@ use stn_edge::Shelf;
 
 /// Plans the plant in a file, with at most so many boxes. The log of the proof is written where it is named; no other file changes,
 /// and none before the plant is read.
-pub fn solve_file<F: Shelf>(
+pub fn solve_file<A: Advisers, F: Shelf>(
     alloc: Global,
     files: &mut F,
     name: &str,
@@ -27,7 +28,8 @@ pub fn solve_file<F: Shelf>(
 ) -> Result<Reply, Stopped>
     requires plant_readable { IsTrue (F.may_read files.old name.now) }
     requires log_writable { IfSome (named_log log) (λ name. IsTrue (F.may_write files.old name)) }
-    ensures answer { IfReplied result (λ reply. IsPlantAnswer (F.files files.old) (F.files files.new)
+    ensures answer { IfReplied result (λ reply. IsPlantAnswer (F.files files.old)
+        (F.files files.new)
         name.now [] (λ _ plant. Solved budget.boxes plant
         (told_log (named_log log.entry) (F.files files.new))) reply.status reply.text.items) }
     ensures refused { IfReplied result (λ reply. IsUnwritten reply.status
@@ -49,8 +51,9 @@ pub fn solve_file<F: Shelf>(
     ensures writable { F.may_write files.new ≡ F.may_write files.old }
     ensures later { F.read_faults files.old ≤ F.read_faults files.new }
     ensures writes { F.write_faults files.old ≤ F.write_faults files.new }
-    ensures no_write { named_log log.entry ≡ None → F.write_faults files.new ≡ F.write_faults files.old }
+    ensures no_write { named_log log.entry ≡ None
+        → F.write_faults files.new ≡ F.write_faults files.old }
 {
     let plant = plant_in(alloc, files, name)?;
-    plan_plant(alloc, files, &plant, &[], None, budget, log)
+    plan_plant::<A, _>(alloc, files, &plant, &[], None, budget, log)
 }

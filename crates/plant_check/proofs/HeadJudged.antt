@@ -21,7 +21,7 @@ use Rattle.derivation_lines.specs.Tail.{AreKeptAfter, has_row_room}
 use Rattle.sum_slots.specs.Sum.{IsDeclared}
 use Rattle.sum_slots.proofs.Bounds.{two_rows}
 use Rattle.sum_lines.specs.declared.head.Head.{Head}
-use Rattle.sum_lines.specs.Head.{IsKept}
+use Rattle.sum_lines.specs.Head.{IsKeptHead}
 use Rattle.valid_log.specs.AnyVersion.{IsUnderived, IsWithHead, head_domains, limits_with}
 use Rattle.valid_log.proofs.AnyVersions.{small_with}
 use Rattle.plant_check.specs.Heads.{IsTailHeld}
@@ -77,7 +77,7 @@ domains_are program between judged sums slots root domains all same with' is =
     ∙ ap (λ (ds : List Domain). judged ++ ds) (drop-append_seam program.root (map (sum_domain program judged) sums))
 
 -- there is room for the rows of a head over a program
-pub rows_fit : (program between : Program) (judged : List Domain) (depth : ℕ) (head : Head) (tail : Tail) → IsKept (limits_with program depth 0) head → IsTailHeld (limits_with program depth (length head.sums)) head tail → IsWithSums program judged head.sums between
+pub rows_fit : (program between : Program) (judged : List Domain) (depth : ℕ) (head : Head) (tail : Tail) → IsKeptHead (limits_with program depth 0) head → IsTailHeld (limits_with program depth (length head.sums)) head tail → IsWithSums program judged head.sums between
     → length between.rows + rows_of tail.derivations ≤ 400000
 rows_fit program between judged depth head tail kept held with' =
     let small = small_with program depth head kept in
@@ -85,7 +85,7 @@ rows_fit program between judged depth head tail kept held with' =
     omega (arith, rows, few_rows (limits_with program depth (length head.sums)) 0 tail.derivations (omega (arith, small.rows)) held.kept.derivations)
 
 -- so there are not too many
-pub few_derived : (program : Program) (depth : ℕ) (head : Head) (tail : Tail) → IsKept (limits_with program depth 0) head → IsTailHeld (limits_with program depth (length head.sums)) head tail → rows_of tail.derivations ≤ 400000
+pub few_derived : (program : Program) (depth : ℕ) (head : Head) (tail : Tail) → IsKeptHead (limits_with program depth 0) head → IsTailHeld (limits_with program depth (length head.sums)) head tail → rows_of tail.derivations ≤ 400000
 few_derived program depth head tail kept held =
     let small = small_with program depth head kept in
     omega (arith, few_rows (limits_with program depth (length head.sums)) 0 tail.derivations (omega (arith, small.rows)) held.kept.derivations)
@@ -97,5 +97,5 @@ line_at growth tail place line same first is =
     get_or_read tail.lines place line (omega (arith, same, long, first.stands)) is 0
 
 -- sums are declared over a program's slots
-pub declared_over : (program : Program) (depth : ℕ) (head : Head) → IsKept (limits_with program depth 0) head → All (IsDeclared (length program.root)) head.sums
+pub declared_over : (program : Program) (depth : ℕ) (head : Head) → IsKeptHead (limits_with program depth 0) head → All (IsDeclared (length program.root)) head.sums
 declared_over program depth head kept = λ k d h. let e : length program.root + 0 ≡ length program.root = omega arith in subst (λ (n : ℕ). IsDeclared n (slice_index_or head.sums k d)) e (kept.sums.declared k d h)

@@ -3,7 +3,7 @@ ghost use Rattle.std.specs.Prelude.{◌≡◌, ◌≤◌, Err, IsTrue, IfOk, IfS
 ghost use Rattle.stn_edge.specs.Count.{Rose};
 ghost use Rattle.stn_edge.specs.Files.{file_of};
 ghost use Rattle.sum_slots.specs.Shown.{AreRanges};
-ghost use Rattle.sum_lines.specs.Head.{IsKept};
+ghost use Rattle.sum_lines.specs.Head.{IsKeptHead};
 ghost use Rattle.derivation_lines.specs.declared.tail.TailFront.TheVariants.{Whole};
 ghost use Rattle.valid_log.specs.Verdict.{YesHolds};
 ghost use Rattle.log_lines.specs.TextDefect.{log_text_defect};
@@ -95,7 +95,7 @@ fn check_headed<F: Shelf>(
 ) -> Result<LogVerdict, CheckStop>
     requires allowed { IsTrue (F.may_read files.old name.now) }
     requires ranges { AreRanges program judged.now }
-    requires kept { IsKept (limits_with program depth 0) head.now }
+    requires kept { IsKeptHead (limits_with program depth 0) head.now }
     ensures verdict { IfOk result (λ verdict. IfSome (F.files files.old)
         (λ m. IsHeadVerdict program judged.now depth (file_of m name.now) head.now verdict)) }
     ensures holds { IfOk result (YesHolds program) }
@@ -128,7 +128,7 @@ fn check_tailed<F: Shelf>(
 ) -> Result<LogVerdict, CheckStop>
     requires allowed { IsTrue (F.may_read files.old name.now) }
     requires ranges { AreRanges program judged.now }
-    requires kept { IsKept (limits_with program depth 0) head.now }
+    requires kept { IsKeptHead (limits_with program depth 0) head.now }
     requires held { IsTailHeld (limits_with program depth (length head.now.sums)) head.now tail.now }
     ensures verdict { IfOk result (λ verdict. IfSome (F.files files.old)
         (λ m. IsTailVerdict program judged.now depth (file_of m name.now) head.now (Whole tail.now)

@@ -2,7 +2,7 @@
 ghost use Rattle.std.specs.Prelude.{◌≡◌, ◌++◌, length, IfOk};
 ghost use Rattle.std.specs.List.{All};
 ghost use Rattle.sum_slots.specs.Shown.{AreRanges, IsShown};
-ghost use Rattle.sum_lines.specs.Head.{IsKept};
+ghost use Rattle.sum_lines.specs.Head.{IsKeptHead};
 ghost use Rattle.valid_log.specs.AnyVersion.{limits_with};
 ghost use Rattle.plant_check.specs.Heads.{IsJudged, IsTailHeld};
 
@@ -32,7 +32,7 @@ pub fn judge_head(
     tail: &Tail,
 ) -> Result<Result<Program, Defect>, AllocError>
     requires ranges { AreRanges program judged.now }
-    requires kept { IsKept (limits_with program depth 0) head.now }
+    requires kept { IsKeptHead (limits_with program depth 0) head.now }
     requires held { IsTailHeld (limits_with program depth (length head.now.sums)) head.now tail.now }
     ensures { IfOk result (IsJudged program judged.now head.now tail.now) }
 {
@@ -60,7 +60,7 @@ fn judge_derivations(
     tail: &Tail,
 ) -> Result<Result<Program, Defect>, AllocError>
     requires ranges { AreRanges program judged.now }
-    requires kept { IsKept (limits_with program depth 0) head.now }
+    requires kept { IsKeptHead (limits_with program depth 0) head.now }
     requires held { IsTailHeld (limits_with program depth (length head.now.sums)) head.now tail.now }
     requires shown { All (IsShown program judged.now) head.now.sums }
     ensures { IfOk result (IsJudged program judged.now head.now tail.now) }

@@ -20,7 +20,7 @@ use Rattle.row_relax.specs.RowProofs.{RowItem}
 use Rattle.proof_log.specs.Behind.{behind}
 use Rattle.proof_log.specs.Gathered.{HasGathered}
 use Rattle.proof_log.specs.Log.{item_lines, claim_lines, lines_text, log_lines, log_text}
-use Rattle.proof_log.specs.LogReading.{HasRead, IsReadTo, IsLeft}
+use Rattle.proof_log.specs.LogReading.{HasRead, IsReadTo, IsDefectOfRest}
 use Rattle.proof_log.specs.Text.{rest_defect}
 use Rattle.proof_log.proofs.Lines.{lines_text-one, lines_text-append}
 use Rattle.proof_log.proofs.Texts.{good_line}
@@ -72,7 +72,7 @@ read_headed None name head some = tt
 read_headed (Some m) name head some = behind-some head (file_of m name) some
 
 -- and its first defect is that of what follows the head
-left_headed : (told : Option FileMap) (name : List ℕ) (head : ℕ) (limits : Limits) (later : Standing) → head ≢ 0 → next new_standing (Header 2) ≡ Some later → IsLeft told name head limits later 2 head
+left_headed : (told : Option FileMap) (name : List ℕ) (head : ℕ) (limits : Limits) (later : Standing) → head ≢ 0 → next new_standing (Header 2) ≡ Some later → IsDefectOfRest told name head limits later 2 head
 left_headed None name head limits later some to = tt
 left_headed (Some m) name head limits later some to =
     ap (log_text_defect limits) (behind-some head (file_of m name) some) ∙ header_left limits later (drop head (file_of m name)) to
@@ -89,7 +89,7 @@ begun_behind told name head limits r some lines to limited gathered = record {
   gathered = gathered;
   limited = limited;
   read = subst (λ (o : Reading). IsReadTo told name head (Header 2 ∷ []) o.place) (sym lines) (read_headed told name head some);
-  left = subst (λ (o : Reading). IsLeft told name head limits r.gatherer.grammar 2 o.place) (sym lines) (left_headed told name head limits r.gatherer.grammar some to);
+  left = subst (λ (o : Reading). IsDefectOfRest told name head limits r.gatherer.grammar 2 o.place) (sym lines) (left_headed told name head limits r.gatherer.grammar some to);
   ahead = subst (λ (o : Reading). IfSome told (λ m. IsAhead (file_of m name) o.place o.ahead)) (sym lines) (ahead_headed told name head);
   going = ap (λ (o : Reading). o.ended) lines;
 }

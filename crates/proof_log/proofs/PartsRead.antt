@@ -28,7 +28,7 @@ use Rattle.proof_log.specs.Agree.{ClaimAgrees, FormAgrees, PlaceExpects}
 use Rattle.proof_log.specs.Gathered.{HasGathered, IsThere, lines_at}
 use Rattle.row_relax.specs.RowProofs.{RowItem}
 use Rattle.proof_log.specs.Log.{lines_text, log_lines, log_text}
-use Rattle.proof_log.specs.LogReading.{HasRead, IsReadTo, IsLeft, IsClean, IsPartAfter}
+use Rattle.proof_log.specs.LogReading.{HasRead, IsReadTo, IsDefectOfRest, IsClean, IsPartAfter}
 use Rattle.proof_log.specs.OneText.{IsOver, IsClaimOver}
 use Rattle.proof_log.specs.Step.{IsStepped, HasStepped}
 use Rattle.proof_log.specs.Text.{EndsAs, rest_defect}
@@ -41,7 +41,7 @@ begun told name limits r lines grammar limited gathered = record {
   gathered = gathered;
   limited = limited;
   read = subst (λ (o : Reading). IsReadTo told name 0 [] o.place) (sym lines) (read_begun told name);
-  left = subst (λ (o : Reading). IsLeft told name 0 limits r.gatherer.grammar 1 o.place) (sym lines) (subst (λ (o : Standing). IsLeft told name 0 limits o 1 0) (sym grammar) (left_begun told name limits));
+  left = subst (λ (o : Reading). IsDefectOfRest told name 0 limits r.gatherer.grammar 1 o.place) (sym lines) (subst (λ (o : Standing). IsDefectOfRest told name 0 limits o 1 0) (sym grammar) (left_begun told name limits));
   ahead = subst (λ (o : Reading). IfSome told (λ m. IsAhead (file_of m name) o.place o.ahead)) (sym lines) (ahead_begun told name);
   going = ap (λ (o : Reading). o.ended) lines;
 }
@@ -92,7 +92,7 @@ module _ (told : Option FileMap) (name : List ℕ) (head : ℕ) (limits : Limits
         gathered = gathered;
         limited = limited ∙ is.limited;
         read = read_more told name head is.lines line old.lines new.lines is.read told_whole said;
-        left = subst (λ n. IsLeft told name head limits new.gatherer.grammar n new.lines.place) long (left_more told name head limits old.gatherer.grammar new.gatherer.grammar (1 + length is.lines) old.lines new.lines end is.left ends goes);
+        left = subst (λ n. IsDefectOfRest told name head limits new.gatherer.grammar n new.lines.place) long (left_more told name head limits old.gatherer.grammar new.gatherer.grammar (1 + length is.lines) old.lines new.lines end is.left ends goes);
         ahead = ahead_more told name old.lines new.lines told_whole;
         going = (subst (IsEnd old.lines new.lines) whole ended_so).0;
       }

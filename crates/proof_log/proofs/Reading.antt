@@ -12,7 +12,7 @@ use Rattle.log_lines.specs.Reader.{Reading, EndsLine, IsAhead}
 use Rattle.log_lines.specs.TextDefect.{log_text_defect}
 use Rattle.proof_log.specs.Behind.{behind}
 use Rattle.proof_log.specs.Log.{lines_text}
-use Rattle.proof_log.specs.LogReading.{IsReadTo, IsLeft}
+use Rattle.proof_log.specs.LogReading.{IsReadTo, IsDefectOfRest}
 use Rattle.proof_log.specs.Text.{EndsAs, rest_defect}
 use Rattle.proof_log.proofs.Lines.{lines_text-append, lines_text-one, lines_text-none}
 
@@ -35,7 +35,7 @@ pub read_begun : (told : Option FileMap) (name : List ℕ) → IsReadTo told nam
 read_begun None name = tt
 read_begun (Some m) name = ap (λ t. t ++ file_of m name) (sym lines_text-none)
 
-pub left_begun : (told : Option FileMap) (name : List ℕ) (limits : Limits) → IsLeft told name 0 limits new_standing 1 0
+pub left_begun : (told : Option FileMap) (name : List ℕ) (limits : Limits) → IsDefectOfRest told name 0 limits new_standing 1 0
 left_begun None name limits = tt
 left_begun (Some m) name limits = refl
 
@@ -53,8 +53,8 @@ read_more (Some m) name head lines line old new read ends text =
     let joined : (lines_text lines ++ (new.line ++ 10 ∷ [])) ++ later ≡ lines_text lines ++ (new.line ++ 10 ∷ later) = append_assoc (lines_text lines) (new.line ++ 10 ∷ []) later ∙ ap (λ t. lines_text lines ++ t) (append_assoc new.line (10 ∷ []) later) in
     read ∙ (front ∙ (sym joined ∙ ap (λ t. t ++ later) (sym whole)))
 
-pub left_more : (told : Option FileMap) (name : List ℕ) (head : ℕ) (limits : Limits) (standing later : Standing) (number : ℕ) (old new : Reading) (end : LineEnd) → IsLeft told name head limits standing number old.place → ToldEnd told name old new end
-    → ((rest after : List ℕ) → EndsAs rest new.line end after → rest_defect limits standing number rest ≡ rest_defect limits later (number + 1) after) → IsLeft told name head limits later (number + 1) new.place
+pub left_more : (told : Option FileMap) (name : List ℕ) (head : ℕ) (limits : Limits) (standing later : Standing) (number : ℕ) (old new : Reading) (end : LineEnd) → IsDefectOfRest told name head limits standing number old.place → ToldEnd told name old new end
+    → ((rest after : List ℕ) → EndsAs rest new.line end after → rest_defect limits standing number rest ≡ rest_defect limits later (number + 1) after) → IsDefectOfRest told name head limits later (number + 1) new.place
 left_more None name head limits standing later number old new end left ends goes = tt
 left_more (Some m) name head limits standing later number old new end left ends goes =
     left ∙ goes (drop old.place (file_of m name)) (drop new.place (file_of m name)) (ends_as (file_of m name) old new end ends)
@@ -64,14 +64,14 @@ ahead_more None name old new ends = tt
 ahead_more (Some m) name old new ends = ends.1
 
 -- at a defect
-pub left_bad : (told : Option FileMap) (name : List ℕ) (head : ℕ) (limits : Limits) (standing : Standing) (number : ℕ) (defect : ℕ × ℕ) (old new : Reading) (end : LineEnd) → IsLeft told name head limits standing number old.place → ToldEnd told name old new end
+pub left_bad : (told : Option FileMap) (name : List ℕ) (head : ℕ) (limits : Limits) (standing : Standing) (number : ℕ) (defect : ℕ × ℕ) (old new : Reading) (end : LineEnd) → IsDefectOfRest told name head limits standing number old.place → ToldEnd told name old new end
     → ((rest after : List ℕ) → EndsAs rest new.line end after → rest_defect limits standing number rest ≡ Some defect) → IfSome told (λ m. log_text_defect limits (behind head (file_of m name)) ≡ Some defect)
 left_bad None name head limits standing number defect old new end left ends is = tt
 left_bad (Some m) name head limits standing number defect old new end left ends is =
     left ∙ is (drop old.place (file_of m name)) (drop new.place (file_of m name)) (ends_as (file_of m name) old new end ends)
 
 -- at the end of the log, with which the file ends
-pub read_over : (told : Option FileMap) (name : List ℕ) (head : ℕ) (limits : Limits) (lines : List Line) (standing : Standing) (number : ℕ) (old new : Reading) (end : LineEnd) → IsReadTo told name head lines old.place → IsLeft told name head limits standing number old.place → ToldEnd told name old new end
+pub read_over : (told : Option FileMap) (name : List ℕ) (head : ℕ) (limits : Limits) (lines : List Line) (standing : Standing) (number : ℕ) (old new : Reading) (end : LineEnd) → IsReadTo told name head lines old.place → IsDefectOfRest told name head limits standing number old.place → ToldEnd told name old new end
     → ((rest after : List ℕ) → EndsAs rest new.line end after → (rest_defect limits standing number rest ≡ None) × (rest ≡ [])) → IfSome told (λ m. (behind head (file_of m name) ≡ lines_text lines) × (log_text_defect limits (behind head (file_of m name)) ≡ None))
 read_over None name head limits lines standing number old new end read left ends is = tt
 read_over (Some m) name head limits lines standing number old new end read left ends is =

@@ -11,7 +11,7 @@ use Rattle.log_lines.specs.declared.line.Line.TheVariants.{Header, End}
 use Rattle.proof_log.specs.declared.claim.Claim.{Claim}
 use Rattle.row_relax.specs.RowProofs.{RowItem}
 use Rattle.proof_log.specs.Log.{item_lines, claim_lines, lines_text, log_text}
-use Rattle.proof_log.specs.Writer.{Writing, whole, IsWhole, Keeps, Took, Broke}
+use Rattle.proof_log.specs.Writer.{Writing, whole, IsWhole, KeepsOthers, Took, Broke}
 use Rattle.proof_log.proofs.Lines.{lines_text-append, log_text-parts}
 
 -- what a write to the file leaves as it is: the count of read faults, and the names that may be read and written
@@ -39,7 +39,7 @@ at name held files rest = record {
 }
 
 -- to keep twice is to keep
-Keeps-then : (a b c : Writing) → Keeps a b → Keeps b c → Keeps a c
+Keeps-then : (a b c : Writing) → KeepsOthers a b → KeepsOthers b c → KeepsOthers a c
 Keeps-then a b c first second = record {
   name = second.name ∙ first.name;
   others = λ other apart. second.others other (λ is. apart (is ∙ first.name)) ∙ first.others other apart;
@@ -53,7 +53,7 @@ others-appended : (name bytes other : List ℕ) (files : Option FileMap) → oth
 others-appended name bytes other None apart = refl
 others-appended name bytes other (Some files) apart = ap Some (get-appended_other name bytes files other apart)
 
-Keeps-appended : (name held later bytes : List ℕ) (files : Option FileMap) (rest : Rest) → Keeps (at name held files rest) (at name later (option_map (appended name bytes) files) rest)
+Keeps-appended : (name held later bytes : List ℕ) (files : Option FileMap) (rest : Rest) → KeepsOthers (at name held files rest) (at name later (option_map (appended name bytes) files) rest)
 Keeps-appended name held later bytes files rest = record { name = refl; others = λ other apart. others-appended name bytes other files apart; reads = refl; may_read = refl; may_write = refl }
 
 -- one text and then another

@@ -28,8 +28,8 @@ abbrev pub IsReadTo : Option FileMap → List ℕ → ℕ → List Line → ℕ 
 IsReadTo told name head lines place = IfSome told (λ m. behind head (file_of m name) ≡ lines_text lines ++ drop place (file_of m name))
 
 -- the first defect of the log behind a head of the file is that of what stands in the file from a place on
-abbrev pub IsLeft : Option FileMap → List ℕ → ℕ → Limits → Standing → ℕ → ℕ → Type 0
-IsLeft told name head limits standing number place =
+abbrev pub IsDefectOfRest : Option FileMap → List ℕ → ℕ → Limits → Standing → ℕ → ℕ → Type 0
+IsDefectOfRest told name head limits standing number place =
     IfSome told (λ m. log_text_defect limits (behind head (file_of m name)) ≡ rest_defect limits standing number (drop place (file_of m name)))
 
 -- a reader under these limits has read the lines of these items and this claim from the front of the log behind a head of the file, where the store tells it
@@ -38,7 +38,7 @@ pub record HasRead (told : Option FileMap) (name : List ℕ) (head : ℕ) (limit
   pub gathered : HasGathered lines items claim r.gatherer
   pub limited : r.gatherer.limits ≡ limits
   pub read : IsReadTo told name head lines r.lines.place
-  pub left : IsLeft told name head limits r.gatherer.grammar (1 + length lines) r.lines.place
+  pub left : IsDefectOfRest told name head limits r.gatherer.grammar (1 + length lines) r.lines.place
   pub ahead : IfSome told (λ m. IsAhead (file_of m name) r.lines.place r.lines.ahead)
   pub going : r.lines.ended ≡ false
 

@@ -19,11 +19,11 @@ use Rattle.row_relax.specs.RowProofs.{RowItem}
 use Rattle.proof_log.specs.Text.{rest_defect, EndsAs}
 
 -- the bytes of a line as a reader gives them
-abbrev pub IsPartOf : List ℕ → LineEnd → Type 0
-IsPartOf part Whole = (length part ≤ 200) × HasNoFeed part
-IsPartOf part Cut = (0 < length part) × (length part ≤ 200) × HasNoFeed part
-IsPartOf part Long = ⊤
-IsPartOf part Nothing = ⊤
+abbrev pub AreLineBytes : List ℕ → LineEnd → Type 0
+AreLineBytes part Whole = (length part ≤ 200) × HasNoFeed part
+AreLineBytes part Cut = (0 < length part) × (length part ≤ 200) × HasNoFeed part
+AreLineBytes part Long = ⊤
+AreLineBytes part Nothing = ⊤
 
 -- the first defect of the bytes that are left, after what a line has made whole: this one; none, where the log and its bytes have ended; or that of the bytes after the line
 abbrev pub IsStepped : Limits → Standing → ℕ → List ℕ → LineEnd → Standing → Option LogPart → Type 0

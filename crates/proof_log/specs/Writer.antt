@@ -41,7 +41,7 @@ abbrev pub IsWhole : Writing → List ℕ → Type 0
 IsWhole at text = IfSome (whole at) (λ all. all ≡ text)
 
 -- the name of the file, all other files, the count of read faults and the names that may be read and written stay
-pub record Keeps (old new : Writing) : Type 0 where
+pub record KeepsOthers (old new : Writing) : Type 0 where
   pub name : new.name ≡ old.name
   pub others : OthersStay old.name old.files new.files
   pub reads : new.reads ≡ old.reads
@@ -50,12 +50,12 @@ pub record Keeps (old new : Writing) : Type 0 where
 
 -- the text was taken: the file followed by what is held back has grown by it
 pub record Took (old new : Writing) (text : List ℕ) : Type 0 where
-  pub keeps : Keeps old new
+  pub keeps : KeepsOthers old new
   pub grown : whole new ≡ option_map (λ all. all ++ text) (whole old)
 
 -- the text was not taken, or in part: the file is a first part of what it would have become
 pub record Broke (old new : Writing) (text : List ℕ) : Type 0 where
-  pub keeps : Keeps old new
+  pub keeps : KeepsOthers old new
   pub part : (rest : List ℕ) × (option_map (λ files. file_of files new.name ++ rest) new.files ≡ option_map (λ all. all ++ text) (whole old))
 
 -- a text with nothing after it is the same

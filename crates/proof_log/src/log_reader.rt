@@ -8,7 +8,7 @@ ghost use Rattle.log_lines.specs.declared.reader.LineEnd.TheVariants.{Whole};
 ghost use Rattle.proof_log.specs.Gathered.{HasGathered};
 ghost use Rattle.row_relax.specs.RowProofs.{RowItem};
 ghost use Rattle.proof_log.specs.LogReading.{HasRead, IsPartAfter};
-ghost use Rattle.proof_log.specs.Step.{IsPartOf, IsStepped, HasStepped};
+ghost use Rattle.proof_log.specs.Step.{AreLineBytes, IsStepped, HasStepped};
 
 use crate::claim::Claim;
 use crate::gatherer::{Gathered, Gatherer};
@@ -143,7 +143,7 @@ fn advance(
 ) -> Result<Option<LogPart>, AllocError>
     requires gathered { (lines : Items Line) × (items : Items RowItem) × (claim : _)
         × HasGathered lines items claim gatherer.old }
-    requires part { IsPartOf part.now end }
+    requires part { AreLineBytes part.now end }
     ensures limits { gatherer.new.limits ≡ gatherer.old.limits }
     ensures text { IfOk result (IsStepped gatherer.old.limits gatherer.old.grammar
         (gatherer.old.number + 1)
@@ -169,7 +169,7 @@ fn advance(
 // The end of a log whose end line was taken, or the defect that something follows it.
 fn after_end(gatherer: &Gatherer, line: u64, end: LineEnd, part: &[u8]) -> LogPart
     requires done { gatherer.now.grammar.place ≡ Done }
-    requires part { IsPartOf part.now end }
+    requires part { AreLineBytes part.now end }
     ensures text { IsStepped gatherer.now.limits gatherer.now.grammar line part.now end
         gatherer.now.grammar (Some result) }
     ensures made { HasStepped part.now end gatherer.now gatherer.now (Some result) }
@@ -193,7 +193,7 @@ fn take_line(
     requires gathered { (lines : Items Line) × (items : Items RowItem) × (claim : _)
         × HasGathered lines items claim gatherer.old }
     requires going { gatherer.old.grammar.place ≢ Done }
-    requires part { IsPartOf part.now Whole }
+    requires part { AreLineBytes part.now Whole }
     ensures limits { gatherer.new.limits ≡ gatherer.old.limits }
     ensures text { IfOk result (IsStepped gatherer.old.limits gatherer.old.grammar line
         part.now Whole gatherer.new.grammar) }

@@ -3,6 +3,7 @@ use crate::differences::{given_entries, next_change, steps, walk_between};
 use crate::limits::most_left;
 use crate::ordering::{Order, order_of};
 use crate::scales::{first, greatest_bits};
+use crate::sums::SumRows;
 use crate::tables::Table;
 use fixed_point::{NONE, at, numbered, of_whole, place_at, put, put_place};
 use row_kit::{Domain, Entry, Program, Row};
@@ -11,11 +12,12 @@ use std::alloc::{AllocError, Global};
 /// The rows of a program as differences. A chain is rows that stand one after another; each but the first is told by how it differs
 /// from the one before. Feature `2 j` is how far slot j is started, and `2 j + 1` its quanta.
 ///
-/// Only rows that a point of the root may break are there, and all those of sums; and only the slots before `given`.
+/// Only rows that a point of the root may break are there, and all those of sums; and only the slots before those of
+/// sums.
 #[derive(Drop)]
 pub struct Chains {
-    /// How many slots have features.
-    pub given: u32,
+    /// The rows of the sums; the slots before theirs have features.
+    pub sums: SumRows,
     /// For each place the program's row.
     pub rows: Vec<u32>,
     /// For each of the program's rows its place; `NONE` where it is not there.
@@ -38,12 +40,13 @@ pub struct Chains {
 }
 
 impl Chains {
-    /// The chains of a program, of which the slots from `given` on are those of sums, and the last rows, two for each, too.
+    /// The chains of a program, of which the slots from `given` on are those of sums.
     pub fn new(alloc: Global, program: &Program, given: u32) -> Result<Chains, AllocError> {
         let rows = program.rows.as_slice();
         let root = first(program.root.as_slice(), given);
         let given = numbered(root.len());
-        let order = order_of(alloc, program, given)?;
+        let sums = SumRows::new(program, given);
+        let order = order_of(alloc, program, &sums)?;
         let end = ends_of(alloc, order.first.as_slice())?;
         let downs = downs_of(alloc, rows, root, &order, given)?;
         let whole = program.root.as_slice();
@@ -54,7 +57,7 @@ impl Chains {
         let bits = greatest_bits(program.profit.as_slice(), root);
         let Order { rows, first } = order;
         Ok(Chains {
-            given,
+            sums,
             rows,
             places,
             first,

@@ -15,5 +15,5 @@ mod tables;
 pub use chains::Chains;
 pub use limits::{base_worth, row_limit};
 pub use scales::{counted, first};
-pub use sums::{Sides, are_two_free, is_idle, least_above, most_at, sides_of, terms_of};
+pub use sums::{Sides, SumRows, are_two_free, is_idle, least_above, most_at, sides_of, terms_of};
 pub use tables::Table;

@@ -1,17 +1,17 @@
 //! What an area leaves to rows.
 use crate::scales::counted;
-use crate::sums::is_idle;
+use crate::sums::{SumRows, is_idle};
 use row_kit::{Domain, Entry, Program, Row};
 
-/// What domains leave to a row: its limit less what the slots of sums count at their best, of which the slots from `given` on are;
-/// None where it is one of a sum that has its whole range, or there is no such row.
-pub fn row_limit(program: &Program, domains: &[Domain], given: u32, row: u32) -> Option<i128> {
+/// What domains leave to a row: its limit less what the slots of sums count at their best; None where it is one of a sum that has its
+/// whole range, or there is no such row.
+pub fn row_limit(program: &Program, domains: &[Domain], sums: &SumRows, row: u32) -> Option<i128> {
     let own = program.rows.as_slice().get(row as usize)?;
-    if is_idle(program, domains, given, row) {
+    if is_idle(program, domains, sums, row) {
         return None;
     }
     match own.entries.as_slice().last() {
-        Some(entry) if entry.slot >= given => {
+        Some(entry) if entry.slot >= sums.given => {
             Some(own.limit.saturating_sub(least_at(entry, domains)))
         }
         _ => Some(own.limit),

@@ -1,7 +1,7 @@
 //! The order of rows in chains.
 use crate::differences::{count_changes, given_entries};
 use crate::limits::most_amount;
-use crate::sums::first_row;
+use crate::sums::SumRows;
 use fixed_point::{NONE, numbered, place_at, put_place};
 use row_kit::{Program, Row};
 use std::alloc::{AllocError, Global};
@@ -23,10 +23,10 @@ struct Links {
 }
 
 /// The order of the rows of a program that points of its root may break, and of all those of sums.
-pub fn order_of(alloc: Global, program: &Program, given: u32) -> Result<Order, AllocError> {
-    let kept = kept_rows(alloc, program, given)?;
+pub fn order_of(alloc: Global, program: &Program, sums: &SumRows) -> Result<Order, AllocError> {
+    let kept = kept_rows(alloc, program, sums)?;
     let rows = program.rows.as_slice();
-    let links = links_of(alloc, rows, kept.as_slice(), given)?;
+    let links = links_of(alloc, rows, kept.as_slice(), sums.given)?;
     let mut order = Order {
         rows: Vec::with_capacity(alloc, kept.len())?,
         first: Vec::with_capacity(alloc, kept.len())?,
@@ -39,14 +39,13 @@ pub fn order_of(alloc: Global, program: &Program, given: u32) -> Result<Order, A
     Ok(order)
 }
 
-// The rows that may be broken.
-fn kept_rows(alloc: Global, program: &Program, given: u32) -> Result<Vec<u32>, AllocError> {
+// The rows that may be broken, and all those of sums.
+fn kept_rows(alloc: Global, program: &Program, sums: &SumRows) -> Result<Vec<u32>, AllocError> {
     let mut kept = Vec::new(alloc);
-    let from = first_row(program, given);
     let rows = program.rows.as_slice();
     for number in 0..rows.len() {
         let row = numbered(number);
-        if row >= from || may_break(&rows[number], program) {
+        if sums.has(row) || may_break(&rows[number], program) {
             kept.push(row)?;
         }
     }

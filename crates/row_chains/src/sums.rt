@@ -1,6 +1,6 @@
 //! The rows of sums.
 use fixed_point::numbered;
-use row_kit::{Domain, Entry, Program};
+use row_kit::{Domain, Entry, Program, Row};
 
 /// What the two rows of a sum say: what it counts is at most the width times its value and the room, and at least the width times
 /// its value less the offset.
@@ -12,18 +12,58 @@ pub struct Sides {
     pub offset: i128,
 }
 
-/// The number of the first row of the sums, where slots from `given` on are theirs.
-pub fn first_row(program: &Program, given: u32) -> u32 {
-    let sums = numbered(program.root.len()).saturating_sub(given);
-    numbered(program.rows.len()).saturating_sub(sums.saturating_mul(2))
+/// Where the rows of a program's sums stand: two for each slot from `given` on, from the row `first` on and before the row `end`. Behind
+/// them may stand derived rows, which count no slot of a sum.
+#[derive(Clone, Copy)]
+pub struct SumRows {
+    pub given: u32,
+    pub first: u32,
+    pub end: u32,
+}
+
+impl SumRows {
+    /// The rows of the sums of a program, of which the slots from `given` on are theirs. It looks at each row's last entry.
+    pub fn new(program: &Program, given: u32) -> SumRows {
+        let sums = numbered(program.root.len()).saturating_sub(given);
+        let first = first_row(program.rows.as_slice(), given);
+        SumRows {
+            given,
+            first,
+            end: first.saturating_add(sums.saturating_mul(2)),
+        }
+    }
+
+    /// Whether a row is one of a sum.
+    pub fn has(&self, row: u32) -> bool {
+        row >= self.first && row < self.end
+    }
+
+    /// The first of the two rows of a slot of a sum.
+    pub fn row_of(&self, slot: u32) -> u32 {
+        let number = slot.saturating_sub(self.given);
+        self.first.saturating_add(number.saturating_mul(2))
+    }
+}
+
+// The first row that counts a slot from `given` on, by its last entry; the number of rows where there is none.
+fn first_row(rows: &[Row], given: u32) -> u32 {
+    for number in 0..rows.len() {
+        match rows[number].entries.as_slice().last() {
+            Some(entry) if entry.slot >= given => {
+                return numbered(number);
+            }
+            _ => {}
+        }
+    }
+    numbered(rows.len())
 }
 
 /// The rows of the sum of a slot; None where the slot is not one of a sum, or its rows are not those of a sum.
-pub fn sides_of(program: &Program, given: u32, slot: u32) -> Option<Sides> {
-    if slot < given || (slot as usize) >= program.root.len() {
+pub fn sides_of(program: &Program, sums: &SumRows, slot: u32) -> Option<Sides> {
+    if slot < sums.given || (slot as usize) >= program.root.len() {
         return None;
     }
-    let row = first_row(program, given).saturating_add((slot - given).saturating_mul(2));
+    let row = sums.row_of(slot);
     let rows = program.rows.as_slice();
     let below = rows.get(row as usize)?;
     let above = rows.get(row.saturating_add(1) as usize)?;
@@ -40,14 +80,14 @@ pub fn sides_of(program: &Program, given: u32, slot: u32) -> Option<Sides> {
 }
 
 /// Whether a row is one of a sum whose slot may still be what it may be at the root on the side that the row bounds.
-pub fn is_idle(program: &Program, domains: &[Domain], given: u32, row: u32) -> bool {
-    let first = first_row(program, given);
-    if row < first {
+pub fn is_idle(program: &Program, domains: &[Domain], sums: &SumRows, row: u32) -> bool {
+    if !sums.has(row) {
         return false;
     }
-    let slot = given.saturating_add((row - first) / 2) as usize;
+    let number = row.saturating_sub(sums.first);
+    let slot = sums.given.saturating_add(number / 2) as usize;
     match (domains.get(slot), program.root.as_slice().get(slot)) {
-        (Some(own), Some(root)) => if (row - first) % 2 == 0 {
+        (Some(own), Some(root)) => if number % 2 == 0 {
             own.hi == root.hi
         } else {
             own.zero

@@ -26,7 +26,7 @@ pub struct PlanGuide {
 }
 
 impl PlanGuide {
-    /// A guide for searches of a program, of which the slots from `given` on are those of sums, and the last rows, two for each, too.
+    /// A guide for searches of a program, of which the slots from `given` on are those of sums.
     pub fn new(alloc: Global, program: &Program, given: u32) -> Result<PlanGuide, AllocError> {
         Ok(PlanGuide {
             workspace: Workspace::new(alloc, program, given)?,

@@ -2,7 +2,7 @@
 use Rattle.std.proofs.Common.{◌≡◌, ℕ, List, [], ◌++◌, take, drop, length, ◌-◌, Option, None, Some, refl, sym, ap, ◌∙◌, subst, append_assoc, append-nil, take-append-drop}
 use Rattle.std.proofs.lemmas.List.{take_rest}
 use Rattle.std.specs.Io.KnownBytes.{Appends, Keeps}
-use Rattle.stn_edge.specs.Written.{IsLeft}
+use Rattle.stn_edge.specs.Written.{IsRestLeft}
 
 Appends-Appends : (old mid new : Option (List ℕ)) (done more : List ℕ) → Appends old mid done → Appends mid new more → Appends old new (done ++ more)
 Appends-Appends None mid new done more h k = tt
@@ -21,12 +21,12 @@ none_appended None = tt
 none_appended (Some xs) = sym (append-nil xs)
 
 -- at first all is left
-pub all_left : (bytes : List ℕ) (told : Option (List ℕ)) → IsLeft bytes told told bytes
+pub all_left : (bytes : List ℕ) (told : Option (List ℕ)) → IsRestLeft bytes told told bytes
 all_left bytes told = ([], refl, none_appended told)
 
 -- after a write of n bytes the others are left
-pub less_left : (bytes rest : List ℕ) (old mid new : Option (List ℕ)) (n : ℕ) → IsLeft bytes old mid rest → Appends mid new (take n rest)
-    → IsLeft bytes old new (take (length rest - n) (drop n rest))
+pub less_left : (bytes rest : List ℕ) (old mid new : Option (List ℕ)) (n : ℕ) → IsRestLeft bytes old mid rest → Appends mid new (take n rest)
+    → IsRestLeft bytes old new (take (length rest - n) (drop n rest))
 less_left bytes rest old mid new n left more =
     rw (take_rest rest n) (
       left.0 ++ take n rest,
@@ -35,10 +35,10 @@ less_left bytes rest old mid new n left more =
     )
 
 -- a write that fails leaves as much
-pub still_left : (bytes rest : List ℕ) (old mid new : Option (List ℕ)) → IsLeft bytes old mid rest → Keeps mid new → IsLeft bytes old new rest
+pub still_left : (bytes rest : List ℕ) (old mid new : Option (List ℕ)) → IsRestLeft bytes old mid rest → Keeps mid new → IsRestLeft bytes old new rest
 still_left bytes rest old mid new left kept = (left.0, left.1, Appends-Keeps old mid new left.0 left.2 kept)
 
 -- where nothing is left, all was appended
-pub none_left : (bytes rest : List ℕ) (old new : Option (List ℕ)) → IsLeft bytes old new rest → rest ≡ [] → Appends old new bytes
+pub none_left : (bytes rest : List ℕ) (old new : Option (List ℕ)) → IsRestLeft bytes old new rest → rest ≡ [] → Appends old new bytes
 none_left bytes rest old new left empty =
     subst (Appends old new) (sym (left.1 ∙ ap (λ l. left.0 ++ l) empty ∙ append-nil left.0)) left.2

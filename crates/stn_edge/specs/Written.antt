@@ -3,5 +3,5 @@ use Rattle.std.specs.Prelude.{◌≡◌, List, ℕ, ◌++◌, Option}
 use Rattle.std.specs.Io.KnownBytes.{Appends}
 
 -- the rest is left of the bytes, and what stands before it was appended
-abbrev pub IsLeft : List ℕ → Option (List ℕ) → Option (List ℕ) → List ℕ → Type 0
-IsLeft bytes old new rest = (done : List ℕ) × (bytes ≡ done ++ rest) × Appends old new done
+abbrev pub IsRestLeft : List ℕ → Option (List ℕ) → Option (List ℕ) → List ℕ → Type 0
+IsRestLeft bytes old new rest = (done : List ℕ) × (bytes ≡ done ++ rest) × Appends old new done

@@ -3,7 +3,7 @@ ghost use Rattle.std.specs.Prelude.{◌≡◌, ◌↔◌, ◌≤◌, ℕ, List, 
 ghost use Rattle.std.specs.Io.KnownBytes.{Appends};
 ghost use Rattle.std.specs.IoError.{error_kind};
 ghost use Rattle.stn_edge.specs.Count.{Rose, next_count};
-ghost use Rattle.stn_edge.specs.Written.{IsLeft};
+ghost use Rattle.stn_edge.specs.Written.{IsRestLeft};
 
 use crate::stop::Stop;
 use std::io::{self, ErrorKind, Write};
@@ -55,7 +55,7 @@ pub fn end_of(error: &io::Error, faults: &mut u64) -> Option<Stop>
 pub fn write_whole<W: Write>(to: &mut W, bytes: &[u8], faults: &mut u64) -> Result<(), Stop>
     ensures ok { OnOk result (Appends (W.contents to.old) (W.contents to.new) bytes.now) }
     ensures err { OnErr result ((rest : List ℕ)
-        × IsLeft bytes.now (W.contents to.old) (W.contents to.new) rest) }
+        × IsRestLeft bytes.now (W.contents to.old) (W.contents to.new) rest) }
     ensures later { faults.old ≤ faults.new }
     ensures cause { result ≡ Err Stop.Failed → Rose faults.old faults.new }
 {

@@ -1,19 +1,14 @@
 -- The bytes of a file after a writer of a log broke off are a first part of the text of a log.
-use Rattle.std.proofs.Common.{◌≡◌, inl, inr, ⊎_elim, ℕ, ◌≤◌, leb, Bool, true, false, ◌&&◌, cond, List, [], ◌∷◌, ◌++◌, flat_map, get_or, Option, None, Some, IfSome, refl, sym, ap, ◌∙◌, subst, append_assoc, arith}
+use Rattle.std.proofs.Common.{◌≡◌, inl, inr, ⊎_elim, ℕ, Bool, List, [], ◌∷◌, ◌++◌, flat_map, Option, None, Some, IfSome, refl, sym, ap, ◌∙◌, subst, append_assoc}
 use Rattle.std.specs.Prelude.{string_bytes}
 use Rattle.std.specs.Option.{option_map}
 use Rattle.std.proofs.lemmas.Grind.{flat_map-append}
-use Rattle.std.proofs.lemmas.List.Elements.{All-nil, All-cons}
-use Rattle.std.proofs.lemmas.List.Sums.{sum_by-le}
 use Rattle.stn_edge.specs.Files.{FileMap, MayClear, cleared, file_of}
 use Rattle.stn_edge.proofs.FileLemmas.{file_of-cleared}
-use Rattle.row_kit.specs.declared.domain.Domain.{Domain}
 use Rattle.row_kit.specs.declared.program.Program.{Program}
-use Rattle.proof_tree.specs.declared.item.Item.TheVariants.{Node, Empty}
 use Rattle.proof_tree.specs.Items.{tree_items}
-use Rattle.proof_tree.specs.Tree.{leaf, no_point}
 use Rattle.row_relax.specs.RowProofs.{RowItem, RowTree}
-use Rattle.branch_tree.specs.Searched.{IsBrokenOff, IsFitItem, IsWritable, spared}
+use Rattle.branch_tree.specs.Searched.{IsBrokenOff, IsWritable}
 use Rattle.log_lines.specs.declared.line.Line.{Line}
 use Rattle.log_lines.specs.declared.line.Line.TheVariants.{End}
 use Rattle.proof_log.specs.declared.claim.Claim.{Claim}
@@ -23,34 +18,18 @@ use Rattle.proof_log.specs.Log.{item_lines, claim_lines, lines_text}
 use Rattle.proof_log.specs.Writer.{Writing, writing, whole, IsWhole, Took, Broke}
 use Rattle.proof_log.proofs.Lines.{lines_text-append}
 use Rattle.proof_log.proofs.Writing.{Took-broke}
+use Rattle.plan_told.specs.Ended.{empty_tree}
 use Rattle.plan_told.specs.Proofs.{bytes_in}
+use Rattle.plan_told.proofs.EmptyRoots.{empty-writable}
 use Rattle.stn_solve.specs.laws.Logging.{IsBegun, LeavesBegun}
-
-spared_one : (d : Domain) → spared d ≤ 1
-spared_one d = at (d.zero && leb d.lo d.hi)
-  where
-    at : (both : Bool) → cond both 0 1 ≤ 1
-    at true = omega arith
-    at false = omega arith
-
--- a proof of one node that ends at once
-bare_tree : RowTree
-bare_tree = leaf [] None no_point
-
-bare_writable : (program : Program) → IsWritable program bare_tree
-unfolding bare_tree
-bare_writable program = record {
-  fit = All-cons (IsFitItem program) Node (Empty ∷ []) tt (All-cons (IsFitItem program) Empty [] tt (All-nil (IsFitItem program)));
-  shallow = omega (arith, sum_by-le spared 1 program.root (λ k d within. spared_one (get_or program.root k d)), program.few_slots);
-}
 
 -- an empty file is a log that was begun
 pub begun-empty : (program : Program) (head : List ℕ) → IsBegun program head []
 begun-empty program head = record {
-  tree = bare_tree;
+  tree = empty_tree;
   claim = Infeasible;
-  writable = bare_writable program;
-  rest = head ++ lines_text (flat_map item_lines (tree_items bare_tree) ++ (claim_lines Infeasible ++ End ∷ []));
+  writable = empty-writable program;
+  rest = head ++ lines_text (flat_map item_lines (tree_items empty_tree) ++ (claim_lines Infeasible ++ End ∷ []));
   text = refl;
 }
 

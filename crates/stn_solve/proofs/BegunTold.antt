@@ -12,6 +12,7 @@ use Rattle.stn_model.specs.Profit.{profit}
 use Rattle.stn_model.specs.Sound.{Sound}
 use Rattle.time_grid.specs.PlanPoint.{HasPoint, IsPlanOf, plan_point}
 use Rattle.time_grid.proofs.OnePlan.{has_point-feasible}
+use Rattle.row_kit.specs.declared.domain.Domain.{Domain}
 use Rattle.row_kit.specs.declared.found.Found.{Found}
 use Rattle.row_kit.specs.declared.program.Program.{Program}
 use Rattle.row_kit.specs.Point.{IsLawful, worth_of}
@@ -19,6 +20,7 @@ use Rattle.row_set.specs.Parts.{IsAdmitted, IsPartOf}
 use Rattle.row_set.specs.PlantProgram.{IsProgramOf}
 use Rattle.row_set.proofs.PartPoints.{admitted-lawful, admitted-worth}
 use Rattle.sum_slots.specs.Larger.{completed}
+use Rattle.sum_slots.specs.Shown.{AreRanges}
 use Rattle.branch_tree.specs.declared.ended.Ended.{Ended}
 use Rattle.branch_tree.specs.Searched.{IsWorth}
 use Rattle.branch_tree.specs.laws.Ends.{better_of}
@@ -28,11 +30,11 @@ use Rattle.plan_told.specs.Given.{cut_found, given_best, given_end}
 use Rattle.plan_told.specs.Telling.{IsTold, open_cap, told_bare, told_plan}
 use Rattle.plan_told.specs.declared.telling.Told.{Told}
 use Rattle.plan_told.proofs.Completing.{claim-bytes}
-use Rattle.plan_told.proofs.ValidSums.{same-given}
+use Rattle.plan_told.proofs.ValidHeads.{head-same}
 use Rattle.proof_log.specs.declared.claim.Claim.TheVariants as claim
 use Rattle.std.specs.Prelude.{pos}
-use Rattle.stn_solve.specs.declared.summing.Summed.{Summed}
-use Rattle.stn_solve.specs.laws.Summing.{IsSummed}
+use Rattle.stn_solve.specs.declared.heading.Headed.{Headed}
+use Rattle.stn_solve.specs.laws.Heading.{IsHeaded}
 use Rattle.stn_solve.specs.Begun.{EarnsAtLeast, EarnsPoint}
 
 -- a plan of a found point that is worth as much
@@ -70,21 +72,21 @@ given-worth : (least : ℤ) (slots : ℕ) (other best : Option Found) → IsSome
 given-worth least slots other None low = absurd low
 given-worth least slots other (Some f) low = rises least f.value (better_of (Some (cut_found slots f)) other) low (better-first (Some (cut_found slots f)) other)
 
-module _ (plant : Plant) (part : Program) (summed : Summed) (is : IsPartOf plant part) (with_sums : IsSummed plant part summed) where
+module _ (part : Program) (judged : List Domain) (headed : Headed) (wide : AreRanges part judged) (with_head : IsHeaded part judged headed) where
   -- at a lawful point the sums have values that are bytes
-  pub begun-bytes : (point : List ℕ) → IsLawful part point → HaveBytes summed.sums point
-  begun-bytes point lawful = claim-bytes plant part summed.rows.program summed.sums is with_sums.may with_sums.enlarged (claim.Optimal (pos 0) point) lawful
+  pub begun-bytes : (point : List ℕ) → IsLawful part point → HaveBytes headed.sums point
+  begun-bytes point lawful = claim-bytes part headed.rows.program judged headed.sums with_head.derivations wide with_head.can (claim.Optimal (pos 0) point) lawful
 
-  -- a search with the sums that began with the completed point has as of the part a best point that is worth as much as the point
-  pub begun-given : (point whole : List ℕ) (ended own : Ended) → (IsLawful part point → whole ≡ completed summed.sums point) → IsWorth summed.rows.program whole ended.best
-      → own ≡ given_end summed.given summed.least ended → IsWorth part point own.best
+  -- a search that began with the completed point has as of the part a best point that is worth as much as the point
+  pub begun-given : (point whole : List ℕ) (ended own : Ended) → (IsLawful part point → whole ≡ completed headed.sums point) → IsWorth headed.rows.program whole ended.best
+      → own ≡ given_end headed.given headed.least ended → IsWorth part point own.best
   begun-given point whole ended own same worth as_given lawful =
-      let points = same-given plant part summed.rows.program summed.sums is with_sums.may with_sums.enlarged in
+      let points = head-same part headed.rows.program judged headed.sums with_head.derivations wide with_head.can in
       let larger = points.there_is point lawful in
-      let there : IsLawful summed.rows.program whole = subst (IsLawful summed.rows.program) (sym (same lawful)) larger.0 in
-      let value : worth_of summed.rows.program whole ≡ worth_of part point = ap (worth_of summed.rows.program) (same lawful) ∙ larger.1 in
+      let there : IsLawful headed.rows.program whole = subst (IsLawful headed.rows.program) (sym (same lawful)) larger.0 in
+      let value : worth_of headed.rows.program whole ≡ worth_of part point = ap (worth_of headed.rows.program) (same lawful) ∙ larger.1 in
       let low : IsSomeAnd ended.best (λ f. worth_of part point ≤ℤ f.value) = subst (λ (z : ℤ). IsSomeAnd ended.best (λ f. z ≤ℤ f.value)) value (worth there) in
-      subst (λ (o : Ended). IsSomeAnd o.best (λ b. worth_of part point ≤ℤ b.value)) (sym as_given) (given-worth (worth_of part point) summed.given summed.least ended.best low)
+      subst (λ (o : Ended). IsSomeAnd o.best (λ b. worth_of part point ≤ℤ b.value)) (sym as_given) (given-worth (worth_of part point) headed.given headed.least ended.best low)
 
 -- ---- plans to begin with
 

@@ -2,6 +2,9 @@ pub mod BegunLog
 pub mod Both
 pub mod LogsLeft
 pub mod SearchTold
-pub mod SumsChosen
+pub mod EmptyLog
+pub mod EmptySearch
+pub mod FactorsRise
+pub mod HeadChosen
 pub mod BegunTold
 pub mod Searchable

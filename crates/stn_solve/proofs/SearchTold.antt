@@ -1,23 +1,30 @@
--- What is told of searches over a part's own program, and over that with sums.
-use Rattle.std.proofs.Common.{◌≡◌, ℕ, ◌<◌, ◌≤◌, length, ap₂, ◌∙◌, subst, Option, IfSome}
+-- What is told of searches over a part's own program, and over that with what a head declares.
+use Rattle.std.proofs.Common.{◌≡◌, ℕ, ◌<◌, ◌≤◌, length, ap₂, ◌∙◌, subst, inl, inr, List, Option, IfSome}
 use Rattle.stn_model.specs.declared.plant.Plant.{Plant}
 use Rattle.stn_model.specs.Sound.{Sound}
 use Rattle.time_grid.specs.Slots.{slots}
+use Rattle.row_kit.specs.declared.domain.Domain.{Domain}
 use Rattle.row_kit.specs.declared.found.Found.{Found}
 use Rattle.row_kit.specs.declared.program.Program.{Program}
 use Rattle.row_kit.specs.Points.{points_of}
 use Rattle.row_set.specs.Parts.{IsPartOf}
 use Rattle.row_relax.specs.RowProofs.{RowTree}
+use Rattle.sum_slots.specs.Shown.{AreRanges}
 use Rattle.branch_tree.specs.declared.ended.Ended.{Ended}
-use Rattle.plan_told.specs.Ended.{IsSearchOf}
+use Rattle.plan_told.specs.Ended.{IsEnding, IsSearchOf}
 use Rattle.plan_told.specs.Given.{IsGivenEnded, given_end}
-use Rattle.plan_told.specs.Law.{IsToldBySums}
+use Rattle.plan_told.specs.Law.{IsToldByHead}
 use Rattle.plan_told.specs.Telling.{IsTold}
 use Rattle.plan_told.specs.declared.telling.Told.{Told}
 use Rattle.plan_told.proofs.PlainTold.{IsToldRight, best-places, told-right}
-use Rattle.plan_told.proofs.ToldBySums.{given-places, told-by_sums}
-use Rattle.stn_solve.specs.declared.summing.Summed.{Summed}
-use Rattle.stn_solve.specs.laws.Summing.{IsSummed}
+use Rattle.plan_told.proofs.ToldByHead.{given-places, told-by_head}
+use Rattle.stn_solve.specs.declared.heading.Headed.{Headed}
+use Rattle.stn_solve.specs.laws.Heading.{IsHeaded}
+
+-- over a part's own program nothing but a search comes to an end: each slot of its root has a value
+pub plain-search : (plant : Plant) (part : Program) (given budget : ℕ) (ended : Ended) (tree : RowTree) → IsPartOf plant part → IsEnding part given budget ended tree → IsSearchOf part given budget ended tree
+plain-search plant part given budget ended tree is (inl of) = of
+plain-search plant part given budget ended tree is (inr of) = absurd (of.bare is.each_open)
 
 -- a search is one by another name of the number from which on slots are sums
 from-given : (program : Program) (given own budget : ℕ) (tree : RowTree) (ended : Ended) → given ≡ own → IsSearchOf program given budget ended tree → IsSearchOf program own budget ended tree
@@ -33,21 +40,21 @@ module _ (plant : Plant) (part : Program) (given budget : ℕ) (tree : RowTree) 
   pub plain-right : (told : Told) → IsTold plant ended told → IsToldRight plant part budget tree told
   plain-right told says = told-right plant part sound is budget tree ended (from-given part given (length part.root) budget tree ended same of) told says
 
-module _ (plant : Plant) (part : Program) (summed : Summed) (budget : ℕ) (tree : RowTree) (ended own : Ended) (sound : Sound plant) (is : IsPartOf plant part) (with_sums : IsSummed plant part summed)
-    (of : IsSearchOf summed.rows.program summed.given budget ended tree) (as_given : own ≡ given_end summed.given summed.least ended) where
+module _ (plant : Plant) (part : Program) (judged : List Domain) (headed : Headed) (budget : ℕ) (tree : RowTree) (ended own : Ended) (sound : Sound plant) (is : IsPartOf plant part) (wide : AreRanges part judged) (with_head : IsHeaded part judged headed)
+    (some : 1 ≤ budget) (of : IsEnding headed.rows.program headed.given budget ended tree) (as_given : own ≡ given_end headed.given headed.least ended) where
   -- what the search ended with is as of the part
   own_is : IsGivenEnded part ended own
-  own_is = as_given ∙ ap₂ (λ (slots : ℕ) (least : Option Found). given_end slots least ended) with_sums.given with_sums.least
+  own_is = as_given ∙ ap₂ (λ (slots : ℕ) (least : Option Found). given_end slots least ended) with_head.given with_head.least
 
   -- it is a search in which the slots after the part's are sums
-  own_of : IsSearchOf summed.rows.program (length part.root) budget ended tree
-  own_of = from-given summed.rows.program summed.given (length part.root) budget tree ended with_sums.given of
+  own_of : IsEnding headed.rows.program (length part.root) budget ended tree
+  own_of = subst (λ (n : ℕ). IsEnding headed.rows.program n budget ended tree) with_head.given of
 
   -- its best point has a value for each slot of the plant
-  pub sums-places : IfSome own.best (λ found. length found.point ≡ length (slots plant))
-  sums-places = given-places {budget = budget} plant part summed.rows.program summed.sums tree ended own sound is with_sums.may with_sums.enlarged own_of.search own_is
+  pub headed-places : IfSome own.best (λ found. length found.point ≡ length (slots plant))
+  headed-places = given-places {budget = budget} plant part headed.rows.program judged headed.sums with_head.derivations tree ended own sound is wide with_head.can some own_of own_is
 
   -- what is told of it is right
-  pub sums-right : 50000 < points_of part.root → budget ≤ 100000 → (told : Told) → IsTold plant own told → IsToldBySums plant part summed.sums budget tree told
-  sums-right many few told says =
-      told-by_sums plant part summed.rows.program summed.sums budget tree ended own told sound is with_sums.may with_sums.enlarged many few own_of.search own_of.exact own_is says
+  pub headed-right : 50000 < points_of part.root → budget ≤ 100000 → (told : Told) → IsTold plant own told → IsToldByHead plant part judged headed.sums with_head.derivations budget tree told
+  headed-right many few told says =
+      told-by_head plant part headed.rows.program judged headed.sums with_head.derivations budget tree ended own told sound is wide with_head.can many some few own_of own_is says

@@ -2,9 +2,13 @@
 //!
 //! It promises a plan that no admitted plan out-earns, or that no plan is admitted, or, where the budget is spent, the best plan
 //! that was found and a cap; and a justified proof of it, whose log is valid. Where there are more than 50,000 points it searches
-//! with declared sums.
+//! with sums and derived rows that the head of the log declares.
 #![tactic(auto)]
 
+mod copying;
+mod declaring;
+mod headed;
+mod heading;
 mod item_dropper;
 mod logging;
 mod part;
@@ -12,8 +16,6 @@ mod plain;
 mod plant;
 mod searching;
 mod solved;
-mod summed;
-mod summing;
 
 pub use part::{plan_rows, solve_rows_to};
 pub use plain::solve_rows;

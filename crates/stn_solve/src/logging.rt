@@ -1,13 +1,18 @@
 //! Searches whose proof is written to a log behind a head while they go on.
-ghost use Rattle.std.specs.Prelude.{◌≡◌, ◌≤◌, ◌↔◌, true, Err, IsTrue, IfOk, OnErr};
+ghost use Rattle.std.specs.Prelude.{◌≡◌, ◌≤◌, ◌↔◌, true, length, Err, IsTrue, IfOk, OnErr};
+ghost use Rattle.std.specs.List.{All};
 ghost use Rattle.stn_edge.specs.Count.{Rose};
-ghost use Rattle.branch_tree.specs.Searched.{IsExact, IsSearchable, IsWorth};
-ghost use Rattle.proof_log.specs.Writer.{Keeps, writing};
+ghost use Rattle.row_kit.specs.Domain.{IsOpen};
+ghost use Rattle.branch_tree.specs.Searched.{IsExact, IsSearch, IsSearchable, IsWorth};
+ghost use Rattle.plan_told.specs.Ended.{IsEmptyRoot, IsEnding};
+ghost use Rattle.proof_log.specs.Writer.{KeepsOthers, writing};
 ghost use Rattle.stn_solve.specs.laws.Logging.{IsLogged, LeavesBegun, stored};
 
+use crate::searching::empty_end;
 use advised_search::{search_advised, search_hinted};
 use box_advice::Advisers;
-use branch_tree::Ended;
+use branch_tree::{Ended, is_searchable};
+use log_lines::{Line, put_line};
 use proof_log::LogWriter;
 use proof_tree::TakeStop;
 use row_relax::Rows;
@@ -21,8 +26,8 @@ pub struct Logged {
     pub writer: LogWriter,
 }
 
-// Searches the root with the advice on plans, and where its count is not exact anew without it, log and all. The log begins with a
-// head. Slots from the number `given` on are sums.
+// Searches the root with the advice on plans, and where its count is not exact anew without it, log and all. A root in which some slot
+// has no value is one empty box. The log begins with a head. Slots from the number `given` on are sums.
 pub fn search_logged<A: Advisers, F: Shelf>(
     alloc: Global,
     rows: &Rows,
@@ -33,21 +38,27 @@ pub fn search_logged<A: Advisers, F: Shelf>(
     files: &mut F,
     name: &str,
 ) -> Result<Logged, Stop>
-    requires searchable { IsSearchable rows.now.program }
+    requires slots { length rows.now.program.root ≤ 512 }
+    requires rows { length rows.now.program.rows ≤ 50000 }
     requires budget { (1 ≤ budget) × (budget ≤ 100000) }
     requires allowed { IsTrue (F.may_write files.old name.now) }
-    ensures logged { IfOk result (λ logged. IsLogged rows.now.program given budget head.now name.now
-        logged.ended (writing F.files F.read_faults F.may_read F.may_write logged.writer files.new)) }
+    ensures logged { IfOk result (λ logged. IsLogged
+        (IsEnding rows.now.program given budget logged.ended)
+        rows.now.program head.now name.now
+        (writing F.files F.read_faults F.may_read F.may_write logged.writer files.new)) }
     ensures begun { IfOk result (λ logged. IsWorth rows.now.program start.now logged.ended.best) }
-    ensures exact { IfOk result (λ logged. IsExact rows.now.program budget logged.ended) }
     ensures err { OnErr result (LeavesBegun rows.now.program head.now name.now (F.files files.old)
         (F.files files.new)) }
-    ensures kept { Keeps (stored F.files F.read_faults F.may_read F.may_write name.now files.old)
+    ensures kept { KeepsOthers
+        (stored F.files F.read_faults F.may_read F.may_write name.now files.old)
         (stored F.files F.read_faults F.may_read F.may_write name.now files.new) }
     ensures later { F.write_faults files.old ≤ F.write_faults files.new }
     ensures failed { result ≡ Err Stop.Failed
         → Rose (F.write_faults files.old) (F.write_faults files.new) }
 {
+    if !is_searchable(&rows.program) {
+        return log_empty(alloc, rows, head, files, name);
+    }
     let (logged, exact) = log_advised::<A, _>(
         alloc, rows, given, budget, start, head, files, name,
     )?;
@@ -55,6 +66,36 @@ pub fn search_logged<A: Advisers, F: Shelf>(
         return Ok(logged);
     }
     log_hinted::<A, _>(alloc, rows, given, budget, start, head, files, name)
+}
+
+// Begins a log and writes the proof of one empty box: some slot of the root has no value.
+fn log_empty<F: Shelf>(
+    alloc: Global,
+    rows: &Rows,
+    head: &[u8],
+    files: &mut F,
+    name: &str,
+) -> Result<Logged, Stop>
+    requires bare { ¬ All IsOpen rows.now.program.root }
+    requires allowed { IsTrue (F.may_write files.old name.now) }
+    ensures logged { IfOk result (λ logged. IsLogged (IsEmptyRoot rows.now.program logged.ended)
+        rows.now.program head.now name.now
+        (writing F.files F.read_faults F.may_read F.may_write logged.writer files.new)) }
+    ensures err { OnErr result (LeavesBegun rows.now.program head.now name.now (F.files files.old)
+        (F.files files.new)) }
+    ensures kept { KeepsOthers
+        (stored F.files F.read_faults F.may_read F.may_write name.now files.old)
+        (stored F.files F.read_faults F.may_read F.may_write name.now files.new) }
+    ensures later { F.write_faults files.old ≤ F.write_faults files.new }
+    ensures failed { result ≡ Err Stop.Failed
+        → Rose (F.write_faults files.old) (F.write_faults files.new) }
+{
+    let mut text = Vec::from_slice(alloc, head)?;
+    put_line(alloc, &Line::Node, &mut text)?;
+    put_line(alloc, &Line::Empty, &mut text)?;
+    let writer = LogWriter::begin_with(alloc, files, name, text.as_slice())?;
+    let ended = empty_end();
+    Ok(Logged { ended, writer })
 }
 
 // Begins a log and writes the proof of a search with both advisers. The answer also says whether its count is exact.
@@ -71,15 +112,18 @@ fn log_advised<A: Advisers, F: Shelf>(
     requires searchable { IsSearchable rows.now.program }
     requires budget { (1 ≤ budget) × (budget ≤ 100000) }
     requires allowed { IsTrue (F.may_write files.old name.now) }
-    ensures logged { IfOk result (λ found. IsLogged rows.now.program given budget head.now name.now
-        found.0.ended (writing F.files F.read_faults F.may_read F.may_write found.0.writer files.new)) }
+    ensures logged { IfOk result (λ found.
+        IsLogged (λ tree. IsSearch rows.now.program given budget tree found.0.ended)
+        rows.now.program head.now name.now
+        (writing F.files F.read_faults F.may_read F.may_write found.0.writer files.new)) }
     ensures begun { IfOk result
         (λ found. IsWorth rows.now.program start.now found.0.ended.best) }
     ensures exact { IfOk result
         (λ found. found.1 ≡ true → IsExact rows.now.program budget found.0.ended) }
     ensures err { OnErr result (LeavesBegun rows.now.program head.now name.now (F.files files.old)
         (F.files files.new)) }
-    ensures kept { Keeps (stored F.files F.read_faults F.may_read F.may_write name.now files.old)
+    ensures kept { KeepsOthers
+        (stored F.files F.read_faults F.may_read F.may_write name.now files.old)
         (stored F.files F.read_faults F.may_read F.may_write name.now files.new) }
     ensures later { F.write_faults files.old ≤ F.write_faults files.new }
     ensures failed { result ≡ Err Stop.Failed
@@ -113,13 +157,16 @@ fn log_hinted<A: Advisers, F: Shelf>(
     requires searchable { IsSearchable rows.now.program }
     requires budget { (1 ≤ budget) × (budget ≤ 100000) }
     requires allowed { IsTrue (F.may_write files.old name.now) }
-    ensures logged { IfOk result (λ logged. IsLogged rows.now.program given budget head.now name.now
-        logged.ended (writing F.files F.read_faults F.may_read F.may_write logged.writer files.new)) }
+    ensures logged { IfOk result (λ logged.
+        IsLogged (λ tree. IsSearch rows.now.program given budget tree logged.ended)
+        rows.now.program head.now name.now
+        (writing F.files F.read_faults F.may_read F.may_write logged.writer files.new)) }
     ensures begun { IfOk result (λ logged. IsWorth rows.now.program start.now logged.ended.best) }
     ensures exact { IfOk result (λ logged. IsExact rows.now.program budget logged.ended) }
     ensures err { OnErr result (LeavesBegun rows.now.program head.now name.now (F.files files.old)
         (F.files files.new)) }
-    ensures kept { Keeps (stored F.files F.read_faults F.may_read F.may_write name.now files.old)
+    ensures kept { KeepsOthers
+        (stored F.files F.read_faults F.may_read F.may_write name.now files.old)
         (stored F.files F.read_faults F.may_read F.may_write name.now files.new) }
     ensures later { F.write_faults files.old ≤ F.write_faults files.new }
     ensures failed { result ≡ Err Stop.Failed

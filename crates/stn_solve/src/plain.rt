@@ -1,15 +1,16 @@
-//! Planning over the own program of a part of a plant's choices, without sums.
-ghost use Rattle.std.specs.Prelude.{◌≡◌, ◌≤◌, ◌∷◌, [], None, Err, IsTrue, IfOk, OnErr};
+//! Planning over the own program of a part of a plant's choices, without a head.
+ghost use Rattle.std.specs.Prelude.{◌≡◌, ◌≤◌, List, ◌∷◌, [], None, Err, IsTrue, IfOk, OnErr};
 ghost use Rattle.stn_edge.specs.Count.{Rose};
 ghost use Rattle.stn_edge.specs.Files.{OthersStay};
 ghost use Rattle.stn_model.specs.Sound.{Sound};
 ghost use Rattle.proof_tree.specs.Tree.{tree_of};
+ghost use Rattle.row_kit.specs.declared.domain.Domain.{Domain};
 ghost use Rattle.row_set.specs.Parts.{IsPartOf};
 ghost use Rattle.log_lines.specs.declared.line.Line.{Line};
 ghost use Rattle.proof_log.specs.Log.{lines_text};
 ghost use Rattle.plan_told.specs.Outcomes.{IsPartOutcome};
 ghost use Rattle.stn_solve.specs.Begun.{EarnsPoint};
-ghost use Rattle.plan_told.specs.Proofs.{HasProof, IsLeft, IsProofOf, bytes_in, claim_of};
+ghost use Rattle.plan_told.specs.Proofs.{HasProof, LeavesSomeBegun, IsProofOf, bytes_in, claim_of};
 
 use crate::logging::{Logged, search_logged};
 use crate::searching::{search_built, search_only, slot_count};
@@ -35,7 +36,8 @@ pub fn plan_plain<A: Advisers>(
     requires part { IsPartOf plant.now rows.now.program }
     requires budget { (1 ≤ budget) × (budget ≤ 100000) }
     ensures outcome { IfOk result (IsPartOutcome plant.now rows.now.program budget) }
-    ensures proof { IfOk result (HasProof plant.now rows.now.program None) }
+    ensures proof { (judged : List Domain)
+        → IfOk result (HasProof plant.now rows.now.program judged None) }
     ensures begun { IfOk result
         (λ outcome. EarnsPoint rows.now.program start.now outcome.answer) }
 {
@@ -44,7 +46,7 @@ pub fn plan_plain<A: Advisers>(
     Ok(outcome)
 }
 
-/// Plans over a part of a plant's choices, with at most so many boxes, and keeps the proof. No sums are declared.
+/// Plans over a part of a plant's choices, with at most so many boxes, and keeps the proof. Its log declares nothing.
 pub fn solve_rows<A: Advisers>(
     alloc: Global,
     plant: &Plant,
@@ -97,12 +99,13 @@ pub fn solve_plain_to<A: Advisers, F: Shelf>(
     requires budget { (1 ≤ budget) × (budget ≤ 100000) }
     requires allowed { IsTrue (F.may_write files.old name.now) }
     ensures outcome { IfOk result (IsPartOutcome plant.now rows.now.program budget) }
-    ensures proof { IfOk result
-        (HasProof plant.now rows.now.program (bytes_in name.now (F.files files.new))) }
+    ensures proof { (judged : List Domain) → IfOk result
+        (HasProof plant.now rows.now.program judged (bytes_in name.now (F.files files.new))) }
     ensures begun { IfOk result
         (λ outcome. EarnsPoint rows.now.program start.now outcome.answer) }
-    ensures err { OnErr result (IsLeft plant.now rows.now.program name.now (F.files files.old)
-        (F.files files.new)) }
+    ensures err { (judged : List Domain)
+        → OnErr result (LeavesSomeBegun rows.now.program judged name.now
+        (F.files files.old) (F.files files.new)) }
     ensures others { OthersStay name.now (F.files files.old) (F.files files.new) }
     ensures readable { F.may_read files.new ≡ F.may_read files.old }
     ensures writable { F.may_write files.new ≡ F.may_write files.old }

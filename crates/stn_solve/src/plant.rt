@@ -16,7 +16,7 @@ use crate::plain::solve_rows;
 use crate::solved::Solved;
 use box_advice::Advisers;
 use row_relax::Rows;
-use row_set::program_of;
+use row_set::{plant_root, program_of};
 use std::alloc::{AllocError, Global};
 use stn_edge::{Shelf, Stop};
 use stn_model::{Outcome, Plant, Start};
@@ -49,7 +49,8 @@ pub fn plan_from<A: Advisers>(
 {
     let program = program_of(alloc, plant)?;
     let point = point_of(alloc, plant, start)?;
-    plan_rows::<A>(alloc, plant, program, 0, budget, &point)
+    let judged = plant_root(alloc, plant)?;
+    plan_rows::<A>(alloc, plant, program, judged, 0, budget, &point)
 }
 
 /// The point of a plan, where it has one. It takes memory for the slots.
@@ -64,7 +65,7 @@ pub fn point_of(alloc: Global, plant: &Plant, plan: &[Start]) -> Result<Vec<u8>,
     Ok(point)
 }
 
-/// Plans a plant with at most so many boxes, and keeps the proof. No sums are declared.
+/// Plans a plant with at most so many boxes, and keeps the proof. Its log declares nothing.
 pub fn solve<A: Advisers>(alloc: Global, plant: &Plant, budget: u32) -> Result<Solved, AllocError>
     requires sound { Sound plant.now }
     requires budget { (1 ≤ budget) × (budget ≤ 100000) }
@@ -135,5 +136,8 @@ pub fn solve_from_to<A: Advisers, F: Shelf>(
 {
     let program = program_of(alloc, plant)?;
     let point = point_of(alloc, plant, start)?;
-    solve_rows_to::<A, _>(alloc, plant, program, 0, budget, &point, files, name)
+    let judged = plant_root(alloc, plant)?;
+    solve_rows_to::<A, _>(
+        alloc, plant, program, judged, 0, budget, &point, files, name,
+    )
 }

@@ -2,12 +2,13 @@
 ghost use Rattle.std.specs.Prelude.{◌≡◌, ◌≤◌, IfOk, length};
 ghost use Rattle.proof_tree.specs.Tree.{tree_of};
 ghost use Rattle.branch_tree.specs.Searched.{IsSearchable, IsWorth, ended_of};
-ghost use Rattle.plan_told.specs.Ended.{IsSearchOf, IsSearched};
+ghost use Rattle.plan_told.specs.Ended.{IsSearchOf, IsSearched, empty_end};
 
 use crate::item_dropper::ItemDropper;
 use advised_search::{build_advised, build_hinted, search_advised, search_hinted};
 use box_advice::Advisers;
-use branch_tree::{Ended, Searched};
+use branch_tree::{Ended, Searched, is_searchable};
+use proof_tree::Capped;
 use row_relax::Rows;
 use std::alloc::{AllocError, Global};
 
@@ -18,8 +19,42 @@ pub(crate) fn slot_count(rows: &Rows) -> u32
     rows.program.root.len() as u32
 }
 
-// Searches the root, beginning with a point where that is lawful, and drops the proof. Slots from the number `given` on are sums.
+// What one empty box comes to: no point, and nothing left open.
+pub(crate) fn empty_end() -> Ended
+    ensures { result ≡ empty_end }
+{
+    Ended {
+        best: None,
+        cap: Capped::NoPoint,
+        spent: 1,
+        left_open: false,
+    }
+}
+
+// Searches the root, beginning with a point where that is lawful, and drops the proof. A root in which some slot has no value is one
+// empty box. Slots from the number `given` on are sums.
 pub fn search_only<A: Advisers>(
+    alloc: Global,
+    rows: &Rows,
+    given: u32,
+    budget: u32,
+    start: &[u8],
+) -> Result<Ended, AllocError>
+    requires slots { length rows.now.program.root ≤ 512 }
+    requires rows { length rows.now.program.rows ≤ 50000 }
+    requires budget { (1 ≤ budget) × (budget ≤ 100000) }
+    ensures ended { IfOk result (IsSearched rows.now.program given budget) }
+    ensures begun { IfOk result (λ ended. IsWorth rows.now.program start.now ended.best) }
+{
+    if is_searchable(&rows.program) {
+        search_open::<A>(alloc, rows, given, budget, start)
+    } else {
+        Ok(empty_end())
+    }
+}
+
+// Searches a root in which each slot has a value, and drops the proof.
+fn search_open<A: Advisers>(
     alloc: Global,
     rows: &Rows,
     given: u32,

@@ -9,7 +9,7 @@ use Rattle.least_horizon.specs.LogNames.{OthersStayBelow}
 use Rattle.command_words.specs.Words.{Request, Solving, Logging, Simulating, Checking, Telling, Numbering, Upgrading, Showing, Replanning, ReplanLogging, CheckingReplan, Improving, Estimating, Seeking, Tracing, Auditing, Parting, PartSolving, Joining, Says, Conflicting, ConflictLogging, CheckingConflict}
 use Rattle.planning_commands.specs.NamedLog.{LogLeft}
 use Rattle.stn_top.specs.Requests.{IsLeft, OthersKept}
-use Rattle.command_words.specs.Words.{IsLevels, IsPart}
+use Rattle.command_words.specs.Words.{IsLevels, IsPartNumber}
 use Rattle.conflict_commands.specs.Logging.{OthersStayPair}
 use Rattle.horizon_commands.proofs.Horizons.{each_log}
 use Rattle.command_words.proofs.PartWords.{same_levels, same_part}
@@ -268,7 +268,7 @@ leaves_part words plant levels part budget log (PartSolving plant2 levels2 part2
     let same : codes "solve-part" ∷ plant ∷ says.0 ∷ says.1.0 ∷ says.1.1.0 ∷ log ∷ [] ≡ codes "solve-part" ∷ plant2 ∷ also.0 ∷ also.1.0 ∷ also.1.1.0 ∷ log2 ∷ [] = sym says.1.1.1.0 ∙ also.1.1.1.0 in
     let word = λ (k : ℕ). ap (λ (ws : List (List ℕ)). get_or ws k []) same in
     let levels_is : levels ≡ levels2 = same_levels also.0 levels levels2 (subst (λ (w : List ℕ). IsLevels w levels) (word 2) says.1.1.1.4) also.1.1.1.4 in
-    let part_is : part ≡ part2 = same_part also.1.0 levels levels2 part part2 says.1.1.1.4.most also.1.1.1.4.most (subst (λ (w : List ℕ). IsPart w levels part) (word 3) says.1.1.1.5) also.1.1.1.5 in
+    let part_is : part ≡ part2 = same_part also.1.0 levels levels2 part part2 says.1.1.1.4.most also.1.1.1.4.most (subst (λ (w : List ℕ). IsPartNumber w levels part) (word 3) says.1.1.1.5) also.1.1.1.5 in
     record {
       kept = subst (λ (l : List ℕ). OthersKept (PartSolving plant2 levels2 part2 budget2 l) old new) (word 5) is.kept;
       left = subst (λ (l : List ℕ). IsLeft (PartSolving plant2 levels2 part2 budget2 l) old new) (word 5)

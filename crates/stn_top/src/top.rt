@@ -11,6 +11,7 @@ ghost use Rattle.stn_top.specs.Requests.{MayRead, MayWrite, WritesApart, OthersK
 ghost use Rattle.stn_top.specs.Replies.{IsReply, Answered, IsCutOff, MayReadAll, MayWriteAll, LogFailed, PutFailed, SayNoJoining, IsPutOnce};
 ghost use Rattle.stn_top.specs.Done.{IsDone};
 
+use best_first::BestFirst;
 use command_replies::{Reply, Stopped};
 use command_words::{Command, command_of};
 use conflict_commands::{check_conflict_file, find_file, find_log_file};
@@ -185,8 +186,16 @@ fn reply_to<F: Shelf>(alloc: Global, command: Command, files: &mut F) -> Result<
     ensures writable { F.may_write files.new ≡ F.may_write files.old }
 {
     match command {
-        Command::Solve { plant, budget } => solve_file(alloc, files, plant, budget, None),
-        Command::Log { plant, budget, log } => solve_file(alloc, files, plant, budget, Some(log)),
+        Command::Solve { plant, budget } => solve_file::<BestFirst, _>(
+            alloc, files, plant, budget, None,
+        ),
+        Command::Log { plant, budget, log } => solve_file::<BestFirst, _>(
+            alloc,
+            files,
+            plant,
+            budget,
+            Some(log),
+        ),
         Command::Simulate { usage, plant, plan } => simulate_file(alloc, files, usage, plant, plan),
         Command::Check { plant, log } => check_file(alloc, files, plant, log),
         Command::Plan { plant, log } => show_file(alloc, files, plant, log),
@@ -198,14 +207,22 @@ fn reply_to<F: Shelf>(alloc: Global, command: Command, files: &mut F) -> Result<
             plan,
             period,
             budget,
-        } => plan_on_file(alloc, files, plant, plan, Some(period.number), budget, None),
+        } => plan_on_file::<BestFirst, _>(
+            alloc,
+            files,
+            plant,
+            plan,
+            Some(period.number),
+            budget,
+            None,
+        ),
         Command::LogReplan {
             plant,
             plan,
             period,
             budget,
             log,
-        } => plan_on_file(
+        } => plan_on_file::<BestFirst, _>(
             alloc,
             files,
             plant,
@@ -225,30 +242,32 @@ fn reply_to<F: Shelf>(alloc: Global, command: Command, files: &mut F) -> Result<
             plan,
             budget,
             log,
-        } => plan_on_file(alloc, files, plant, plan, None, budget, log),
+        } => plan_on_file::<BestFirst, _>(alloc, files, plant, plan, None, budget, log),
         Command::Estimate {
             plant,
             log,
             state,
             steps,
         } => estimate_file(alloc, files, plant, log, state, steps),
-        Command::Least { plant, budget } => seek_file(alloc, files, plant, budget),
+        Command::Least { plant, budget } => seek_file::<BestFirst, _>(alloc, files, plant, budget),
         Command::LeastLogs {
             plant,
             budget,
             stem,
-        } => trace_file(alloc, files, plant, budget, stem),
+        } => trace_file::<BestFirst, _>(alloc, files, plant, budget, stem),
         Command::CheckLeast {
             plant,
             horizon,
             stem,
         } => audit_file(alloc, files, plant, horizon, stem),
-        Command::Conflict { plant, budget } => find_file(alloc, files, plant, budget),
+        Command::Conflict { plant, budget } => find_file::<BestFirst, _>(
+            alloc, files, plant, budget,
+        ),
         Command::ConflictLogs {
             plant,
             budget,
             stem,
-        } => find_log_file(alloc, files, plant, budget, stem),
+        } => find_log_file::<BestFirst, _>(alloc, files, plant, budget, stem),
         Command::CheckConflict { plant, stem } => check_conflict_file(alloc, files, plant, stem),
         Command::Parts { plant, levels } => parts_file(alloc, files, plant, levels),
         Command::SolvePart {
@@ -256,7 +275,7 @@ fn reply_to<F: Shelf>(alloc: Global, command: Command, files: &mut F) -> Result<
             part,
             budget,
             log,
-        } => solve_part_file(alloc, files, plant, part, budget, log),
+        } => solve_part_file::<BestFirst, _>(alloc, files, plant, part, budget, log),
         Command::Join {
             plant,
             levels,
@@ -272,5 +291,5 @@ fn demonstrate(alloc: Global, seed: u32) -> Result<Reply, Stopped>
     ensures no_read { result ≢ Err Stopped.ReadFault }
     ensures no_write { result ≢ Err Stopped.WriteFault }
 {
-    Ok(show(alloc, seed)?)
+    Ok(show::<BestFirst>(alloc, seed)?)
 }

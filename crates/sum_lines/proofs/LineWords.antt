@@ -15,7 +15,7 @@ use Rattle.row_kit.specs.Row.{is_nothing}
 use Rattle.text_words.proofs.Printed.{decimal-lacks}
 use Rattle.sum_lines.specs.declared.line.HeadLine.{HeadLine}
 use Rattle.sum_lines.specs.declared.line.HeadLine.TheVariants as line
-use Rattle.sum_lines.specs.Line.{IsHeadLine, IsPart, IsShortRow, head_line_text, line_name, line_words, row_word, words_text}
+use Rattle.sum_lines.specs.Line.{IsHeadLine, IsTermPart, IsShortRow, head_line_text, line_name, line_words, row_word, words_text}
 use Rattle.sum_lines.specs.laws.Reading.{ReadsLine, ReadsRest}
 use Rattle.sum_lines.specs.laws.Words.{AreWords, CutsWords}
 use Rattle.sum_lines.proofs.WordTexts.{IsRest-words_text, words_unique}
@@ -90,7 +90,7 @@ no_rows width offset low high count none (line.Sum w o l h c) is named same =
 no_rows width offset low high count none (line.Term _ _ _) is named same = absurd (omega (arith, ap (λ w. get_or w 0 0) named))
 
 -- words of which two are printed of no parts are those of no term line
-pub no_parts : (slot fixed per : List ℕ) → ((f p : ℤ) → IsPart f → IsPart p → fixed ≡ signed_decimal f → per ≢ signed_decimal p)
+pub no_parts : (slot fixed per : List ℕ) → ((f p : ℤ) → IsTermPart f → IsTermPart p → fixed ≡ signed_decimal f → per ≢ signed_decimal p)
     → ReadsLine (codes "term") (slot ∷ fixed ∷ per ∷ []) None
 no_parts slot fixed per none (line.Sum _ _ _ _ _) is named same = absurd (omega (arith, ap (λ w. get_or w 0 0) named))
 no_parts slot fixed per none (line.Term s f p) is named same =

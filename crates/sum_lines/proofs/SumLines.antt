@@ -17,7 +17,7 @@ use Rattle.sum_lines.specs.declared.walk.Seen.{Seen}
 use Rattle.sum_lines.specs.declared.walk.Seen.TheVariants as seen
 use Rattle.sum_lines.specs.declared.walk.Walk.{Walk}
 use Rattle.sum_lines.specs.Front.{IsBadAt, IsBadHead, IsHeaded, MayOpen, NoneFirst, has_room, opening_defect}
-use Rattle.sum_lines.specs.Head.{AreKept, AreTerms, HasRows, IsHeadVersion, IsKept, begins_on, head_of, head_text, lines_of, most_rows, most_slots, opening_line, sum_lines, term_line, text_with}
+use Rattle.sum_lines.specs.Head.{AreKept, AreTerms, HasRows, IsHeadVersion, IsKeptHead, begins_on, head_of, head_text, lines_of, most_rows, most_slots, opening_line, sum_lines, term_line, text_with}
 use Rattle.sum_lines.specs.Line.{IsHeadLine, head_line_text}
 use Rattle.sum_lines.specs.laws.Sums.{IsSumKept}
 use Rattle.sum_lines.specs.laws.Walk.{HasBadTerms, HasPassed, HasSeen, rest_after}
@@ -142,7 +142,7 @@ pub passed_sum : (files : Option FileMap) (name : List ℕ) (version : ℕ) (sum
 passed_sum files name version sums sum walk passed = subst (λ ls. HasPassed files name version ls walk) (sym (lines_of-more sums sum)) passed
 
 -- the head with sums that keep the limits
-pub head_of_kept : (version : ℕ) (limits : Limits) (sums : List Sum) → IsHeadVersion version → AreKept version limits sums → length (head_text version sums) < 2 ^ 64 → IsKept limits (head_of version sums)
+pub head_of_kept : (version : ℕ) (limits : Limits) (sums : List Sum) → IsHeadVersion version → AreKept version limits sums → length (head_text version sums) < 2 ^ 64 → IsKeptHead limits (head_of version sums)
 head_of_kept version limits sums is_version kept small = record { version = is_version; is = refl; sums = kept; lines = begins_long 2 sums; count = omega arith; bytes_least = first_long version is_version (lines_of sums); bytes_most = small }
 
 -- the head that a walk has passed
@@ -156,12 +156,12 @@ head_same files name version sums lines walk is passed =
     ap (λ c. made c (length (head_text version sums)) (begins_on 2 sums)) count ∙ ap (λ b. made (walk.line - 1) b (begins_on 2 sums)) bytes ∙ ap (λ l. made (walk.line - 1) walk.bytes l) begins
 
 pub head_kept : (files : Option FileMap) (name : List ℕ) (version : ℕ) (limits : Limits) (sums : List Sum) (lines : List ℕ) (walk : Walk) → IsHeadVersion version → AreKept version limits sums → lines ≡ begins_on 2 sums → HasPassed files name version (lines_of sums) walk → walk.bytes < 2 ^ 64
-    → IsKept limits (record { version = version; sums = sums; lines = lines; count = walk.line - 1; bytes = walk.bytes })
+    → IsKeptHead limits (record { version = version; sums = sums; lines = lines; count = walk.line - 1; bytes = walk.bytes })
 head_kept files name version limits sums lines walk is_version kept is passed small =
-    subst (IsKept limits) (head_same files name version sums lines walk is passed) (head_of_kept version limits sums is_version kept (subst (λ n. n < 2 ^ 64) (passed_bytes files name version (lines_of sums) walk passed) small))
+    subst (IsKeptHead limits) (head_same files name version sums lines walk is passed) (head_of_kept version limits sums is_version kept (subst (λ n. n < 2 ^ 64) (passed_bytes files name version (lines_of sums) walk passed) small))
 
 -- the same of the file
-pub head_told : (files : Option FileMap) (name : List ℕ) (version : ℕ) (limits : Limits) (sums : List Sum) (lines : List ℕ) (walk : Walk) → IsKept limits (record { version = version; sums = sums; lines = lines; count = walk.line - 1; bytes = walk.bytes }) → HasPassed files name version (lines_of sums) walk
+pub head_told : (files : Option FileMap) (name : List ℕ) (version : ℕ) (limits : Limits) (sums : List Sum) (lines : List ℕ) (walk : Walk) → IsKeptHead limits (record { version = version; sums = sums; lines = lines; count = walk.line - 1; bytes = walk.bytes }) → HasPassed files name version (lines_of sums) walk
     → IfSome files (λ m. NoneFirst (MayOpen limits.slots) (rest_after version (lines_of sums) (file_of m name))) → IfSome files (λ m. IsHeaded limits (file_of m name) (record { version = version; sums = sums; lines = lines; count = walk.line - 1; bytes = walk.bytes }))
 head_told None name version limits sums lines walk kept passed none = tt
 head_told (Some m) name version limits sums lines walk kept passed none =

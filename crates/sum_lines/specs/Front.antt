@@ -10,7 +10,7 @@ use Rattle.sum_lines.specs.declared.head.Front.TheVariants.{Plain, Headed, Bad}
 use Rattle.sum_lines.specs.declared.head.Head.{Head}
 use Rattle.sum_lines.specs.declared.line.HeadLine.{HeadLine}
 use Rattle.sum_lines.specs.declared.line.HeadLine.TheVariants as line
-use Rattle.sum_lines.specs.Head.{AreKept, AreTerms, IsHeadVersion, IsKept, first_line, head_text, last_slot, lines_of, most_rows, most_slots, open_lines, opening_line, text_with}
+use Rattle.sum_lines.specs.Head.{AreKept, AreTerms, IsHeadVersion, IsKeptHead, first_line, head_text, last_slot, lines_of, most_rows, most_slots, open_lines, opening_line, text_with}
 use Rattle.sum_lines.specs.Line.{IsHeadLine, head_line_text}
 
 -- bytes begin with a text and its line feed (10)
@@ -114,7 +114,7 @@ pub record IsBadHead (limits : Limits) (bytes : List ℕ) (defect : Defect) : Ty
 
 -- the bytes begin with the text of a head, whose sums keep the limits, and after it no line stands first that may begin a sum
 pub record IsHeaded (limits : Limits) (bytes : List ℕ) (head : Head) : Type 0 where
-  pub kept : IsKept limits head
+  pub kept : IsKeptHead limits head
   pub is : bytes ≡ head_text head.version head.sums ++ drop head.bytes bytes
   pub ends : NoneFirst (MayOpen limits.slots) (drop head.bytes bytes)
 
@@ -127,5 +127,5 @@ IsFront limits bytes (Bad defect) = IsBadHead limits bytes defect
 -- the head, where there is one, keeps the limits
 abbrev pub KeepsLimits : Limits → Front → Type 0
 KeepsLimits limits Plain = ⊤
-KeepsLimits limits (Headed head) = IsKept limits head
+KeepsLimits limits (Headed head) = IsKeptHead limits head
 KeepsLimits limits (Bad _) = ⊤

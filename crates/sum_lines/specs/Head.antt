@@ -95,7 +95,7 @@ pub record AreKept (version : ℕ) (limits : Limits) (sums : List Sum) : Type 0 
   pub rows : 0 < length sums → limits.rows + 2 * length sums ≤ most_rows version
 
 -- a head is that of its version with its sums, which keep the limits, and has at least its first line and fewer than 2^64 bytes
-pub record IsKept (limits : Limits) (head : Head) : Type 0 where
+pub record IsKeptHead (limits : Limits) (head : Head) : Type 0 where
   pub version : IsHeadVersion head.version
   pub is : head ≡ head_of head.version head.sums
   pub sums : AreKept head.version limits head.sums

@@ -49,10 +49,10 @@ abbrev pub IsCount : ℕ → Type 0
 IsCount count = (1 ≤ count) × IsShort count
 
 -- either part of a term is at most 10,000,000 in absolute value
-abbrev pub IsPart : ℤ → Type 0
-IsPart part = unsigned_abs part ≤ 10000000
+abbrev pub IsTermPart : ℤ → Type 0
+IsTermPart part = unsigned_abs part ≤ 10000000
 
 -- the line may be written: its width, offset and count or its parts keep their ranges, the parts are not both 0, and the numbers of rows and slots have at most 30 digits
 abbrev pub IsHeadLine : HeadLine → Type 0
 IsHeadLine (line.Sum width offset low high count) = IsWidth width × IsOffset offset × IsShortRow low × IsShortRow high × IsCount count
-IsHeadLine (line.Term slot fixed per) = IsShort slot × IsPart fixed × IsPart per × (is_nothing (fixed, per) ≡ false)
+IsHeadLine (line.Term slot fixed per) = IsShort slot × IsTermPart fixed × IsTermPart per × (is_nothing (fixed, per) ≡ false)

@@ -1,7 +1,7 @@
 //! The numbers that the words of a line are.
 ghost use Rattle.std.specs.Prelude.{◌≤◌, ◌<◌, ◌^◌, ◌∷◌, unsigned_abs, decimal};
 ghost use Rattle.std.specs.Fmt.{signed_decimal};
-ghost use Rattle.sum_lines.specs.Line.{IsCount, IsOffset, IsPart, IsShort, IsShortRow, IsWidth, row_word};
+ghost use Rattle.sum_lines.specs.Line.{IsCount, IsOffset, IsTermPart, IsShort, IsShortRow, IsWidth, row_word};
 ghost use Rattle.sum_lines.specs.laws.Reading.{ReadsPair, ReadsWord};
 
 use text_words::read_wide;
@@ -46,7 +46,8 @@ pub(crate) fn read_rows(low: &[u8], high: &[u8]) -> Option<(Option<u128>, Option
 
 // The two parts of a term.
 pub(crate) fn read_parts(fixed: &[u8], per: &[u8]) -> Option<(i128, i128)>
-    ensures { ReadsPair IsPart signed_decimal IsPart signed_decimal fixed.now per.now result }
+    ensures { ReadsPair IsTermPart signed_decimal IsTermPart signed_decimal
+        fixed.now per.now result }
 {
     match read_signed(fixed, PART_LIMIT) {
         Some(fixed) => match read_signed(per, PART_LIMIT) {

@@ -5,7 +5,7 @@ ghost use Rattle.stn_edge.specs.Count.{Rose};
 ghost use Rattle.stn_edge.specs.Files.{file_of};
 ghost use Rattle.stn_edge.specs.declared.stop.Stop.TheVariants.{Failed};
 ghost use Rattle.sum_lines.specs.Front.{IsBadAt, IsBadHead, IsFront, IsHeaded, KeepsLimits, MayOpen, NoneFirst};
-ghost use Rattle.sum_lines.specs.Head.{IsHeadVersion, IsKept, sum_lines};
+ghost use Rattle.sum_lines.specs.Head.{IsHeadVersion, IsKeptHead, sum_lines};
 ghost use Rattle.sum_lines.specs.declared.line.HeadLine.{HeadLine};
 ghost use Rattle.sum_lines.specs.laws.Sums.{IsSumKept};
 ghost use Rattle.sum_lines.specs.laws.Walk.{HasPassed, rest_after};
@@ -102,7 +102,7 @@ fn read_sums<F: Shelf>(
     requires passed { HasPassed (F.files files.old) name.now version [] walk.old }
     ensures head { IfOk result (λ head. IfSome (F.files files.old)
         (λ m. IsHeaded limits.now (file_of m name.now) head)) }
-    ensures kept { IfOk result (IsKept limits.now) }
+    ensures kept { IfOk result (IsKeptHead limits.now) }
     ensures bad { (defect : Defect) → result ≡ Err (Halt.Bad defect)
         → IfSome (F.files files.old) (λ m. IsBadHead limits.now (file_of m name.now) defect) }
     ensures fault { result ≡ Err (Halt.Stopped Failed)

@@ -17,7 +17,7 @@ use Rattle.sum_lines.specs.declared.head.Front.{Front}
 use Rattle.sum_lines.specs.declared.head.Front.TheVariants.{Plain, Headed, Bad}
 use Rattle.sum_lines.specs.declared.head.Head.{Head}
 use Rattle.sum_lines.specs.Front.{IsFront}
-use Rattle.sum_lines.specs.Head.{IsHeadVersion, IsKept, most_rows, most_slots}
+use Rattle.sum_lines.specs.Head.{IsHeadVersion, IsKeptHead, most_rows, most_slots}
 use Rattle.derivations.specs.declared.derivation.Derivation.{Derivation}
 use Rattle.derivations.specs.Growth.{AreShown, Growth, IsShownDerivation, after, after_all}
 use Rattle.derivations.specs.Larger.{begun}
@@ -98,7 +98,7 @@ most_of : (version : ℕ) → IsHeadVersion version → (most_slots version ≤ 
 most_of version (inl is) = subst (λ (v : ℕ). (most_slots v ≤ 4096) × (most_rows v ≤ 400000)) (sym is) (omega arith, omega arith)
 most_of version (inr is) = subst (λ (v : ℕ). (most_slots v ≤ 4096) × (most_rows v ≤ 400000)) (sym is) (omega arith, omega arith)
 
-pub small_with : (program : Program) (depth : ℕ) (head : Head) → IsKept (limits_with program depth 0) head → AreSmall (limits_with program depth (length head.sums))
+pub small_with : (program : Program) (depth : ℕ) (head : Head) → IsKeptHead (limits_with program depth 0) head → AreSmall (limits_with program depth (length head.sums))
 small_with program depth head kept = elim (cases_lt 0 (length head.sums)) [
   | inl some ↦
       (let most = most_of head.version kept.version in
@@ -126,7 +126,7 @@ valid_tail program judged depth bytes head claim verdict valid (inr is) =
     let own : is.own ≡ Yes valid.own = (exact is.larger depth rest is.own valid.own is.right).1 (valid_alike valid.larger is.larger depth rest valid.own same valid.valid) in
     is.is ∙ ap (given_verdict (length program.root) valid.tail.count) own ∙ ap Yes (sym valid.is)
 
-valid_behind : (program : Program) (judged : List Domain) (depth : ℕ) (bytes : List ℕ) (head : Head) (claim : Claim) (verdict : LogVerdict) → IsKept (limits_with program depth 0) head → IsValidBehind program judged depth bytes head claim
+valid_behind : (program : Program) (judged : List Domain) (depth : ℕ) (bytes : List ℕ) (head : Head) (claim : Claim) (verdict : LogVerdict) → IsKeptHead (limits_with program depth 0) head → IsValidBehind program judged depth bytes head claim
     → IsHeadVerdict program judged depth bytes head verdict → verdict ≡ Yes claim
 valid_behind program judged depth bytes head claim verdict kept valid right =
     let same = tail_same (limits_with program depth (length head.sums)) head bytes valid.tail right.tail (small_with program depth head kept) valid.follows right.follows in

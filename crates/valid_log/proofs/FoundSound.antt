@@ -28,7 +28,7 @@ use Rattle.row_relax.specs.Steps.{row_steps}
 use Rattle.row_relax.specs.View.{domains_of}
 use Rattle.proof_log.specs.declared.claim.Claim.{Claim}
 use Rattle.proof_log.specs.declared.claim.Claim.TheVariants.{Optimal, Infeasible, Between, Below}
-use Rattle.valid_log.specs.Meaning.{RowSteps, PointDefect, CappedDefect, ClaimDefect, ItemDefect, HasDefect, HaveNone, IsAbove, IsSoundClaim}
+use Rattle.valid_log.specs.Meaning.{RowSteps, PointDefect, CappedDefect, ClaimDefect, ItemDefect, HasDefect, HaveNone, AllowsMore, IsSoundClaim}
 use Rattle.valid_log.proofs.Items.{leads_on, worth-sound}
 
 -- a point and its worth have no defect
@@ -157,7 +157,7 @@ real_outcome NoPoint real = refl
 real_outcome (AtMost n) real = refl
 
 -- a point without a defect has none under a cap that is not above its most
-pub no_capped : (program : Program) (proof_cap : Capped) (value most : ℤ) (point : List ℕ) → IsFinePoint program value point → ¬ IsAbove proof_cap most → (kind : ℕ) → ¬ CappedDefect program proof_cap value most point kind
+pub no_capped : (program : Program) (proof_cap : Capped) (value most : ℤ) (point : List ℕ) → IsFinePoint program value point → ¬ AllowsMore proof_cap most → (kind : ℕ) → ¬ CappedDefect program proof_cap value most point kind
 no_capped program proof_cap value most point fine not kind = ⊎_elim (fine kind) (λ x. not x.2)
 
 -- a sound claim has no defect

@@ -22,13 +22,13 @@ use Rattle.plan_images.proofs.Imaging.{HaveSamePoints, derived-points, itself-re
 use Rattle.plan_images.proofs.Telling.{told}
 use Rattle.valid_log.specs.declared.verdict.LogVerdict.{LogVerdict}
 use Rattle.valid_log.specs.declared.verdict.LogVerdict.TheVariants.{Yes, No}
-use Rattle.valid_log.specs.Meaning.{Holds}
+use Rattle.valid_log.specs.Meaning.{HoldsOfPoints}
 use Rattle.valid_log.specs.Verdict.{YesHolds}
 use Rattle.valid_log.specs.AnyVersion.{IsWithHead, given_claim, given_verdict, head_domains}
 use Rattle.valid_log.specs.SumTexts.{larger_claim}
 
 -- what a claim says of all points of the larger program holds of the given program with the claim's point cut back
-claim_given : (program : Program) (claim : Claim) → ClaimSays (IsLawful program) (worth_of program) (given_of program) claim → Holds program (given_claim (length program.root) claim)
+claim_given : (program : Program) (claim : Claim) → ClaimSays (IsLawful program) (worth_of program) (given_of program) claim → HoldsOfPoints program (given_claim (length program.root) claim)
 claim_given program (Optimal profit point) says = says
 claim_given program Infeasible says = says
 claim_given program (Between profit most point) says = says

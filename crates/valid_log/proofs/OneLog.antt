@@ -11,7 +11,7 @@ use Rattle.sum_lines.specs.declared.head.Front.{Front}
 use Rattle.sum_lines.specs.declared.head.Front.TheVariants.{Plain, Headed, Bad}
 use Rattle.sum_lines.specs.declared.head.Head.{Head}
 use Rattle.sum_lines.specs.Front.{IsFront}
-use Rattle.sum_lines.specs.Head.{IsKept}
+use Rattle.sum_lines.specs.Head.{IsKeptHead}
 use Rattle.derivation_lines.specs.declared.tail.Tail.{Tail}
 use Rattle.derivation_lines.specs.declared.tail.TailFront.TheVariants.{Whole}
 use Rattle.valid_log.specs.AnyVersion.{IsLogBehind, IsLogWith, IsOneLog, IsWithHead, given_claim, judged_over, limits_with}
@@ -28,7 +28,7 @@ whole_same s t same = cc
 
 module _ (program : Program) (ranges root : List Domain) (bytes : List ℕ) (sums other_sums : List Sum) (derivations other_derivations : List Derivation) (tree other_tree : RowTree) (claim other_claim : Claim) where
   -- logs behind one head are one
-  one_behind : (head : Head) → IsKept (limits_with program 0 0) head → IsLogBehind program (judged_over ranges root head.version) bytes head sums derivations tree claim
+  one_behind : (head : Head) → IsKeptHead (limits_with program 0 0) head → IsLogBehind program (judged_over ranges root head.version) bytes head sums derivations tree claim
       → IsLogBehind program (judged_over ranges root head.version) bytes head other_sums other_derivations other_tree other_claim → IsOneLog sums other_sums derivations other_derivations tree other_tree claim other_claim
   one_behind head kept log other =
       let judged = judged_over ranges root head.version in

@@ -11,12 +11,12 @@ use Rattle.plan_images.proofs.Plans.{part-relaxes}
 use Rattle.plan_images.proofs.Telling.{told}
 use Rattle.valid_log.specs.declared.verdict.LogVerdict.{LogVerdict}
 use Rattle.valid_log.specs.declared.verdict.LogVerdict.TheVariants.{Yes, No}
-use Rattle.valid_log.specs.Meaning.{Holds}
+use Rattle.valid_log.specs.Meaning.{HoldsOfPoints}
 use Rattle.valid_log.specs.Verdict.{YesHolds}
 use Rattle.valid_log.specs.Claims.{SaysOf, YesSaysOf}
 
 -- a claim that holds of all points of a part holds of all plans that it admits
-part_says : (plant : Plant) (part : Program) (claim : Claim) → Sound plant → IsPartOf plant part → Holds part claim → SaysOf plant (IsAdmitted plant part) claim
+part_says : (plant : Plant) (part : Program) (claim : Claim) → Sound plant → IsPartOf plant part → HoldsOfPoints part claim → SaysOf plant (IsAdmitted plant part) claim
 part_says plant part claim sound is holds =
     told (IsAdmitted plant part) (profit plant) part (plan_of_values plant) claim (part-relaxes plant part is) (λ point lawful. values-admitted plant part point sound is lawful) holds
 

@@ -12,14 +12,14 @@ use Rattle.plan_images.proofs.Plans.{plant-relaxes}
 use Rattle.plan_images.proofs.Telling.{told}
 use Rattle.valid_log.specs.declared.verdict.LogVerdict.{LogVerdict}
 use Rattle.valid_log.specs.declared.verdict.LogVerdict.TheVariants.{Yes, No}
-use Rattle.valid_log.specs.Meaning.{Holds}
+use Rattle.valid_log.specs.Meaning.{HoldsOfPoints}
 use Rattle.valid_log.specs.Verdict.{YesHolds}
 use Rattle.row_set.specs.Parts.{plan_of_values}
-use Rattle.valid_log.specs.Claims.{Says, YesSays, IsOfPlant}
+use Rattle.valid_log.specs.Claims.{SaysOfPlans, YesSays, IsOfPlant}
 use Rattle.valid_log.proofs.Points.{lawful-plan, feasible-lawful}
 
 -- a claim that holds of all points holds of all plans
-pub says : (plant : Plant) (program : Program) (claim : Claim) → Sound plant → IsProgramOf plant program → Holds program claim → Says plant claim
+pub says : (plant : Plant) (program : Program) (claim : Claim) → Sound plant → IsProgramOf plant program → HoldsOfPoints program claim → SaysOfPlans plant claim
 says plant program claim sound means holds =
     told (Feasible plant) (profit plant) program (plan_of_values plant) claim (plant-relaxes plant program means)
     (λ point lawful. let plan = lawful-plan plant program point sound means lawful in (plan.feasible, plan.earns)) holds

@@ -19,8 +19,8 @@ abbrev pub SaysOf : Plant → (List Start → Type 0) → Claim → Type 0
 SaysOf plant admits claim = ClaimSays admits (profit plant) (plan_of_values plant) claim
 
 -- what a claim says of all plans of the plant: each feasible one is admitted
-abbrev pub Says : Plant → Claim → Type 0
-Says plant claim = SaysOf plant (Feasible plant) claim
+abbrev pub SaysOfPlans : Plant → Claim → Type 0
+SaysOfPlans plant claim = SaysOf plant (Feasible plant) claim
 
 -- The program is the plant's, and its lawful points are the plant's plans: values are lawful exactly where
 -- their plan is feasible, and then their worth is its profit.
@@ -31,7 +31,7 @@ pub record IsOfPlant (plant : Plant) (program : Program) : Type 0 where
 
 -- where the answer is yes, what the claim says holds of all plans
 abbrev pub YesSays : Plant → LogVerdict → Type 0
-YesSays plant verdict = IfYes (Says plant) verdict
+YesSays plant verdict = IfYes (SaysOfPlans plant) verdict
 
 -- where the answer is yes, what the claim says holds of all plans that a part of the plant's choices admits
 abbrev pub YesSaysOf : Plant → Program → LogVerdict → Type 0

@@ -17,7 +17,7 @@ use Rattle.log_lines.specs.declared.defect.Defect.{Defect}
 use Rattle.proof_log.specs.ClaimSays.{HasWorth, ClaimSays}
 use Rattle.row_relax.specs.RowProofs.{RowItem}
 use Rattle.proof_log.specs.Log.{line_after}
-pub use Rattle.plan_images.specs.Caps.{AllowsPoint, IsAbove}
+pub use Rattle.plan_images.specs.Caps.{AllowsPoint, AllowsMore}
 use Rattle.plan_images.specs.Told.{IsBorne}
 
 -- what the calls of rows answer
@@ -29,8 +29,8 @@ abbrev pub IsWorth : Program → ℤ → List ℕ → Type 0
 IsWorth program value point = HasWorth (IsLawful program) (worth_of program) point value
 
 -- what a claim says of all points of a program
-abbrev pub Holds : Program → Claim → Type 0
-Holds program claim = ClaimSays (IsLawful program) (worth_of program) (λ point. point) claim
+abbrev pub HoldsOfPoints : Program → Claim → Type 0
+HoldsOfPoints program claim = ClaimSays (IsLawful program) (worth_of program) (λ point. point) claim
 
 -- what is wrong with a point and the worth that it is said to have: 13 where it is not lawful, 14 where it is and its worth is another
 abbrev pub PointDefect : Program → ℤ → List ℕ → ℕ → Type 0
@@ -90,14 +90,14 @@ pub record IsItemDefect (s : RowSteps) (program : Program) (root : View) (items 
 -- what is wrong with a point, its worth and the most that any point is said to be worth, where a proof has this cap: 13 and 14 as with a found point, 15 where nothing is wrong with it and the cap is above the most
 abbrev pub CappedDefect : Program → Capped → ℤ → ℤ → List ℕ → ℕ → Type 0
 CappedDefect program proof_cap value most point kind =
-    PointDefect program value point kind ⊎ ((kind ≡ 15) × IsWorth program value point × IsAbove proof_cap most)
+    PointDefect program value point kind ⊎ ((kind ≡ 15) × IsWorth program value point × AllowsMore proof_cap most)
 
 -- what is wrong with a claim of a proof that has this cap: 13 to 15 where it has a point, 15 where the cap is above its own, 16 where it says that no point is lawful and there is a cap
 abbrev pub ClaimDefect : Program → Capped → Claim → ℕ → Type 0
 ClaimDefect program proof_cap (Optimal profit point) kind = CappedDefect program proof_cap profit profit point kind
 ClaimDefect program proof_cap Infeasible kind = (kind ≡ 16) × AllowsPoint proof_cap
 ClaimDefect program proof_cap (Between profit most point) kind = CappedDefect program proof_cap profit most point kind
-ClaimDefect program proof_cap (Below most) kind = (kind ≡ 15) × IsAbove proof_cap most
+ClaimDefect program proof_cap (Below most) kind = (kind ≡ 15) × AllowsMore proof_cap most
 
 -- the items have no defect and lead from the root to this cap
 pub record IsProved (s : RowSteps) (program : Program) (root : View) (items : List RowItem) (proof_cap : Capped) : Type 0 where

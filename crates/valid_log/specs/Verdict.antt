@@ -14,7 +14,7 @@ use Rattle.log_lines.specs.declared.grammar.Limits.{Limits}
 use Rattle.log_lines.specs.TextDefect.{log_text_defect}
 use Rattle.valid_log.specs.declared.verdict.LogVerdict.{LogVerdict}
 use Rattle.valid_log.specs.declared.verdict.LogVerdict.TheVariants.{Yes, No}
-use Rattle.valid_log.specs.Meaning.{ClaimDefect, IsMeaningDefect, IsProved, Holds}
+use Rattle.valid_log.specs.Meaning.{ClaimDefect, IsMeaningDefect, IsProved, HoldsOfPoints}
 
 -- the bytes are the text of the log of a proof and a claim over the program's slots
 pub record IsLog (program : Program) (bytes : List ℕ) (tree : RowTree) (claim : Claim) : Type 0 where
@@ -71,7 +71,7 @@ IfYes says (No defect) = ⊤
 
 -- where the answer is yes, what the claim says holds of all points
 abbrev pub YesHolds : Program → LogVerdict → Type 0
-YesHolds program verdict = IfYes (Holds program) verdict
+YesHolds program verdict = IfYes (HoldsOfPoints program) verdict
 
 -- the answer for this very proof and claim: yes to the claim where neither has a meaning defect, or their first
 abbrev pub IsVerdictOn : Program → RowTree → Claim → LogVerdict → Type 0

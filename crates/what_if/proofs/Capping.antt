@@ -42,32 +42,32 @@ use Rattle.valid_log.specs.AnyVersion.{head_domains}
 use Rattle.valid_log.proofs.Holding.{larger-relaxes}
 use Rattle.what_if.specs.declared.old.LogHead.{LogHead}
 use Rattle.what_if.specs.Estimate.{AreTaken, CapsPlans, IsCapOver, IsEstimate, IsSumOf, IsWithHeadAnew}
-use Rattle.what_if.specs.Loose.{loosened, no_mults, or_else, said}
+use Rattle.what_if.specs.Loose.{loosened, no_mults, or_else, as_cap}
 use Rattle.what_if.specs.laws.Rooted.{BoundsRoot, IsRootCap, plain_proof}
 
 -- a cap, none of which says that there is no point, is one of plans
-of_plans : (plant : Plant) (cap : Option ℤ) → Caps (Feasible plant) (profit plant) (said cap) → CapsPlans plant cap
+of_plans : (plant : Plant) (cap : Option ℤ) → Caps (Feasible plant) (profit plant) (as_cap cap) → CapsPlans plant cap
 of_plans plant None caps = caps
 of_plans plant (Some cap) caps = caps
 
 -- what bounds the lawful points of a program's root caps its plant's plans
 caps_plans : (plant : Plant) (program : Program) (cap : Option ℤ) → IsProgramOf plant program → BoundsRoot program cap → CapsPlans plant cap
 caps_plans plant program cap means bounds =
-    of_plans plant cap (bounds-cap (Feasible plant) (profit plant) program (IsIn (view_of program.root)) (said cap) (plant-relaxes plant program means) (root-lies program) bounds)
+    of_plans plant cap (bounds-cap (Feasible plant) (profit plant) program (IsIn (view_of program.root)) (as_cap cap) (plant-relaxes plant program means) (root-lies program) bounds)
 
 -- what bounds the lawful points of a relaxation of those of the given program bounds these
 bounds_given : (program larger : Program) (cap : Option ℤ) → Relaxes (IsLawful program) (worth_of program) larger → BoundsRoot larger cap → BoundsRoot program cap
 bounds_given program larger cap relaxes bounds =
-    allows-each (IsIn (view_of program.root)) (IsLawful program) (worth_of program) (said cap)
-    (λ point lies lawful. bounds-cap (IsLawful program) (worth_of program) larger (IsIn (view_of larger.root)) (said cap) relaxes (root-lies larger) bounds point lawful)
+    allows-each (IsIn (view_of program.root)) (IsLawful program) (worth_of program) (as_cap cap)
+    (λ point lies lawful. bounds-cap (IsLawful program) (worth_of program) larger (IsIn (view_of larger.root)) (as_cap cap) relaxes (root-lies larger) bounds point lawful)
 
 -- what bounds the lawful points of a program with the same bounds those of the given one
 bounds_same : (program larger : Program) (cap : Option ℤ) → IsSame program larger → BoundsRoot larger cap → BoundsRoot program cap
 bounds_same program larger cap same bounds =
-    allows-each (IsIn (view_of program.root)) (IsLawful program) (worth_of program) (said cap)
+    allows-each (IsIn (view_of program.root)) (IsLawful program) (worth_of program) (as_cap cap)
     (λ point lies lawful.
     let there = (same.points point).1 lawful in
-    subst (Allows (said cap)) (same.worth point) (allows-one (IsIn (view_of larger.root)) (IsLawful larger) (worth_of larger) (said cap) bounds point (root-lies larger point there) there))
+    subst (Allows (as_cap cap)) (same.worth point) (allows-one (IsIn (view_of larger.root)) (IsLawful larger) (worth_of larger) (as_cap cap) bounds point (root-lies larger point there) there))
 
 -- the domains before any derivation are the root, where sums are judged over the root
 pub domains-root : (program between : Program) (ranges : List Domain) (sums : List Sum) → ranges ≡ program.root → IsWithSums program ranges sums between → between.root ≡ head_domains program ranges sums

@@ -41,7 +41,7 @@ use Rattle.sum_lines.specs.declared.head.Front.{Front}
 use Rattle.sum_lines.specs.declared.head.Front.TheVariants.{Plain, Headed, Bad}
 use Rattle.sum_lines.specs.declared.head.Head.{Head}
 use Rattle.sum_lines.specs.Front.{IsFront, IsHeaded}
-use Rattle.sum_lines.specs.Head.{IsHeadVersion, IsKept, head_text}
+use Rattle.sum_lines.specs.Head.{IsHeadVersion, IsKeptHead, head_text}
 use Rattle.derivation_lines.specs.declared.tail.Tail.{Tail}
 use Rattle.derivation_lines.specs.declared.tail.TailFront.{TailFront}
 use Rattle.derivation_lines.specs.declared.tail.TailFront.TheVariants as tailed
@@ -49,7 +49,7 @@ use Rattle.derivation_lines.specs.declared.tail.TailFront.TheVariants.{Whole}
 use Rattle.derivation_lines.specs.Tail.{lines_text as tail_lines, tail_text}
 use Rattle.valid_log.specs.declared.verdict.LogVerdict.{LogVerdict}
 use Rattle.valid_log.specs.declared.verdict.LogVerdict.TheVariants.{Yes, No}
-use Rattle.valid_log.specs.Meaning.{Holds}
+use Rattle.valid_log.specs.Meaning.{HoldsOfPoints}
 use Rattle.valid_log.specs.Verdict.{IsLog, IsSoundLog, IsVerdict, IsVerdictGiven, IsVerdictOn, limits_of}
 use Rattle.valid_log.specs.AnyVersion.{IsAnyVerdict, IsHeadVerdict, IsLogBehind, IsLogWith, IsTail, IsTailVerdict, IsWithHead, given_claim, head_domains, judged_over, limits_with}
 use Rattle.valid_log.specs.PlantLogs.{IsAnyChecked}
@@ -69,9 +69,9 @@ use Rattle.what_if.specs.laws.Judged.{IsAnyOwnLog, IsHeadOf, IsNoHead, IsOwnLog,
 -- ---- a log of version 1 or 2
 
 -- the answer yes, on a log that was read
-pub yes_log : (program : Program) (bytes : List ℕ) (log : Log) (claim : Claim) → IsRead (limits_of program 4608) bytes log → IsVerdictOn program (tree_of log.tree) log.claim (Yes claim) → Holds program claim → IsOwnLog program bytes (tree_of log.tree) log.claim
+pub yes_log : (program : Program) (bytes : List ℕ) (log : Log) (claim : Claim) → IsRead (limits_of program 4608) bytes log → IsVerdictOn program (tree_of log.tree) log.claim (Yes claim) → HoldsOfPoints program claim → IsOwnLog program bytes (tree_of log.tree) log.claim
 yes_log program bytes log claim read on holds =
-    record { clean = read.clean; is_log = record { version = log.version; text = read.text; over = read.over }; sound_log = on.1; holds = subst (Holds program) on.0 holds }
+    record { clean = read.clean; is_log = record { version = log.version; text = read.text; over = read.over }; sound_log = on.1; holds = subst (HoldsOfPoints program) on.0 holds }
 
 -- bytes with a first text defect
 pub text_verdict : (program : Program) (bytes : List ℕ) (defect : Defect) → log_text_defect (limits_of program 4608) bytes ≡ Some (defect.line, defect.kind) → IsVerdict program 4608 bytes (No defect)
@@ -205,7 +205,7 @@ with-given program larger ranges head tail given version of is =
     (subst (λ (sums : List Sum). IsWithHead head.version program ranges sums tail.derivations larger) (sym of.sums) is))
 
 -- a head that is read and shown can be taken
-given-taken : (program larger : Program) (ranges : List Domain) (head : Head) (tail : Tail) (given : LogHead) → IsKept (limits_with program 4608 0) head → IsTailHeld (limits_with program 4608 (length head.sums)) head tail → IsHeadOf head tail given
+given-taken : (program larger : Program) (ranges : List Domain) (head : Head) (tail : Tail) (given : LogHead) → IsKeptHead (limits_with program 4608 0) head → IsTailHeld (limits_with program 4608 (length head.sums)) head tail → IsHeadOf head tail given
     → IsWithHead head.version program ranges head.sums tail.derivations larger → AreTaken program ranges given
 given-taken program larger ranges head tail given kept held of is =
     let limits = limits_with program 4608 (length head.sums) in
@@ -221,7 +221,7 @@ given-taken program larger ranges head tail given kept held of is =
 
 -- a valid log behind a head, over the program with it, is valid with its claim cut back
 pub headed_valid : (program larger : Program) (ranges : List Domain) (bytes : List ℕ) (head : Head) (tail : Tail) (own : Log) (log : ValidLog) → AreRanges program ranges → IsFront (limits_with program 4608 0) bytes (Headed head)
-    → IsTail (limits_with program 4608 (length head.sums)) head bytes (Whole tail) → IsTailHeld (limits_with program 4608 (length head.sums)) head tail → IsKept (limits_with program 4608 0) head
+    → IsTail (limits_with program 4608 (length head.sums)) head bytes (Whole tail) → IsTailHeld (limits_with program 4608 (length head.sums)) head tail → IsKeptHead (limits_with program 4608 0) head
     → IsWithHead head.version program ranges head.sums tail.derivations larger → IsOwnLog larger (behind tail.bytes bytes) (tree_of own.tree) own.claim
     → IsHeadOf head tail log.head → log.tree ≡ own.tree → log.claim ≡ given_claim (length program.root) own.claim → IsAnyOwnLog program ranges bytes log
 headed_valid program larger ranges bytes head tail own log wide stands follows' held kept enlarged valid of tree_is claim_is =
@@ -268,7 +268,7 @@ headed_valid program larger ranges bytes head tail own log wide stands follows' 
         claim_is = claim_is;
       };
       taken = given-taken program larger ranges head tail log.head kept held of enlarged;
-      holds = subst (Holds program) (sym claim_is) (holds_given program larger head.sums tail.count (Yes own.claim) (head-points head.version program larger ranges head.sums tail.derivations wide declared enlarged) valid.holds);
+      holds = subst (HoldsOfPoints program) (sym claim_is) (holds_given program larger head.sums tail.count (Yes own.claim) (head-points head.version program larger ranges head.sums tail.derivations wide declared enlarged) valid.holds);
     }
 
 -- how many bytes stand before the nodes

@@ -16,7 +16,7 @@ use Rattle.row_relax.specs.View.{Fits}
 use Rattle.row_relax.specs.laws.Laws.{rows_sound}
 use Rattle.plan_images.specs.Caps.{Allows}
 use Rattle.plan_images.proofs.Allowing.{allows-left, allows-less, allows-right}
-use Rattle.what_if.specs.Loose.{AnswersTo, IsAtMost, certified, lesser, loose_cap, loosened, no_mults, or_else, said, within}
+use Rattle.what_if.specs.Loose.{AnswersTo, IsAtMost, certified, lesser, loose_cap, loosened, no_mults, or_else, as_cap, within}
 use Rattle.what_if.proofs.Same.{after_all-same, cap_if-there, greater-first, greater-second, loose_cap-same}
 
 -- a cap is no more than another
@@ -101,12 +101,12 @@ loose-no_more program (split cuts found pick cert a b) v fit is =
     subst (λ x. NoMore (loosened program x (within true program x cert (loose_parts x))) (tree_cap s v (split cuts found pick cert a b))) (sym at.0) (subst (NoMore (loosened program w (within true program w cert (loose_parts w)))) (sym own) less)
 
 -- a number that is the loose cap is at most it
-at_most : (number : Option ℤ) (own : Capped) → NoMore (said number) own → IsAtMost number own
+at_most : (number : Option ℤ) (own : Capped) → NoMore (as_cap number) own → IsAtMost number own
 at_most None own less = tt
 at_most (Some n) own less = less
 
 -- a number that is the loose cap of a proof answers to its own cap, where that is defined
-pub answers : (capped : Bool) (program : Program) (tree : RowTree) (v : View) (number : Option ℤ) → Fits program v → tree_cap (row_steps program) v tree ≢ Bad → said number ≡ loose_cap capped program v tree → AnswersTo capped number (tree_cap (row_steps program) v tree)
+pub answers : (capped : Bool) (program : Program) (tree : RowTree) (v : View) (number : Option ℤ) → Fits program v → tree_cap (row_steps program) v tree ≢ Bad → as_cap number ≡ loose_cap capped program v tree → AnswersTo capped number (tree_cap (row_steps program) v tree)
 answers false program tree v number fit defined is = is ∙ loose_cap-same program tree v fit defined
 answers true program tree v number fit defined is =
     at_most number (tree_cap (row_steps program) v tree) (subst (λ c. NoMore c (tree_cap (row_steps program) v tree)) (sym is) (loose-no_more program tree v fit defined))

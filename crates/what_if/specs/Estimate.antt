@@ -23,7 +23,7 @@ use Rattle.derivations.specs.Growth.{rows_of}
 use Rattle.valid_log.specs.AnyVersion.{IsWithHead, head_domains}
 use Rattle.what_if.specs.declared.old.LogHead.{LogHead}
 use Rattle.what_if.specs.Head.{version_of}
-use Rattle.what_if.specs.Loose.{AnswersTo, loose_cap, no_mults, said}
+use Rattle.what_if.specs.Loose.{AnswersTo, loose_cap, no_mults, as_cap}
 
 -- no feasible plan of the plant earns more, and where it is none no plan is feasible
 abbrev pub CapsPlans : Plant → Option ℤ → Type 0
@@ -52,13 +52,13 @@ pub record IsLooseWith (program : Program) (ranges : List Domain) (head : LogHea
   pub taken : AreTaken program ranges head
   pub larger : Program
   pub enlarged : IsWithHeadAnew program ranges head larger
-  pub is : said cap ≡ loose_cap head.capped larger (view_of larger.root) proof
+  pub is : as_cap cap ≡ loose_cap head.capped larger (view_of larger.root) proof
   pub own : tree_cap (row_steps larger) (view_of larger.root) proof ≢ Bad → AnswersTo head.capped cap (tree_cap (row_steps larger) (view_of larger.root) proof)
 
 -- The head cannot be taken over the program, and the cap is that of its root by scale 1 without multipliers.
 pub record IsPlainWithout (program : Program) (ranges : List Domain) (head : LogHead) (cap : Option ℤ) : Type 0 where
   pub untaken : ¬ AreTaken program ranges head
-  pub is : said cap ≡ (row_steps program).cap (view_of program.root) no_mults
+  pub is : as_cap cap ≡ (row_steps program).cap (view_of program.root) no_mults
 
 -- the cap of the proof of a log with a head, for a program: the loose cap over the program with the head, and where it cannot be taken there that of scale 1 without multipliers
 abbrev pub IsCapOver : Program → List Domain → LogHead → RowTree → Option ℤ → Type 0

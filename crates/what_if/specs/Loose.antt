@@ -69,9 +69,9 @@ loose_cap capped program v (split cuts found pick cert a b) =
     (cap_if ((row_steps program).right (after_all program v cuts) pick) (λ x. loose_cap capped program x b))))
 
 -- a number as a cap: none says that there is no point
-abbrev pub said : Option ℤ → Capped
-said None = NoPoint
-said (Some n) = AtMost n
+abbrev pub as_cap : Option ℤ → Capped
+as_cap None = NoPoint
+as_cap (Some n) = AtMost n
 
 -- a number, none of which says that there is no point, is at most a cap
 abbrev pub IsAtMost : Option ℤ → Capped → Type 0
@@ -80,5 +80,5 @@ IsAtMost (Some n) cap = Allows cap n
 
 -- a number answers to the own cap of a proof: it is that, and where splits have caps of their own it is at most that
 abbrev pub AnswersTo : Bool → Option ℤ → Capped → Type 0
-AnswersTo false number own = said number ≡ own
+AnswersTo false number own = as_cap number ≡ own
 AnswersTo true number own = IsAtMost number own

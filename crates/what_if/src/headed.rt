@@ -6,7 +6,7 @@ ghost use Rattle.log_lines.specs.TextDefect.{log_text_defect};
 ghost use Rattle.proof_log.specs.Behind.{behind};
 ghost use Rattle.sum_slots.specs.Shown.{AreRanges};
 ghost use Rattle.sum_lines.specs.Front.{IsFront};
-ghost use Rattle.sum_lines.specs.Head.{IsKept};
+ghost use Rattle.sum_lines.specs.Head.{IsKeptHead};
 ghost use Rattle.derivation_lines.specs.declared.tail.TailFront.TheVariants.{Whole};
 ghost use Rattle.valid_log.specs.declared.verdict.LogVerdict.TheVariants.{No};
 ghost use Rattle.valid_log.specs.AnyVersion.{
@@ -45,7 +45,7 @@ pub(crate) fn headed_log(
 ) -> Result<ValidLog, LogStop>
     requires ranges { AreRanges program ranges.now }
     requires stands { IsFront (limits_with program 4608 0) bytes.now (Front.Headed head) }
-    requires kept { IsKept (limits_with program 4608 0) head }
+    requires kept { IsKeptHead (limits_with program 4608 0) head }
     ensures log { IfOk result (IsAnyOwnLog program ranges.now bytes.now) }
     ensures defect { (defect : Defect) → result ≡ Err (LogStop.Defect defect)
         → IsHeadVerdict program ranges.now 4608 bytes.now head (No defect) }
@@ -68,7 +68,7 @@ fn tailed_log(
 ) -> Result<ValidLog, LogStop>
     requires ranges { AreRanges program ranges.now }
     requires stands { IsFront (limits_with program 4608 0) bytes.now (Front.Headed head) }
-    requires kept { IsKept (limits_with program 4608 0) head }
+    requires kept { IsKeptHead (limits_with program 4608 0) head }
     requires follows { IsTail (limits_with program 4608 (length head.sums)) head bytes.now
         (Whole tail) }
     requires held { IsTailHeld (limits_with program 4608 (length head.sums)) head tail }

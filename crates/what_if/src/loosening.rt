@@ -7,7 +7,7 @@ ghost use Rattle.proof_tree.specs.Tree.{cap_if, leaf_cap, no_point, tree_at, tre
 ghost use Rattle.proof_tree.specs.Views.{KeepsViews};
 ghost use Rattle.row_relax.specs.Steps.{row_steps};
 ghost use Rattle.row_relax.specs.View.{Fits, IsIn, view_of};
-ghost use Rattle.what_if.specs.Loose.{AnswersTo, after_all, after_cut, lesser, loose_cap, no_mults, or_else, said, shown, within};
+ghost use Rattle.what_if.specs.Loose.{AnswersTo, after_all, after_cut, lesser, loose_cap, no_mults, or_else, as_cap, shown, within};
 ghost use Rattle.what_if.specs.laws.Own.{own_cap};
 
 use dual_bound::Cert;
@@ -33,13 +33,13 @@ pub fn loose(
     capped: bool,
 ) -> Option<i128>
     requires fits { Fits rows.now.program (shown area.old) }
-    ensures cap { said result ≡ loose_cap capped rows.now.program (shown area.old)
+    ensures cap { as_cap result ≡ loose_cap capped rows.now.program (shown area.old)
         (tree_of proof.now) }
 
     // No lawful point of the area is worth more, and where it is none the area has no lawful point.
     ensures bounds { Bounds (IsIn (shown area.old)) (IsLawful rows.now.program)
         (worth_of rows.now.program)
-        (said result) }
+        (as_cap result) }
 
     // It is the proof's own cap, where that is defined; where splits have caps of their own, it is at most that.
     ensures own { tree_cap (row_steps rows.now.program) (shown area.old) (tree_of proof.now) ≢ Bad
@@ -54,7 +54,7 @@ pub fn loose(
 // A cap that is defined, as a number.
 fn number_of(cap: Capped) -> Option<i128>
     requires { cap ≢ Bad }
-    ensures { said result ≡ cap }
+    ensures { as_cap result ≡ cap }
 {
     match cap {
         Capped::AtMost(most) => Some(most),

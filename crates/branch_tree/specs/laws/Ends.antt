@@ -77,11 +77,11 @@ says_more (AtMost cap) (AtMost most) = int_lt cap most
 says_more _ _ = false
 
 -- what is judged of a box with points: a certificate leaves nothing above the best worth, it has one point, or it is to be split
-abbrev pub IsVerdict : Program → ℕ → List Domain → Option ℤ → RowItem → Type 0
-IsVerdict program given domains best (Dual cert) = is_over (cert_cap program domains cert) best ≡ false
-IsVerdict program given domains best Point = All IsSingle domains
-IsVerdict program given domains best (Split pick cert) = IsPolished program domains cert × IsParted given domains pick × (is_over (cert_cap program domains cert) best ≡ true)
-IsVerdict program given domains best _ = ⊥
+abbrev pub IsBoxVerdict : Program → ℕ → List Domain → Option ℤ → RowItem → Type 0
+IsBoxVerdict program given domains best (Dual cert) = is_over (cert_cap program domains cert) best ≡ false
+IsBoxVerdict program given domains best Point = All IsSingle domains
+IsBoxVerdict program given domains best (Split pick cert) = IsPolished program domains cert × IsParted given domains pick × (is_over (cert_cap program domains cert) best ≡ true)
+IsBoxVerdict program given domains best _ = ⊥
 
 -- the one of two found points that is worth more, the first where both are worth the same
 abbrev pub better_of : Option Found → Option Found → Option Found

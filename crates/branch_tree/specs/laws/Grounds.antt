@@ -69,6 +69,6 @@ pub record IsSplitAt (program : Program) (given : ℕ) (view : View) (pick : Row
   pub parted : IsParted given (domains_of view) pick
 
 -- a part of a split with this certificate has points, and the certificate has a cap over it
-pub record IsPartOf (program : Program) (view : View) (cert : Cert) : Type 0 where
+pub record IsSplitPart (program : Program) (view : View) (cert : Cert) : Type 0 where
   pub some : (row_steps program).empty view ≡ false
   pub capped : (row_steps program).cap view cert ≢ Bad

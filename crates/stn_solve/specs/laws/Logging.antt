@@ -4,18 +4,18 @@ use Rattle.stn_edge.specs.Files.{FileMap}
 use Rattle.row_kit.specs.declared.program.Program.{Program}
 use Rattle.proof_tree.specs.Items.{tree_items}
 use Rattle.row_relax.specs.RowProofs.{RowTree}
-use Rattle.branch_tree.specs.declared.ended.Ended.{Ended}
-use Rattle.branch_tree.specs.Searched.{IsSearch, IsWritable}
+use Rattle.branch_tree.specs.Searched.{IsWritable}
 use Rattle.log_lines.specs.declared.line.Line.TheVariants.{End}
 use Rattle.proof_log.specs.declared.claim.Claim.{Claim}
 use Rattle.proof_log.specs.Log.{claim_lines, item_lines, lines_text}
 use Rattle.proof_log.specs.Writer.{Writing, IsWhole, Took}
 use Rattle.plan_told.specs.Proofs.{bytes_in}
 
--- a writer for the file of this name took a head, and then the items of the proof of a search
-pub record IsLogged (program : Program) (given budget : ℕ) (head name : List ℕ) (ended : Ended) (at : Writing) : Type 0 where
+-- a writer for the file of this name took a head, and then the items of a proof that may be written and of which this is so
+pub record IsLogged (Is : RowTree → Type 0) (program : Program) (head name : List ℕ) (at : Writing) : Type 0 where
   pub tree : RowTree
-  pub search : IsSearch program given budget tree ended
+  pub is : Is tree
+  pub writable : IsWritable program tree
   pub named : at.name ≡ name
   pub first : Writing
   pub header : IsWhole first head

@@ -10,7 +10,7 @@ use Rattle.proof_log.specs.declared.read.LogStop.{LogStop}
 use Rattle.proof_log.specs.declared.read.LogStop.TheVariants.{Defect as StopDefect}
 use Rattle.log_lines.specs.TextDefect.{log_text_defect}
 use Rattle.valid_log.specs.declared.verdict.LogVerdict.TheVariants.{Yes}
-use Rattle.valid_log.specs.Meaning.{Holds}
+use Rattle.valid_log.specs.Meaning.{HoldsOfPoints}
 use Rattle.valid_log.specs.Verdict.{IsLog, IsSoundLog, limits_of}
 use Rattle.valid_log.specs.AnyVersion.{IsAnyLog, IsAnyVerdict, in_file}
 use Rattle.sum_lines.specs.declared.head.Head.{Head}
@@ -26,7 +26,7 @@ pub record IsOwnLog (program : Program) (bytes : List ℕ) (tree : RowTree) (cla
   pub clean : log_text_defect (limits_of program 4608) bytes ≡ None
   pub is_log : IsLog program bytes tree claim
   pub sound_log : IsSoundLog program tree claim
-  pub holds : Holds program claim
+  pub holds : HoldsOfPoints program claim
 
 -- the same of a log of any version, over the program with its head: the answer on it is yes
 pub record IsAnyOwnLog (program : Program) (ranges : List Domain) (bytes : List ℕ) (log : ValidLog) : Type 0 where
@@ -35,7 +35,7 @@ pub record IsAnyOwnLog (program : Program) (ranges : List Domain) (bytes : List 
   pub has_caps : HasCaps is_log.front log.head.capped
   pub sound_log : IsSoundOver program ranges log.head (tree_of log.tree) log.claim
   pub taken : AreTaken program ranges log.head
-  pub holds : Holds program log.claim
+  pub holds : HoldsOfPoints program log.claim
 
 -- a stop behind a head of so many lines, by the lines of the file
 abbrev pub IsStopInFile : ℕ → LogStop → LogStop → Type 0

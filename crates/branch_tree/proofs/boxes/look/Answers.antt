@@ -6,7 +6,7 @@ use Rattle.row_kit.specs.Area.{present}
 use Rattle.row_kit.specs.declared.found.Found.{Found}
 use Rattle.row_relax.proofs.Marks.{fits_normal, fits_slots}
 use Rattle.branch_tree.specs.Searched.{IsBest}
-use Rattle.branch_tree.specs.laws.Ends.{IsVerdict, better_of}
+use Rattle.branch_tree.specs.laws.Ends.{IsBoxVerdict, better_of}
 use Rattle.branch_tree.specs.laws.Grounds.{IsOwnBest, program_of, seen}
 use Rattle.branch_tree.proofs.Best.{IsBest-more, own-best}
 use Rattle.branch_tree.proofs.Growing.{Grows-none}
@@ -59,7 +59,7 @@ returns-clause-handed g c =
     let same : c.advised.new.reached.best ≡ old = ap (λ r. r.best) c.advised.ensures.same in
     let new : c.put_found.new.best ≡ better_of old found = c.in_ok-put_found.ensures.best ∙ ap (λ b. better_of b found) same in
     let worth : c.worth_of-best.result ≡ option_map (λ f. f.value) c.put_found.new.best = c.worth_of-best.ensures in
-    let verdict = subst (λ best. IsVerdict program c.args.ground.now.given (present marks) best c.in_ok-judge.field-0) worth c.in_ok-judge.ensures in
+    let verdict = subst (λ best. IsBoxVerdict program c.args.ground.now.given (present marks) best c.in_ok-judge.field-0) worth c.in_ok-judge.ensures in
     let best = λ (before : List Found) (is : IsBest old before). subst (λ b. IsBest b (before ++ option_to_list found)) (sym new) (IsBest-more old found before is) in
     record {
       found = found;

@@ -3,7 +3,7 @@ use Rattle.std.proofs.Common.{◌≡◌, ◌^◌, to_z, of_z, sym, subst, arith}
 use Rattle.std.proofs.lemmas.Int.{ints}
 use Rattle.row_kit.specs.Area.{present}
 use Rattle.dual_bound.specs.Total.{BoundsScaled}
-use Rattle.dual_bound.specs.Cap.{IsBelow}
+use Rattle.dual_bound.specs.Cap.{IsSmallCap}
 use Rattle.dual_bound.proofs.Small.{cap_small}
 use Rattle.dual_bound.proofs.Caps.{cap_holds}
 use Rattle.dual_bound.proofs.capping.cap.Goals as goal
@@ -14,7 +14,7 @@ returns-in-Some-clause-small c =
     let scale = c.args.cert.now.scale in
     let t = c.in-Some.total in
     let same : to_z w128 (of_z w128 t) ≡ t = omega (arith, ints, c.in-Some.ensures.small) in
-    subst (IsBelow (10 ^ 30)) (sym c.scaled.ensures.cap) (cap_small scale (10 ^ 30) (to_z w128 (of_z w128 t)) (omega (arith, ints, same, c.in-Some.ensures.small)))
+    subst (IsSmallCap (10 ^ 30)) (sym c.scaled.ensures.cap) (cap_small scale (10 ^ 30) (to_z w128 (of_z w128 t)) (omega (arith, ints, same, c.in-Some.ensures.small)))
 
 pub returns-in-Some-clause-holds : goal.returns-in-Some-clause-holds
 returns-in-Some-clause-holds c =

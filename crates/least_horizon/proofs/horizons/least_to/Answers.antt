@@ -1,7 +1,7 @@
 -- The first horizon that settles something is the answer, and the logs of shorter ones stay while its log is written.
 use Rattle.std.proofs.Common.{◌≡◌, ℕ, ◌+◌, ◌<◌, ◌^◌, subst, sym, arith}
 use Rattle.least_horizon.specs.LogNames.{logs_in, OthersStayBelow}
-use Rattle.least_horizon.specs.Least.{AreInfeasible, IsSettled, IsStopped}
+use Rattle.least_horizon.specs.Least.{AreInfeasible, IsHorizonSettled, IsStopped}
 use Rattle.least_horizon.proofs.Steps.{found_least, found_untried, found_nowhere, one_more}
 use Rattle.least_horizon.proofs.LogFiles.{still_infeasible, stay_below, after_err}
 use Rattle.least_horizon.proofs.horizons.least_to.Goals as goal
@@ -30,7 +30,7 @@ returns-in-Some-clause-least g c =
     let new = g.F.Shelf.files c.log_at.new.files in
     let whole = still_infeasible c.args.plant.now c.args.budget c.args.stem.now c.loop-horizon.horizon old new (omega arith) c.log_at.ensures.others c.loop-horizon.invariant.whole in
     found_least c.args.plant.now c.args.budget (logs_in c.args.stem.now new) c.loop-horizon.horizon c.in-Some.answer (omega arith, omega arith) whole
-    (subst (IsSettled c.args.plant.now c.args.budget (logs_in c.args.stem.now new) c.loop-horizon.horizon) c.in-Some.is c.in_ok-answer.ensures.settled)
+    (subst (IsHorizonSettled c.args.plant.now c.args.budget (logs_in c.args.stem.now new) c.loop-horizon.horizon) c.in-Some.is c.in_ok-answer.ensures.settled)
 
 pub returns-in-Some-clause-others : goal.returns-in-Some-clause-others
 returns-in-Some-clause-others g c =
@@ -40,7 +40,7 @@ returns-in-Some-clause-others g c =
     let new = g.F.Shelf.files c.log_at.new.files in
     let whole = still_infeasible c.args.plant.now c.args.budget c.args.stem.now c.loop-horizon.horizon old new (omega arith) c.log_at.ensures.others c.loop-horizon.invariant.whole in
     let past = found_untried c.args.plant.now c.args.budget (logs_in c.args.stem.now new) c.loop-horizon.horizon c.in-Some.answer (omega arith, omega arith) whole
-    (subst (IsSettled c.args.plant.now c.args.budget (logs_in c.args.stem.now new) c.loop-horizon.horizon) c.in-Some.is c.in_ok-answer.ensures.settled) in
+    (subst (IsHorizonSettled c.args.plant.now c.args.budget (logs_in c.args.stem.now new) c.loop-horizon.horizon) c.in-Some.is c.in_ok-answer.ensures.settled) in
     subst (λ (n : ℕ). OthersStayBelow c.args.stem.now n first new) (sym past) (stay_below c.args.stem.now c.loop-horizon.horizon first old new (omega arith) c.loop-horizon.invariant.kept c.log_at.ensures.others)
 
 pub loop-horizon-preserved : goal.loop-horizon-preserved
@@ -52,7 +52,7 @@ loop-horizon-preserved g c =
     let whole = still_infeasible c.args.plant.now c.args.budget c.args.stem.now c.loop-horizon.horizon old new (omega arith) c.log_at.ensures.others c.loop-horizon.invariant.whole in
     record {
       whole = one_more c.args.plant.now c.args.budget (logs_in c.args.stem.now new) c.loop-horizon.horizon whole
-          (subst (IsSettled c.args.plant.now c.args.budget (logs_in c.args.stem.now new) c.loop-horizon.horizon) c.in_default.is c.in_ok-answer.ensures.settled);
+          (subst (IsHorizonSettled c.args.plant.now c.args.budget (logs_in c.args.stem.now new) c.loop-horizon.horizon) c.in_default.is c.in_ok-answer.ensures.settled);
       kept = stay_below c.args.stem.now c.loop-horizon.horizon first old new (omega arith) c.loop-horizon.invariant.kept c.log_at.ensures.others;
       readable = cc;
       writable = cc;

@@ -3,7 +3,7 @@ use Rattle.std.proofs.Common.{◌≡◌, ◌+◌, Bool, false, IsTrue, subst}
 use Rattle.log_lines.specs.declared.grammar.Place.{Place}
 use Rattle.log_lines.specs.declared.grammar.Place.TheVariants.{Done}
 use Rattle.log_lines.specs.TextDefect.{is_done}
-use Rattle.proof_log.specs.Step.{IsPartOf}
+use Rattle.proof_log.specs.Step.{AreLineBytes}
 use Rattle.proof_log.specs.Text.{EndsAs}
 use Rattle.proof_log.proofs.Texts.{is_done-false, nothing_cut, cut_end, long_end}
 use Rattle.proof_log.proofs.log_reader.advance.Goals as goal
@@ -14,7 +14,7 @@ goes_on place b is none = is_done-false place (λ e. let t = is e in cc)
 pub returns-in-Cut-clause-text : goal.returns-in-Cut-clause-text
 returns-in-Cut-clause-text c =
     let g = c.args.gatherer.now in
-    let own = subst (λ end. IsPartOf c.args.part.now end) c.in-Cut.is c.requires.part in
+    let own = subst (λ end. AreLineBytes c.args.part.now end) c.in-Cut.is c.requires.part in
     rw c.bad.ensures
     (λ rest after is. cut_end g.limits g.grammar (g.number + 1) rest c.args.part.now own.2 own.1 (subst (λ end. EndsAs rest c.args.part.now end after) c.in-Cut.is is) (goes_on g.grammar.place c.is_done.result c.is_done.ensures.1 c.if-is_done.false))
 

@@ -5,13 +5,13 @@ use Rattle.log_lines.specs.declared.reader.LineEnd.{LineEnd}
 use Rattle.log_lines.specs.declared.reader.LineEnd.TheVariants.{Whole, Cut, Long, Nothing}
 use Rattle.log_lines.specs.Grammar.{Standing}
 use Rattle.log_lines.specs.TextDefect.{is_done}
-use Rattle.proof_log.specs.Step.{IsPartOf}
+use Rattle.proof_log.specs.Step.{AreLineBytes}
 use Rattle.proof_log.specs.Text.{rest_defect, EndsAs}
 use Rattle.proof_log.proofs.Texts.{is_done-true, nothing_done, cut_done, long_done, done_whole}
 use Rattle.proof_log.proofs.log_reader.after_end.Goals as goal
 
 -- a byte after the end line
-trails : (limits : Limits) (standing : Standing) (number : ℕ) (part : List ℕ) (end : LineEnd) → is_done standing.place ≡ true → IsPartOf part end → end ≢ Nothing → (rest after : List ℕ) → EndsAs rest part end after → rest_defect limits standing number rest ≡ Some (number, 3)
+trails : (limits : Limits) (standing : Standing) (number : ℕ) (part : List ℕ) (end : LineEnd) → is_done standing.place ≡ true → AreLineBytes part end → end ≢ Nothing → (rest after : List ℕ) → EndsAs rest part end after → rest_defect limits standing number rest ≡ Some (number, 3)
 trails limits standing number part Whole done own some rest after is = done_whole limits standing number rest part after own.1 is done
 trails limits standing number part Cut done own some rest after is = cut_done limits standing number rest part own.2 own.0 is done
 trails limits standing number part Long done own some rest after is = long_done limits standing number rest is done

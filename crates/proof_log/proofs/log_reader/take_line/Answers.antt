@@ -7,13 +7,13 @@ use Rattle.log_lines.specs.Grammar.{Standing, line_defect, next}
 use Rattle.log_lines.specs.Said.{line_said}
 use Rattle.log_lines.specs.TextDefect.{is_done}
 use Rattle.proof_log.specs.Gathered.{MovesAs}
-use Rattle.proof_log.specs.Step.{IsPartOf}
+use Rattle.proof_log.specs.Step.{AreLineBytes}
 use Rattle.proof_log.specs.Text.{rest_defect}
 use Rattle.proof_log.proofs.Texts.{is_done-false, no_line, bad_line, good_line}
 use Rattle.proof_log.proofs.log_reader.take_line.Goals as goal
 
 -- a line that may come next
-goes : (limits : Limits) (standing later : Standing) (number : ℕ) (part : List ℕ) (line : Line) → IsPartOf part Whole → is_done standing.place ≡ false → line_said part ≡ Some line → (line_defect limits standing line ≡ None) × (next standing line ≡ Some later)
+goes : (limits : Limits) (standing later : Standing) (number : ℕ) (part : List ℕ) (line : Line) → AreLineBytes part Whole → is_done standing.place ≡ false → line_said part ≡ Some line → (line_defect limits standing line ≡ None) × (next standing line ≡ Some later)
     → (rest after : List ℕ) → rest ≡ part ++ 10 ∷ after → rest_defect limits standing number rest ≡ rest_defect limits later (number + 1) after
 goes limits standing later number part line own going said moved rest after is = good_line limits standing number rest part after line later own.1 own.0 is going said moved.0 moved.1
 

@@ -26,7 +26,8 @@ returns-in-Ok-clause-logged g c =
     let found = c.in-Ok.ensures.ok in
     record {
       tree = found.tree;
-      search = found.search;
+      is = found.search;
+      writable = found.search.writable;
       named = found.handed.keeps.name ∙ c.in_ok-writer.ensures.name;
       first = writing g.F.Shelf.files g.F.Shelf.read_faults g.F.Shelf.may_read g.F.Shelf.may_write c.in_ok-writer.writer c.begin_with.new.files;
       header = c.in_ok-writer.ensures.whole;

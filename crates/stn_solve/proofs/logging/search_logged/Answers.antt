@@ -1,9 +1,12 @@
--- A log that is begun anew is first a log that was begun.
-use Rattle.std.proofs.Common.{inr}
-use Rattle.std.proofs.lemmas.Result.{on_err_weaker}
+-- A log that is begun anew is first a log that was begun; and what cannot be searched is one empty box.
+use Rattle.std.proofs.Common.{inl, inr}
+use Rattle.std.proofs.lemmas.Result.{IfOk-weaker, on_err_weaker}
 use Rattle.proof_log.specs.Writer.{writing}
 use Rattle.stn_solve.specs.laws.Logging.{LeavesBegun}
-use Rattle.stn_solve.proofs.LogsLeft.{left-then, logged-begun}
+use Rattle.plan_told.proofs.EmptyRoots.{empty-none}
+use Rattle.stn_solve.proofs.Both.{ok_all, ok_both}
+use Rattle.stn_solve.proofs.EmptySearch.{not-open}
+use Rattle.stn_solve.proofs.LogsLeft.{left-then, logged-as, logged-begun}
 use Rattle.stn_solve.proofs.logging.search_logged.Goals as goal
 
 pub returns-clause-err : goal.returns-clause-err
@@ -13,5 +16,22 @@ returns-clause-err g c =
     let name = c.args.name.now in
     let mid = g.F.Shelf.files c.log_advised.new.files in
     let new = g.F.Shelf.files c.log_hinted.new.files in
-    let begun = logged-begun program c.args.budget head name c.in_ok-logged.logged.ended (writing g.F.Shelf.files g.F.Shelf.read_faults g.F.Shelf.may_read g.F.Shelf.may_write c.in_ok-logged.logged.writer c.log_advised.new.files) c.in_ok-logged.ensures.logged in
+    let begun = logged-begun program head name (writing g.F.Shelf.files g.F.Shelf.read_faults g.F.Shelf.may_read g.F.Shelf.may_write c.in_ok-logged.logged.writer c.log_advised.new.files) c.in_ok-logged.ensures.logged in
     on_err_weaker c.log_hinted.result (λ (left : LeavesBegun program head name mid new). inr (left-then program head name mid new begun left)) c.log_hinted.ensures.err
+
+pub log_empty-requires-clause-bare : goal.log_empty-requires-clause-bare
+log_empty-requires-clause-bare g c = not-open c.args.rows.now.program c.is_searchable.result c.requires.slots c.requires.rows c.is_searchable.ensures.1 c.if-not-is_searchable.true
+
+pub returns-then-not-is_searchable-clause-logged : goal.returns-then-not-is_searchable-clause-logged
+returns-then-not-is_searchable-clause-logged g c =
+    IfOk-weaker c.log_empty.result _ _ (λ logged is. logged-as c.args.rows.now.program c.args.head.now c.args.name.now _ (λ tree empty. inr empty) is) c.log_empty.ensures.logged
+
+pub returns-then-not-is_searchable-clause-begun : goal.returns-then-not-is_searchable-clause-begun
+returns-then-not-is_searchable-clause-begun g c =
+    let bare = not-open c.args.rows.now.program c.is_searchable.result c.requires.slots c.requires.rows c.is_searchable.ensures.1 c.if-not-is_searchable.true in
+    ok_all c.log_empty.result _ (λ logged lawful. absurd (empty-none c.args.rows.now.program bare c.args.start.now lawful.lies))
+
+pub returns-clause-logged : goal.returns-clause-logged
+returns-clause-logged g c =
+    ok_both c.log_hinted.result _ _ _ (λ logged is exact. logged-as c.args.rows.now.program c.args.head.now c.args.name.now _ (λ tree search. inl (record { search = search; exact = exact })) is)
+    c.log_hinted.ensures.logged c.log_hinted.ensures.exact

@@ -1,7 +1,10 @@
 -- The program of a plant is a part of its choices, and its outcomes are those of the plant.
-use Rattle.std.proofs.Common.{◌∙◌, None}
+use Rattle.std.proofs.Common.{◌∙◌, None, List, sym, subst}
 use Rattle.std.proofs.lemmas.Result.{IfOk-weaker}
 use Rattle.stn_model.specs.declared.answer.Outcome.{Outcome}
+use Rattle.row_kit.specs.declared.domain.Domain.{Domain}
+use Rattle.sum_slots.specs.Shown.{AreRanges}
+use Rattle.valid_log.proofs.PlantRanges.{plant-ranges}
 use Rattle.plan_told.specs.Proofs.{HasProof}
 use Rattle.plan_told.proofs.WholePlant.{whole-is_part, whole-outcome}
 use Rattle.stn_solve.proofs.BegunTold.{begun-if}
@@ -9,6 +12,9 @@ use Rattle.stn_solve.proofs.plant.plan_from.Goals as goal
 
 pub plan_rows-requires-clause-part : goal.plan_rows-requires-clause-part
 plan_rows-requires-clause-part g c = whole-is_part c.args.plant.now c.in_ok-program.program c.in_ok-program.ensures.made c.in_ok-program.ensures.means
+
+pub plan_rows-requires-clause-ranges : goal.plan_rows-requires-clause-ranges
+plan_rows-requires-clause-ranges g c = subst (AreRanges c.in_ok-program.program) (sym c.in_ok-judged.ensures) (plant-ranges c.args.plant.now c.in_ok-program.program c.in_ok-program.ensures.made)
 
 pub returns-clause-outcome : goal.returns-clause-outcome
 returns-clause-outcome g c =
@@ -19,7 +25,7 @@ returns-clause-outcome g c =
 pub returns-clause-proof : goal.returns-clause-proof
 returns-clause-proof g c =
     IfOk-weaker c.plan_rows.result _ _
-    (λ (outcome : Outcome) (has : HasProof c.args.plant.now c.in_ok-program.program None outcome). record { program = c.in_ok-program.program; made = c.in_ok-program.ensures.made; means = c.in_ok-program.ensures.means; has = has })
+    (λ (outcome : Outcome) (has : HasProof c.args.plant.now c.in_ok-program.program c.in_ok-judged.judged None outcome). record { program = c.in_ok-program.program; made = c.in_ok-program.ensures.made; means = c.in_ok-program.ensures.means; has = subst (λ (ds : List Domain). HasProof c.args.plant.now c.in_ok-program.program ds None outcome) c.in_ok-judged.ensures has })
     c.plan_rows.ensures.proof
 
 pub returns-clause-begun : goal.returns-clause-begun

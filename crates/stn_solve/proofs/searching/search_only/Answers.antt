@@ -1,12 +1,16 @@
--- A count that the guide left exact is exact, and that of the second search, which has no guide.
+-- What cannot be searched is one empty box, in which no point lies.
+use Rattle.std.proofs.Common.{inr, refl}
+use Rattle.plan_told.specs.Ended.{empty_tree}
+use Rattle.plan_told.proofs.EmptyRoots.{empty-none}
+use Rattle.stn_solve.proofs.EmptySearch.{not-open}
 use Rattle.stn_solve.proofs.searching.search_only.Goals as goal
 
-pub returns-then-guided-clause-ended : goal.returns-then-guided-clause-ended
-returns-then-guided-clause-ended g c =
-    let found = c.in-Ok.ensures.ok in
-    record { tree = found.tree; of = record { search = found.search; exact = c.in-Ok.ensures.exact c.if-guided.true } }
+pub returns-else-is_searchable-clause-ended : goal.returns-else-is_searchable-clause-ended
+returns-else-is_searchable-clause-ended g c =
+    let bare = not-open c.args.rows.now.program c.is_searchable.result c.requires.slots c.requires.rows c.is_searchable.ensures.1 c.if-is_searchable.false in
+    record { tree = empty_tree; of = inr (record { bare = bare; ended_is = c.empty_end.ensures; tree_is = refl }) }
 
-pub returns-in-Ok-search_hinted-clause-ended : goal.returns-in-Ok-search_hinted-clause-ended
-returns-in-Ok-search_hinted-clause-ended g c =
-    let found = c.in-Ok-search_hinted.ensures.ok in
-    record { tree = found.tree; of = record { search = found.search; exact = c.in-Ok-search_hinted.ensures.exact } }
+pub returns-else-is_searchable-clause-begun : goal.returns-else-is_searchable-clause-begun
+returns-else-is_searchable-clause-begun g c = λ lawful.
+    let bare = not-open c.args.rows.now.program c.is_searchable.result c.requires.slots c.requires.rows c.is_searchable.ensures.1 c.if-is_searchable.false in
+    absurd (empty-none c.args.rows.now.program bare c.args.start.now lawful.lies)

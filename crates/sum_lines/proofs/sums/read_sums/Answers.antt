@@ -1,7 +1,7 @@
 use Rattle.std.proofs.Common.{◌≡◌, ◌++◌, List, ap, sym, subst, Err, IfSome, Option, arith, ◌∙◌, Ok, refl}
 use Rattle.stn_edge.specs.Files.{FileMap, file_of}
 use Rattle.sum_lines.specs.Front.{IsBadAt, IsHeaded, MayOpen, NoneFirst}
-use Rattle.sum_lines.specs.Head.{AreKept, IsKept, begins_on, lines_of, sum_lines}
+use Rattle.sum_lines.specs.Head.{AreKept, IsKeptHead, begins_on, lines_of, sum_lines}
 use Rattle.sum_lines.specs.declared.halt.Halt.TheVariants as halt
 use Rattle.sum_lines.specs.declared.line.HeadLine.{HeadLine}
 use Rattle.sum_lines.specs.laws.Sums.{IsSumKept}
@@ -49,7 +49,7 @@ pub returns-in-Ok-None-clause-kept : goal.returns-in-Ok-None-clause-kept
 returns-in-Ok-None-clause-kept g c =
     let i = c.sums.invariant in
     let made = c.head_with.ensures in
-    subst (IsKept c.args.limits.now) (sym made.is) (head_kept (g.F.Shelf.files c.args.files.now) c.args.name.now c.args.version c.args.limits.now c.sums.sums c.sums.lines c.sums.walk c.requires.version i.kept i.begins i.passed made.small)
+    subst (IsKeptHead c.args.limits.now) (sym made.is) (head_kept (g.F.Shelf.files c.args.files.now) c.args.name.now c.args.version c.args.limits.now c.sums.sums c.sums.lines c.sums.walk c.requires.version i.kept i.begins i.passed made.small)
 
 pub returns-in-Ok-None-clause-head : goal.returns-in-Ok-None-clause-head
 returns-in-Ok-None-clause-head g c =
