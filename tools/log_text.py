@@ -20,7 +20,7 @@ GREATEST_DERIVED = 4096
 SORTS = {1: (), 2: (), 3: ("sum",), 4: ("sum", "setup", "cut", "row")}
 LATER = {"sum": SORTS, "setup": {4: ("setup", "cut", "row")}, "cut": {4: ("cut", "row")}, "row": {4: ("cut", "row")}}
 # What the program reads by now: logs up to a version, and none of these lines. Where `ahead` is asked for, all are read.
-NEWEST, COMING = 4, ("setup", "floor")
+NEWEST, COMING = 4, ("setup",)
 
 
 class Defect(Exception):

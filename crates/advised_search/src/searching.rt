@@ -12,11 +12,12 @@ use std::alloc::{AllocError, Global};
 
 /// Searches the root with the advice of both advisers, as `branch_tree::search_guided_to` does. The guide may leave boxes open
 /// though budget is left: the answer also says whether the count is exact, so that the budget was spent, or nothing is left open.
-/// The best point is worth as much as `start`, where that is lawful.
+/// Splits may have floors where `floors` says so. The best point is worth as much as `start`, where that is lawful.
 pub fn search_advised<A: Advisers, O, T: NodeTaker<Rows, O>>(
     alloc: Global,
     rows: &Rows,
     given: u32,
+    floors: bool,
     budget: u32,
     start: &[u8],
     taker: &mut T,
@@ -26,7 +27,7 @@ pub fn search_advised<A: Advisers, O, T: NodeTaker<Rows, O>>(
     requires budget { (1 ≤ budget) × (budget ≤ 100000) }
     requires ready { T.ready taker.old out.old }
     ensures ready { OnOk result (T.ready taker.new out.new) }
-    ensures ok { IfOk result (λ guided. IsSearchedTo T.took rows.now.program given budget
+    ensures ok { IfOk result (λ guided. IsSearchedTo T.took rows.now.program floors given budget
         guided.ended taker.old out.old taker.new out.new) }
     ensures begun { IfOk result
         (λ guided. IsWorth rows.now.program start.now guided.ended.best) }
@@ -35,8 +36,8 @@ pub fn search_advised<A: Advisers, O, T: NodeTaker<Rows, O>>(
     ensures inexact { IfOk result
         (λ guided. guided.exact ≡ false
         → (guided.ended.left_open ≡ true) × (guided.ended.spent ≢ budget)) }
-    ensures err { OnErr result (IsBrokenOff T.took T.broke rows.now.program taker.old out.old
-        taker.new out.new) }
+    ensures err { OnErr result (IsBrokenOff T.took T.broke rows.now.program floors taker.old
+        out.old taker.new out.new) }
     ensures later { T.faults out.old ≤ T.faults out.new }
     ensures failed { IsErrOf result TakeStop.Failed → Rose (T.faults out.old) (T.faults out.new) }
 {
@@ -45,6 +46,7 @@ pub fn search_advised<A: Advisers, O, T: NodeTaker<Rows, O>>(
         alloc,
         rows,
         given,
+        floors,
         budget,
         start,
         &mut hinter,
@@ -54,11 +56,13 @@ pub fn search_advised<A: Advisers, O, T: NodeTaker<Rows, O>>(
     )
 }
 
-/// Searches the root without advice on where to split, as `branch_tree::search_to` does, and looks for plans on the way.
+/// Searches the root without advice on where to split, as `branch_tree::search_to` does, and looks for plans on the way. Splits
+/// may have floors where `floors` says so.
 pub fn search_hinted<A: Advisers, O, T: NodeTaker<Rows, O>>(
     alloc: Global,
     rows: &Rows,
     given: u32,
+    floors: bool,
     budget: u32,
     start: &[u8],
     taker: &mut T,
@@ -68,12 +72,12 @@ pub fn search_hinted<A: Advisers, O, T: NodeTaker<Rows, O>>(
     requires budget { (1 ≤ budget) × (budget ≤ 100000) }
     requires ready { T.ready taker.old out.old }
     ensures ready { OnOk result (T.ready taker.new out.new) }
-    ensures ok { IfOk result (λ ended. IsSearchedTo T.took rows.now.program given budget ended
-        taker.old out.old taker.new out.new) }
+    ensures ok { IfOk result (λ ended. IsSearchedTo T.took rows.now.program floors given budget
+        ended taker.old out.old taker.new out.new) }
     ensures begun { IfOk result (λ ended. IsWorth rows.now.program start.now ended.best) }
     ensures exact { IfOk result (IsExact rows.now.program budget) }
-    ensures err { OnErr result (IsBrokenOff T.took T.broke rows.now.program taker.old out.old
-        taker.new out.new) }
+    ensures err { OnErr result (IsBrokenOff T.took T.broke rows.now.program floors taker.old
+        out.old taker.new out.new) }
     ensures later { T.faults out.old ≤ T.faults out.new }
     ensures failed { IsErrOf result TakeStop.Failed → Rose (T.faults out.old) (T.faults out.new) }
 {
@@ -82,6 +86,7 @@ pub fn search_hinted<A: Advisers, O, T: NodeTaker<Rows, O>>(
         alloc,
         rows,
         given,
+        floors,
         budget,
         start,
         &mut hinter,
@@ -96,12 +101,13 @@ pub fn build_advised<A: Advisers>(
     alloc: Global,
     rows: &Rows,
     given: u32,
+    floors: bool,
     budget: u32,
     start: &[u8],
 ) -> Result<(Searched, bool), AllocError>
     requires searchable { IsSearchable rows.now.program }
     requires budget { (1 ≤ budget) × (budget ≤ 100000) }
-    ensures ok { IfOk result (λ found. IsSearch rows.now.program given budget
+    ensures ok { IfOk result (λ found. IsSearch rows.now.program floors given budget
         (tree_of found.0.tree) (ended_of found.0)) }
     ensures begun { IfOk result (λ found. IsWorth rows.now.program start.now found.0.best) }
     ensures exact { IfOk result
@@ -110,7 +116,16 @@ pub fn build_advised<A: Advisers>(
         (λ found. found.1 ≡ false → (found.0.left_open ≡ true) × (found.0.spent ≢ budget)) }
 {
     let (mut guide, mut hinter) = A::advised(alloc, &rows.program, given, budget)?;
-    search_guided(alloc, rows, given, budget, start, &mut hinter, &mut guide)
+    search_guided(
+        alloc,
+        rows,
+        given,
+        floors,
+        budget,
+        start,
+        &mut hinter,
+        &mut guide,
+    )
 }
 
 /// As `search_hinted`, and builds the proof.
@@ -118,17 +133,27 @@ pub fn build_hinted<A: Advisers>(
     alloc: Global,
     rows: &Rows,
     given: u32,
+    floors: bool,
     budget: u32,
     start: &[u8],
 ) -> Result<Searched, AllocError>
     requires searchable { IsSearchable rows.now.program }
     requires budget { (1 ≤ budget) × (budget ≤ 100000) }
-    ensures ok { IfOk result (λ searched. IsSearch rows.now.program given budget
+    ensures ok { IfOk result (λ searched. IsSearch rows.now.program floors given budget
         (tree_of searched.tree) (ended_of searched)) }
     ensures begun { IfOk result
         (λ searched. IsWorth rows.now.program start.now searched.best) }
     ensures exact { IfOk result (λ searched. IsExact rows.now.program budget (ended_of searched)) }
 {
     let (mut guide, mut hinter) = A::hinted(alloc, &rows.program, given)?;
-    search(alloc, rows, given, budget, start, &mut hinter, &mut guide)
+    search(
+        alloc,
+        rows,
+        given,
+        floors,
+        budget,
+        start,
+        &mut hinter,
+        &mut guide,
+    )
 }

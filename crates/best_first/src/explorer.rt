@@ -197,36 +197,82 @@ impl Explorer {
         if own < held {
             self.tree.put_cert(number, cert);
         }
-        match slot_of(area, slot) {
-            Some(slot) if exceeds(own.min(held), self.best.worth) => {
-                self.tree.put_split(number, slot, max, basis);
+        if !exceeds(own.min(held), self.best.worth) {
+            return Ok(());
+        }
+        self.forget(program, area, number, slot, max);
+        match split_of(area, slot, max) {
+            Some((slot, max)) => {
+                self.tree.put_split(number, slot, Some(max), basis);
                 self.split(program, area, number, slot, max)
             }
-            _ => Ok(()),
+            None => Ok(()),
         }
     }
 
-    // Puts the parts of a box that is split at a slot.
+    // Takes away what the certificate of a box shows to be worth no more than the best plan, where that leaves the split where it is,
+    // as the loop does.
+    fn forget(
+        &mut self,
+        program: &Program,
+        area: &mut Area,
+        number: u32,
+        slot: Option<u32>,
+        max: Option<u8>,
+    )
+        requires slots { length (present area.old) ≡ length program.now.root }
+        ensures slots { length (present area.new) ≡ length (present area.old) }
+    {
+        let Some(worth) = self.best.worth else {
+            return;
+        };
+        let mark = area.mark();
+        let before = split_of(area, slot, max);
+        self.tree.trim(program, area, number, worth);
+        if !is_same(before, split_of(area, slot, max)) {
+            back_to(area, mark);
+        }
+    }
+
+    // Puts the parts of a box that is split at a slot after a value.
     fn split(
         &mut self,
         program: &Program,
         area: &mut Area,
         number: u32,
         slot: u32,
-        advised: Option<u8>,
+        max: u8,
     ) -> Result<(), AllocError>
         requires slots { length (present area.old) ≡ length program.now.root }
     {
         if slot >= area.slot_count() {
             return Ok(());
         }
-        let max = max_of(&area.domain(slot), advised);
         let mark = area.mark();
         area.at_most(slot, max);
         self.tree.put_part(self.alloc, program, area, number)?;
         back_to(area, mark);
         area.above(slot, max);
         self.tree.put_part(self.alloc, program, area, number)
+    }
+}
+
+// Where an area is split, as it is advised: at which slot, and after which value. Nowhere where some slot has no value, or each one.
+fn split_of(area: &Area, slot: Option<u32>, max: Option<u8>) -> Option<(u32, u8)> {
+    if area.has_empty() {
+        return None;
+    }
+    match slot_of(area, slot) {
+        Some(slot) if slot < area.slot_count() => Some((slot, max_of(&area.domain(slot), max))),
+        _ => None,
+    }
+}
+
+// Whether an area is split at two times, and both times there.
+fn is_same(before: Option<(u32, u8)>, after: Option<(u32, u8)>) -> bool {
+    match (before, after) {
+        (Some((slot, max)), Some((other, value))) => slot == other && max == value,
+        _ => false,
     }
 }
 

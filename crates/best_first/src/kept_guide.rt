@@ -32,8 +32,8 @@ impl KeptGuide {
 }
 
 impl Guide for KeptGuide {
-    fn leaves(&mut self, _program: &Program, _area: &Area, depth: u32) -> bool {
-        self.lead.leaves(depth)
+    fn leaves(&mut self, _program: &Program, area: &Area, depth: u32) -> bool {
+        self.lead.leaves(area, depth)
     }
 
     fn advise(
@@ -45,7 +45,7 @@ impl Guide for KeptGuide {
         best: Option<i128>,
         point: &mut [u8],
     ) -> Result<Advice, AllocError> {
-        match self.lead.advice(depth) {
+        match self.lead.advice(area, depth) {
             Some(advice) => Ok(advice),
             None => self.plain.advise(alloc, program, area, depth, best, point),
         }

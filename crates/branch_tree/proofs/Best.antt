@@ -1,6 +1,7 @@
 -- The best of found points, and the caps that it closes.
 use Rattle.std.proofs.Common.{◌≡◌, ◌≢◌, ℕ, ap, Bool, true, false, cond, List, [], ◌∷◌, ◌++◌, Option, Some, None, option_to_list, refl, sym, ◌∙◌, subst, arith, append-nil}
-use Rattle.std.specs.Prelude.{◌≤ℤ◌, ◌<ℤ◌, int_lt, IfSome, MatchOption}
+use Rattle.std.specs.Prelude.{ℤ, ◌≤ℤ◌, ◌<ℤ◌, int_lt, IfSome, MatchOption}
+use Rattle.std.specs.Int.{int_max}
 use Rattle.std.specs.List.{All, Contains}
 use Rattle.std.specs.Option.{IsSomeAnd, option_map}
 use Rattle.std.proofs.lemmas.Int.{ints, clamps}
@@ -11,7 +12,7 @@ use Rattle.row_kit.specs.Point.{IsLawful, worth_of}
 use Rattle.proof_tree.specs.declared.capped.Capped.{Capped}
 use Rattle.proof_tree.specs.declared.capped.Capped.TheVariants.{AtMost, NoPoint, Bad}
 use Rattle.proof_tree.specs.Cap.{greater}
-use Rattle.branch_tree.specs.Justified.{IsAbove, IsGroup}
+use Rattle.branch_tree.specs.Justified.{IsAbove, IsGroup, IsReached}
 use Rattle.branch_tree.specs.Searched.{IsBest, IsWorth}
 use Rattle.branch_tree.specs.laws.Grounds.{IsOffered}
 use Rattle.branch_tree.specs.laws.Ends.{ClosedBy, Reaches, better_of, is_over}
@@ -98,6 +99,19 @@ ClosedBy-greater (AtMost m) (AtMost n) fs first second = at (int_lt m n) refl
     at true more = (second.0, second.1, grind (arith, ints, clamps, second.2))
     at false less = (first.0, first.1, grind (arith, ints, clamps, first.2))
 
+-- in a row of three it is all the same which two come first
+pub greater_assoc : (one two three : Capped) → greater one (greater two three) ≡ greater (greater one two) three
+greater_assoc Bad two three = refl
+greater_assoc NoPoint two three = refl
+greater_assoc (AtMost m) Bad three = refl
+greater_assoc (AtMost m) NoPoint three = refl
+greater_assoc (AtMost m) (AtMost n) Bad = refl
+greater_assoc (AtMost m) (AtMost n) NoPoint = refl
+greater_assoc (AtMost m) (AtMost n) (AtMost k) = ap AtMost (max_three m n k)
+  where
+    max_three : (m n k : ℤ) → int_max m (int_max n k) ≡ int_max (int_max m n) k
+    max_three m n k = grind (arith, ints, clamps)
+
 -- what a cap is over: it leaves nothing above the best, or it is above each
 pub not_over-closed : (cap : Capped) (best : Option Found) (fs : List Found) → IsBest best fs → is_over cap (option_map (λ f. f.value) best) ≡ false → ClosedBy cap fs
 not_over-closed Bad best fs is over = cc
@@ -153,6 +167,11 @@ own-best (Some f) (Some g) best more = over (better_of best (Some g)) (better-se
 -- what is closed or above by the best of some points is so by the best of others that have the same best
 pub closed-same : (cap : Capped) (best : Option Found) (fs gs : List Found) → IsBest best fs → IsBest best gs → ClosedBy cap fs → ClosedBy cap gs
 closed-same cap best fs gs is other closed = not_over-closed cap best gs other (closed-not_over cap best fs is closed)
+
+-- so is a floor reached
+pub reached-same : (floor : Option ℤ) (best : Option Found) (fs gs : List Found) → IsBest best fs → IsBest best gs → IsReached floor fs → IsReached floor gs
+reached-same None best fs gs is other reached = tt
+reached-same (Some floor) best fs gs is other reached = closed-same (AtMost floor) best fs gs is other reached
 
 pub above-same : (cap : Capped) (best : Option Found) (fs gs : List Found) → IsBest best fs → IsBest best gs → IsAbove cap fs → IsAbove cap gs
 above-same Bad best fs gs is other above = above

@@ -28,7 +28,7 @@ pub record CutsLead (program : Program) (old new : List (List Domain)) (cuts : L
   pub moved : after_cuts (row_steps program) (seen old) cuts ≡ Some (seen new)
   pub keeps : KeepsViews (map view_of old) (map view_of new)
   pub fits : Fits program (seen new)
-  pub fit : All (IsFitItem program) (map CutItem cuts)
+  pub fit : (floors : Bool) → All (IsFitItem program floors) (map CutItem cuts)
 
 both_true : (a b : Bool) → a ≡ true → b ≡ true → (a && b) ≡ true
 both_true a b e h = cc
@@ -44,7 +44,7 @@ one_moves program cut old row slot =
 
 -- cuts that were made, one after another
 pub cuts_lead : (program : Program) (cuts : List RowCut) (old : List (List Domain)) → Fits program (seen old) → AreMade program.rows cuts old → CutsLead program old (marks_after program.rows cuts old) cuts
-cuts_lead program [] old fit made = record { moved = refl; keeps = kept_itself (map view_of old); fits = fit; fit = All-nil (IsFitItem program) }
+cuts_lead program [] old fit made = record { moved = refl; keeps = kept_itself (map view_of old); fits = fit; fit = λ floors. All-nil (IsFitItem program floors) }
   where
     kept_itself : (views : List View) → KeepsViews views views
     kept_itself views = take-length views
@@ -56,7 +56,7 @@ cuts_lead program (cut ∷ cuts) old fit made =
       moved = ap (λ next. option_and_then (λ w. after_cuts (row_steps program) w cuts) next) first.0 ∙ rest.moved;
       keeps = KeepsViews-then (map view_of old) (map view_of (after_cut program.rows cut old)) (map view_of (marks_after program.rows cuts (after_cut program.rows cut old))) first.1 rest.keeps;
       fits = rest.fits;
-      fit = All-cons (IsFitItem program) (CutItem cut) (map CutItem cuts) (made.0.row, subst (λ n. cut.slot < n) (fits_slots program old fit) made.0.slot) rest.fit;
+      fit = λ floors. All-cons (IsFitItem program floors) (CutItem cut) (map CutItem cuts) (made.0.row, subst (λ n. cut.slot < n) (fits_slots program old fit) made.0.slot) (rest.fit floors);
     }
 
 -- so a list that has grown by cuts from nothing leads there

@@ -63,7 +63,7 @@ halvings_most n =
     omega (arith, step_one 1 n, step_one 2 n, step_one 4 n, step_one 8 n, step_one 16 n, step_one 32 n, step_one 64 n, step_one 128 n)
 
 -- a domain whose values are all another's can be split no more often
-splits_le : (e d : Domain) → IsNormal e → ((v : ℕ) → Holds e v → Holds d v) → splits_of e ≤ splits_of d
+pub splits_le : (e d : Domain) → IsNormal e → ((v : ℕ) → Holds e v → Holds d v) → splits_of e ≤ splits_of d
 splits_le e d n within = at e.zero (leb e.lo e.hi) refl refl
   where
     -- its range lies in the other's

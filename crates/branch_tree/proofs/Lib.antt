@@ -2,6 +2,7 @@ pub mod Best
 pub mod Caps
 pub mod CutsMade
 pub mod Depths
+pub mod Forgotten
 pub mod Growing
 pub mod Handing
 pub mod Opened

@@ -37,9 +37,9 @@ use Rattle.branch_tree.specs.declared.reached.Ground.{Ground}
 use Rattle.branch_tree.specs.declared.reached.Reached.{Reached}
 use Rattle.branch_tree.specs.Justified.{IsGroup, IsParted}
 use Rattle.branch_tree.specs.Searched.{IsBest}
-use Rattle.branch_tree.specs.laws.Grounds.{IsOwnBest, IsSplitPart, IsSplitAt, StandsIn, program_of, seen}
-use Rattle.branch_tree.proofs.Caps.{total-fit}
+use Rattle.branch_tree.specs.laws.Grounds.{IsOwnBest, IsSplitPart, IsSplitAt, StandsIn, program_of, seen, slot_alone}
 use Rattle.branch_tree.proofs.Depths.{CutsLeave, splits-left, splits-right}
+use Rattle.branch_tree.proofs.Forgotten.{IsLeftTo}
 use Rattle.branch_tree.proofs.Opened.{none_bare-open}
 
 -- after its cuts a search stands in the view that they leave
@@ -68,6 +68,18 @@ stands_on ground v w depth old new stands leave places changed own = record {
   deep = omega (arith, stands.deep, leave.splits);
   room = subst (λ o. IfSome o (λ slot. (slot < length (program_of ground).root) × HaveRoomBut (program_of ground).rows (slot ∷ []) (domains_of w))) (sym changed) tt;
   own = subst (λ o. IfSome o (λ found. IsGroup (program_of ground) found × IsIn w found.point)) (sym own) tt;
+}
+
+-- and in what the floor of a split leaves
+pub stands_left : (ground : Ground) (v rest : View) (depth : ℕ) (old new : Reached) → StandsIn ground v depth old → IsLeftTo (program_of ground) v rest
+    → length new.point.items ≡ length old.point.items → new.changed ≡ None → new.own ≡ None → StandsIn ground rest depth new
+stands_left ground v rest depth old new stands leave places changed own = record {
+  indexed = stands.indexed;
+  fits = leave.fits;
+  places = places ∙ stands.places;
+  deep = omega (arith, stands.deep, leave.splits);
+  room = subst (λ o. IfSome o (λ slot. (slot < length (program_of ground).root) × HaveRoomBut (program_of ground).rows (slot ∷ []) (domains_of rest))) (sym changed) tt;
+  own = subst (λ o. IfSome o (λ found. IsGroup (program_of ground) found × IsIn rest found.point)) (sym own) tt;
 }
 
 -- what is best later is worth as much as one's own too
@@ -145,36 +157,45 @@ capped_open program ds cert fit scale each = at (has_total program ds cert) (bot
     at false is = λ same. apart is
     at true is = by_scale (eqb cert.scale 0) refl
 
+-- what follows for the slot of a split, where it has no floor
+alone : (floor : Option ℤ) (slot : ℕ) (P : Type 0) (Q : ℕ → Type 0) → (P → Q slot) → IfSome (slot_alone floor slot) (λ s. P) → IfSome (slot_alone floor slot) Q
+alone None slot P Q follows p = follows p
+alone (Some n) slot P Q follows p = tt
+
 -- the left part of a split
-pub left_stands : (ground : Ground) (v x : View) (pick : RowPick) (cert : Cert) (depth : ℕ) (old new : Reached) → StandsIn ground v depth old → HaveRoom (program_of ground).rows (domains_of v) → IsSplitAt (program_of ground) ground.given v pick cert
-    → (row_steps (program_of ground)).left v pick ≡ Some x → length new.point.items ≡ length old.point.items → new.changed ≡ Some pick.slot → new.own ≡ None → StandsIn ground x (depth + 1) new
+pub left_stands : (ground : Ground) (v x : View) (pick : RowPick) (cert : Cert) (depth : ℕ) (old new : Reached) → StandsIn ground v depth old → IfSome (slot_alone pick.floor pick.slot) (λ slot. HaveRoom (program_of ground).rows (domains_of v)) → IsSplitAt (program_of ground) ground.given v pick cert
+    → (row_steps (program_of ground)).left v pick ≡ Some x → length new.point.items ≡ length old.point.items → new.changed ≡ slot_alone pick.floor pick.slot → new.own ≡ None → StandsIn ground x (depth + 1) new
 left_stands ground v x pick cert depth old new stands room cause moved places changed own =
     let program = program_of ground in
     let ds = domains_of v in
-    let rooms = HaveRoomBut-kept_at program.rows ds pick.slot (up_to pick.max) cause.parted.slot (rooms_of program.rows ds pick.slot (up_to pick.max) cause.parted.left room) in
+    let rooms = λ (all : HaveRoom program.rows ds). HaveRoomBut-kept_at program.rows ds pick.slot (up_to pick.max) cause.parted.slot (rooms_of program.rows ds pick.slot (up_to pick.max) cause.parted.left all) in
     record {
       indexed = stands.indexed;
       fits = (rows_sound program).left_fits v x pick stands.fits moved;
       places = places ∙ stands.places;
       deep = omega (arith, stands.deep, splits-left program v x pick cause.parted moved);
       room = subst (λ o. IfSome o (λ slot. (slot < length program.root) × HaveRoomBut program.rows (slot ∷ []) (domains_of x))) (sym changed)
-          (subst (λ n. pick.slot < n) stands.fits.slots cause.parted.slot, subst (λ (xs : List Domain). HaveRoomBut program.rows (pick.slot ∷ []) xs) (sym (left_domains program v x pick moved)) rooms);
+          (alone pick.floor pick.slot (HaveRoom program.rows ds) (λ slot. (slot < length program.root) × HaveRoomBut program.rows (slot ∷ []) (domains_of x))
+          (λ all. (subst (λ n. pick.slot < n) stands.fits.slots cause.parted.slot, subst (λ (xs : List Domain). HaveRoomBut program.rows (pick.slot ∷ []) xs) (sym (left_domains program v x pick moved)) (rooms all)))
+          room);
       own = subst (λ o. IfSome o (λ found. IsGroup program found × IsIn x found.point)) (sym own) tt;
     }
 
-pub right_stands : (ground : Ground) (v x : View) (pick : RowPick) (cert : Cert) (depth : ℕ) (old new : Reached) → StandsIn ground v depth old → HaveRoom (program_of ground).rows (domains_of v) → IsSplitAt (program_of ground) ground.given v pick cert
-    → (row_steps (program_of ground)).right v pick ≡ Some x → length new.point.items ≡ length old.point.items → new.changed ≡ Some pick.slot → new.own ≡ None → StandsIn ground x (depth + 1) new
+pub right_stands : (ground : Ground) (v x : View) (pick : RowPick) (cert : Cert) (depth : ℕ) (old new : Reached) → StandsIn ground v depth old → IfSome (slot_alone pick.floor pick.slot) (λ slot. HaveRoom (program_of ground).rows (domains_of v)) → IsSplitAt (program_of ground) ground.given v pick cert
+    → (row_steps (program_of ground)).right v pick ≡ Some x → length new.point.items ≡ length old.point.items → new.changed ≡ slot_alone pick.floor pick.slot → new.own ≡ None → StandsIn ground x (depth + 1) new
 right_stands ground v x pick cert depth old new stands room cause moved places changed own =
     let program = program_of ground in
     let ds = domains_of v in
-    let rooms = HaveRoomBut-kept_at program.rows ds pick.slot (over pick.max) cause.parted.slot (rooms_of program.rows ds pick.slot (over pick.max) cause.parted.right room) in
+    let rooms = λ (all : HaveRoom program.rows ds). HaveRoomBut-kept_at program.rows ds pick.slot (over pick.max) cause.parted.slot (rooms_of program.rows ds pick.slot (over pick.max) cause.parted.right all) in
     record {
       indexed = stands.indexed;
       fits = (rows_sound program).right_fits v x pick stands.fits moved;
       places = places ∙ stands.places;
       deep = omega (arith, stands.deep, splits-right program v x pick cause.parted moved);
       room = subst (λ o. IfSome o (λ slot. (slot < length program.root) × HaveRoomBut program.rows (slot ∷ []) (domains_of x))) (sym changed)
-          (subst (λ n. pick.slot < n) stands.fits.slots cause.parted.slot, subst (λ (xs : List Domain). HaveRoomBut program.rows (pick.slot ∷ []) xs) (sym (right_domains program v x pick moved)) rooms);
+          (alone pick.floor pick.slot (HaveRoom program.rows ds) (λ slot. (slot < length program.root) × HaveRoomBut program.rows (slot ∷ []) (domains_of x))
+          (λ all. (subst (λ n. pick.slot < n) stands.fits.slots cause.parted.slot, subst (λ (xs : List Domain). HaveRoomBut program.rows (pick.slot ∷ []) xs) (sym (right_domains program v x pick moved)) (rooms all)))
+          room);
       own = subst (λ o. IfSome o (λ found. IsGroup program found × IsIn x found.point)) (sym own) tt;
     }
 
@@ -182,10 +203,9 @@ right_stands ground v x pick cert depth old new stands room cause moved places c
 part_is : {given : ℕ} (program : Program) (v x : View) (ds : List Domain) (pick : RowPick) (cert : Cert) → IsSplitAt program given v pick cert → domains_of x ≡ ds → All IsOpen ds → IsSplitPart program x cert
 unfolding row_steps
 part_is program v x ds pick cert cause same each =
-    let fit = total-fit program (domains_of v) cert cause.polished.total in
     record {
       some = subst (λ (xs : List Domain). list_any is_bare xs ≡ false) (sym same) (open_none ds each);
-      capped = subst (λ (xs : List Domain). cert_cap program xs cert ≢ Bad) (sym same) (capped_open program ds cert fit cause.polished.scale each);
+      capped = subst (λ (xs : List Domain). cert_cap program xs cert ≢ Bad) (sym same) (capped_open program ds cert cause.fit cause.scale each);
     }
 
 pub left_is : {given : ℕ} (program : Program) (v x : View) (pick : RowPick) (cert : Cert) → IsSplitAt program given v pick cert → (row_steps program).left v pick ≡ Some x → IsSplitPart program x cert

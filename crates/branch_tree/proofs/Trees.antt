@@ -1,6 +1,6 @@
 -- What follows from how each node of a search ends.
 use Rattle.std.proofs.Common.{◌≡◌, ◌≢◌, ℕ, zero, suc, ◌+◌, ◌-◌, ◌*◌, ◌<◌, ◌≤◌, Bool, true, false, cond, List, ◌++◌, Option, Some, None, option_to_list, refl, ap, sym, ◌∙◌, subst, arith, append_assoc, inl, inr}
-use Rattle.std.specs.Prelude.{⊤, ◌⊎◌}
+use Rattle.std.specs.Prelude.{⊤, ◌⊎◌, ℤ}
 use Rattle.std.specs.List.{All}
 use Rattle.std.specs.Option.{IsSomeAnd}
 use Rattle.std.proofs.lemmas.List.{get_or-map, length-map}
@@ -15,10 +15,10 @@ use Rattle.range_prop.specs.declared.row_cut.RowCut.{RowCut}
 use Rattle.dual_bound.specs.declared.cert.Cert.{Cert}
 use Rattle.proof_tree.specs.declared.capped.Capped.{Capped}
 use Rattle.proof_tree.specs.declared.capped.Capped.TheVariants.{AtMost, NoPoint, Bad}
-use Rattle.proof_tree.specs.Cap.{greater}
+use Rattle.proof_tree.specs.Cap.{floor_cap, greater}
 use Rattle.proof_tree.specs.Items.{depth}
 use Rattle.proof_tree.specs.Nodes.{NodeEnd, closed, parted, EachNode, counted, found_points}
-use Rattle.proof_tree.specs.Tree.{Leaf, no_point, dual, one_point, pending, leaf, split, tree_cap, leaf_cap, cap_if, after_cuts}
+use Rattle.proof_tree.specs.Tree.{Leaf, no_point, dual, one_point, pending, leaf, split, tree_cap, leaf_cap, cap_if, split_cap, after_cuts}
 use Rattle.proof_tree.specs.Views.{View}
 use Rattle.proof_tree.proofs.NodeFacts.{EachNode-weaker}
 use Rattle.row_relax.specs.declared.pick.RowPick.{RowPick}
@@ -36,6 +36,7 @@ use Rattle.branch_tree.specs.laws.Handed.{opens}
 use Rattle.branch_tree.proofs.Best.{ClosedBy-greater, ClosedBy-left}
 use Rattle.branch_tree.proofs.Opened.{none_bare-open}
 use Rattle.branch_tree.proofs.Depths.{cuts_leave, splits-left, splits-right}
+use Rattle.branch_tree.proofs.Forgotten.{IsLeftTo, floor_closed, left_to, parted_there}
 
 -- what is there and has a fact
 pub fact_of : {X : Type 0} (o : Option X) (P : X → Type 0) → IsSomeAnd o P → (x : X) × ((o ≡ Some x) × P x)
@@ -74,6 +75,10 @@ greater-defined (AtMost m) Bad first second = second
 greater-defined (AtMost m) NoPoint first second = tt
 greater-defined (AtMost m) (AtMost n) first second = tt
 
+floor-defined : (floor : Option ℤ) → IsDefined (floor_cap floor)
+floor-defined None = tt
+floor-defined (Some n) = tt
+
 -- the least value of a domain that has values
 least_held : (d : Domain) → IsNormal d → IsOpen d → Holds d (only_value d)
 least_held d n some = at d.zero refl
@@ -106,16 +111,19 @@ module _ (program : Program) (given : ℕ) where
   leaf-defined parent before cuts found w one_point done = closed-defined _ _ done.end
   leaf-defined parent before cuts found w (pending cert) done = not_bad-defined _ done.end.capped
 
-  -- the cap of a split is the greater of its parts' caps
+  -- the cap of a split is the greatest of its floor's and of its parts' caps
   split-cap : (cuts : List RowCut) (found : Option Found) (pick : RowPick) (cert : Cert) (a b : RowTree) (v w x y : View)
-      → after_cuts (row_steps program) v cuts ≡ Some w → (row_steps program).left w pick ≡ Some x → (row_steps program).right w pick ≡ Some y
-      → tree_cap (row_steps program) v (split cuts found pick cert a b) ≡ greater (tree_cap (row_steps program) x a) (tree_cap (row_steps program) y b)
+      → after_cuts (row_steps program) v cuts ≡ Some w → (row_steps program).left ((row_steps program).trim w pick cert) pick ≡ Some x → (row_steps program).right ((row_steps program).trim w pick cert) pick ≡ Some y
+      → tree_cap (row_steps program) v (split cuts found pick cert a b) ≡ greater (greater (floor_cap ((row_steps program).floor w pick cert)) (tree_cap (row_steps program) x a)) (tree_cap (row_steps program) y b)
   split-cap cuts found pick cert a b v w x y moved left right =
       cap_at (after_cuts (row_steps program) v cuts) w
-      (λ u. greater (cap_if ((row_steps program).left u pick) (λ z. tree_cap (row_steps program) z a)) (cap_if ((row_steps program).right u pick) (λ z. tree_cap (row_steps program) z b)))
+      (λ u. split_cap (row_steps program) u pick cert (λ z. tree_cap (row_steps program) z a) (λ z. tree_cap (row_steps program) z b))
       moved
-      ∙ ap (λ o. greater (cap_if o (λ z. tree_cap (row_steps program) z a)) (cap_if ((row_steps program).right w pick) (λ z. tree_cap (row_steps program) z b))) left
-      ∙ ap (λ o. greater (tree_cap (row_steps program) x a) (cap_if o (λ z. tree_cap (row_steps program) z b))) right
+      ∙ ap (λ o. greater (greater floor (cap_if o (λ z. tree_cap (row_steps program) z a))) (cap_if ((row_steps program).right ((row_steps program).trim w pick cert) pick) (λ z. tree_cap (row_steps program) z b))) left
+      ∙ ap (λ o. greater (greater floor (tree_cap (row_steps program) x a)) (cap_if o (λ z. tree_cap (row_steps program) z b))) right
+    where
+      floor : Capped
+      floor = floor_cap ((row_steps program).floor w pick cert)
 
   -- the cap of a search is defined
   pub tree-defined : (tree : RowTree) (parent : Option Cert) (before : List Found) (v : View) → EachNode (NodeDone program given) (row_steps program) parent before v tree → IsDefined (tree_cap (row_steps program) v tree)
@@ -124,11 +132,12 @@ module _ (program : Program) (given : ℕ) where
       subst IsDefined (sym (cap_at (after_cuts (row_steps program) v cuts) at.0 (λ w. leaf_cap (row_steps program) w end) at.1.0)) (leaf-defined parent before cuts found at.0 end at.1.1)
   tree-defined (split cuts found pick cert a b) parent before v done =
       let at = fact_of (after_cuts (row_steps program) v cuts) _ done in
-      let left = fact_of ((row_steps program).left at.0 pick) _ at.1.1.1 in
-      let right = fact_of ((row_steps program).right at.0 pick) _ at.1.1.2 in
+      let rest = (row_steps program).trim at.0 pick cert in
+      let left = fact_of ((row_steps program).left rest pick) _ at.1.1.1 in
+      let right = fact_of ((row_steps program).right rest pick) _ at.1.1.2 in
       let first = tree-defined a (Some cert) _ left.0 left.1.1 in
       let second = tree-defined b (Some cert) _ right.0 right.1.1 in
-      subst IsDefined (sym (split-cap cuts found pick cert a b v at.0 left.0 right.0 at.1.0 left.1.0 right.1.0)) (greater-defined _ _ first second)
+      subst IsDefined (sym (split-cap cuts found pick cert a b v at.0 left.0 right.0 at.1.0 left.1.0 right.1.0)) (greater-defined _ _ (greater-defined _ _ (floor-defined ((row_steps program).floor at.0 pick cert)) first) second)
 
   -- where no box is left open, the cap leaves nothing above the found points
   pub tree-closed : (tree : RowTree) (parent : Option Cert) (before : List Found) (v : View) → EachNode (NodeDone program given) (row_steps program) parent before v tree → opens tree ≡ 0
@@ -145,15 +154,16 @@ module _ (program : Program) (given : ℕ) where
       leaf_closed us (pending cert) w is over = absurd (omega arith)
   tree-closed (split cuts found pick cert a b) parent before v done none =
       let at = fact_of (after_cuts (row_steps program) v cuts) _ done in
-      let left = fact_of ((row_steps program).left at.0 pick) _ at.1.1.1 in
-      let right = fact_of ((row_steps program).right at.0 pick) _ at.1.1.2 in
+      let rest = (row_steps program).trim at.0 pick cert in
+      let left = fact_of ((row_steps program).left rest pick) _ at.1.1.1 in
+      let right = fact_of ((row_steps program).right rest pick) _ at.1.1.2 in
       let own = option_to_list found in
       let first = ClosedBy-left _ _ (found_points b) (tree-closed a (Some cert) (before ++ own) left.0 left.1.1 (omega arith)) in
       let second = tree-closed b (Some cert) (before ++ (own ++ found_points a)) right.0 right.1.1 (omega arith) in
       let one = append_assoc (before ++ own) (found_points a) (found_points b) ∙ append_assoc before own (found_points a ++ found_points b) in
       let two = append_assoc before (own ++ found_points a) (found_points b) ∙ ap (λ fs. before ++ fs) (append_assoc own (found_points a) (found_points b)) in
       subst (λ cap. ClosedBy cap (before ++ (own ++ (found_points a ++ found_points b)))) (sym (split-cap cuts found pick cert a b v at.0 left.0 right.0 at.1.0 left.1.0 right.1.0))
-      (ClosedBy-greater _ _ _ (subst (ClosedBy _) one first) (subst (ClosedBy _) two second))
+      (ClosedBy-greater _ _ _ (ClosedBy-greater _ _ _ (subst (ClosedBy _) (append_assoc before own (found_points a ++ found_points b)) (ClosedBy-left _ _ (found_points a ++ found_points b) (floor_closed program at.0 pick cert (before ++ own) at.1.1.0.end.reached))) (subst (ClosedBy _) one first)) (subst (ClosedBy _) two second))
 
   -- the parts of a split have points
   left_points : (v w : View) (pick : RowPick) → IsParted given (domains_of v) pick → (row_steps program).left v pick ≡ Some w → 0 < points_in w
@@ -177,27 +187,31 @@ module _ (program : Program) (given : ℕ) where
   tree-boxes (leaf cuts found (pending cert)) parent before v fit some done = omega arith
   tree-boxes (split cuts found pick cert a b) parent before v fit some done =
       let at = fact_of (after_cuts (row_steps program) v cuts) _ done in
-      let left = fact_of ((row_steps program).left at.0 pick) _ at.1.1.1 in
-      let right = fact_of ((row_steps program).right at.0 pick) _ at.1.1.2 in
+      let rest = (row_steps program).trim at.0 pick cert in
+      let left = fact_of ((row_steps program).left rest pick) _ at.1.1.1 in
+      let right = fact_of ((row_steps program).right rest pick) _ at.1.1.2 in
       let leave = cuts_leave program cuts v at.0 fit at.1.0 in
-      let parted' : IsParted given (domains_of at.0) pick = at.1.1.0.end.parted in
-      let first : counted a + opens a + 1 ≤ 2 * points_in left.0 = tree-boxes a (Some cert) _ left.0 ((rows_sound program).left_fits at.0 left.0 pick leave.fits left.1.0) (left_points at.0 left.0 pick parted' left.1.0) left.1.1 in
-      let second : counted b + opens b + 1 ≤ 2 * points_in right.0 = tree-boxes b (Some cert) _ right.0 ((rows_sound program).right_fits at.0 right.0 pick leave.fits right.1.0) (right_points at.0 right.0 pick parted' right.1.0) right.1.1 in
-      let both : points_in left.0 + points_in right.0 ≡ points_in at.0 = points-both program at.0 left.0 right.0 pick leave.fits left.1.0 right.1.0 in
-      omega (arith, first, second, both, leave.points)
+      let less : IsLeftTo program at.0 rest = left_to program at.0 pick cert leave.fits in
+      let parted' : IsParted given (domains_of rest) pick = parted_there program at.0 pick cert at.1.1.0.end in
+      let first : counted a + opens a + 1 ≤ 2 * points_in left.0 = tree-boxes a (Some cert) _ left.0 ((rows_sound program).left_fits rest left.0 pick less.fits left.1.0) (left_points rest left.0 pick parted' left.1.0) left.1.1 in
+      let second : counted b + opens b + 1 ≤ 2 * points_in right.0 = tree-boxes b (Some cert) _ right.0 ((rows_sound program).right_fits rest right.0 pick less.fits right.1.0) (right_points rest right.0 pick parted' right.1.0) right.1.1 in
+      let both : points_in left.0 + points_in right.0 ≡ points_in rest = points-both program rest left.0 right.0 pick less.fits left.1.0 right.1.0 in
+      omega (arith, first, second, both, leave.points, less.points)
 
   -- no node stands deeper than there are splits
   pub tree-depth : (tree : RowTree) (parent : Option Cert) (before : List Found) (v : View) → Fits program v → EachNode (NodeDone program given) (row_steps program) parent before v tree → depth tree ≤ 1 + view_splits v
   tree-depth (leaf cuts found end) parent before v fit done = omega arith
   tree-depth (split cuts found pick cert a b) parent before v fit done =
       let at = fact_of (after_cuts (row_steps program) v cuts) _ done in
-      let left = fact_of ((row_steps program).left at.0 pick) _ at.1.1.1 in
-      let right = fact_of ((row_steps program).right at.0 pick) _ at.1.1.2 in
+      let rest = (row_steps program).trim at.0 pick cert in
+      let left = fact_of ((row_steps program).left rest pick) _ at.1.1.1 in
+      let right = fact_of ((row_steps program).right rest pick) _ at.1.1.2 in
       let leave = cuts_leave program cuts v at.0 fit at.1.0 in
-      let parted' : IsParted given (domains_of at.0) pick = at.1.1.0.end.parted in
-      let first : depth a ≤ 1 + view_splits left.0 = tree-depth a (Some cert) _ left.0 ((rows_sound program).left_fits at.0 left.0 pick leave.fits left.1.0) left.1.1 in
-      let second : depth b ≤ 1 + view_splits right.0 = tree-depth b (Some cert) _ right.0 ((rows_sound program).right_fits at.0 right.0 pick leave.fits right.1.0) right.1.1 in
-      omega (arith, first, second, splits-left program at.0 left.0 pick parted' left.1.0, splits-right program at.0 right.0 pick parted' right.1.0, leave.splits)
+      let less : IsLeftTo program at.0 rest = left_to program at.0 pick cert leave.fits in
+      let parted' : IsParted given (domains_of rest) pick = parted_there program at.0 pick cert at.1.1.0.end in
+      let first : depth a ≤ 1 + view_splits left.0 = tree-depth a (Some cert) _ left.0 ((rows_sound program).left_fits rest left.0 pick less.fits left.1.0) left.1.1 in
+      let second : depth b ≤ 1 + view_splits right.0 = tree-depth b (Some cert) _ right.0 ((rows_sound program).right_fits rest right.0 pick less.fits right.1.0) right.1.1 in
+      omega (arith, first, second, splits-left program rest left.0 pick parted' left.1.0, splits-right program rest right.0 pick parted' right.1.0, leave.splits, less.splits)
 
   -- where a box is left open, one is whose area has a point
   pub tree-open : (tree : RowTree) (parent : Option Cert) (before : List Found) (v : View) → EachNode (NodeDone program given) (row_steps program) parent before v tree → 0 < opens tree → HasOpenBox program v tree
@@ -209,11 +223,12 @@ module _ (program : Program) (given : ℕ) where
       at_some (after_cuts (row_steps program) v cuts) at.0 _ at.1.0 (some_point program at.0 at.1.1.fits at.1.1.end.some)
   tree-open (split cuts found pick cert a b) parent before v done some =
       let at = fact_of (after_cuts (row_steps program) v cuts) _ done in
-      let left = fact_of ((row_steps program).left at.0 pick) _ at.1.1.1 in
-      let right = fact_of ((row_steps program).right at.0 pick) _ at.1.1.2 in
+      let rest = (row_steps program).trim at.0 pick cert in
+      let left = fact_of ((row_steps program).left rest pick) _ at.1.1.1 in
+      let right = fact_of ((row_steps program).right rest pick) _ at.1.1.2 in
       let first = tree-open a (Some cert) _ left.0 left.1.1 in
       let second = tree-open b (Some cert) _ right.0 right.1.1 in
-      at_some (after_cuts (row_steps program) v cuts) at.0 _ at.1.0 (one at.0 left.0 right.0 left.1.0 right.1.0 first second (opens a) refl)
+      at_some (after_cuts (row_steps program) v cuts) at.0 _ at.1.0 (one rest left.0 right.0 left.1.0 right.1.0 first second (opens a) refl)
     where
       one : (w x y : View) → (row_steps program).left w pick ≡ Some x → (row_steps program).right w pick ≡ Some y → (0 < opens a → HasOpenBox program x a) → (0 < opens b → HasOpenBox program y b) → (n : ℕ) → opens a ≡ n
           → IsSomeAnd ((row_steps program).left w pick) (λ z. HasOpenBox program z a) ⊎ IsSomeAnd ((row_steps program).right w pick) (λ z. HasOpenBox program z b)

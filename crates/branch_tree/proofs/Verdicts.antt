@@ -1,9 +1,10 @@
 -- What is judged of a box ends it.
-use Rattle.std.proofs.Common.{◌≡◌, ◌≢◌, ℕ, ◌≤◌, ◌<◌, Bool, true, false, List, ◌++◌, length, get_or, Option, Some, None, option_to_list, refl, sym, ap, subst, arith, inl, inr, ⊎_elim}
-use Rattle.std.specs.Prelude.{ℤ, IfSome, ◌⊎◌}
+use Rattle.std.proofs.Common.{◌≡◌, ◌≢◌, ℕ, ◌^◌, ◌≤◌, ◌<◌, Bool, true, false, List, ◌++◌, length, get_or, Option, Some, None, option_to_list, refl, sym, ap, ◌∙◌, subst, arith, inl, inr, ⊎_elim}
+use Rattle.std.specs.Prelude.{ℤ, IfSome, unsigned_abs, ◌⊎◌}
 use Rattle.std.specs.List.{All, Any, list_any}
 use Rattle.std.specs.Option.{option_map}
 use Rattle.std.proofs.lemmas.Bool.{cases_eq, cases_lt, eq-eqb}
+use Rattle.std.proofs.lemmas.Int.{ints}
 use Rattle.std.proofs.lemmas.List.{get_or_default}
 use Rattle.std.proofs.lemmas.List.Folds.{list_any-from_Any}
 use Rattle.row_kit.specs.declared.domain.Domain.{Domain}
@@ -27,14 +28,15 @@ use Rattle.row_relax.specs.Steps.{row_steps}
 use Rattle.row_relax.specs.View.{Fits, IsIn, domains_of}
 use Rattle.row_relax.specs.laws.Laws.{rows_sound}
 use Rattle.row_relax.proofs.Marks.{domains-views}
-use Rattle.branch_tree.specs.Justified.{HasCause, IsGroup, IsParted}
+use Rattle.branch_tree.specs.Justified.{HasCause, IsGroup, IsParted, IsReached, left_by}
 use Rattle.row_relax.specs.RowProofs.{RowItem}
 use Rattle.branch_tree.specs.Searched.{IsBest, IsFitItem}
-use Rattle.branch_tree.specs.laws.Ends.{ClosedBy, IsBoxVerdict, ItemEnds, Reaches, view_splits}
+use Rattle.branch_tree.specs.laws.Ends.{ClosedBy, IsFloor, IsBoxVerdict, ItemEnds, Reaches, view_splits}
 use Rattle.branch_tree.specs.laws.Grounds.{IsOwnBest, seen}
-use Rattle.branch_tree.proofs.Best.{above-same, closed-same, not_over-closed, over-above, reached-closed}
+use Rattle.branch_tree.proofs.Best.{above-same, closed-same, not_over-closed, over-above, reached-closed, reached-same}
 use Rattle.branch_tree.proofs.Caps.{cap-total, not_over-not_bad, total-fit, within-not_bad}
 use Rattle.branch_tree.proofs.Depths.{at_slot, over_none, splits-left}
+use Rattle.branch_tree.proofs.Forgotten.{left_length, left_normal, left_to, parted_there}
 use Rattle.branch_tree.proofs.Standing.{left_there}
 
 -- an area with an empty domain shows a view that is empty
@@ -68,27 +70,53 @@ exhausted_of rows ds each done =
       | inr still ↦ still
     ]
 
+-- a floor that is the best worth is reached
+best-reached : (floors : Bool) (floor : Option ℤ) (best : Option Found) (fs : List Found) → IsBest best fs → IfSome floor (IsFloor floors (option_map (λ f. f.value) best)) → IsReached floor fs
+best-reached floors None best fs is same = tt
+best-reached floors (Some n) None fs is same = absurd (none_some n same.1)
+  where
+    none_some : (m : ℤ) → None ≡ Some m → ⊥
+    none_some m same = cc
+best-reached floors (Some n) (Some b) fs is same = (b, is.0, let e : b.value ≡ n = some_same b.value n same.1 in omega (arith, ints, e))
+  where
+    some_same : (x y : ℤ) → Some x ≡ Some y → x ≡ y
+    some_same x y same = cc
+
+-- where splits may have no floors, none has one
+floor_may : (floor : Option ℤ) (floors : Bool) (best : Option ℤ) → IfSome floor (IsFloor floors best) → floors ≡ false → floor ≡ None
+floor_may None floors best is never = refl
+floor_may (Some n) floors best is never = absurd (both floors never is.0)
+  where
+    both : (b : Bool) → b ≡ false → b ≡ true → ⊥
+    both b is_false is_true = cc
+
+-- and one that is there is short
+floor_short : (floor : Option ℤ) (floors : Bool) (best : Option ℤ) → IfSome floor (IsFloor floors best) → IfSome floor (λ n. unsigned_abs n < 10 ^ 30)
+floor_short None floors best is = tt
+floor_short (Some n) floors best is = is.2
+
 -- what is judged of a box ends it
-pub verdict-ends : (program : Program) (given : ℕ) (marks : List (List Domain)) (item : RowItem) (found best : Option Found) (before : List Found)
+pub verdict-ends : (program : Program) (floors : Bool) (given : ℕ) (marks : List (List Domain)) (item : RowItem) (found best : Option Found) (before : List Found)
     → AreDone program.rows (present marks) → All IsOpen (present marks) → (All IsSingle (present marks) → Reaches (settled program (present marks)) found)
-    → IsBest best (before ++ option_to_list found) → IsBoxVerdict program given (present marks) (option_map (λ f. f.value) best) item → ItemEnds program given (seen marks) (before ++ option_to_list found) item
+    → IsBest best (before ++ option_to_list found) → IsBoxVerdict program floors given (present marks) (option_map (λ f. f.value) best) item → ItemEnds program given (seen marks) (before ++ option_to_list found) item
 unfolding row_steps
-verdict-ends program given marks (Dual cert) found best before done each only is verdict =
+verdict-ends program floors given marks (Dual cert) found best before done each only is verdict =
     subst (λ (ds : List Domain). ClosedBy (cert_cap program ds cert) (before ++ option_to_list found)) (sym (domains-views marks)) (not_over-closed (cert_cap program (present marks) cert) best (before ++ option_to_list found) is verdict)
-verdict-ends program given marks Point found best before done each only is verdict =
+verdict-ends program floors given marks Point found best before done each only is verdict =
     subst (λ (ds : List Domain). ClosedBy (settled program ds) (before ++ option_to_list found)) (sym (domains-views marks)) (reached-closed (settled program (present marks)) found before (only verdict))
-verdict-ends program given marks (Split pick cert) found best before done each only is verdict =
+verdict-ends program floors given marks (Split pick cert) found best before done each only is verdict =
     subst (λ (ds : List Domain). HasCause program given ds (before ++ option_to_list found) pick cert) (sym (domains-views marks)) (record {
       exhausted = exhausted_of program.rows (present marks) each done;
       polished = verdict.0;
       above = over-above (cert_cap program (present marks) cert) best (before ++ option_to_list found) (within-not_bad (cert_cap program (present marks) plain_cert) (cert_cap program (present marks) cert) verdict.0.no_higher) is verdict.2;
+      reached = best-reached floors pick.floor best (before ++ option_to_list found) is verdict.3;
       parted = verdict.1;
     })
-verdict-ends program given marks Node found best before done each only is verdict = absurd verdict
-verdict-ends program given marks (Cut cut) found best before done each only is verdict = absurd verdict
-verdict-ends program given marks (FoundItem f) found best before done each only is verdict = absurd verdict
-verdict-ends program given marks Empty found best before done each only is verdict = absurd verdict
-verdict-ends program given marks (Pending cert) found best before done each only is verdict = absurd verdict
+verdict-ends program floors given marks Node found best before done each only is verdict = absurd verdict
+verdict-ends program floors given marks (Cut cut) found best before done each only is verdict = absurd verdict
+verdict-ends program floors given marks (FoundItem f) found best before done each only is verdict = absurd verdict
+verdict-ends program floors given marks Empty found best before done each only is verdict = absurd verdict
+verdict-ends program floors given marks (Pending cert) found best before done each only is verdict = absurd verdict
 
 -- a split leaves a value above it
 max_most : (d : Domain) (m : ℕ) → IsNormal d → IsOpen (shared d (over m)) → m ≤ 254
@@ -99,22 +127,25 @@ max_most d m n some =
     (cases_lt m 255)
 
 -- and its item is fit
-pub verdict-fit : (program : Program) (given : ℕ) (ds : List Domain) (best : Option ℤ) (item : RowItem) → All IsNormal ds → length ds ≡ length program.root → IsBoxVerdict program given ds best item → IsFitItem program item
-verdict-fit program given ds best (Dual cert) normal' slots verdict =
+pub verdict-fit : (program : Program) (floors : Bool) (given : ℕ) (ds : List Domain) (best : Option ℤ) (item : RowItem) → All IsNormal ds → length ds ≡ length program.root → IsBoxVerdict program floors given ds best item → IsFitItem program floors item
+verdict-fit program floors given ds best (Dual cert) normal' slots verdict =
     total-fit program ds cert (cap-total cert.scale (total_at program ds cert) (not_over-not_bad (cert_cap program ds cert) best verdict))
-verdict-fit program given ds best Point normal' slots verdict = tt
-verdict-fit program given ds best (Split pick cert) normal' slots verdict =
-    let parts : IsParted given ds pick = verdict.1 in
-    let right = at_slot ds pick.slot (shared (domain_at ds pick.slot) (over pick.max)) parts.slot parts.right in (
-      subst (λ n. pick.slot < n) slots parts.slot,
-      max_most (domain_at ds pick.slot) pick.max (normal' pick.slot no_values parts.slot) right,
+verdict-fit program floors given ds best Point normal' slots verdict = tt
+verdict-fit program floors given ds best (Split pick cert) normal' slots verdict =
+    let left = left_by program ds cert pick.floor in
+    let parts : IsParted given left pick = verdict.1 in
+    let right = at_slot left pick.slot (shared (domain_at left pick.slot) (over pick.max)) parts.slot parts.right in (
+      subst (λ n. pick.slot < n) (left_length program ds cert pick.floor ∙ slots) parts.slot,
+      max_most (domain_at left pick.slot) pick.max (left_normal program ds cert pick.floor normal' pick.slot no_values parts.slot) right,
       total-fit program ds cert verdict.0.total,
+      floor_may pick.floor floors best verdict.3,
+      floor_short pick.floor floors best verdict.3,
     )
-verdict-fit program given ds best Node normal' slots verdict = absurd verdict
-verdict-fit program given ds best (Cut cut) normal' slots verdict = absurd verdict
-verdict-fit program given ds best (FoundItem f) normal' slots verdict = absurd verdict
-verdict-fit program given ds best Empty normal' slots verdict = absurd verdict
-verdict-fit program given ds best (Pending cert) normal' slots verdict = absurd verdict
+verdict-fit program floors given ds best Node normal' slots verdict = absurd verdict
+verdict-fit program floors given ds best (Cut cut) normal' slots verdict = absurd verdict
+verdict-fit program floors given ds best (FoundItem f) normal' slots verdict = absurd verdict
+verdict-fit program floors given ds best Empty normal' slots verdict = absurd verdict
+verdict-fit program floors given ds best (Pending cert) normal' slots verdict = absurd verdict
 
 -- an item that ends a box with some found points ends it with any that have the same best
 pub ends-same : (program : Program) (given : ℕ) (view : View) (item : RowItem) (best : Option Found) (fs gs : List Found) → IsBest best fs → IsBest best gs → ItemEnds program given view fs item → ItemEnds program given view gs item
@@ -125,6 +156,7 @@ ends-same program given view (Split pick cert) best fs gs is other ends = record
   exhausted = ends.exhausted;
   polished = ends.polished;
   above = above-same (cert_cap program (domains_of view) cert) best fs gs is other ends.above;
+  reached = reached-same pick.floor best fs gs is other ends.reached;
   parted = ends.parted;
 }
 ends-same program given view Node best fs gs is other ends = absurd ends
@@ -144,19 +176,22 @@ ends-only program given view fs (FoundItem f) ends empty dual point split = ends
 ends-only program given view fs (Pending cert) ends empty dual point split = ends
 
 -- a split leaves a split to its parts
-pub ends-room : (program : Program) (given : ℕ) (view : View) (fs : List Found) (item : RowItem) → ItemEnds program given view fs item → (1 ≤ view_splits view) ⊎ ((pick : RowPick) (cert : Cert) → item ≡ Split pick cert → ⊥)
-ends-room program given view fs Empty ends = inr (λ pick cert same. cc)
-ends-room program given view fs (Dual c) ends = inr (λ pick cert same. cc)
-ends-room program given view fs Point ends = inr (λ pick cert same. cc)
-ends-room program given view fs (Split pick cert) ends =
-    let part = left_there program view pick ends.parted in
-    inl (omega (arith, splits-left program view part.0 pick ends.parted part.1))
-ends-room program given view fs Node ends = absurd ends
-ends-room program given view fs (Cut cut) ends = absurd ends
-ends-room program given view fs (FoundItem f) ends = absurd ends
-ends-room program given view fs (Pending cert) ends = absurd ends
+pub ends-room : (program : Program) (given : ℕ) (view : View) (fs : List Found) (item : RowItem) → Fits program view → ItemEnds program given view fs item → (1 ≤ view_splits view) ⊎ ((pick : RowPick) (cert : Cert) → item ≡ Split pick cert → ⊥)
+ends-room program given view fs Empty fit ends = inr (λ pick cert same. cc)
+ends-room program given view fs (Dual c) fit ends = inr (λ pick cert same. cc)
+ends-room program given view fs Point fit ends = inr (λ pick cert same. cc)
+ends-room program given view fs (Split pick cert) fit ends =
+    let rest = (row_steps program).trim view pick cert in
+    let less = left_to program view pick cert fit in
+    let parts : IsParted given (domains_of rest) pick = parted_there program view pick cert ends in
+    let part = left_there program rest pick parts in
+    inl (omega (arith, less.splits, splits-left program rest part.0 pick parts part.1))
+ends-room program given view fs Node fit ends = absurd ends
+ends-room program given view fs (Cut cut) fit ends = absurd ends
+ends-room program given view fs (FoundItem f) fit ends = absurd ends
+ends-room program given view fs (Pending cert) fit ends = absurd ends
 
 -- the certificate of a part that is left open is fit
-pub pending-fit : (program : Program) (view : View) (cert : Cert) → (row_steps program).cap view cert ≢ Bad → IsFitItem program (Pending cert)
+pub pending-fit : (program : Program) (floors : Bool) (view : View) (cert : Cert) → (row_steps program).cap view cert ≢ Bad → IsFitItem program floors (Pending cert)
 unfolding row_steps
-pending-fit program view cert some = total-fit program (domains_of view) cert (cap-total cert.scale (total_at program (domains_of view) cert) some)
+pending-fit program floors view cert some = total-fit program (domains_of view) cert (cap-total cert.scale (total_at program (domains_of view) cert) some)

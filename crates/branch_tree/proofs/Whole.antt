@@ -2,7 +2,7 @@
 use Rattle.std.proofs.Common.{◌≡◌, ◌≢◌, ℕ, zero, suc, ◌+◌, ◌*◌, ◌<◌, ◌≤◌, Bool, true, false, List, [], ◌∷◌, Option, Some, None, refl, ap, sym, ◌∙◌, subst, arith, inl, inr}
 use Rattle.std.specs.Prelude.{ℤ, ◌≤ℤ◌, IfSome, ⊤, length}
 use Rattle.std.specs.List.{All}
-use Rattle.std.specs.Option.{IsSomeAnd, option_map}
+use Rattle.std.specs.Option.{option_map}
 use Rattle.std.proofs.lemmas.Int.{ints}
 use Rattle.std.proofs.lemmas.List.Elements.{All-contains, All-cons, All-head, All-nil, All-tail}
 use Rattle.row_kit.specs.declared.area.Area.{Area}
@@ -44,11 +44,11 @@ use Rattle.branch_tree.proofs.Stopping.{box_before}
 use Rattle.branch_tree.proofs.Trees.{defined-not_bad, tree-boxes, tree-closed, tree-defined, tree-depth, tree-justified, tree-open}
 
 -- found points among fit items are lawful and stand with their worth
-pub fit-groups : (program : Program) (items : List RowItem) → All (IsFitItem program) items → All (IsGroup program) (found_in items)
-fit-groups program [] fit = All-nil (IsGroup program)
-fit-groups program (item ∷ items) fit = at item (All-head (IsFitItem program) item items fit) (fit-groups program items (All-tail (IsFitItem program) item items fit))
+pub fit-groups : (program : Program) (floors : Bool) (items : List RowItem) → All (IsFitItem program floors) items → All (IsGroup program) (found_in items)
+fit-groups program floors [] fit = All-nil (IsGroup program)
+fit-groups program floors (item ∷ items) fit = at item (All-head (IsFitItem program floors) item items fit) (fit-groups program floors items (All-tail (IsFitItem program floors) item items fit))
   where
-    at : (first : RowItem) → IsFitItem program first → All (IsGroup program) (found_in items) → All (IsGroup program) (found_in (first ∷ items))
+    at : (first : RowItem) → IsFitItem program floors first → All (IsGroup program) (found_in items) → All (IsGroup program) (found_in (first ∷ items))
     at (FoundItem f) is rest = All-cons (IsGroup program) f (found_in items) is rest
     at Node is rest = rest
     at (Cut cut) is rest = rest
@@ -114,16 +114,16 @@ root-stands ground point marks start indexed is begun = subst (λ (ms : List (Li
     }
 
 -- what is known of the search of the root
-pub record RootSearched {T O : Type 0} (took : T → O → List RowItem → T → O → Type 0) (program : Program) (point : List ℕ) (given budget : ℕ) (may_leave : Bool) (cap : Capped) (start new : Reached) (left_open : Bool) (t : T) (o : O) (t2 : T) (o2 : O) : Type 0 where
+pub record RootSearched {T O : Type 0} (took : T → O → List RowItem → T → O → Type 0) (program : Program) (floors : Bool) (point : List ℕ) (given budget : ℕ) (may_leave : Bool) (cap : Capped) (start new : Reached) (left_open : Bool) (t : T) (o : O) (t2 : T) (o2 : O) : Type 0 where
   pub searchable : IsSearchable program
-  pub box : BoxHanded took (λ parent. ⊤) program given budget may_leave (view_of program.root) cap start t o new t2 o2
+  pub box : BoxHanded took (λ parent. ⊤) program floors given budget may_leave (view_of program.root) cap start t o new t2 o2
   pub begun : IsStart program point start
   pub own : IsOwnBest start.own new.best
   pub within : new.spent ≤ budget
   pub over : left_open ≡ is_over cap (option_map (λ f. f.value) new.best)
 
-module _ {T O : Type 0} (took : T → O → List RowItem → T → O → Type 0) (program : Program) (point : List ℕ) (given budget : ℕ) (may_leave : Bool) (cap : Capped) (start new : Reached) (left_open : Bool) (t : T) (o : O) (t2 : T) (o2 : O)
-    (root : RootSearched took program point given budget may_leave cap start new left_open t o t2 o2) where
+module _ {T O : Type 0} (took : T → O → List RowItem → T → O → Type 0) (program : Program) (floors : Bool) (point : List ℕ) (given budget : ℕ) (may_leave : Bool) (cap : Capped) (start new : Reached) (left_open : Bool) (t : T) (o : O) (t2 : T) (o2 : O)
+    (root : RootSearched took program floors point given budget may_leave cap start new left_open t o t2 o2) where
   -- each node of the proof
   nodes : EachNode (NodeDone program given) (row_steps program) None [] (view_of program.root) root.box.tree
   nodes = root.box.done None [] tt (subst (λ b. IsBest b []) (sym root.begun.best) refl)
@@ -161,7 +161,7 @@ module _ {T O : Type 0} (took : T → O → List RowItem → T → O → Type 0)
   pub ended_of_root : Ended
   ended_of_root = record { best = new.best; cap = cap; spent = new.spent; left_open = left_open }
 
-  pub root-search : IsSearch program given budget root.box.tree (record { best = new.best; cap = cap; spent = new.spent; left_open = left_open })
+  pub root-search : IsSearch program floors given budget root.box.tree (record { best = new.best; cap = cap; spent = new.spent; left_open = left_open })
   root-search = record {
     cap = root.box.capped;
     defined = defined;
@@ -187,14 +187,14 @@ module _ {T O : Type 0} (took : T → O → List RowItem → T → O → Type 0)
       bounds = subst (Bounds (LiesIn program.root) (IsLawful program) (worth_of program)) (sym root.box.capped) (root_bounds program root.box.tree)
 
       groups : All (IsGroup program) (found_points root.box.tree)
-      groups = subst (All (IsGroup program)) (found_in-tree Rows Area root.box.tree) (fit-groups program (tree_items root.box.tree) root.box.fit)
+      groups = subst (All (IsGroup program)) (found_in-tree Rows Area root.box.tree) (fit-groups program floors (tree_items root.box.tree) root.box.fit)
 
   -- the best is worth as much as the point to begin with
   pub root-begun : IsWorth program point new.best
   root-begun = best_worth program point start.own new.best root.begun.own.given root.own
 
   -- the items of the proof were taken
-  pub root-taken : took t o [] t o → IsSearchedTo took program given budget (record { best = new.best; cap = cap; spent = new.spent; left_open = left_open }) t o t2 o2
+  pub root-taken : took t o [] t o → IsSearchedTo took program floors given budget (record { best = new.best; cap = cap; spent = new.spent; left_open = left_open }) t o t2 o2
   root-taken none = record { tree = root.box.tree; search = root-search; handed = root.box.handed t o [] none }
 
   -- a budget that was spent makes the count exact
@@ -208,12 +208,12 @@ module _ {T O : Type 0} (took : T → O → List RowItem → T → O → Type 0)
   root-full never over = root.box.counts.full never (some_open over)
 
 -- what the search of the root comes to
-pub root-searched : {T O : Type 0} (took : T → O → List RowItem → T → O → Type 0) (program : Program) (point : List ℕ) (given budget : ℕ) (may_leave : Bool) (cap : Capped) (start new : Reached) (left_open : Bool) (t : T) (o : O) (t2 : T) (o2 : O)
-    (marks : List (List Domain)) (worth : Option ℤ) → IsSearchable program → marks ≡ program.root ∷ [] → BoxHanded took (λ parent. ⊤) program given budget may_leave (seen marks) cap start t o new t2 o2 → IsStart program point start → IsOwnBest start.own new.best
-    → new.spent ≤ budget → worth ≡ option_map (λ f. f.value) new.best → left_open ≡ is_over cap worth → RootSearched took program point given budget may_leave cap start new left_open t o t2 o2
-root-searched took program point given budget may_leave cap start new left_open t o t2 o2 marks worth searchable is box begun own within worth_is over = record {
+pub root-searched : {T O : Type 0} (took : T → O → List RowItem → T → O → Type 0) (program : Program) (floors : Bool) (point : List ℕ) (given budget : ℕ) (may_leave : Bool) (cap : Capped) (start new : Reached) (left_open : Bool) (t : T) (o : O) (t2 : T) (o2 : O)
+    (marks : List (List Domain)) (worth : Option ℤ) → IsSearchable program → marks ≡ program.root ∷ [] → BoxHanded took (λ parent. ⊤) program floors given budget may_leave (seen marks) cap start t o new t2 o2 → IsStart program point start → IsOwnBest start.own new.best
+    → new.spent ≤ budget → worth ≡ option_map (λ f. f.value) new.best → left_open ≡ is_over cap worth → RootSearched took program floors point given budget may_leave cap start new left_open t o t2 o2
+root-searched took program floors point given budget may_leave cap start new left_open t o t2 o2 marks worth searchable is box begun own within worth_is over = record {
   searchable = searchable;
-  box = subst (λ (ms : List (List Domain)). BoxHanded took (λ parent. ⊤) program given budget may_leave (seen ms) cap start t o new t2 o2) is box;
+  box = subst (λ (ms : List (List Domain)). BoxHanded took (λ parent. ⊤) program floors given budget may_leave (seen ms) cap start t o new t2 o2) is box;
   begun = begun;
   own = own;
   within = within;
@@ -221,8 +221,8 @@ root-searched took program point given budget may_leave cap start new left_open 
 }
 
 -- a search that broke off
-pub root-stopped : {T O : Type 0} (took broke : T → O → List RowItem → T → O → Type 0) (program : Program) (t : T) (o : O) (t2 : T) (o2 : O) → IsSearchable program → took t o [] t o → BoxStopped took broke program (view_of program.root) t o t2 o2 → IsBrokenOff took broke program t o t2 o2
-root-stopped took broke program t o t2 o2 searchable none s = record {
+pub root-stopped : {T O : Type 0} (took broke : T → O → List RowItem → T → O → Type 0) (program : Program) (floors : Bool) (t : T) (o : O) (t2 : T) (o2 : O) → IsSearchable program → took t o [] t o → BoxStopped took broke program floors (view_of program.root) t o t2 o2 → IsBrokenOff took broke program floors t o t2 o2
+root-stopped took broke program floors t o t2 o2 searchable none s = record {
   tree = s.tree;
   items = s.stopped.items;
   later = s.stopped.later;
@@ -232,5 +232,5 @@ root-stopped took broke program t o t2 o2 searchable none s = record {
 }
 
 -- a search that broke off before its first item
-pub root-before : {T O : Type 0} (took broke : T → O → List RowItem → T → O → Type 0) (program : Program) (t : T) (o : O) → IsSearchable program → took t o [] t o → IsBrokenOff took broke program t o t o
-root-before took broke program t o searchable none = root-stopped took broke program t o t o searchable none (box_before took broke program (view_of program.root) t o)
+pub root-before : {T O : Type 0} (took broke : T → O → List RowItem → T → O → Type 0) (program : Program) (floors : Bool) (t : T) (o : O) → IsSearchable program → took t o [] t o → IsBrokenOff took broke program floors t o t o
+root-before took broke program floors t o searchable none = root-stopped took broke program floors t o t o searchable none (box_before took broke program floors (view_of program.root) t o)

@@ -1,6 +1,6 @@
 -- When no box of a proof over rows was split without cause.
-use Rattle.std.specs.Prelude.{◌≡◌, ℕ, ◌<◌, ◌≤◌, List, [], ◌++◌, length, Some, None, option_to_list, IfSome, IsSome, ◌<ℤ◌, ⊤}
-use Rattle.std.specs.List.{All}
+use Rattle.std.specs.Prelude.{◌≡◌, ℕ, ◌<◌, ◌≤◌, List, [], ◌++◌, length, Option, Some, None, option_to_list, IfSome, IsSome, ℤ, ◌≤ℤ◌, ◌<ℤ◌, ⊤}
+use Rattle.std.specs.List.{All, Contains}
 use Rattle.row_kit.specs.declared.domain.Domain.{Domain}
 use Rattle.row_kit.specs.declared.found.Found.{Found}
 use Rattle.row_kit.specs.declared.program.Program.{Program}
@@ -11,6 +11,7 @@ use Rattle.range_prop.specs.Cuts.{IsStill}
 use Rattle.dual_bound.specs.declared.cert.Cert.{Cert}
 use Rattle.dual_bound.specs.Cap.{cert_cap}
 use Rattle.dual_bound.specs.Total.{total_at}
+use Rattle.dual_bound.specs.Trimmed.{trimmed}
 use Rattle.dual_climb.specs.RowBest.{RowBest}
 use Rattle.dual_bound.specs.Plain.{IsNoWorseThanPlain}
 use Rattle.proof_tree.specs.declared.capped.Capped.{Capped}
@@ -57,6 +58,16 @@ pub record IsParted (given : ℕ) (domains : List Domain) (pick : RowPick) : Typ
   pub left : All IsOpen (kept_at domains pick.slot (up_to pick.max))
   pub right : All IsOpen (kept_at domains pick.slot (over pick.max))
 
+-- the domains that a split shares out between its parts: those that its floor leaves, by the certificate; all, where it has none
+abbrev pub left_by : Program → List Domain → Cert → Option ℤ → List Domain
+left_by program domains cert None = domains
+left_by program domains cert (Some floor) = trimmed program domains cert floor
+
+-- a floor, where there is one, is at most the worth of one of these found points
+abbrev pub IsReached : Option ℤ → List Found → Type 0
+IsReached None found = ⊤
+IsReached (Some floor) found = (f : Found) × Contains found f × (floor ≤ℤ f.value)
+
 -- what a split needs, over the domains after the cuts of its node and the found points up to it
 pub record HasCause (program : Program) (given : ℕ) (domains : List Domain) (found : List Found) (pick : RowPick) (cert : Cert) : Type 0 where
   -- no cut of any row at any slot shrinks a domain
@@ -64,7 +75,9 @@ pub record HasCause (program : Program) (given : ℕ) (domains : List Domain) (f
   pub polished : IsPolished program domains cert
   -- the cap of the certificate is above the worth of each of the found points
   pub above : IsAbove (cert_cap program domains cert) found
-  pub parted : IsParted given domains pick
+  pub reached : IsReached pick.floor found
+  -- it divides what its floor leaves
+  pub parted : IsParted given (left_by program domains cert pick.floor) pick
 
 -- a node that is left open has no cuts and no found point, and holds the certificate of its parent
 pub record IsLeftOpen (node : RowNode) (cert : Cert) : Type 0 where

@@ -12,8 +12,8 @@ ghost use Rattle.row_relax.specs.View.{Fits, domains_of, view_of};
 ghost use Rattle.branch_tree.specs.Justified.{IsGroup, HasCause};
 ghost use Rattle.branch_tree.specs.Searched.{IsBest, IsFitItem};
 ghost use Rattle.branch_tree.specs.laws.Ends.{ItemEnds};
-ghost use Rattle.branch_tree.specs.laws.Grounds.{StandsIn, IsOwnBest, IsSplitPart, IsSplitAt, program_of, seen};
-ghost use Rattle.branch_tree.specs.laws.Handed.{LookHanded, TailHanded, PartsHanded, BoxHanded};
+ghost use Rattle.branch_tree.specs.laws.Grounds.{StandsIn, IsOwnBest, IsSplitPart, IsSplitAt, program_of, seen, slot_alone};
+ghost use Rattle.branch_tree.specs.laws.Handed.{LookHanded, TailHanded, SplitHanded, PartsHanded, BoxHanded};
 ghost use Rattle.branch_tree.specs.laws.Stops.{LookStopped, TailStopped, PartsStopped, BoxStopped};
 
 use crate::copies::copied_cert;
@@ -23,7 +23,7 @@ use crate::putting::{leave_open, open_box, put_found};
 use crate::reached::{Ground, Reached};
 use box_advice::{Advice, Guide, Hinter};
 use dual_bound::Cert;
-use proof_tree::{Capped, Item, NodeTaker, Relaxation, TakeStop, greater_cap};
+use proof_tree::{Capped, Item, NodeTaker, Relaxation, TakeStop, floor_cap, greater_cap};
 use row_kit::{Area, Found};
 use row_relax::{RowPick, Rows};
 use std::alloc::AllocError;
@@ -70,10 +70,10 @@ fn advised<G: Guide>(
     )
 }
 
-// Looks at a counted box after its cuts: puts its found point, and answers its end.
+// Looks at a counted box after its cuts: puts its found point, and answers its end. The area is afterwards as before.
 fn look<H: Hinter, G: Guide, O, T: NodeTaker<Rows, O>>(
     ground: &Ground,
-    area: &Area,
+    area: &mut Area,
     depth: u32,
     reached: &mut Reached,
     hinter: &mut H,
@@ -81,20 +81,21 @@ fn look<H: Hinter, G: Guide, O, T: NodeTaker<Rows, O>>(
     taker: &mut T,
     out: &mut O,
 ) -> Result<Item<Rows>, TakeStop>
-    requires stands { StandsIn ground.now (seen area.now) depth reached.old }
-    requires done { AreDone (program_of ground.now).rows (present area.now) }
+    requires stands { StandsIn ground.now (seen area.old) depth reached.old }
+    requires done { AreDone (program_of ground.now).rows (present area.old) }
     requires ready { T.ready taker.old out.old }
+    ensures same { area.new ≡ area.old }
     ensures ready { OnOk result (T.ready taker.new out.new) }
     ensures handed { IfOk result
-        (λ item. LookHanded T.took (program_of ground.now) ground.now.given (seen area.now) item
-        reached.old taker.old out.old reached.new taker.new out.new) }
+        (λ item. LookHanded T.took (program_of ground.now) ground.now.floors ground.now.given
+        (seen area.old) item reached.old taker.old out.old reached.new taker.new out.new) }
     ensures own { OnOk result (IsOwnBest reached.old.own reached.new.best) }
     ensures spent { reached.new.spent ≡ reached.old.spent }
     ensures changed { reached.new.changed ≡ reached.old.changed }
     ensures none { OnOk result (reached.new.own ≡ None) }
     ensures places { length reached.new.point.items ≡ length reached.old.point.items }
-    ensures err { OnErr result (LookStopped T.took T.broke (program_of ground.now) taker.old
-        out.old taker.new out.new) }
+    ensures err { OnErr result (LookStopped T.took T.broke (program_of ground.now)
+        ground.now.floors taker.old out.old taker.new out.new) }
     ensures later { T.faults out.old ≤ T.faults out.new }
     ensures failed { IsErrOf result TakeStop.Failed → Rose (T.faults out.old) (T.faults out.new) }
 {
@@ -131,11 +132,11 @@ pub(crate) fn search_box<H: Hinter, G: Guide, O, T: NodeTaker<Rows, O>>(
     ensures own { OnOk result (IsOwnBest reached.old.own reached.new.best) }
     ensures places { length reached.new.point.items ≡ length reached.old.point.items }
     ensures handed { IfOk result
-        (λ cap. BoxHanded T.took (λ _. ⊤) (program_of ground.now) ground.now.given
-        ground.now.budget ground.now.may_leave
+        (λ cap. BoxHanded T.took (λ _. ⊤) (program_of ground.now) ground.now.floors
+        ground.now.given ground.now.budget ground.now.may_leave
         (seen area.old) cap reached.old taker.old out.old reached.new taker.new out.new) }
     ensures err { OnErr result (BoxStopped T.took T.broke (program_of ground.now)
-        (seen area.old) taker.old out.old taker.new out.new) }
+        ground.now.floors (seen area.old) taker.old out.old taker.new out.new) }
     ensures later { T.faults out.old ≤ T.faults out.new }
     ensures failed { IsErrOf result TakeStop.Failed → Rose (T.faults out.old) (T.faults out.new) }
 {
@@ -169,7 +170,7 @@ fn search_end<H: Hinter, G: Guide, O, T: NodeTaker<Rows, O>>(
     requires room { HaveRoom (program_of ground.now).rows (domains_of (seen area.old)) }
     requires ends { (found : Listed Found) → IsBest reached.old.best found
         → ItemEnds (program_of ground.now) ground.now.given (seen area.old) found item }
-    requires fit { IsFitItem (program_of ground.now) item }
+    requires fit { IsFitItem (program_of ground.now) ground.now.floors item }
     requires ready { T.ready taker.old out.old }
     ensures as_before { OnOk result (map view_of area.new ≡ map view_of area.old) }
     ensures ready { OnOk result (T.ready taker.new out.new) }
@@ -177,11 +178,11 @@ fn search_end<H: Hinter, G: Guide, O, T: NodeTaker<Rows, O>>(
     ensures none { OnOk result (reached.new.own ≡ None) }
     ensures places { length reached.new.point.items ≡ length reached.old.point.items }
     ensures handed { IfOk result
-        (λ cap. TailHanded T.took (program_of ground.now) ground.now.given ground.now.budget
-        ground.now.may_leave
+        (λ cap. TailHanded T.took (program_of ground.now) ground.now.floors ground.now.given
+        ground.now.budget ground.now.may_leave
         (seen area.old) cap reached.old taker.old out.old reached.new taker.new out.new) }
     ensures err { OnErr result (TailStopped T.took T.broke (program_of ground.now)
-        (seen area.old) taker.old out.old taker.new out.new) }
+        ground.now.floors (seen area.old) taker.old out.old taker.new out.new) }
     ensures later { T.faults out.old ≤ T.faults out.new }
     ensures failed { IsErrOf result TakeStop.Failed → Rose (T.faults out.old) (T.faults out.new) }
 {
@@ -190,10 +191,67 @@ fn search_end<H: Hinter, G: Guide, O, T: NodeTaker<Rows, O>>(
         Item::Empty => Ok(Capped::NoPoint),
         Item::Dual(cert) => Ok(ground.rows.cap(area, cert)),
         Item::Point => Ok(ground.rows.settle(area)),
-        Item::Split(pick, cert) => search_parts(
+        Item::Split(pick, cert) => search_split(
             ground, area, depth, pick, cert, reached, hinter, guide, taker, out,
         ),
         _ => unreachable!(),
+    }
+}
+
+// Searches what the floor of a split leaves.
+#[cycle(search)]
+fn search_split<H: Hinter, G: Guide, O, T: NodeTaker<Rows, O>>(
+    ground: &Ground,
+    area: &mut Area,
+    depth: u32,
+    pick: &RowPick,
+    cert: &Cert,
+    reached: &mut Reached,
+    hinter: &mut H,
+    guide: &mut G,
+    taker: &mut T,
+    out: &mut O,
+) -> Result<Capped, TakeStop>
+    requires stands { StandsIn ground.now (seen area.old) depth reached.old }
+    requires within { reached.old.spent ≤ ground.now.budget }
+    requires none { reached.old.own ≡ None }
+    requires room { HaveRoom (program_of ground.now).rows (domains_of (seen area.old)) }
+    requires split { IsSplitAt (program_of ground.now) ground.now.given
+        ((row_steps (program_of ground.now)).trim (seen area.old) pick.now cert.now)
+        pick.now cert.now }
+    requires ready { T.ready taker.old out.old }
+    ensures as_before { OnOk result (map view_of area.new ≡ map view_of area.old) }
+    ensures ready { OnOk result (T.ready taker.new out.new) }
+    ensures within { OnOk result (reached.new.spent ≤ ground.now.budget) }
+    ensures none { OnOk result (reached.new.own ≡ None) }
+    ensures places { length reached.new.point.items ≡ length reached.old.point.items }
+    ensures handed { IfOk result
+        (λ cap. SplitHanded T.took (program_of ground.now) ground.now.floors ground.now.given
+        ground.now.budget ground.now.may_leave
+        (seen area.old) pick.now cert.now cap reached.old taker.old out.old reached.new taker.new
+        out.new) }
+    ensures err { OnErr result (PartsStopped T.took T.broke (program_of ground.now)
+        ground.now.floors (seen area.old) taker.old out.old taker.new out.new) }
+    ensures later { T.faults out.old ≤ T.faults out.new }
+    ensures failed { IsErrOf result TakeStop.Failed → Rose (T.faults out.old) (T.faults out.new) }
+{
+    let start = ground.rows.mark(area);
+    let floor = ground.rows.trim(area, pick, cert);
+    reached.changed = None;
+    let cap = search_parts(
+        ground, area, depth, pick, cert, reached, hinter, guide, taker, out,
+    )?;
+    ground.rows.back(area, start);
+    Ok(greater_cap(floor_cap(floor), cap))
+}
+
+// The slot of a split, where it has no floor: else values of others may be gone too.
+fn slot_alone(pick: &RowPick) -> Option<u32>
+    ensures { result ≡ slot_alone pick.now.floor pick.now.slot }
+{
+    match &pick.floor {
+        None => Some(pick.slot),
+        Some(_) => None,
     }
 }
 
@@ -214,7 +272,8 @@ fn search_parts<H: Hinter, G: Guide, O, T: NodeTaker<Rows, O>>(
     requires stands { StandsIn ground.now (seen area.old) depth reached.old }
     requires within { reached.old.spent ≤ ground.now.budget }
     requires none { reached.old.own ≡ None }
-    requires room { HaveRoom (program_of ground.now).rows (domains_of (seen area.old)) }
+    requires room { IfSome (slot_alone pick.now.floor pick.now.slot)
+        (λ slot. HaveRoom (program_of ground.now).rows (domains_of (seen area.old))) }
     requires split { IsSplitAt (program_of ground.now) ground.now.given (seen area.old)
         pick.now cert.now }
     requires ready { T.ready taker.old out.old }
@@ -224,18 +283,18 @@ fn search_parts<H: Hinter, G: Guide, O, T: NodeTaker<Rows, O>>(
     ensures none { OnOk result (reached.new.own ≡ None) }
     ensures places { length reached.new.point.items ≡ length reached.old.point.items }
     ensures handed { IfOk result
-        (λ cap. PartsHanded T.took (program_of ground.now) ground.now.given ground.now.budget
-        ground.now.may_leave
+        (λ cap. PartsHanded T.took (program_of ground.now) ground.now.floors ground.now.given
+        ground.now.budget ground.now.may_leave
         (seen area.old) pick.now cert.now cap reached.old taker.old out.old reached.new taker.new
         out.new) }
     ensures err { OnErr result (PartsStopped T.took T.broke (program_of ground.now)
-        (seen area.old) taker.old out.old taker.new out.new) }
+        ground.now.floors (seen area.old) taker.old out.old taker.new out.new) }
     ensures later { T.faults out.old ≤ T.faults out.new }
     ensures failed { IsErrOf result TakeStop.Failed → Rose (T.faults out.old) (T.faults out.new) }
 {
     let mark = ground.rows.mark(area);
     let _ = ground.rows.left(area, pick);
-    reached.changed = Some(pick.slot);
+    reached.changed = slot_alone(pick);
     let first = search_part(
         ground,
         area,
@@ -249,7 +308,7 @@ fn search_parts<H: Hinter, G: Guide, O, T: NodeTaker<Rows, O>>(
     )?;
     ground.rows.back(area, mark);
     let _ = ground.rows.right(area, pick);
-    reached.changed = Some(pick.slot);
+    reached.changed = slot_alone(pick);
     let second = search_part(
         ground,
         area,
@@ -290,11 +349,11 @@ fn search_part<H: Hinter, G: Guide, O, T: NodeTaker<Rows, O>>(
     ensures places { length reached.new.point.items ≡ length reached.old.point.items }
     ensures handed { IfOk result
         (λ cap. BoxHanded T.took (λ parent. parent
-        ≡ Some cert.now) (program_of ground.now) ground.now.given
+        ≡ Some cert.now) (program_of ground.now) ground.now.floors ground.now.given
         ground.now.budget ground.now.may_leave (seen area.old) cap reached.old taker.old out.old
         reached.new taker.new out.new) }
     ensures err { OnErr result (BoxStopped T.took T.broke (program_of ground.now)
-        (seen area.old) taker.old out.old taker.new out.new) }
+        ground.now.floors (seen area.old) taker.old out.old taker.new out.new) }
     ensures later { T.faults out.old ≤ T.faults out.new }
     ensures failed { IsErrOf result TakeStop.Failed → Rose (T.faults out.old) (T.faults out.new) }
 {

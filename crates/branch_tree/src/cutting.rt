@@ -33,7 +33,7 @@ pub(crate) fn cut_box(
     ensures moved { IfOk result
         (λ cuts. after_cuts (row_steps (program_of ground.now)) (seen area.old) cuts.items
         ≡ Some (seen area.new)) }
-    ensures fit { IfOk result (λ cuts. All (IsFitItem (program_of ground.now))
+    ensures fit { IfOk result (λ cuts. All (IsFitItem (program_of ground.now) ground.now.floors)
         (head_items cuts.items)) }
     ensures done { OnOk result (AreDone (program_of ground.now).rows (present area.new)) }
     ensures room { OnOk result (HaveRoom (program_of ground.now).rows (present area.new)) }

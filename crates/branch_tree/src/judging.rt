@@ -8,7 +8,7 @@ ghost use Rattle.dual_bound.specs.Plain.{plain_cert, IsNoWorseThanPlain};
 ghost use Rattle.branch_tree.specs.laws.Ends.{is_over, says_more, IsBoxVerdict};
 ghost use Rattle.branch_tree.specs.laws.Grounds.{IsGround, program_of};
 
-use crate::picking::pick_of;
+use crate::flooring::pick_left;
 use crate::reached::Ground;
 use box_advice::Advice;
 use dual_bound::{Cert, cap};
@@ -91,20 +91,22 @@ fn chosen(
 }
 
 // The end of a box with points: its only point, a certificate that leaves nothing above the best worth, or a split. What it
-// holds of a certificate takes some 150 kB of stack, which are to be no part of the frame of each box above one that is judged.
+// holds of a certificate takes some 150 kB of stack, which are to be no part of the frame of each box above one that is judged. The
+// area is afterwards as before.
 #[inline(never)]
 pub(crate) fn judge(
     ground: &Ground,
-    area: &Area,
+    area: &mut Area,
     advice: Advice,
     held: Option<Cert>,
     best: Option<i128>,
 ) -> Result<Item<Rows>, AllocError>
     requires ground { IsGround ground.now }
-    requires slots { length (present area.now) ≡ length (program_of ground.now).root }
-    requires each_open { All IsOpen (present area.now) }
-    ensures { IfOk result (IsBoxVerdict (program_of ground.now) ground.now.given
-        (present area.now) best) }
+    requires slots { length (present area.old) ≡ length (program_of ground.now).root }
+    requires each_open { All IsOpen (present area.old) }
+    ensures verdict { IfOk result (IsBoxVerdict (program_of ground.now) ground.now.floors
+        ground.now.given (present area.old) best) }
+    ensures same { area.new ≡ area.old }
 {
     let Advice { cert, slot, max } = advice;
     if area.is_point() {
@@ -120,25 +122,27 @@ pub(crate) fn judge(
 // A split with the polished certificate, or the end of a box that the polished certificate closes.
 fn settle_or_split(
     ground: &Ground,
-    area: &Area,
+    area: &mut Area,
     cert: Cert,
     slot: Option<u32>,
     max: Option<u8>,
     best: Option<i128>,
 ) -> Result<Item<Rows>, AllocError>
     requires ground { IsGround ground.now }
-    requires slots { length (present area.now) ≡ length (program_of ground.now).root }
-    requires each_open { All IsOpen (present area.now) }
-    requires more { ¬ All IsSingle (present area.now) }
-    requires no_higher { IsNoWorseThanPlain (program_of ground.now) (present area.now) cert }
-    requires over { is_over (cert_cap (program_of ground.now) (present area.now) cert) best ≡ true }
-    ensures { IfOk result (IsBoxVerdict (program_of ground.now) ground.now.given
-        (present area.now) best) }
+    requires slots { length (present area.old) ≡ length (program_of ground.now).root }
+    requires each_open { All IsOpen (present area.old) }
+    requires more { ¬ All IsSingle (present area.old) }
+    requires no_higher { IsNoWorseThanPlain (program_of ground.now) (present area.old) cert }
+    requires over { is_over (cert_cap (program_of ground.now) (present area.old) cert) best ≡ true }
+    ensures verdict { IfOk result (IsBoxVerdict (program_of ground.now) ground.now.floors
+        ground.now.given (present area.old) best) }
+    ensures same { area.new ≡ area.old }
 {
     let mut cert = cert;
     polish(ground.alloc, &ground.rows.program, area, &mut cert, best)?;
     if !exceeds(cap(&ground.rows.program, area, &cert), best) {
         return Ok(Item::Dual(cert));
     }
-    Ok(Item::Split(pick_of(area, ground.given, slot, max), cert))
+    let pick = pick_left(ground, area, &cert, &best, slot, max);
+    Ok(Item::Split(pick, cert))
 }

@@ -8,6 +8,7 @@ mod boxes;
 mod copies;
 mod cutting;
 mod ended;
+mod flooring;
 mod found;
 mod judging;
 mod picking;

@@ -143,15 +143,23 @@ fn slot_of(area: &Area, slot: Option<u32>, max: Option<u8>) -> (u32, Option<u8>)
 
 // Where an area is split that has more than one point: at the advised slot where its domain has two values or more, else at the
 // first that has. Slots from the number `given` on are sums: there the advised value counts.
-pub(crate) fn pick_of(area: &Area, given: u32, slot: Option<u32>, max: Option<u8>) -> RowPick
+pub(crate) fn pick_of(
+    area: &Area,
+    given: u32,
+    slot: Option<u32>,
+    max: Option<u8>,
+    floor: Option<i128>,
+) -> RowPick
     requires each_open { All IsOpen (present area.now) }
     requires more { ¬ All IsSingle (present area.now) }
     ensures parted { IsParted given (present area.now) result }
-    ensures own { IsAsAdvised given (present area.now) slot max result }
+    ensures floor { result.floor ≡ floor }
+    ensures own { IsAsAdvised given (present area.now) slot max floor result }
 {
     let (slot, max) = slot_of(area, slot, max);
     RowPick {
         slot,
         max: value_of(area.domain(slot), given <= slot, max),
+        floor,
     }
 }

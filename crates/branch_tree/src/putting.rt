@@ -66,10 +66,10 @@ pub(crate) fn open_box<O, T: NodeTaker<Rows, O>>(
     ensures room { OnOk result (HaveRoom (program_of ground.now).rows (present area.new)) }
     ensures ready { OnOk result (T.ready taker.new out.new) }
     ensures handed { OnOk result
-        (HeadHanded T.took (program_of ground.now) (seen area.old) taker.old out.old
-        (seen area.new) taker.new out.new) }
-    ensures err { OnErr result (HeadStopped T.took T.broke (program_of ground.now) taker.old
-        out.old taker.new out.new) }
+        (HeadHanded T.took (program_of ground.now) ground.now.floors (seen area.old) taker.old
+        out.old (seen area.new) taker.new out.new) }
+    ensures err { OnErr result (HeadStopped T.took T.broke (program_of ground.now)
+        ground.now.floors taker.old out.old taker.new out.new) }
     ensures later { T.faults out.old ≤ T.faults out.new }
     ensures failed { IsErrOf result TakeStop.Failed → Rose (T.faults out.old) (T.faults out.new) }
 {

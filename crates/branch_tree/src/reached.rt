@@ -14,6 +14,8 @@ pub(crate) struct Ground<'a> {
     pub index: RowIndex,
     // Slots from this number on are sums, and may be split at any value.
     pub given: u32,
+    // Whether splits may have floors.
+    pub floors: bool,
     // How many boxes may be counted.
     pub budget: u32,
     // Whether the guide may leave boxes open though budget is left.
@@ -29,7 +31,7 @@ pub(crate) struct Reached {
     pub best: Option<Found>,
     // A lawful point of the next box, that is offered there.
     pub own: Option<Found>,
-    // The slot that was split above the next box.
+    // The slot that was split above the next box, where no floor has forgotten values of others.
     pub changed: Option<u32>,
     // The certificate of the split above the next box.
     pub held: Option<Cert>,

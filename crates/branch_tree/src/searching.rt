@@ -67,7 +67,8 @@ fn search_root<H: Hinter, G: Guide, O, T: NodeTaker<Rows, O>>(
     requires ready { T.ready taker.old out.old }
     ensures ready { OnOk result (T.ready taker.new out.new) }
     ensures ok { IfOk result (λ ended. IsSearchedTo T.took (program_of ground.now)
-        ground.now.given ground.now.budget ended taker.old out.old taker.new out.new) }
+        ground.now.floors ground.now.given ground.now.budget ended taker.old out.old
+        taker.new out.new) }
     ensures begun { IfOk result
         (λ ended. IsWorth (program_of ground.now) start.now ended.best) }
     ensures exact { IfOk result
@@ -76,8 +77,8 @@ fn search_root<H: Hinter, G: Guide, O, T: NodeTaker<Rows, O>>(
     ensures guided { IfOk result
         (λ ended. ended.spent ≡ ground.now.budget
         → IsExact (program_of ground.now) ground.now.budget ended) }
-    ensures err { OnErr result (IsBrokenOff T.took T.broke (program_of ground.now) taker.old
-        out.old taker.new out.new) }
+    ensures err { OnErr result (IsBrokenOff T.took T.broke (program_of ground.now)
+        ground.now.floors taker.old out.old taker.new out.new) }
     ensures later { T.faults out.old ≤ T.faults out.new }
     ensures failed { IsErrOf result TakeStop.Failed → Rose (T.faults out.old) (T.faults out.new) }
 {
@@ -107,11 +108,13 @@ fn search_root<H: Hinter, G: Guide, O, T: NodeTaker<Rows, O>>(
 /// exact: whether the budget was spent, or nothing is left open.
 ///
 /// Slots from the number `given` on are sums, and may be split at any value; those below it are split at 0 or in the middle alone.
+/// Where `floors` says so, a split may forget, by its certificate, points that are worth no more than the best one so far.
 /// The best point is worth as much as `start`, where that is a lawful point; any other is passed over.
 pub fn search_guided_to<H: Hinter, G: Guide, O, T: NodeTaker<Rows, O>>(
     alloc: Global,
     rows: &Rows,
     given: u32,
+    floors: bool,
     budget: u32,
     start: &[u8],
     hinter: &mut H,
@@ -123,7 +126,7 @@ pub fn search_guided_to<H: Hinter, G: Guide, O, T: NodeTaker<Rows, O>>(
     requires budget { (1 ≤ budget) × (budget ≤ 100000) }
     requires ready { T.ready taker.old out.old }
     ensures ready { OnOk result (T.ready taker.new out.new) }
-    ensures ok { IfOk result (λ guided. IsSearchedTo T.took rows.now.program given budget
+    ensures ok { IfOk result (λ guided. IsSearchedTo T.took rows.now.program floors given budget
         guided.ended taker.old out.old taker.new out.new) }
     ensures begun { IfOk result
         (λ guided. IsWorth rows.now.program start.now guided.ended.best) }
@@ -132,7 +135,7 @@ pub fn search_guided_to<H: Hinter, G: Guide, O, T: NodeTaker<Rows, O>>(
     ensures inexact { IfOk result
         (λ guided. guided.exact ≡ false
         → (guided.ended.left_open ≡ true) × (guided.ended.spent ≢ budget)) }
-    ensures err { OnErr result (IsBrokenOff T.took T.broke rows.now.program taker.old out.old
+    ensures err { OnErr result (IsBrokenOff T.took T.broke rows.now.program floors taker.old out.old
         taker.new out.new) }
     ensures later { T.faults out.old ≤ T.faults out.new }
     ensures failed { IsErrOf result TakeStop.Failed → Rose (T.faults out.old) (T.faults out.new) }
@@ -142,6 +145,7 @@ pub fn search_guided_to<H: Hinter, G: Guide, O, T: NodeTaker<Rows, O>>(
         rows,
         index: RowIndex::new(alloc, &rows.program)?,
         given,
+        floors,
         budget,
         may_leave: true,
     };
@@ -156,11 +160,13 @@ pub fn search_guided_to<H: Hinter, G: Guide, O, T: NodeTaker<Rows, O>>(
 /// items of some proof.
 ///
 /// Slots from the number `given` on are sums, and may be split at any value; those below it are split at 0 or in the middle alone.
+/// Where `floors` says so, a split may forget, by its certificate, points that are worth no more than the best one so far.
 /// The best point is worth as much as `start`, where that is a lawful point; any other is passed over.
 pub fn search_to<H: Hinter, G: Guide, O, T: NodeTaker<Rows, O>>(
     alloc: Global,
     rows: &Rows,
     given: u32,
+    floors: bool,
     budget: u32,
     start: &[u8],
     hinter: &mut H,
@@ -172,11 +178,11 @@ pub fn search_to<H: Hinter, G: Guide, O, T: NodeTaker<Rows, O>>(
     requires budget { (1 ≤ budget) × (budget ≤ 100000) }
     requires ready { T.ready taker.old out.old }
     ensures ready { OnOk result (T.ready taker.new out.new) }
-    ensures ok { IfOk result (λ ended. IsSearchedTo T.took rows.now.program given budget ended
-        taker.old out.old taker.new out.new) }
+    ensures ok { IfOk result (λ ended. IsSearchedTo T.took rows.now.program floors given budget
+        ended taker.old out.old taker.new out.new) }
     ensures begun { IfOk result (λ ended. IsWorth rows.now.program start.now ended.best) }
     ensures exact { IfOk result (IsExact rows.now.program budget) }
-    ensures err { OnErr result (IsBrokenOff T.took T.broke rows.now.program taker.old out.old
+    ensures err { OnErr result (IsBrokenOff T.took T.broke rows.now.program floors taker.old out.old
         taker.new out.new) }
     ensures later { T.faults out.old ≤ T.faults out.new }
     ensures failed { IsErrOf result TakeStop.Failed → Rose (T.faults out.old) (T.faults out.new) }
@@ -186,6 +192,7 @@ pub fn search_to<H: Hinter, G: Guide, O, T: NodeTaker<Rows, O>>(
         rows,
         index: RowIndex::new(alloc, &rows.program)?,
         given,
+        floors,
         budget,
         may_leave: false,
     };
@@ -195,11 +202,13 @@ pub fn search_to<H: Hinter, G: Guide, O, T: NodeTaker<Rows, O>>(
 /// As `search`, with a guide that may leave boxes open though budget is left. The answer also says whether the count is exact.
 ///
 /// Slots from the number `given` on are sums, and may be split at any value; those below it are split at 0 or in the middle alone.
+/// Where `floors` says so, a split may forget, by its certificate, points that are worth no more than the best one so far.
 /// The best point is worth as much as `start`, where that is a lawful point; any other is passed over.
 pub fn search_guided<H: Hinter, G: Guide>(
     alloc: Global,
     rows: &Rows,
     given: u32,
+    floors: bool,
     budget: u32,
     start: &[u8],
     hinter: &mut H,
@@ -207,7 +216,7 @@ pub fn search_guided<H: Hinter, G: Guide>(
 ) -> Result<(Searched, bool), AllocError>
     requires searchable { IsSearchable rows.now.program }
     requires budget { (1 ≤ budget) × (budget ≤ 100000) }
-    ensures ok { IfOk result (λ found. IsSearch rows.now.program given budget
+    ensures ok { IfOk result (λ found. IsSearch rows.now.program floors given budget
         (tree_of found.0.tree) (ended_of found.0)) }
     ensures begun { IfOk result (λ found. IsWorth rows.now.program start.now found.0.best) }
     ensures exact { IfOk result
@@ -220,6 +229,7 @@ pub fn search_guided<H: Hinter, G: Guide>(
         alloc,
         rows,
         given,
+        floors,
         budget,
         start,
         hinter,
@@ -236,11 +246,13 @@ pub fn search_guided<H: Hinter, G: Guide>(
 /// tells. It counts at most as many boxes as the budget, and leaves a box open only where it counted just as many.
 ///
 /// Slots from the number `given` on are sums, and may be split at any value; those below it are split at 0 or in the middle alone.
+/// Where `floors` says so, a split may forget, by its certificate, points that are worth no more than the best one so far.
 /// The best point is worth as much as `start`, where that is a lawful point; any other is passed over.
 pub fn search<H: Hinter, G: Guide>(
     alloc: Global,
     rows: &Rows,
     given: u32,
+    floors: bool,
     budget: u32,
     start: &[u8],
     hinter: &mut H,
@@ -248,7 +260,7 @@ pub fn search<H: Hinter, G: Guide>(
 ) -> Result<Searched, AllocError>
     requires searchable { IsSearchable rows.now.program }
     requires budget { (1 ≤ budget) × (budget ≤ 100000) }
-    ensures ok { IfOk result (λ searched. IsSearch rows.now.program given budget
+    ensures ok { IfOk result (λ searched. IsSearch rows.now.program floors given budget
         (tree_of searched.tree) (ended_of searched)) }
     ensures begun { IfOk result
         (λ searched. IsWorth rows.now.program start.now searched.best) }
@@ -259,6 +271,7 @@ pub fn search<H: Hinter, G: Guide>(
         alloc,
         rows,
         given,
+        floors,
         budget,
         start,
         hinter,

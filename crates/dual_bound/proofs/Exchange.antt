@@ -104,7 +104,7 @@ rows_below rows (m ∷ ms) p there kept =
     (rows_below rows ms p (λ k d h. there (suc k) d (omega arith)) kept)
 
 -- each slot's value gains at most the greatest of its domain
-slots_above : (f : ℕ → ℕ → ℤ) (i : ℕ) (ds : List Domain) (p : List ℕ) → length p ≡ length ds → ((k : ℕ) → k < length ds → Holds (domain_at ds k) (get_or p k 0)) → point_sum f i p ≤ℤ slots_total f i ds
+pub slots_above : (f : ℕ → ℕ → ℤ) (i : ℕ) (ds : List Domain) (p : List ℕ) → length p ≡ length ds → ((k : ℕ) → k < length ds → Holds (domain_at ds k) (get_or p k 0)) → point_sum f i p ≤ℤ slots_total f i ds
 slots_above f i [] [] e held = omega (arith, ints)
 slots_above f i [] (v ∷ vs) e held = absurd (omega arith)
 slots_above f i (d ∷ ds) [] e held = absurd (omega arith)
@@ -116,13 +116,25 @@ slots_above f i (d ∷ ds) (v ∷ vs) e held =
 joined : (s b e v r l g t : ℤ) → v ≡ b +ℤ e → g ≡ e -ℤ r → r ≤ℤ l → g ≤ℤ t → v ≤ℤ ((b +ℤ l) +ℤ t)
 joined s b e v r l g t p q h k = omega (arith, ints)
 
--- weak duality: scale times the value of a point that keeps the rows is at most the total
-pub duality : (program : Program) (ds : List Domain) (cert : Cert) → All (λ m. m.row < length program.rows) cert.mults → BoundsScaled program ds cert.scale (total_of program ds cert)
-duality program ds cert there = λ p lies kept.
+at_most_itself : (x : ℤ) → x ≤ℤ x
+at_most_itself x = omega (arith, ints)
+
+then_total : (v f g t : ℤ) → v ≤ℤ (f +ℤ g) → g ≤ℤ t → v ≤ℤ (f +ℤ t)
+then_total v f g t h k = omega (arith, ints)
+
+-- scale times the value of a point that keeps the rows is at most what base and limits count, and what its values gain
+pub value-gains : (program : Program) (cert : Cert) → All (λ m. m.row < length program.rows) cert.mults → (p : List ℕ) → All (IsKept p) program.rows → (pos cert.scale *ℤ value_of program p) ≤ℤ (((pos cert.scale *ℤ program.base) +ℤ limits_sum program.rows cert.mults) +ℤ point_sum (gain program cert) 0 p)
+value-gains program cert there p kept =
     let scaled = mul_add cert.scale program.base (entries_sum program.profit p) in
     let gains =
     point_sum-sub (λ s v. pos cert.scale *ℤ entry_at program.profit s v) (rows_at program.rows cert.mults) 0 p
     ∙ ap (λ (x : ℤ). x -ℤ point_sum (rows_at program.rows cert.mults) 0 p) (point_sum-scale cert.scale (entry_at program.profit) 0 p ∙ ap (λ (x : ℤ). pos cert.scale *ℤ x) (exchange program.profit p))
     ∙ ap (λ (x : ℤ). (pos cert.scale *ℤ entries_sum program.profit p) -ℤ x) (rows_exchange program.rows cert.mults p) in
-    joined (pos 0) (pos cert.scale *ℤ program.base) (pos cert.scale *ℤ entries_sum program.profit p) (pos cert.scale *ℤ value_of program p) (rows_sum program.rows cert.mults p) (limits_sum program.rows cert.mults) (point_sum (gain program cert) 0 p) (slots_total (gain program cert) 0 ds)
-    scaled gains (rows_below program.rows cert.mults p there kept) (slots_above (gain program cert) 0 ds p lies.same_length lies.held)
+    joined (pos 0) (pos cert.scale *ℤ program.base) (pos cert.scale *ℤ entries_sum program.profit p) (pos cert.scale *ℤ value_of program p) (rows_sum program.rows cert.mults p) (limits_sum program.rows cert.mults) (point_sum (gain program cert) 0 p) (point_sum (gain program cert) 0 p)
+    scaled gains (rows_below program.rows cert.mults p there kept) (at_most_itself (point_sum (gain program cert) 0 p))
+
+-- weak duality: scale times the value of a point that keeps the rows is at most the total
+pub duality : (program : Program) (ds : List Domain) (cert : Cert) → All (λ m. m.row < length program.rows) cert.mults → BoundsScaled program ds cert.scale (total_of program ds cert)
+duality program ds cert there = λ p lies kept.
+    then_total (pos cert.scale *ℤ value_of program p) ((pos cert.scale *ℤ program.base) +ℤ limits_sum program.rows cert.mults) (point_sum (gain program cert) 0 p) (slots_total (gain program cert) 0 ds)
+    (value-gains program cert there p kept) (slots_above (gain program cert) 0 ds p lies.same_length lies.held)

@@ -1,9 +1,14 @@
 pub mod Caps
 pub mod Exchange
 pub mod Fit
+pub mod Floors
 pub mod Greatest
 pub mod LineSums
+pub mod Nearness
+pub mod Passing
 pub mod Plain
 pub mod Quotients
+pub mod Reaching
 pub mod Signed
 pub mod Small
+pub mod Trims

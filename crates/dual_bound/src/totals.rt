@@ -14,7 +14,7 @@ use crate::lines::{add_entries, add_rows, turn};
 use row_kit::{Area, Domain, MOST_SLOTS, Program, Row};
 
 // The most slots of a program of few.
-const FEW_SLOTS: usize = 512;
+pub const FEW_SLOTS: usize = 512;
 
 /// The total of a certificate over an area. None comes exactly where a domain is empty, or the certificate breaks a limit or
 /// names rows that are not there or do not ascend. Scale times the value of each point of the area that keeps every row is at
@@ -43,8 +43,18 @@ pub fn usable_total(program: &Program, area: &Area, cert: &Cert) -> i128
     ensures duality { BoundsScaled program.now (present area.now) cert.now.scale result }
 {
     let _slots = area.slot_count();
+    fixed_total(program, cert) + gains(program, area, cert)
+}
+
+// What a total counts whatever the slots are: scale times the base, and the factors times their limits.
+pub fn fixed_total(program: &Program, cert: &Cert) -> i128
+    requires usable { IsUsable (length program.now.rows) cert.now }
+    ensures value { result ≡ (pos cert.now.scale *ℤ program.now.base)
+        +ℤ limits_sum program.now.rows cert.now.mults }
+    ensures small { unsigned_abs result ≤ 2 ^ 101 }
+{
     let limits = limits_sum(program.rows.as_slice(), cert.mults.as_slice());
-    scaled_base(program, cert) + limits + gains(program, area, cert)
+    scaled_base(program, cert) + limits
 }
 
 // Scale times the base.
@@ -57,7 +67,7 @@ fn scaled_base(program: &Program, cert: &Cert) -> i128
 }
 
 // Whether a certificate has a total over an area.
-fn has_total(program: &Program, area: &Area, cert: &Cert) -> bool
+pub fn has_total(program: &Program, area: &Area, cert: &Cert) -> bool
     ensures value { result ≡ has_total program.now (present area.now) cert.now }
     ensures usable { IsTrue result → IsUsable (length program.now.rows) cert.now }
     ensures open_ { IsTrue result → All IsOpen (present area.now) }
@@ -166,8 +176,8 @@ fn many_gains(program: &Program, area: &Area, cert: &Cert) -> i128
     gains_in(&mut lines, program, area, cert)
 }
 
-// The sum over slots of the greatest gain, by lines that count nothing before.
-fn gains_in(lines: &mut [Line], program: &Program, area: &Area, cert: &Cert) -> i128
+// The sum over slots of the greatest gain, by lines that count nothing before, and what each slot gains after.
+pub fn gains_in(lines: &mut [Line], program: &Program, area: &Area, cert: &Cert) -> i128
     requires slots { length (present area.now) ≡ length program.now.root }
     requires there { length program.now.root ≤ length lines.old }
     requires few { length lines.old ≤ 4096 }
@@ -176,6 +186,9 @@ fn gains_in(lines: &mut [Line], program: &Program, area: &Area, cert: &Cert) -> 
     requires open_ { All IsOpen (present area.now) }
     ensures value { result ≡ slots_total (gain program.now cert.now) 0 (present area.now) }
     ensures small { unsigned_abs result ≤ 2 ^ 117 }
+    ensures lines { (slot v : ℕ) → slot < length lines.new
+        → line_at (slot_line lines.new slot) v ≡ gain program.now cert.now slot v }
+    ensures within { All (IsWithin (2 ^ 94)) lines.new }
 {
     fill_gains(lines, program, cert);
     slots_sum(lines, area)
@@ -240,7 +253,7 @@ fn best_end(line: &Line, lo: u8, hi: u8) -> u8
 }
 
 // What a line counts at a value of 1 or more.
-fn at_value(line: &Line, value: u8) -> i128
+pub fn at_value(line: &Line, value: u8) -> i128
     requires within { IsWithin (2 ^ 94) line.now }
     requires positive { 1 ≤ value }
     ensures value { result ≡ line_at line.now value }

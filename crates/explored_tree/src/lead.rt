@@ -2,7 +2,8 @@
 use crate::caps::exceeds;
 use crate::node::{NONE, Node};
 use box_advice::Advice;
-use row_kit::Program;
+use dual_bound::Cert;
+use row_kit::{Area, Domain, Program};
 use std::alloc::{AllocError, Global};
 
 /// Leads a loop through explored boxes, and leaves open what was not explored. It tells how many boxes are to be counted, so that as
@@ -45,24 +46,80 @@ impl Lead {
         Ok(lead)
     }
 
-    /// Comes to the next part of a split, which stands below so many; whether to leave it open. Else it is counted.
-    pub fn leaves(&mut self, depth: u32) -> bool {
-        let number = self.part_at(depth);
-        self.come_to(depth, number)
+    /// Comes to the next part of a split, which stands below so many; whether to leave it open. Else it is counted. A part that
+    /// does not lie in the one that was explored is one that was not.
+    pub fn leaves(&mut self, area: &Area, depth: u32) -> bool {
+        let part = self.part_at(depth);
+        let explored = self.side(area, self.at(depth.saturating_sub(1)));
+        if explored == part {
+            self.come_to(depth, part)
+        } else {
+            self.come_to(depth, NONE)
+        }
     }
 
-    /// What was advised on the present box, which stands below so many splits, where it was explored. The certificate is handed out.
-    pub fn advice(&mut self, depth: u32) -> Option<Advice> {
+    // The part of a box's split in which the values of an area lie at the slot of that split; none where they lie in both.
+    fn side(&self, area: &Area, number: u32) -> u32 {
+        let Some(node) = self.nodes.get(number as usize) else {
+            return NONE;
+        };
+        match (node.slot, node.max) {
+            (Some(slot), Some(max)) if slot < area.slot_count() => {
+                part_of(&area.domain(slot), max, node.parts)
+            }
+            _ => NONE,
+        }
+    }
+
+    // Comes to the part of the present box's split in which an area lies; whether there is one.
+    fn go_down(&mut self, area: &Area, depth: u32) -> bool {
+        let part = self.side(area, self.at(depth));
+        if part == NONE {
+            return false;
+        }
+        self.enter(depth, part);
+        self.look_ahead(part);
+        true
+    }
+
+    // Comes to the least explored box in which an area lies, from the present one on. The answer is the last certificate on the way.
+    fn go_in(&mut self, area: &Area, depth: u32) -> Option<Cert> {
+        let mut cert = self.take_cert(depth);
+        for _ in 0..self.path.len() {
+            if !self.go_down(area, depth) {
+                break;
+            }
+            let own = self.take_cert(depth);
+            if own.is_some() {
+                cert = own;
+            }
+        }
+        cert
+    }
+
+    /// What was advised on the present box, which stands below so many splits, where it was explored: on the least explored box in
+    /// which its area lies. The certificate is handed out.
+    pub fn advice(&mut self, area: &Area, depth: u32) -> Option<Advice> {
+        let cert = self.go_in(area, depth);
         let place = self.at(depth) as usize;
         if place >= self.nodes.len() || !self.nodes[place].explored {
             return None;
         }
-        let node = &mut self.nodes[place];
+        let node = &self.nodes[place];
         Some(Advice {
-            cert: node.cert.take(),
+            cert,
             slot: node.slot,
             max: node.max,
         })
+    }
+
+    // Takes the certificate of the present box, which stands below so many splits.
+    fn take_cert(&mut self, depth: u32) -> Option<Cert> {
+        let place = self.at(depth) as usize;
+        if place >= self.nodes.len() {
+            return None;
+        }
+        self.nodes[place].cert.take()
     }
 
     // Whether the loop is to count a box.
@@ -162,20 +219,40 @@ impl Lead {
 
     // Whether to leave a box open.
     fn is_left(&mut self, number: u32) -> bool {
+        self.look_ahead(number);
+        match self.nodes.get(number as usize) {
+            None => self.is_spent(),
+            Some(node) => {
+                !self.is_planned(node) && (!exceeds(node.cap, self.best) || self.is_spent())
+            }
+        }
+    }
+
+    // Notes how many boxes the loop is to count after one.
+    fn look_ahead(&mut self, number: u32) {
         let Some(node) = self.nodes.get(number as usize) else {
-            return self.is_spent();
+            return;
         };
-        let is_over = exceeds(node.cap, self.best);
         let is_planned = self.is_planned(node);
         self.ahead = self
             .size_of(0)
             .saturating_sub(node.before)
             .saturating_sub(u32::from(is_planned));
-        !is_planned && (!is_over || self.is_spent())
     }
 
     // Whether the boxes that are counted and those ahead make up the budget.
     fn is_spent(&self) -> bool {
         self.counted.saturating_add(self.ahead) >= self.budget
+    }
+}
+
+// Of the parts of a split after a value, of which the first is told, the one in which a domain lies; none where it lies in both.
+fn part_of(domain: &Domain, max: u8, first: u32) -> u32 {
+    if domain.lo > domain.hi || domain.hi <= max {
+        first
+    } else if !domain.zero && domain.lo > max {
+        first.saturating_add(1)
+    } else {
+        NONE
     }
 }

@@ -5,7 +5,7 @@ ghost use Rattle.row_kit.specs.Area.{present};
 use crate::caps::{exceeds, number_of};
 use crate::node::{NONE, Node};
 use chain_simplex::Basis;
-use dual_bound::{Cert, cap};
+use dual_bound::{Cert, cap, trim};
 use fixed_point::numbered;
 use row_kit::{Area, Domain, Program};
 use std::alloc::{AllocError, Global};
@@ -213,6 +213,22 @@ impl Tree {
         match self.node(number) {
             None => i128::MAX,
             Some(node) => cap_of(program, area, &node.cert),
+        }
+    }
+
+    /// Takes away what the certificate that says most of a box shows to be worth no more than a floor.
+    pub fn trim(&self, program: &Program, area: &mut Area, number: u32, floor: i128)
+        requires { length (present area.old) ≡ length program.now.root }
+        ensures { length (present area.new) ≡ length (present area.old) }
+    {
+        let Some(node) = self.node(number) else {
+            return;
+        };
+        let Some(source) = self.node(node.source) else {
+            return;
+        };
+        if let Some(cert) = &source.cert {
+            trim(program, area, cert, floor);
         }
     }
 

@@ -71,6 +71,9 @@ fn check_file(
     Ok(())
 }
 
+// The version of the head that stands before a log.
+const HEAD_VERSION: u8 = 3;
+
 fn check_behind_head(
     alloc: Global,
     rows: &Rows,
@@ -80,7 +83,7 @@ fn check_behind_head(
 ) -> Result<(), AllocError> {
     let mut shelf = FixedShelf::new(alloc);
     shelf.put_file("log", sheet.bytes())?;
-    let checked = check_behind(alloc, rows, depth, head, &mut shelf, "log");
+    let checked = check_behind(alloc, rows, depth, HEAD_VERSION, head, &mut shelf, "log");
     put_checked(checked, sheet);
     Ok(())
 }

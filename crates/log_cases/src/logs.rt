@@ -62,11 +62,14 @@ fn compare(alloc: Global, log: &Log, sheet: &mut Sheet) -> Result<(), AllocError
     Ok(())
 }
 
+// The version of the head that stands before a log.
+const HEAD_VERSION: u8 = 3;
+
 // The first defect of a log that stands behind so many bytes of a file.
 fn scan(alloc: Global, limits: Limits, head: u64, sheet: &mut Sheet) -> Result<(), AllocError> {
     let mut shelf = FixedShelf::new(alloc);
     shelf.put_file("log", sheet.bytes())?;
-    match first_defect(alloc, limits, head, &mut shelf, "log") {
+    match first_defect(alloc, limits, HEAD_VERSION, head, &mut shelf, "log") {
         Ok(defect) => put_defect(defect, sheet),
         Err(_) => sheet.refuse(),
     }

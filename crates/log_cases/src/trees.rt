@@ -66,7 +66,11 @@ fn keep_part(rows: &Rows, area: &mut Area, slot: u32, part: &str)
     requires { Fits rows.now.program (present (map view_of area.old)) }
     ensures { Fits rows.now.program (present (map view_of area.new)) }
 {
-    let pick = RowPick { slot, max: 0 };
+    let pick = RowPick {
+        slot,
+        max: 0,
+        floor: None,
+    };
     if part == "0" {
         rows.left(area, &pick);
     } else if part == "+" {

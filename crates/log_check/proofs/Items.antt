@@ -9,14 +9,14 @@ use Rattle.proof_tree.specs.declared.capped.Capped.TheVariants.{AtMost, NoPoint,
 use Rattle.proof_tree.specs.declared.item.Item.TheVariants.{Node, Cut, Found as FoundItem, Empty, Dual, Point, Pending, Split}
 use Rattle.proof_tree.specs.declared.walk.Expected.{Expected}
 use Rattle.proof_tree.specs.declared.walk.Expected.TheVariants.{Node as ExpectNode, Inside}
-use Rattle.proof_tree.specs.Cap.{greater}
+use Rattle.proof_tree.specs.Cap.{greater, floor_cap}
 use Rattle.dual_bound.specs.declared.cert.Cert.{Cert}
 use Rattle.proof_tree.specs.declared.walk.OpenSplit.{OpenSplit}
 use Rattle.proof_tree.specs.declared.walk.Took.{Took}
 use Rattle.proof_tree.specs.declared.walk.Took.TheVariants.{More, Done, Bad as TookBad}
 use Rattle.proof_tree.specs.Tree.{no_point, leaf_cap}
 use Rattle.proof_tree.specs.Views.{View, present}
-use Rattle.proof_tree.specs.Walk.{Opened, Stage, Outcome, going, ended, undefined, may_come, going_to, close, close_split, part_ended, taken, step, after, walked, start, opened, stage_of, StandBelow, Stands, IsAnswer}
+use Rattle.proof_tree.specs.Walk.{Opened, Stage, Outcome, going, ended, undefined, may_come, going_to, close, close_split, part_ended, split_open, taken, step, after, walked, start, opened, stage_of, StandBelow, Stands, IsAnswer}
 use Rattle.proof_tree.proofs.WalkLaw.{walked-next}
 use Rattle.row_relax.specs.declared.pick.RowPick.{RowPick}
 use Rattle.row_relax.specs.declared.rows.Rows.{Rows}
@@ -59,7 +59,7 @@ close-leads s [] proof_cap named = λ e. cc
 close-leads s (split ∷ splits) proof_cap named = at split.left (λ c. close-leads s splits c named.1)
   where
     at : (left : Option Capped) → ((c : Capped) → close s splits c ≢ undefined) → close_split s split splits proof_cap left (close s splits) ≢ undefined
-    at None rest = going_to-leads ExpectNode (record split { left = Some proof_cap } ∷ splits) (s.right split.view split.pick) named.0
+    at None rest = going_to-leads ExpectNode (record split { left = Some (greater (floor_cap split.floor) proof_cap) } ∷ splits) (s.right split.view split.pick) named.0
     at (Some first) rest = rest (greater first proof_cap)
 
 -- a part leads nowhere only where it has no cap
@@ -85,9 +85,9 @@ leads_nowhere s program splits v Empty rights named tested nowhere = (refl, empt
 leads_nowhere s program splits v (Dual cert) rights named tested nowhere = inr (refl, tested, part-leads s splits (s.cap v cert) rights nowhere)
 leads_nowhere s program splits v Point rights named tested nowhere = (refl, part-leads s splits (s.settle v) rights nowhere)
 leads_nowhere s program splits v (Pending cert) rights named tested nowhere = inr (refl, tested, part-leads s splits (s.cap v cert) rights nowhere)
-leads_nowhere s program splits v (Split pick cert) rights named tested nowhere = at (s.left v pick) named nowhere
+leads_nowhere s program splits v (Split pick cert) rights named tested nowhere = at (s.left (s.trim v pick cert) pick) named nowhere
   where
-    at : (next : Option View) → next ≢ None → going_to ExpectNode (record { view = v; pick = pick; left = None } ∷ splits) next ≡ undefined → ⊥
+    at : (next : Option View) → next ≢ None → going_to ExpectNode (split_open s v pick cert ∷ splits) next ≡ undefined → ⊥
     at None some e = some refl
     at (Some w) some e = cc
 

@@ -88,25 +88,25 @@ meant_of program depth bytes version tree claim (Ended proof_cap) walk views beg
 }
 
 -- the answer on whole items and their claim is the verdict on the log behind a head of the file
-pub end_verdict : (told : Option FileMap) (name : List ℕ) (head : ℕ) (program : Program) (depth version : ℕ) (items : List RowItem) (claim : Claim) (course : Course) (walk : RowWalk) (views : List View) (began : ℕ) (verdict : LogVerdict)
-    → AreWhole items → IfSome told (λ m. IsClean (limits_of program depth) (behind head (file_of m name)) version items claim)
+pub end_verdict : (told : Option FileMap) (name : List ℕ) (version head : ℕ) (program : Program) (depth own : ℕ) (items : List RowItem) (claim : Claim) (course : Course) (walk : RowWalk) (views : List View) (began : ℕ) (verdict : LogVerdict)
+    → AreWhole items → IfSome told (λ m. IsClean (limits_of program depth) (behind version head (file_of m name)) own items claim)
     → StandsAt (row_steps program) program (view_of program.root) items course walk views → began ≡ line_after items
-    → IsEndVerdict program course began claim verdict → IfSome told (λ m. IsVerdict program depth (behind head (file_of m name)) verdict)
-end_verdict None name head program depth version items claim course walk views began verdict whole clean stand at answer = tt
-end_verdict (Some m) name head program depth version items claim course walk views began verdict whole clean stand at answer =
-    let own = whole_tree items whole in
-    let bytes = behind head (file_of m name) in
+    → IsEndVerdict program course began claim verdict → IfSome told (λ m. IsVerdict program depth (behind version head (file_of m name)) verdict)
+end_verdict None name version head program depth own items claim course walk views began verdict whole clean stand at answer = tt
+end_verdict (Some m) name version head program depth own items claim course walk views began verdict whole clean stand at answer =
+    let tree = whole_tree items whole in
+    let bytes = behind version head (file_of m name) in
     subst (λ o. IsVerdictGiven program bytes o verdict) (sym clean.clean)
-    (meant_of program depth bytes version own.0 claim course walk views began verdict
-    (subst (λ xs. IsClean (limits_of program depth) bytes version xs claim) own.1 clean)
-    (subst (λ xs. StandsAt (row_steps program) program (view_of program.root) xs course walk views) own.1 stand)
-    (subst (λ xs. began ≡ line_after xs) own.1 at) answer)
+    (meant_of program depth bytes own tree.0 claim course walk views began verdict
+    (subst (λ xs. IsClean (limits_of program depth) bytes own xs claim) tree.1 clean)
+    (subst (λ xs. StandsAt (row_steps program) program (view_of program.root) xs course walk views) tree.1 stand)
+    (subst (λ xs. began ≡ line_after xs) tree.1 at) answer)
 
 -- a text defect is the verdict on the log behind a head of the file
-pub bad_verdict : (told : Option FileMap) (name : List ℕ) (head : ℕ) (program : Program) (depth : ℕ) (defect : Defect)
-    → IfSome told (λ m. log_text_defect (limits_of program depth) (behind head (file_of m name)) ≡ Some (defect.line, defect.kind)) → IfSome told (λ m. IsVerdict program depth (behind head (file_of m name)) (No defect))
-bad_verdict None name head program depth defect is = tt
-bad_verdict (Some m) name head program depth defect is = subst (λ o. IsVerdictGiven program (behind head (file_of m name)) o (No defect)) (sym is) (refl, refl)
+pub bad_verdict : (told : Option FileMap) (name : List ℕ) (version head : ℕ) (program : Program) (depth : ℕ) (defect : Defect)
+    → IfSome told (λ m. log_text_defect (limits_of program depth) (behind version head (file_of m name)) ≡ Some (defect.line, defect.kind)) → IfSome told (λ m. IsVerdict program depth (behind version head (file_of m name)) (No defect))
+bad_verdict None name version head program depth defect is = tt
+bad_verdict (Some m) name version head program depth defect is = subst (λ o. IsVerdictGiven program (behind version head (file_of m name)) o (No defect)) (sym is) (refl, refl)
 
 -- where the answer is yes, what the claim says holds of all points
 pub end_holds : (program : Program) (items : List RowItem) (claim : Claim) (course : Course) (walk : RowWalk) (views : List View) (began : ℕ) (verdict : LogVerdict)

@@ -28,20 +28,20 @@ abbrev pub Stood : Program → List RowItem → Checker → Type 0
 Stood program items checker = StandsAt (row_steps program) program (view_of program.root) items checker.course checker.walk (map view_of checker.area)
 
 -- the items that were read are those that the check has taken, and the claim that was read begins after them
-pub record HasTaken (program : Program) (depth : ℕ) (told : Option FileMap) (name : List ℕ) (head : ℕ) (reader : LogReader) (checker : Checker) (began : ℕ) (claimed : Option Claim) : Type 0 where
+pub record HasTaken (program : Program) (depth : ℕ) (told : Option FileMap) (name : List ℕ) (version head : ℕ) (reader : LogReader) (checker : Checker) (began : ℕ) (claimed : Option Claim) : Type 0 where
   pub fits : Fits program (present (map view_of checker.area))
   pub ready : IsReady (row_steps program) checker.course checker.walk (map view_of checker.area)
   pub items : List RowItem
-  pub read : HasRead told name head (limits_of program depth) items claimed reader
+  pub read : HasRead told name version head (limits_of program depth) items claimed reader
   pub stands : Stood program items checker
   pub at : IfSome claimed (λ claim. began ≡ line_after items)
   pub rooms : IsRoomsOf program checker.rooms
 
 -- before the first part
-pub begun : (program : Program) (depth : ℕ) (told : Option FileMap) (name : List ℕ) (head : ℕ) (reader : LogReader) (checker : Checker) (began : ℕ)
-    → HasRead told name head (limits_of program depth) [] None reader → Fits program (present (map view_of checker.area)) → checker.area ≡ program.root ∷ []
-    → checker.course ≡ Going → checker.walk.first ≡ None → checker.walk.splits ≡ [] → checker.walk.expected ≡ Node → IsRoomsOf program checker.rooms → HasTaken program depth told name head reader checker began None
-begun program depth told name head reader checker began read fits area course first splits expected rooms = record {
+pub begun : (program : Program) (depth : ℕ) (told : Option FileMap) (name : List ℕ) (version head : ℕ) (reader : LogReader) (checker : Checker) (began : ℕ)
+    → HasRead told name version head (limits_of program depth) [] None reader → Fits program (present (map view_of checker.area)) → checker.area ≡ program.root ∷ []
+    → checker.course ≡ Going → checker.walk.first ≡ None → checker.walk.splits ≡ [] → checker.walk.expected ≡ Node → IsRoomsOf program checker.rooms → HasTaken program depth told name version head reader checker began None
+begun program depth told name version head reader checker began read fits area course first splits expected rooms = record {
   fits = fits;
   ready = rw course (rw first splits);
   items = [];
@@ -51,12 +51,12 @@ begun program depth told name head reader checker began read fits area course fi
   rooms = rooms;
 }
 
-module _ {program : Program} {depth : ℕ} {told : Option FileMap} {name : List ℕ} {head : ℕ} {reader : LogReader} {checker : Checker} {began : ℕ} {claimed : Option Claim}
-    (taken : HasTaken program depth told name head reader checker began claimed) (later : LogReader) (part : LogPart)
-    (is_part : IsPartAfter told name head (limits_of program depth) taken.items claimed later part) where
+module _ {program : Program} {depth : ℕ} {told : Option FileMap} {name : List ℕ} {version head : ℕ} {reader : LogReader} {checker : Checker} {began : ℕ} {claimed : Option Claim}
+    (taken : HasTaken program depth told name version head reader checker began claimed) (later : LogReader) (part : LogPart)
+    (is_part : IsPartAfter told name version head (limits_of program depth) taken.items claimed later part) where
   -- the part that was read
-  part_is : (own : LogPart) → part ≡ own → IsPartAfter told name head (limits_of program depth) taken.items claimed later own
-  part_is own is = subst (IsPartAfter told name head (limits_of program depth) taken.items claimed later) is is_part
+  part_is : (own : LogPart) → part ≡ own → IsPartAfter told name version head (limits_of program depth) taken.items claimed later own
+  part_is own is = subst (IsPartAfter told name version head (limits_of program depth) taken.items claimed later) is is_part
 
   -- an item that was read may be taken
   pub item_may : (line : ℕ) (item : RowItem) → part ≡ ItemPart line item → MayTake (row_steps program) checker.course checker.walk (present (map view_of checker.area)) item
@@ -69,45 +69,45 @@ module _ {program : Program} {depth : ℕ} {told : Option FileMap} {name : List 
       → Fits program (present (map view_of new.area)) → IsReady (row_steps program) new.course new.walk (map view_of new.area)
       → (line ≡ line_after taken.items → Stood program taken.items checker → Stood program (taken.items ++ item ∷ []) new)
       → IsRoomsOf program new.rooms
-      → HasTaken program depth told name head later new began claimed
+      → HasTaken program depth told name version head later new began claimed
   item_taken line item new is fits ready stands rooms =
       let own = part_is (ItemPart line item) is in
       record {
         fits = fits;
         ready = ready;
         items = taken.items ++ item ∷ [];
-        read = subst (λ c. HasRead told name head (limits_of program depth) (taken.items ++ item ∷ []) c later) (sym own.0) own.4;
+        read = subst (λ c. HasRead told name version head (limits_of program depth) (taken.items ++ item ∷ []) c later) (sym own.0) own.4;
         stands = stands own.1 taken.stands;
         at = subst (λ c. IfSome c (λ claim. began ≡ line_after (taken.items ++ item ∷ []))) (sym own.0) tt;
         rooms = rooms;
       }
 
   -- a claim that was read begins after the items
-  pub claim_taken : (line : ℕ) (made : Claim) → part ≡ ClaimPart line made → HasTaken program depth told name head later checker line (Some made)
+  pub claim_taken : (line : ℕ) (made : Claim) → part ≡ ClaimPart line made → HasTaken program depth told name version head later checker line (Some made)
   claim_taken line made is =
       let own = part_is (ClaimPart line made) is in
       record { fits = taken.fits; ready = taken.ready; items = taken.items; read = own.3; stands = taken.stands; at = own.1; rooms = taken.rooms }
 
   -- at the end a check does not go on, and a claim was read
-  pub end_over : (version : ℕ) → part ≡ EndPart version → checker.course ≢ Going
-  end_over version is = not_going program taken.items checker.course checker.walk (map view_of checker.area) (part_is (EndPart version) is).0 taken.stands
+  pub end_over : (last : ℕ) → part ≡ EndPart last → checker.course ≢ Going
+  end_over last is = not_going program taken.items checker.course checker.walk (map view_of checker.area) (part_is (EndPart last) is).0 taken.stands
 
-  pub end_claimed : (version : ℕ) → part ≡ EndPart version → IsSome claimed
-  end_claimed version is = subst IsSome (sym (part_is (EndPart version) is).1.1) refl
+  pub end_claimed : (last : ℕ) → part ≡ EndPart last → IsSome claimed
+  end_claimed last is = subst IsSome (sym (part_is (EndPart last) is).1.1) refl
 
-  module _ (version : ℕ) (is : part ≡ EndPart version) (verdict : LogVerdict) (answer : IfSome claimed (λ claim. IsEndVerdict program checker.course began claim verdict)) where
+  module _ (last : ℕ) (is : part ≡ EndPart last) (verdict : LogVerdict) (answer : IfSome claimed (λ claim. IsEndVerdict program checker.course began claim verdict)) where
     answer_on : (made : Claim) → claimed ≡ Some made → IsEndVerdict program checker.course began made verdict
     answer_on made has = subst (λ c. IfSome c (λ claim. IsEndVerdict program checker.course began claim verdict)) has answer
 
     -- the answer at the end is the verdict on the log behind the head
-    pub taken_verdict : IfSome told (λ m. IsVerdict program depth (behind head (file_of m name)) verdict)
+    pub taken_verdict : IfSome told (λ m. IsVerdict program depth (behind version head (file_of m name)) verdict)
     taken_verdict =
-        let own = part_is (EndPart version) is in
+        let own = part_is (EndPart last) is in
         let made = own.1.0 in
-        end_verdict told name head program depth version taken.items made checker.course checker.walk (map view_of checker.area) began verdict own.0 own.1.2
+        end_verdict told name version head program depth last taken.items made checker.course checker.walk (map view_of checker.area) began verdict own.0 own.1.2
         taken.stands (subst (λ c. IfSome c (λ claim. began ≡ line_after taken.items)) own.1.1 taken.at) (answer_on made own.1.1)
 
     pub taken_holds : YesHolds program verdict
     taken_holds =
-        let own = part_is (EndPart version) is in
+        let own = part_is (EndPart last) is in
         end_holds program taken.items own.1.0 checker.course checker.walk (map view_of checker.area) began verdict program.root_normal taken.stands (answer_on own.1.0 own.1.1)

@@ -11,8 +11,9 @@ use Rattle.proof_tree.specs.Form.{MayComeAfter}
 use Rattle.proof_tree.specs.Views.{View, present}
 use Rattle.proof_tree.specs.Walk.{stage_of}
 use Rattle.proof_tree.proofs.Forms.{going-may, ended-none}
-use Rattle.row_relax.specs.Steps.{row_steps, shown_if, kept_at}
+use Rattle.row_relax.specs.Steps.{row_steps, shown_if, kept_at, view_by}
 use Rattle.row_relax.specs.View.{Fits, domains_of}
+use Rattle.row_relax.specs.laws.Laws.{rows_sound}
 use Rattle.proof_log.specs.Gathered.{IsThere}
 use Rattle.row_relax.specs.RowProofs.{RowItem}
 use Rattle.log_check.specs.declared.course.Course.{Course}
@@ -44,8 +45,10 @@ there_of program depth v (Dual cert) fit there = tt
 there_of program depth v Point fit there = tt
 there_of program depth v (Pending cert) fit there = tt
 there_of program depth v (Split pick cert) fit there =
-    let slot_in : pick.slot < length (domains_of v) = omega (arith, fit.slots, there) in
-    shown (nat_lt pick.slot (length (domains_of v))) (kept_at (domains_of v) pick.slot (up_to pick.max)) (test_true pick.slot (length (domains_of v)) slot_in)
+    let rest = view_by program v cert pick.floor in
+    let fit_rest : Fits program rest = (rows_sound program).trim_fits v pick cert fit in
+    let slot_in : pick.slot < length (domains_of rest) = omega (arith, fit_rest.slots, there) in
+    shown (nat_lt pick.slot (length (domains_of rest))) (kept_at (domains_of rest) pick.slot (up_to pick.max)) (test_true pick.slot (length (domains_of rest)) slot_in)
 
 pub may_take : (program : Program) (depth : ℕ) (root : View) (items : List RowItem) (item : RowItem) (course : Course) (walk : RowWalk) (views : List View)
     → Fits program (present views) → StandsAt (row_steps program) program root items course walk views

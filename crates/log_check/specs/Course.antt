@@ -39,7 +39,7 @@ IsReady s Going walk views = Stands s walk views
 IsReady s (Ended proof_cap) walk views = ⊤
 IsReady s (Faulty defect) walk views = ⊤
 
--- a cut and a split name something that is there
+-- a cut names something that is there, and a split something in what it has not forgotten
 abbrev pub NamesWhatIsThere : RowSteps → View → RowItem → Type 0
 NamesWhatIsThere s v Node = ⊤
 NamesWhatIsThere s v (Cut cut) = s.cut v cut ≢ None
@@ -48,7 +48,7 @@ NamesWhatIsThere s v Empty = ⊤
 NamesWhatIsThere s v (Dual cert) = ⊤
 NamesWhatIsThere s v Point = ⊤
 NamesWhatIsThere s v (Pending cert) = ⊤
-NamesWhatIsThere s v (Split pick cert) = s.left v pick ≢ None
+NamesWhatIsThere s v (Split pick cert) = s.left (s.trim v pick cert) pick ≢ None
 
 -- an item may be taken: while the walk goes on it is one that may come and names what is there, and none may come after the end
 abbrev pub MayTake : RowSteps → Course → RowWalk → View → RowItem → Type 0

@@ -83,22 +83,24 @@ pub fn check_rows<F: Shelf>(
     ensures later { F.read_faults files.old ≤ F.read_faults files.new }
     ensures no_write { F.write_faults files.new ≡ F.write_faults files.old }
 {
-    check_behind(alloc, rows, depth, 0, files, name)
+    check_behind(alloc, rows, depth, 2, 0, files, name)
 }
 
-/// Checks the log behind a head of so many bytes of a file (0: of the whole file), as `check_rows` checks one and at the same cost.
+/// Checks the log behind a head of a version and of so many bytes of a file (0: of the whole file), as `check_rows` checks one
+/// and at the same cost.
 /// Lines are counted from the first line of that log on.
 pub fn check_behind<F: Shelf>(
     alloc: Global,
     rows: &Rows,
     depth: u32,
+    version: u8,
     head: u64,
     files: &mut F,
     name: &str,
 ) -> Result<LogVerdict, CheckStop>
     requires { IsTrue (F.may_read files.old name.now) }
     ensures verdict { IfOk result (λ verdict. IfSome (F.files files.old)
-        (λ m. IsVerdict rows.now.program depth (behind head (file_of m name.now)) verdict)) }
+        (λ m. IsVerdict rows.now.program depth (behind version head (file_of m name.now)) verdict)) }
     ensures holds { IfOk result (YesHolds rows.now.program) }
     ensures fault { result ≡ Err CheckStop.Fault
         → Rose (F.read_faults files.old) (F.read_faults files.new) }
@@ -108,7 +110,12 @@ pub fn check_behind<F: Shelf>(
     ensures later { F.read_faults files.old ≤ F.read_faults files.new }
     ensures no_write { F.write_faults files.new ≡ F.write_faults files.old }
 {
-    let mut reader = LogReader::begin_behind(alloc, limits_of(&rows.program, depth), head)?;
+    let mut reader = LogReader::begin_behind(
+        alloc,
+        limits_of(&rows.program, depth),
+        version,
+        head,
+    )?;
     let mut checker = Checker::new(alloc, rows)?;
     let mut began = 0;
     let mut claimed = None;

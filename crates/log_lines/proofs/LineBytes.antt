@@ -9,7 +9,7 @@ use Rattle.std.proofs.lemmas.List.Recursion.{and_at}
 use Rattle.log_lines.specs.declared.form.Form.{Form}
 use Rattle.log_lines.specs.declared.form.Form.TheVariants as form
 use Rattle.log_lines.specs.declared.line.Line.{Line}
-use Rattle.log_lines.specs.declared.line.Line.TheVariants.{Header, Node, Cut, Found, Value, Empty, Point, Dual, Pending, Split, Mult, ClaimOptimal, ClaimInfeasible, ClaimBetween, ClaimBelow, End}
+use Rattle.log_lines.specs.declared.line.Line.TheVariants.{Header, Node, Cut, Found, Value, Empty, Point, Dual, Pending, Floor, Split, Mult, ClaimOptimal, ClaimInfeasible, ClaimBetween, ClaimBelow, End}
 use Rattle.log_lines.specs.Line.{IsShort, IsLine, form_name, line_form, line_numbers, line_text, number_text}
 use Rattle.log_lines.specs.Reader.{HasNoFeed}
 use Rattle.text_words.proofs.Printed.{decimal-lacks}
@@ -29,6 +29,7 @@ name_tested form.Empty = refl
 name_tested form.Point = refl
 name_tested form.Dual = refl
 name_tested form.Pending = refl
+name_tested form.Floor = refl
 name_tested form.Split = refl
 name_tested form.Mult = refl
 name_tested form.ClaimOptimal = refl
@@ -69,6 +70,7 @@ name_few form.Empty = omega arith
 name_few form.Point = omega arith
 name_few form.Dual = omega arith
 name_few form.Pending = omega arith
+name_few form.Floor = omega arith
 name_few form.Split = omega arith
 name_few form.Mult = omega arith
 name_few form.ClaimOptimal = omega arith
@@ -87,6 +89,7 @@ numbers_few Empty = omega arith
 numbers_few Point = omega arith
 numbers_few (Dual a b) = omega arith
 numbers_few (Pending a b) = omega arith
+numbers_few (Floor a) = omega arith
 numbers_few (Split a b c d) = omega arith
 numbers_few (Mult a b) = omega arith
 numbers_few (ClaimOptimal a b) = omega arith

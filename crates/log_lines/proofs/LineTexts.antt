@@ -12,8 +12,8 @@ use Rattle.std.proofs.lemmas.Slice.Eq.{bytes_eq-Decides}
 use Rattle.log_lines.specs.declared.form.Form.{Form}
 use Rattle.log_lines.specs.declared.form.Form.TheVariants as form
 use Rattle.log_lines.specs.declared.line.Line.{Line}
-use Rattle.log_lines.specs.declared.line.Line.TheVariants.{Header, Node, Cut, Found, Value, Empty, Point, Dual, Pending, Split, Mult, ClaimOptimal, ClaimInfeasible, ClaimBetween, ClaimBelow, End}
-use Rattle.log_lines.specs.Line.{all_forms, IsShort, IsLine, IsInRange, form_name, line_form, line_numbers, line_text, number_text}
+use Rattle.log_lines.specs.declared.line.Line.TheVariants.{Header, Node, Cut, Found, Value, Empty, Point, Dual, Pending, Floor, Split, Mult, ClaimOptimal, ClaimInfeasible, ClaimBetween, ClaimBelow, End}
+use Rattle.log_lines.specs.Line.{all_forms, IsShort, IsLine, IsInRange, IsVersion, form_name, line_form, line_numbers, line_text, number_text}
 use Rattle.log_lines.specs.Numbers.{IsRest, IsWord, IsCut, Fit, Reads}
 use Rattle.log_lines.specs.Reading.{form_named, form_signs, IsLineOf, ReadsLine, IsNameCut}
 use Rattle.log_lines.proofs.NumberTexts.{IsRest-number_text, word_unique, number_text_unique}
@@ -32,6 +32,7 @@ find_form form.Empty = refl
 find_form form.Point = refl
 find_form form.Dual = refl
 find_form form.Pending = refl
+find_form form.Floor = refl
 find_form form.Split = refl
 find_form form.Mult = refl
 find_form form.ClaimOptimal = refl
@@ -85,6 +86,7 @@ name_words form.Empty = one _ refl refl
 name_words form.Point = one _ refl refl
 name_words form.Dual = one _ refl refl
 name_words form.Pending = one _ refl refl
+name_words form.Floor = one _ refl refl
 name_words form.Split = one _ refl refl
 name_words form.Mult = one _ refl refl
 name_words form.End = one _ refl refl
@@ -174,6 +176,7 @@ Fit-line Empty is = tt
 Fit-line Point is = tt
 Fit-line (Dual scale count) is = (is.short 0 (pos 0) (omega arith), tt, (is.short 1 (pos 0) (omega arith), tt, tt))
 Fit-line (Pending scale count) is = (is.short 0 (pos 0) (omega arith), tt, (is.short 1 (pos 0) (omega arith), tt, tt))
+Fit-line (Floor profit) is = (is.short 0 (pos 0) (omega arith), tt, tt)
 Fit-line (Split slot max scale count) is = (is.short 0 (pos 0) (omega arith), tt, (is.short 1 (pos 0) (omega arith), tt, (is.short 2 (pos 0) (omega arith), tt, (is.short 3 (pos 0) (omega arith), tt, tt))))
 Fit-line (Mult row factor) is = (is.short 0 (pos 0) (omega arith), tt, (is.short 1 (pos 0) (omega arith), tt, tt))
 Fit-line (ClaimOptimal profit count) is = (is.short 0 (pos 0) (omega arith), tt, (is.short 1 (pos 0) (omega arith), tt, tt))
@@ -208,13 +211,12 @@ line_refused form text numbers reads never line of =
     never line of.is_form (number_text_unique (form_signs form) (line_numbers line) numbers (Fit-line_of of) reads.0 (sym of.is ∙ reads.1)) of.is_line.in_range
 
 -- what the number is that a line's range is asked of
-header_range : (version : ℕ) (line : Line) → line_form line ≡ form.Header → line_numbers line ≡ pos version ∷ [] → IsInRange line → (1 ≤ version) × (version ≤ 2)
-header_range version (Header v) is same range = let e : v ≡ version = cc in (omega arith, omega arith)
+header_range : (version : ℕ) (line : Line) → line_form line ≡ form.Header → line_numbers line ≡ pos version ∷ [] → IsInRange line → IsVersion version
+header_range version (Header v) is same range = let e : v ≡ version = cc in subst IsVersion e range
 header_range version _ is same range = cc
 
-pub header_refused : (version : ℕ) (text : List ℕ) → Reads (form_signs form.Header) text (Some (pos version ∷ [])) → ((1 ≤ version) → 2 < version) → ReadsLine form.Header text None
-header_refused version text reads out =
-    line_refused form.Header text (pos version ∷ []) reads (λ line is same range. let r = header_range version line is same range in let o = out r.0 in omega arith)
+pub header_refused : (version : ℕ) (text : List ℕ) → Reads (form_signs form.Header) text (Some (pos version ∷ [])) → (¬ IsVersion version) → ReadsLine form.Header text None
+header_refused version text reads out = line_refused form.Header text (pos version ∷ []) reads (λ line is same range. out (header_range version line is same range))
 
 value_range : (slot quanta : ℕ) (line : Line) → line_form line ≡ form.Value → line_numbers line ≡ pos slot ∷ pos quanta ∷ [] → IsInRange line → (1 ≤ quanta) × (quanta ≤ 255)
 value_range slot quanta (Value s q) is same range = let e : q ≡ quanta = cc in (omega arith, omega arith)

@@ -1,5 +1,5 @@
 -- The line that some bytes are, as a function of them.
-use Rattle.std.proofs.Common.{◌≡◌, ◌≢◌, ℕ, ℤ, pos, negsuc, neg_ℤ, zero, suc, ◌<◌, ◌≤◌, ◌^◌, nat_lt, nat_le, Bool, true, false, cond, eqb, All, List, [], ◌∷◌, ◌++◌, length, get_or, map, bytes_eq, Option, Some, None, MatchOption, subst, sym, ap, ◌∙◌, refl, arith}
+use Rattle.std.proofs.Common.{◌≡◌, ◌≢◌, ℕ, ℤ, pos, negsuc, neg_ℤ, zero, suc, ◌<◌, ◌≤◌, ◌^◌, nat_lt, nat_le, Bool, true, false, cond, not, ◌&&◌, ◌==◌, eqb, All, List, [], ◌∷◌, ◌++◌, length, get_or, map, bytes_eq, Option, Some, None, MatchOption, subst, sym, ap, ◌∙◌, refl, arith}
 use Rattle.std.specs.Prelude.{find, unsigned_abs}
 use Rattle.std.specs.Bool.{Decides}
 use Rattle.std.specs.Fmt.{signed_decimal}
@@ -14,8 +14,8 @@ use Rattle.std.proofs.lemmas.Slice.Eq.{bytes_eq-Decides}
 use Rattle.log_lines.specs.declared.form.Form.{Form}
 use Rattle.log_lines.specs.declared.form.Form.TheVariants as form
 use Rattle.log_lines.specs.declared.line.Line.{Line}
-use Rattle.log_lines.specs.declared.line.Line.TheVariants.{Header, Node, Cut, Found, Value, Empty, Point, Dual, Pending, Split, Mult, ClaimOptimal, ClaimInfeasible, ClaimBetween, ClaimBelow, End}
-use Rattle.log_lines.specs.Line.{all_forms, IsShort, IsLine, IsInRange, form_name, line_form, line_numbers, line_text, number_text}
+use Rattle.log_lines.specs.declared.line.Line.TheVariants.{Header, Node, Cut, Found, Value, Empty, Point, Dual, Pending, Floor, Split, Mult, ClaimOptimal, ClaimInfeasible, ClaimBetween, ClaimBelow, End}
+use Rattle.log_lines.specs.Line.{all_forms, IsShort, IsLine, IsInRange, IsVersion, form_name, line_form, line_numbers, line_text, number_text}
 use Rattle.log_lines.specs.Numbers.{Fit}
 use Rattle.log_lines.specs.Reading.{form_named, form_signs}
 use Rattle.log_lines.specs.Said.{word_number, numbers_after, line_with, is_in_range, is_line, is_text, line_said}
@@ -64,6 +64,7 @@ line_with-own Empty = refl
 line_with-own Point = refl
 line_with-own (Dual a b) = refl
 line_with-own (Pending a b) = refl
+line_with-own (Floor a) = refl
 line_with-own (Split a b c d) = refl
 line_with-own (Mult a b) = refl
 line_with-own (ClaimOptimal a b) = refl
@@ -83,6 +84,7 @@ bare_with Empty ns bare = refl
 bare_with Point ns bare = refl
 bare_with (Dual a b) ns bare = cc
 bare_with (Pending a b) ns bare = cc
+bare_with (Floor a) ns bare = cc
 bare_with (Split a b c d) ns bare = cc
 bare_with (Mult a b) ns bare = cc
 bare_with (ClaimOptimal a b) ns bare = cc
@@ -106,8 +108,16 @@ line_with-text line is = with_numbers line (line_numbers line) refl is.short
 Decides-leb : (a b : ℕ) → Decides (nat_le a b) (a ≤ b)
 Decides-leb a b = (λ is. grind (arith, nat_tests), λ below. grind (arith, nat_tests))
 
+not_three : (a : ℕ) → Decides (not (a == 3)) (a ≢ 3)
+not_three a = (λ is. grind (arith, nat_tests), λ other. grind (arith, nat_tests))
+
+version_tells : (a : ℕ) → Decides (nat_le 1 a && (nat_le a 4 && not (a == 3))) (IsVersion a)
+version_tells a =
+    let both = Decides-and (nat_le 1 a) (nat_le a 4 && not (a == 3)) (Decides-leb 1 a) (Decides-and (nat_le a 4) (not (a == 3)) (Decides-leb a 4) (not_three a)) in
+    (λ is. let parts = both.0 is in (parts.0, parts.1.0, parts.1.1), λ known. both.1 (known.0, (known.1, known.2)))
+
 in_range_tells : (line : Line) → Decides (is_in_range line) (IsInRange line)
-in_range_tells (Header a) = Decides-and (nat_le 1 a) (nat_le a 2) (Decides-leb 1 a) (Decides-leb a 2)
+in_range_tells (Header a) = version_tells a
 in_range_tells Node = (λ _. tt, λ _. refl)
 in_range_tells (Cut a b) = (λ _. tt, λ _. refl)
 in_range_tells (Found a b) = (λ _. tt, λ _. refl)
@@ -116,6 +126,7 @@ in_range_tells Empty = (λ _. tt, λ _. refl)
 in_range_tells Point = (λ _. tt, λ _. refl)
 in_range_tells (Dual a b) = (λ _. tt, λ _. refl)
 in_range_tells (Pending a b) = (λ _. tt, λ _. refl)
+in_range_tells (Floor a) = (λ _. tt, λ _. refl)
 in_range_tells (Split a b c d) = Decides-leb b 254
 in_range_tells (Mult a b) = Decides-leb 1 b
 in_range_tells (ClaimOptimal a b) = (λ _. tt, λ _. refl)
@@ -174,13 +185,14 @@ find_some p form.Empty passes = find_at p all_forms 5 form.End (omega arith) pas
 find_some p form.Point passes = find_at p all_forms 6 form.End (omega arith) passes
 find_some p form.Dual passes = find_at p all_forms 7 form.End (omega arith) passes
 find_some p form.Pending passes = find_at p all_forms 8 form.End (omega arith) passes
-find_some p form.Split passes = find_at p all_forms 9 form.End (omega arith) passes
-find_some p form.Mult passes = find_at p all_forms 10 form.End (omega arith) passes
-find_some p form.ClaimOptimal passes = find_at p all_forms 11 form.End (omega arith) passes
-find_some p form.ClaimInfeasible passes = find_at p all_forms 12 form.End (omega arith) passes
-find_some p form.ClaimBetween passes = find_at p all_forms 13 form.End (omega arith) passes
-find_some p form.ClaimBelow passes = find_at p all_forms 14 form.End (omega arith) passes
-find_some p form.End passes = find_at p all_forms 15 form.End (omega arith) passes
+find_some p form.Floor passes = find_at p all_forms 9 form.End (omega arith) passes
+find_some p form.Split passes = find_at p all_forms 10 form.End (omega arith) passes
+find_some p form.Mult passes = find_at p all_forms 11 form.End (omega arith) passes
+find_some p form.ClaimOptimal passes = find_at p all_forms 12 form.End (omega arith) passes
+find_some p form.ClaimInfeasible passes = find_at p all_forms 13 form.End (omega arith) passes
+find_some p form.ClaimBetween passes = find_at p all_forms 14 form.End (omega arith) passes
+find_some p form.ClaimBelow passes = find_at p all_forms 15 form.End (omega arith) passes
+find_some p form.End passes = find_at p all_forms 16 form.End (omega arith) passes
 
 -- the line that bytes are is said of them
 pub line_said-line : (line : Line) → IsLine line → line_said (line_text line) ≡ Some line

@@ -7,7 +7,7 @@ use Rattle.log_lines.specs.declared.grammar.Place.TheVariants as place
 use Rattle.log_lines.specs.declared.step.Step.{Step}
 use Rattle.log_lines.specs.declared.step.Step.TheVariants as step
 use Rattle.log_lines.specs.declared.line.Line.{Line}
-use Rattle.log_lines.specs.declared.line.Line.TheVariants.{Header, Node, Cut, Found, Value, Empty, Point, Dual, Pending, Split, Mult, ClaimOptimal, ClaimInfeasible, ClaimBetween, ClaimBelow, End}
+use Rattle.log_lines.specs.declared.line.Line.TheVariants.{Header, Node, Cut, Found, Value, Empty, Point, Dual, Pending, Floor, Split, Mult, ClaimOptimal, ClaimInfeasible, ClaimBetween, ClaimBelow, End}
 
 -- how far a log has come: its version, what comes next, and the open splits, innermost first: false where the left part is
 -- under way, true where the right part is
@@ -52,14 +52,23 @@ abbrev pub follows : Option ℕ → ℕ → Bool
 follows None _ = true
 follows (Some last) number = nat_lt last number
 
--- what an ending leads to
+-- what a split leads to
+abbrev pub split_step : Line → Option Step
+split_step (Split _ _ _ count) = Some (mults_step count None true)
+split_step _ = None
+
+-- what a floor leads to: its split, in version 4 alone
+abbrev pub floor_step : ℕ → Option Step
+floor_step version = if version == 4 then Some (step.At place.Floored) else None
+
+-- what an ending, or the floor of a split, leads to
 abbrev pub ending_step : ℕ → Line → Option Step
 ending_step _ Empty = Some step.Ends
-ending_step version Point = if version == 2 then Some step.Ends else None
+ending_step version Point = if nat_le 2 version then Some step.Ends else None
 ending_step _ (Dual _ count) = Some (mults_step count None false)
 ending_step _ (Pending _ count) = Some (mults_step count None false)
-ending_step _ (Split _ _ _ count) = Some (mults_step count None true)
-ending_step _ _ = None
+ending_step version (Floor _) = floor_step version
+ending_step _ line = split_step line
 
 -- what a cut, a found line or an ending leads to
 abbrev pub inside_step : ℕ → Line → Option Step
@@ -81,6 +90,7 @@ step_of _ place.Header (Header version) = Some (step.Begins version)
 step_of _ place.Node Node = Some (step.At place.Inside)
 step_of version place.Inside line = inside_step version line
 step_of version place.Ending line = ending_step version line
+step_of _ place.Floored line = split_step line
 step_of _ (place.Values left above of_claim) (Value slot _) =
     if follows above slot then Some (values_step (left - 1) (Some slot) of_claim) else None
 step_of _ (place.Mults left above splits) (Mult row _) =

@@ -1,12 +1,12 @@
 -- The line that some bytes are.
-use Rattle.std.specs.Prelude.{ℕ, ℤ, pos, neg_ℤ, ◌+◌, ◌==◌, ◌^◌, nat_lt, nat_le, ◌&&◌, Bool, true, if◌then◌else◌, unsigned_abs, Option, List, drop, length, map, find, bytes_eq, slice_index, slice_index_or}
+use Rattle.std.specs.Prelude.{ℕ, ℤ, pos, neg_ℤ, ◌+◌, ◌==◌, ◌^◌, nat_lt, nat_le, ◌&&◌, not, Bool, true, if◌then◌else◌, unsigned_abs, Option, List, drop, length, map, find, bytes_eq, slice_index, slice_index_or}
 use Rattle.std.specs.List.{slice_split, list_all}
 use Rattle.std.specs.Option.{option_map}
 use Rattle.std.specs.Str.Parse.{digits_value}
 use Rattle.log_lines.specs.declared.form.Form.{Form}
 use Rattle.log_lines.specs.declared.form.Form.TheVariants as form
 use Rattle.log_lines.specs.declared.line.Line.{Line}
-use Rattle.log_lines.specs.declared.line.Line.TheVariants.{Header, Node, Cut, Found, Value, Empty, Point, Dual, Pending, Split, Mult, ClaimOptimal, ClaimInfeasible, ClaimBetween, ClaimBelow, End}
+use Rattle.log_lines.specs.declared.line.Line.TheVariants.{Header, Node, Cut, Found, Value, Empty, Point, Dual, Pending, Floor, Split, Mult, ClaimOptimal, ClaimInfeasible, ClaimBetween, ClaimBelow, End}
 use Rattle.log_lines.specs.Line.{all_forms, form_name, line_numbers, line_text}
 
 -- the value of a word's digits, below zero after a minus (45)
@@ -36,6 +36,7 @@ line_with form.Empty ns = Empty
 line_with form.Point ns = Point
 line_with form.Dual ns = Dual (natural_at ns 0) (natural_at ns 1)
 line_with form.Pending ns = Pending (natural_at ns 0) (natural_at ns 1)
+line_with form.Floor ns = Floor (number_at ns 0)
 line_with form.Split ns = Split (natural_at ns 0) (natural_at ns 1) (natural_at ns 2) (natural_at ns 3)
 line_with form.Mult ns = Mult (natural_at ns 0) (natural_at ns 1)
 line_with form.ClaimOptimal ns = ClaimOptimal (number_at ns 0) (natural_at ns 1)
@@ -46,7 +47,7 @@ line_with form.End ns = End
 
 -- the tests of `IsLine`
 abbrev pub is_in_range : Line → Bool
-is_in_range (Header version) = nat_le 1 version && nat_le version 2
+is_in_range (Header version) = nat_le 1 version && (nat_le version 4 && not (version == 3))
 is_in_range (Value _ quanta) = nat_le 1 quanta && nat_le quanta 255
 is_in_range (Split _ max _ _) = nat_le max 254
 is_in_range (Mult _ factor) = nat_le 1 factor

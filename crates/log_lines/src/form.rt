@@ -15,6 +15,7 @@ pub(crate) enum Form {
     Point,
     Dual,
     Pending,
+    Floor,
     Split,
     Mult,
     ClaimOptimal,
@@ -25,7 +26,7 @@ pub(crate) enum Form {
 }
 
 /// Each form once.
-const FORMS: [Form; 16] = [
+const FORMS: [Form; 17] = [
     Form::Header,
     Form::Node,
     Form::Cut,
@@ -35,6 +36,7 @@ const FORMS: [Form; 16] = [
     Form::Point,
     Form::Dual,
     Form::Pending,
+    Form::Floor,
     Form::Split,
     Form::Mult,
     Form::ClaimOptimal,
@@ -73,6 +75,7 @@ pub(crate) fn words_of(form: Form) -> &'static [u8]
         Form::Point => b"point",
         Form::Dual => b"dual",
         Form::Pending => b"pending",
+        Form::Floor => b"floor",
         Form::Split => b"split",
         Form::Mult => b"mult",
         Form::ClaimOptimal => b"claim optimal",

@@ -25,6 +25,9 @@ pub enum Place {
     /// After a found group: an ending.
     Ending,
 
+    /// After a floor: its split.
+    Floored,
+
     /// So many value lines, with slots above the last one, of a claim or of a found group.
     Values {
         left: u128,

@@ -47,6 +47,11 @@ pub enum Line {
         count: u128,
     },
 
+    /// `floor PROFIT`, before the split that it belongs to.
+    Floor {
+        profit: i128,
+    },
+
     /// `split SLOT MAX SCALE COUNT`, an ending, before as many mult lines and two nodes.
     Split {
         slot: u128,

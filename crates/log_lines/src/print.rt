@@ -1,7 +1,7 @@
 //! A line as its bytes.
 ghost use Rattle.std.specs.Prelude.{◌≡◌, ◌++◌, ◌∷◌, [], decimal, flat_map, map, pos, OnOk, OnErr};
 ghost use Rattle.std.specs.Fmt.{signed_decimal};
-ghost use Rattle.log_lines.specs.declared.line.Line.TheVariants.{ClaimBelow};
+ghost use Rattle.log_lines.specs.declared.line.Line.TheVariants.{ClaimBelow, Floor};
 ghost use Rattle.log_lines.specs.Line.{line_text, number_text};
 
 use crate::line::Line;
@@ -35,6 +35,7 @@ fn put_text(alloc: Global, line: &Line, text: &mut Vec<u8>) -> Result<(), AllocE
         Line::Point => put(alloc, b"point", &[], &[], text),
         Line::Dual { scale, count } => put(alloc, b"dual", &[], &[scale, count], text),
         Line::Pending { scale, count } => put(alloc, b"pending", &[], &[scale, count], text),
+        Line::Floor { profit } => put_floor(alloc, &profit, text),
         Line::Split {
             slot,
             max,
@@ -58,6 +59,14 @@ fn put_text(alloc: Global, line: &Line, text: &mut Vec<u8>) -> Result<(), AllocE
         Line::ClaimBelow { cap } => put_below(alloc, &cap, text),
         Line::End => put(alloc, b"end", &[], &[], text),
     }
+}
+
+// Appends a floor.
+#[tactic(auto, unfolding(crate::specs::Line::line_text))]
+fn put_floor(alloc: Global, profit: &i128, text: &mut Vec<u8>) -> Result<(), AllocError>
+    ensures { OnOk result (text.new.items ≡ text.old.items ++ line_text (Floor profit.now)) }
+{
+    put(alloc, b"floor", &[*profit], &[], text)
 }
 
 // Appends the claim of a cap alone.

@@ -1,7 +1,7 @@
 //! A line from its bytes.
-ghost use Rattle.std.specs.Prelude.{◌≡◌, ◌≢◌, [], bytes_eq, codes, MatchOption};
+ghost use Rattle.std.specs.Prelude.{◌≡◌, ◌≢◌, ◌↔◌, [], bytes_eq, codes, IsTrue, MatchOption};
 ghost use Rattle.log_lines.specs.declared.form.Form.TheVariants as form;
-ghost use Rattle.log_lines.specs.Line.{IsLine, IsInRange, line_text, line_form, line_numbers};
+ghost use Rattle.log_lines.specs.Line.{IsLine, IsInRange, IsVersion, line_text, line_form, line_numbers};
 ghost use Rattle.log_lines.specs.Numbers.{IsCut};
 ghost use Rattle.log_lines.specs.Reading.{ReadsLine, IsNameCut};
 ghost use Rattle.log_lines.specs.Said.{line_said};
@@ -79,6 +79,7 @@ fn line_of(form: Form, rest: &[u8]) -> Option<Line>
         Form::Point => bare(rest, Line::Point),
         Form::Dual => dual(rest),
         Form::Pending => pending(rest),
+        Form::Floor => floor(rest),
         Form::Split => split(rest),
         Form::Mult => mult(rest),
         Form::ClaimOptimal => claim_optimal(rest),
@@ -103,7 +104,7 @@ fn header(rest: &[u8]) -> Option<Line>
 {
     match natural(rest) {
         Some(version) => {
-            if 1 <= version && version <= 2 {
+            if is_version(version) {
                 Some(Line::Header {
                     version: version as u8,
                 })
@@ -113,6 +114,13 @@ fn header(rest: &[u8]) -> Option<Line>
         }
         None => None,
     }
+}
+
+// Whether logs of this version have no more before their proof than their first line.
+fn is_version(version: u128) -> bool
+    ensures { IsTrue result ↔ IsVersion version }
+{
+    version == 1 || version == 2 || version == 4
 }
 
 fn cut(rest: &[u8]) -> Option<Line>
@@ -165,6 +173,15 @@ fn pending(rest: &[u8]) -> Option<Line>
 {
     match pair(rest) {
         Some((scale, count)) => Some(Line::Pending { scale, count }),
+        None => None,
+    }
+}
+
+fn floor(rest: &[u8]) -> Option<Line>
+    ensures { ReadsLine form.Floor rest.now result }
+{
+    match signed(rest) {
+        Some(profit) => Some(Line::Floor { profit }),
         None => None,
     }
 }

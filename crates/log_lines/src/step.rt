@@ -2,7 +2,7 @@
 ghost use Rattle.std.specs.Prelude.{◌≡◌, ◌-◌, Some};
 ghost use Rattle.log_lines.specs.declared.grammar.Place.TheVariants as place;
 ghost use Rattle.log_lines.specs.declared.line.Line.TheVariants as line;
-ghost use Rattle.log_lines.specs.Grammar.{claim_step, ending_step, follows, inside_step, mults_step, step_of, values_step};
+ghost use Rattle.log_lines.specs.Grammar.{claim_step, ending_step, floor_step, follows, inside_step, mults_step, split_step, step_of, values_step};
 
 use crate::grammar::Place;
 use crate::line::Line;
@@ -32,6 +32,7 @@ pub(crate) fn step_of(version: u8, place: Place, line: &Line) -> Option<Step>
         Place::Node => node_step(line),
         Place::Inside => inside_step(version, line),
         Place::Ending => ending_step(version, line),
+        Place::Floored => split_step(line),
         Place::Values {
             left,
             above,
@@ -102,6 +103,36 @@ fn ending_step(version: u8, line: &Line) -> Option<Step>
         Line::Point => point_step(version),
         Line::Dual { scale: _, count } => Some(mults_step(count, None, false)),
         Line::Pending { scale: _, count } => Some(mults_step(count, None, false)),
+        Line::Floor { profit: _ } => floor_step(version),
+        _ => split_step(line),
+    }
+}
+
+// The line `point`, which version 1 has not.
+fn point_step(version: u8) -> Option<Step>
+    ensures { result ≡ ending_step version line.Point }
+{
+    if version >= 2 { Some(Step::Ends) } else { None }
+}
+
+// The line of a floor, which only version 4 has.
+fn floor_step(version: u8) -> Option<Step>
+    ensures { result ≡ floor_step version }
+{
+    if version == 4 {
+        Some(Step::At {
+            place: Place::Floored,
+        })
+    } else {
+        None
+    }
+}
+
+// The line of a split.
+fn split_step(line: &Line) -> Option<Step>
+    ensures { result ≡ split_step line.now }
+{
+    match *line {
         Line::Split {
             slot: _,
             max: _,
@@ -110,13 +141,6 @@ fn ending_step(version: u8, line: &Line) -> Option<Step>
         } => Some(mults_step(count, None, true)),
         _ => None,
     }
-}
-
-// The line `point`, which version 1 has not.
-fn point_step(version: u8) -> Option<Step>
-    ensures { result ≡ ending_step version line.Point }
-{
-    if version == 2 { Some(Step::Ends) } else { None }
 }
 
 // A claim.

@@ -48,13 +48,13 @@ stays_said P name (Some m) (Some n) same is =
 
 -- what a reader has read of a file it has read where the file stays
 pub read_stays : (head : ℕ) (name : List ℕ) (limits : Limits) (items : List RowItem) (claim : Option Claim) (r : LogReader) (old new : Option FileMap)
-    → option_map (λ (m : FileMap). file_of m name) new ≡ option_map (λ (m : FileMap). file_of m name) old → HasRead old name head limits items claim r → HasRead new name head limits items claim r
+    → option_map (λ (m : FileMap). file_of m name) new ≡ option_map (λ (m : FileMap). file_of m name) old → HasRead old name 4 head limits items claim r → HasRead new name 4 head limits items claim r
 read_stays head name limits items claim r old new same read = record {
   lines = read.lines;
   gathered = read.gathered;
   limited = read.limited;
-  read = stays_said (λ (bytes : List ℕ). behind head bytes ≡ lines_text read.lines ++ drop r.lines.place bytes) name old new same read.read;
-  left = stays_said (λ (bytes : List ℕ). log_text_defect limits (behind head bytes) ≡ rest_defect limits r.gatherer.grammar (1 + length read.lines) (drop r.lines.place bytes)) name old new same read.left;
+  read = stays_said (λ (bytes : List ℕ). behind 4 head bytes ≡ lines_text read.lines ++ drop r.lines.place bytes) name old new same read.read;
+  left = stays_said (λ (bytes : List ℕ). log_text_defect limits (behind 4 head bytes) ≡ rest_defect limits r.gatherer.grammar (1 + length read.lines) (drop r.lines.place bytes)) name old new same read.left;
   ahead = stays_said (λ (bytes : List ℕ). IsAhead bytes r.lines.place r.lines.ahead) name old new same read.ahead;
   going = read.going;
 }
@@ -69,18 +69,18 @@ front_at limits version p group claim bytes rest tree items lines is over fresh 
     (sym is.text ∙ read ∙ ap (λ (own : List Line). lines_text own ++ rest) listed)
 
 -- what a reader has read of a log are its first items
-pub front_read : (limits : Limits) (head : ℕ) (name : List ℕ) (m : FileMap) (items : List RowItem) (claim : Option Claim) (r : LogReader) (tree : RowTree) → IsLogOf limits (behind head (file_of m name)) tree → HasRead (Some m) name head limits items claim r
+pub front_read : (limits : Limits) (head : ℕ) (name : List ℕ) (m : FileMap) (items : List RowItem) (claim : Option Claim) (r : LogReader) (tree : RowTree) → IsLogOf limits (behind 4 head (file_of m name)) tree → HasRead (Some m) name 4 head limits items claim r
     → (later : List RowItem) × (tree_items tree ≡ items ++ later)
 front_read limits head name m items claim r tree is read =
     let g = r.gatherer in
     let over : All (IsOver limits.slots) items = subst (λ (l : Limits). All (IsOver l.slots) items) read.limited read.gathered.over in
-    front_at limits g.grammar.version g.grammar.place g.group claim (behind head (file_of m name)) (drop r.lines.place (file_of m name)) tree items read.lines is over read.gathered.fresh read.gathered.listed read.gathered.written read.read
+    front_at limits g.grammar.version g.grammar.place g.group claim (behind 4 head (file_of m name)) (drop r.lines.place (file_of m name)) tree items read.lines is over read.gathered.fresh read.gathered.listed read.gathered.written read.read
 
 -- A reader under the limits has read items of a file that may be told, and a writer, which began with others, has them too.
 pub record HasReadOn (limits : Limits) (head : ℕ) (name : List ℕ) (old : Option FileMap) (writer : LogWriter) (new : Option FileMap) (later : LogWriter) (r : LogReader) : Type 0 where
   pub items : List RowItem
   pub claim : Option Claim
-  pub read : HasRead new name head limits items claim r
+  pub read : HasRead new name 4 head limits items claim r
   pub same : option_map (λ (m : FileMap). file_of m name) new ≡ option_map (λ (m : FileMap). file_of m name) old
   pub has : (front : List ℕ) (before : List RowItem) → HasItems front writer old before → HasItems front later new (before ++ items)
 
@@ -102,18 +102,18 @@ begun_front front name files before items later all_items is begun =
 
 -- the reading of a log broke off after some items, of which a first part was written
 pub broken_off : (limits : Limits) (head : ℕ) (name own : List ℕ) (old now new : Option FileMap) (writer : LogWriter) (items : List RowItem) (claim : Option Claim) (r : LogReader) → own ≡ name_of writer
-    → option_map (λ (m : FileMap). file_of m name) now ≡ option_map (λ (m : FileMap). file_of m name) old → HasRead now name head limits items claim r
+    → option_map (λ (m : FileMap). file_of m name) now ≡ option_map (λ (m : FileMap). file_of m name) old → HasRead now name 4 head limits items claim r
     → ((front : List ℕ) (before : List RowItem) → HasItems front writer old before → IsBegun front own new (before ++ items)) → HasBrokenOff limits head name old writer new
 broken_off limits head name own None now new writer items claim r named same read begun = tt
 broken_off limits head name own (Some m) None new writer items claim r named same read begun = absurd cc
 broken_off limits head name own (Some m) (Some n) new writer items claim r named same read begun = λ tree is front before has.
     let here : file_of n name ≡ file_of m name = cc in
-    let rest = front_read limits head name n items claim r tree (subst (λ (bytes : List ℕ). IsLogOf limits (behind head bytes) tree) (sym here) is) read in
+    let rest = front_read limits head name n items claim r tree (subst (λ (bytes : List ℕ). IsLogOf limits (behind 4 head bytes) tree) (sym here) is) read in
     subst (λ (w : List ℕ). IsBegun front w new (before ++ tree_items tree)) named (begun_front front own new before items rest.0 (tree_items tree) rest.1 (begun front before has))
 
 -- the reader is at the end of a log whose items a writer has
 pub copied_end : (limits : Limits) (head : ℕ) (name : List ℕ) (old new : Option FileMap) (writer later : LogWriter) (r s : LogReader) (version : ℕ) (on : HasReadOn limits head name old writer new later r)
-    → IsPartAfter new name head limits on.items on.claim s (EndPart version) → HasCopied limits head name old writer new later {D = Defect} None
+    → IsPartAfter new name 4 head limits on.items on.claim s (EndPart version) → HasCopied limits head name old writer new later {D = Defect} None
 copied_end limits head name None new writer later r s version on part = tt
 copied_end limits head name (Some m) None writer later r s version on part = absurd (let same = on.same in cc)
 copied_end limits head name (Some m) (Some n) writer later r s version on part = λ tree is front before has.
@@ -122,7 +122,7 @@ copied_end limits head name (Some m) (Some n) writer later r s version on part =
     let clean = part.1.2 in
     let found = whole_tree on.items part.0 in
     let text : log_text is.version (tree_items tree) is.claim ≡ log_text version (tree_items found.0) part.1.0 ++ [] =
-    sym is.text ∙ sym (ap (behind head) here) ∙ clean.text ∙ ap (λ (items : List RowItem). log_text version items part.1.0) found.1 ∙ sym (append-nil (log_text version (tree_items found.0) part.1.0)) in
+    sym is.text ∙ sym (ap (behind 4 head) here) ∙ clean.text ∙ ap (λ (items : List RowItem). log_text version items part.1.0) found.1 ∙ sym (append-nil (log_text version (tree_items found.0) part.1.0)) in
     let over : IsLogOver limits.slots version found.0 part.1.0 = record {
       items = subst (All (IsOver limits.slots)) found.1 clean.over;
       claim_over = clean.claim_over;
@@ -134,18 +134,18 @@ copied_end limits head name (Some m) (Some n) writer later r s version on part =
 
 -- a log without a text defect shows none
 pub copied_bad : (limits : Limits) (head : ℕ) (name : List ℕ) (old new : Option FileMap) (writer later : LogWriter) (r s : LogReader) (defect : Defect) (on : HasReadOn limits head name old writer new later r)
-    → IsPartAfter new name head limits on.items on.claim s (BadPart defect) → HasCopied limits head name old writer new later (Some defect)
+    → IsPartAfter new name 4 head limits on.items on.claim s (BadPart defect) → HasCopied limits head name old writer new later (Some defect)
 copied_bad limits head name None new writer later r s defect on part = tt
 copied_bad limits head name (Some m) None writer later r s defect on part = absurd (let same = on.same in cc)
 copied_bad limits head name (Some m) (Some n) writer later r s defect on part = λ tree is front before has.
     let same = on.same in
     let here : file_of n name ≡ file_of m name = cc in
-    let wrong : None ≡ Some (defect.line, defect.kind) = sym is.clean ∙ ap (λ (bytes : List ℕ). log_text_defect limits (behind head bytes)) (sym here) ∙ part in
+    let wrong : None ≡ Some (defect.line, defect.kind) = sym is.clean ∙ ap (λ (bytes : List ℕ). log_text_defect limits (behind 4 head bytes)) (sym here) ∙ part in
     absurd cc
 
 -- the reader has read one more item, which the writer took
 pub item_copied : (limits : Limits) (head : ℕ) (name : List ℕ) (old now new : Option FileMap) (writer mid later : LogWriter) (r s : LogReader) (line : ℕ) (item : RowItem) (on : HasReadOn limits head name old writer now mid r)
-    → IsPartAfter now name head limits on.items on.claim s (ItemPart line item) → option_map (λ (m : FileMap). file_of m name) new ≡ option_map (λ (m : FileMap). file_of m name) now
+    → IsPartAfter now name 4 head limits on.items on.claim s (ItemPart line item) → option_map (λ (m : FileMap). file_of m name) new ≡ option_map (λ (m : FileMap). file_of m name) now
     → ((front : List ℕ) (items : List RowItem) → HasItems front mid now items → HasItems front later new (items ++ item ∷ [])) → HasReadOn limits head name old writer new later s
 item_copied limits head name old now new writer mid later r s line item on part stays took = record {
   items = on.items ++ item ∷ [];
@@ -157,11 +157,11 @@ item_copied limits head name old now new writer mid later r s line item on part 
 
 -- the reader has read the claim
 pub claim_read : (limits : Limits) (head : ℕ) (name : List ℕ) (old now : Option FileMap) (writer mid : LogWriter) (r s : LogReader) (line : ℕ) (made : Claim) (on : HasReadOn limits head name old writer now mid r)
-    → IsPartAfter now name head limits on.items on.claim s (ClaimPart line made) → HasReadOn limits head name old writer now mid s
+    → IsPartAfter now name 4 head limits on.items on.claim s (ClaimPart line made) → HasReadOn limits head name old writer now mid s
 claim_read limits head name old now writer mid r s line made on part = record { items = on.items; claim = Some made; read = part.3; same = on.same; has = on.has }
 
 -- a reader that begins
-pub read_on : (limits : Limits) (head : ℕ) (name : List ℕ) (old : Option FileMap) (writer : LogWriter) (r : LogReader) → HasRead old name head limits [] None r → HasReadOn limits head name old writer old writer r
+pub read_on : (limits : Limits) (head : ℕ) (name : List ℕ) (old : Option FileMap) (writer : LogWriter) (r : LogReader) → HasRead old name 4 head limits [] None r → HasReadOn limits head name old writer old writer r
 read_on limits head name old writer r read = record { items = []; claim = None; read = read; same = refl; has = λ front before has. subst (HasItems front writer old) (sym (append-nil before)) has }
 
 -- what holds holds after an error
@@ -182,7 +182,7 @@ on_broken limits head name old now new writer mid r named still on =
 
 -- the writer broke off in the next item
 pub item_broken : (limits : Limits) (head : ℕ) (name : List ℕ) (old now next new : Option FileMap) (writer mid : LogWriter) (r s : LogReader) (line : ℕ) (item : RowItem) (on : HasReadOn limits head name old writer now mid r) → name_of mid ≡ name_of writer → next ≡ now
-    → IsPartAfter now name head limits on.items on.claim s (ItemPart line item) → ((front : List ℕ) (items : List RowItem) → HasItems front mid next items → IsBegun front (name_of mid) new (items ++ item ∷ [])) → HasBrokenOff limits head name old writer new
+    → IsPartAfter now name 4 head limits on.items on.claim s (ItemPart line item) → ((front : List ℕ) (items : List RowItem) → HasItems front mid next items → IsBegun front (name_of mid) new (items ++ item ∷ [])) → HasBrokenOff limits head name old writer new
 item_broken limits head name old now next new writer mid r s line item on named still part broke =
     broken_off limits head name (name_of mid) old now new writer (on.items ++ item ∷ []) None s named on.same part.4
     (λ front before has.

@@ -8,7 +8,7 @@ use Rattle.proof_tree.specs.Items.{tree_items}
 use Rattle.log_lines.specs.declared.grammar.Limits.{Limits}
 use Rattle.log_lines.specs.declared.line.Line.TheVariants.{Header, End}
 use Rattle.proof_log.specs.declared.claim.Claim.{Claim}
-use Rattle.proof_log.specs.Behind.{behind}
+use Rattle.proof_log.specs.Behind.{behind, version_behind}
 use Rattle.proof_log.specs.Log.{claim_lines, item_lines, lines_text, log_lines, log_text}
 use Rattle.proof_log.proofs.Headed.{behind-head}
 use Rattle.proof_log.proofs.Lines.{lines_text-append}
@@ -136,7 +136,7 @@ some_front version declared known none =
 
 -- a valid log over the program with what a head declares is, behind the head, a valid log of the program, of the claim cut back
 pub headed_any : (program wide : Program) (judged : List Domain) (version depth : ℕ) (declared : Declared) (tree : RowTree) (own claim : Claim) → IsHeadVersion version → MayDeclare (limits_of program depth) version declared
-    → IsWithHead version program judged declared.sums declared.derivations wide → IsVerdict wide depth (log_text 2 (tree_items tree) own) (Yes own) → claim ≡ given_claim (length program.root) own
+    → IsWithHead version program judged declared.sums declared.derivations wide → IsVerdict wide depth (log_text (version_behind version) (tree_items tree) own) (Yes own) → claim ≡ given_claim (length program.root) own
     → IsAnyVerdict program judged judged depth (declared_text version declared tree own) (Yes claim)
 headed_any program wide judged version depth declared tree own claim known may enlarged valid is =
     let head = head_of version declared.sums in
@@ -151,8 +151,8 @@ headed_any program wide judged version depth declared tree own claim known may e
     let few : length (head_text version declared.sums) < 2 ^ 64 = omega (arith, all, may.few_bytes) in
     let stands = subst (λ (limits : Limits). IsFront limits bytes (Headed head)) (limits_same program depth)
     (subst (λ (b : List ℕ). IsFront (limits_of program depth) b (Headed head)) (sym text_is) (head_stands version (limits_of program depth) declared.sums declared.derivations node.0 known may.sums few)) in
-    let behind_is : behind tail.bytes bytes ≡ log_text 2 (tree_items tree) own =
-    ap (λ (n : ℕ). behind n bytes) all ∙ behind-head (front_text version declared) (tree_items tree) own (some_front version declared known) in
+    let behind_is : behind version tail.bytes bytes ≡ log_text (version_behind version) (tree_items tree) own =
+    ap (λ (n : ℕ). behind version n bytes) all ∙ behind-head version (front_text version declared) (tree_items tree) own (some_front version declared known) in
     let shown : IsShownVerdict program judged depth bytes head tail (Yes claim) = record {
       larger = wide;
       enlarged = enlarged;

@@ -29,12 +29,13 @@ use Rattle.log_parts.specs.Joining.{IsJoined}
 use Rattle.plant_parts.specs.PlantParts.{IsPartProgram}
 use Rattle.log_parts.specs.PartLogs.{IsJoinedLog, IsJoining, IsJoiningIn, IsJoinBegun, LeavesJoin, AllAreValid, JoinSays, IsNo, logs_of, no_tree}
 use Rattle.log_parts.specs.laws.Checked.{AreNewest, HaveClaims, MayDeclare, head_limits}
-use Rattle.log_parts.specs.laws.Copying.{part_limits, joined_text, AreLogsOf, HasWritten, HasLeft, IsClaim, IsFit}
+use Rattle.log_parts.specs.laws.Copying.{part_limits, joined_text, AreLogsOf, IsLogOf, HasWritten, HasLeft, IsClaim, IsFit}
 use Rattle.log_parts.proofs.JoinedValid.{AllTrees, joined_fit, joined_log, part-stays}
 use Rattle.log_parts.proofs.Limits.{head_same}
 use Rattle.log_parts.proofs.PartHeads.{as-four, head-counts}
 use Rattle.log_parts.proofs.PartTrees.{IsPartTree, part_tree}
 use Rattle.log_parts.proofs.PartsChecked.{are_valid}
+use Rattle.log_parts.proofs.ReadNewest.{read-newest}
 
 -- ---- the trees of the parts
 
@@ -85,7 +86,7 @@ limits_larger plant levels part declared program larger is judged added =
     ap (λ (r : ℕ). made r (length larger.root)) rows ∙ ap (made (length (plant_rows plant) + 2 * length declared.sums + rows_of declared.derivations)) root
 
 are_logs : (plant : Plant) (levels : ℕ) (logs : ℕ → List ℕ) (declared : Declared) (heads : List ℕ) (claims : List Claim) (n : ℕ) → Sound plant → levels ≤ length (slots plant) → (have : HaveTrees plant levels logs declared heads claims n)
-    → AreLogsOf (part_limits plant levels declared) n (λ part. behind (get_or heads part 0) (logs part)) have.trees
+    → AreLogsOf (part_limits plant levels declared) n (λ part. behind 4 (get_or heads part 0) (logs part)) have.trees
 are_logs plant levels logs declared heads claims n sound within have part below =
     let is = have.each part below in
     let base = plant_root plant in
@@ -93,20 +94,15 @@ are_logs plant levels logs declared heads claims n sound within have part below 
     let judged : length base ≡ length is.program.root = length-map (slots plant) (slot_domain plant) ∙ sym (ap (λ (l : Limits). l.slots) own) in
     let four = as-four is.version is.program is.larger base declared.sums declared.derivations is.enlarged is.none (part-stays plant levels part is.program is.enlarged.between declared.sums sound within is.of_part.root is.enlarged.with_sums) in
     let same = limits_larger plant levels part declared is.program is.larger is.of_part judged four in
-    record {
-      version = is.log.version;
-      claim = is.own;
-      text = is.log.text;
-      over = subst (λ (l : Limits). IsLogOver l.slots is.log.version (get_or have.trees part no_tree) is.own) same is.log.over;
-      clean = subst (λ (l : Limits). log_text_defect l (behind (get_or heads part 0) (logs part)) ≡ None) same is.clean;
-    }
+    subst (λ (l : Limits). IsLogOf l (behind 4 (get_or heads part 0) (logs part)) (get_or have.trees part no_tree)) same
+    (read-newest is.larger (4608 - levels) (logs part) is.version (get_or heads part 0) (get_or have.trees part no_tree) is.own is.log is.clean)
 
 -- ---- the told case
 
 -- the trees of the parts' logs, that the sums suit the claim, and that their joined text is the joined log
 pub record CanJoin (plant : Plant) (levels : ℕ) (logs : ℕ → List ℕ) (declared : Declared) (newest : Bool) (heads : List ℕ) (claim : Claim) : Type 0 where
   pub trees : List RowTree
-  pub are : AreLogsOf (part_limits plant levels declared) (2 ^ levels) (λ part. behind (get_or heads part 0) (logs part)) trees
+  pub are : AreLogsOf (part_limits plant levels declared) (2 ^ levels) (λ part. behind 4 (get_or heads part 0) (logs part)) trees
   pub fit : IsFit plant declared.sums claim
   pub log : (bytes : List ℕ) → bytes ≡ joined_text (front_text (joined_version newest declared.sums) declared) levels trees (larger_claim declared.sums claim) → IsJoinedLog plant levels logs claim bytes
 

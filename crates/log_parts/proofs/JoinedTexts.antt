@@ -16,7 +16,7 @@ use Rattle.log_lines.specs.declared.grammar.Limits.{Limits}
 use Rattle.log_lines.specs.declared.grammar.Place.TheVariants.{Node as AtNode, Inside, Claim as AtClaim, End as AtEnd, Done}
 use Rattle.log_lines.specs.declared.step.Step.TheVariants.{At, Opens}
 use Rattle.log_lines.specs.Grammar.{Standing, new_standing}
-use Rattle.log_lines.specs.Line.{IsLine, IsShort}
+use Rattle.log_lines.specs.Line.{IsLine, IsShort, IsVersion}
 use Rattle.log_lines.specs.TextDefect.{log_text_defect}
 use Rattle.proof_log.specs.declared.claim.Claim.{Claim}
 use Rattle.proof_log.specs.declared.claim.Claim.TheVariants.{Optimal, Infeasible, Between, Below}
@@ -34,24 +34,24 @@ use Rattle.log_parts.specs.declared.joining.ClaimedPlan.{ClaimedPlan}
 use Rattle.log_parts.specs.Joining.{plan_of, cap_of, claim_with}
 use Rattle.log_parts.specs.PartLogs.{no_mults, no_tree, tree_over}
 use Rattle.log_parts.proofs.JoinedClaims.{by-less}
-use Rattle.log_parts.proofs.PartTexts.{deeper, tree_within}
+use Rattle.log_parts.proofs.PartTexts.{HasLinesOf, deeper, tree_within}
 use Rattle.log_parts.proofs.RootSplits.{in-halves}
 
 -- ---- the lines of the tree of splits
 
-module _ (limits : Limits) where
-  node-on : (sides : List Bool) → length sides ≤ limits.depth → on limits (at 2 AtNode sides) NodeLine ≡ Some (at 2 Inside sides)
-  node-on sides low = on-step limits (at 2 AtNode sides) NodeLine (At Inside) refl (ap (λ (b : Bool). if b then Some 9 else None) (le-ltb limits.depth (length sides) low))
+module _ (wide : ℕ) (limits : Limits) where
+  node-on : (sides : List Bool) → length sides ≤ limits.depth → on limits (at wide AtNode sides) NodeLine ≡ Some (at wide Inside sides)
+  node-on sides low = on-step limits (at wide AtNode sides) NodeLine (At Inside) refl (ap (λ (b : Bool). if b then Some 9 else None) (le-ltb limits.depth (length sides) low))
 
-  split-on : (slot : ℕ) (sides : List Bool) → slot < limits.slots → on limits (at 2 Inside sides) (SplitLine slot 0 1 0) ≡ Some (at 2 AtNode (false ∷ sides))
+  split-on : (slot : ℕ) (sides : List Bool) → slot < limits.slots → on limits (at wide Inside sides) (SplitLine slot 0 1 0) ≡ Some (at wide AtNode (false ∷ sides))
   split-on slot sides low =
       let test : leb limits.slots slot ≡ false = grind (arith, nat_tests) in
-      on-step limits (at 2 Inside sides) (SplitLine slot 0 1 0) Opens refl (ap (λ (b : Bool). if b then Some 5 else None) test)
+      on-step limits (at wide Inside sides) (SplitLine slot 0 1 0) Opens refl (ap (λ (b : Bool). if b then Some 5 else None) test)
 
   -- the lines of the tree of splits lead through it, where those of each part's tree do
   pub over-lead : (total levels slot : ℕ) (trees : List RowTree) (sides : List Bool) → slot + levels ≡ total → total ≤ limits.slots → total ≤ limits.depth → length sides ≡ slot
-      → ((i : ℕ) → i < 2 ^ levels → (outer : List Bool) → length outer ≡ total → leads limits (at 2 AtNode outer) (tree_lines (get_or trees i no_tree)) ≡ Some (closed 2 outer))
-      → leads limits (at 2 AtNode sides) (tree_lines (tree_over slot levels trees)) ≡ Some (closed 2 sides)
+      → ((i : ℕ) → i < 2 ^ levels → (outer : List Bool) → length outer ≡ total → leads limits (at wide AtNode outer) (tree_lines (get_or trees i no_tree)) ≡ Some (closed wide outer))
+      → leads limits (at wide AtNode sides) (tree_lines (tree_over slot levels trees)) ≡ Some (closed wide sides)
   unfolding item_lines
   over-lead total zero slot trees sides sum few deep long each = each 0 (omega arith) sides (omega (arith, sum, long))
   over-lead total (suc levels) slot trees sides sum few deep long each =
@@ -60,12 +60,12 @@ module _ (limits : Limits) where
       let b = tree_over (slot + 1) levels (drop half trees) in
       let lines = flat_map item_lines (tree_items a ++ tree_items b) in
       let further : (slot + 1) + levels ≡ total = omega (arith, sum) in
-      let each_half = subst (λ (n : ℕ). (i : ℕ) → i < n → (outer : List Bool) → length outer ≡ total → leads limits (at 2 AtNode outer) (tree_lines (get_or trees i no_tree)) ≡ Some (closed 2 outer)) (pow-suc 2 levels) each in
-      let halves = in-halves (λ (number : ℕ) (tree : RowTree). (outer : List Bool) → length outer ≡ total → leads limits (at 2 AtNode outer) (tree_lines tree) ≡ Some (closed 2 outer)) 0 half trees each_half in
-      leads-cons limits (at 2 AtNode sides) (at 2 Inside sides) NodeLine (SplitLine slot 0 1 0 ∷ lines) (node-on sides (omega (arith, sum, deep, long)))
-      ∙ leads-cons limits (at 2 Inside sides) (at 2 AtNode (false ∷ sides)) (SplitLine slot 0 1 0) lines (split-on slot sides (omega (arith, sum, few)))
-      ∙ ap (leads limits (at 2 AtNode (false ∷ sides))) (flat_map-append item_lines (tree_items a) (tree_items b))
-      ∙ leads-then limits (at 2 AtNode (false ∷ sides)) (at 2 AtNode (true ∷ sides)) (tree_lines a) (tree_lines b)
+      let each_half = subst (λ (n : ℕ). (i : ℕ) → i < n → (outer : List Bool) → length outer ≡ total → leads limits (at wide AtNode outer) (tree_lines (get_or trees i no_tree)) ≡ Some (closed wide outer)) (pow-suc 2 levels) each in
+      let halves = in-halves (λ (number : ℕ) (tree : RowTree). (outer : List Bool) → length outer ≡ total → leads limits (at wide AtNode outer) (tree_lines tree) ≡ Some (closed wide outer)) 0 half trees each_half in
+      leads-cons limits (at wide AtNode sides) (at wide Inside sides) NodeLine (SplitLine slot 0 1 0 ∷ lines) (node-on sides (omega (arith, sum, deep, long)))
+      ∙ leads-cons limits (at wide Inside sides) (at wide AtNode (false ∷ sides)) (SplitLine slot 0 1 0) lines (split-on slot sides (omega (arith, sum, few)))
+      ∙ ap (leads limits (at wide AtNode (false ∷ sides))) (flat_map-append item_lines (tree_items a) (tree_items b))
+      ∙ leads-then limits (at wide AtNode (false ∷ sides)) (at wide AtNode (true ∷ sides)) (tree_lines a) (tree_lines b)
       (over-lead total levels (slot + 1) (take half trees) (false ∷ sides) further few deep (omega (arith, long)) halves.0)
       ∙ over-lead total levels (slot + 1) (drop half trees) (true ∷ sides) further few deep (omega (arith, long)) halves.1
 
@@ -76,7 +76,7 @@ last-standing : (limits : Limits) (lines : Option Standing) → IsSomeAnd lines 
 last-standing limits None is = absurd is
 last-standing limits (Some last) is = (last, refl)
 
-log-leads : (program : Program) (depth : ℕ) (bytes : List ℕ) (tree : RowTree) (claim : Claim) (is : IsLog program bytes tree claim) → log_text_defect (limits_of program depth) bytes ≡ None
+pub log-leads : (program : Program) (depth : ℕ) (bytes : List ℕ) (tree : RowTree) (claim : Claim) (is : IsLog program bytes tree claim) → log_text_defect (limits_of program depth) bytes ≡ None
     → (last : Standing) × (leads (limits_of program depth) new_standing (log_lines is.version (tree_items tree) claim) ≡ Some last)
 log-leads program depth bytes tree claim is clean =
     let limits = limits_of program depth in
@@ -102,14 +102,14 @@ deeper-same whole part levels rows_same long few =
     ∙ ap (limits (length whole.rows) (length whole.root)) (let e : 4608 - levels + levels ≡ 4608 = omega arith in e)
 
 -- the lines of a part's tree lead through it in a log of the plant in which a split is open for each level
-pub part-lead : (whole part : Program) (levels : ℕ) (bytes : List ℕ) (tree : RowTree) (claim : Claim) → part.rows ≡ whole.rows → length part.root ≡ length whole.root → levels ≤ 4608
-    → IsLog part bytes tree claim → log_text_defect (limits_of part (4608 - levels)) bytes ≡ None
-    → (outer : List Bool) → length outer ≡ levels → leads (limits_of whole 4608) (at 2 AtNode outer) (tree_lines tree) ≡ Some (closed 2 outer)
-part-lead whole part levels bytes tree claim rows_same long few is clean outer same =
+pub part-lead : (wide : ℕ) (whole part : Program) (levels : ℕ) (bytes : List ℕ) (tree : RowTree) (claim : Claim) → part.rows ≡ whole.rows → length part.root ≡ length whole.root → levels ≤ 4608
+    → (is : IsLog part bytes tree claim) → HasLinesOf wide is.version → log_text_defect (limits_of part (4608 - levels)) bytes ≡ None
+    → (outer : List Bool) → length outer ≡ levels → leads (limits_of whole 4608) (at wide AtNode outer) (tree_lines tree) ≡ Some (closed wide outer)
+part-lead wide whole part levels bytes tree claim rows_same long few is has clean outer same =
     let limits = limits_of part (4608 - levels) in
     let found = log-leads part (4608 - levels) bytes tree claim is clean in
-    let within = tree_within limits is.version tree claim found.0 outer found.1 in
-    subst (λ (l : Limits). leads l (at 2 AtNode outer) (tree_lines tree) ≡ Some (closed 2 outer)) (ap (deeper limits) same ∙ deeper-same whole part levels rows_same long few) within
+    let within = tree_within wide limits is.version tree claim found.0 outer has found.1 in
+    subst (λ (l : Limits). leads l (at wide AtNode outer) (tree_lines tree) ≡ Some (closed wide outer)) (ap (deeper limits) same ∙ deeper-same whole part levels rows_same long few) within
 
 -- ---- lines that may be written
 
@@ -154,7 +154,7 @@ pub node-written : IsWrittenItem Node
 unfolding item_lines
 node-written = one_line_of NodeLine (record { short = none; in_range = tt })
 
-pub split-written : (slot : ℕ) → slot < 2 ^ 32 → IsWrittenItem (Split (record { slot = slot; max = 0 }) no_mults)
+pub split-written : (slot : ℕ) → slot < 2 ^ 32 → IsWrittenItem (Split (record { slot = slot; max = 0; floor = None }) no_mults)
 unfolding item_lines
 split-written slot low =
     one_line_of (SplitLine slot 0 1 0)
@@ -248,25 +248,25 @@ with-written slots None None is short =
 
 -- ---- the joined log
 
--- a log of version 2 over the slots
-pub log-over : (slots : ℕ) (tree : RowTree) (claim : Claim) → IsWrittenLog slots tree claim → IsLogOver slots 2 tree claim
+-- a log of a version over the slots
+pub log-over : (wide slots : ℕ) (tree : RowTree) (claim : Claim) → IsVersion wide → IsWrittenLog slots tree claim → IsLogOver slots wide tree claim
 unfolding log_lines
-log-over slots tree claim is = record {
+log-over wide slots tree claim known is = record {
   items = is.items_over;
   claim_over = is.claim_written.over;
-  lines = All-cons IsLine (Header 2) (flat_map item_lines (tree_items tree) ++ (claim_lines claim ++ EndLine ∷ []))
-      (record { short = more (pos 2) [] (natural 2 (omega arith)) none; in_range = (omega arith, omega arith) })
+  lines = All-cons IsLine (Header wide) (flat_map item_lines (tree_items tree) ++ (claim_lines claim ++ EndLine ∷ []))
+      (record { short = more (pos wide) [] (natural wide (let most = known.1 in omega (arith, most))) none; in_range = known })
       (All-append IsLine (flat_map item_lines (tree_items tree)) (claim_lines claim ++ EndLine ∷ []) (written-items (tree_items tree) is.items)
       (All-append IsLine (claim_lines claim) (EndLine ∷ []) is.claim_written.lines (one_line_of EndLine (record { short = none; in_range = tt }))));
 }
 
 -- a log whose proof leads through the grammar has no text defect
-pub text-clean : (limits : Limits) (tree : RowTree) (claim : Claim) → IsLogOver limits.slots 2 tree claim → leads limits (at 2 AtNode []) (tree_lines tree) ≡ Some (closed 2 [])
-    → log_text_defect limits (log_text 2 (tree_items tree) claim) ≡ None
+pub text-clean : (wide : ℕ) (limits : Limits) (tree : RowTree) (claim : Claim) → IsLogOver limits.slots wide tree claim → leads limits (at wide AtNode []) (tree_lines tree) ≡ Some (closed wide [])
+    → log_text_defect limits (log_text wide (tree_items tree) claim) ≡ None
 unfolding log_lines log_text
-text-clean limits tree claim over leading =
-    let done = at 2 AtClaim [] in
-    let last = at 2 AtEnd [] in
-    no_defect limits new_standing (at 2 Done []) 1 (log_lines 2 (tree_items tree) claim) over.lines refl
-    (leads-then limits (at 2 AtNode []) done (tree_lines tree) (claim_lines claim ++ EndLine ∷ []) leading
-    ∙ leads-then limits done last (claim_lines claim) (EndLine ∷ []) (claim_lead limits 2 claim [] (claim_fits limits claim over.claim_over)))
+text-clean wide limits tree claim over leading =
+    let done = at wide AtClaim [] in
+    let last = at wide AtEnd [] in
+    no_defect limits new_standing (at wide Done []) 1 (log_lines wide (tree_items tree) claim) over.lines refl
+    (leads-then limits (at wide AtNode []) done (tree_lines tree) (claim_lines claim ++ EndLine ∷ []) leading
+    ∙ leads-then limits done last (claim_lines claim) (EndLine ∷ []) (claim_lead limits wide claim [] (claim_fits limits claim over.claim_over)))

@@ -1,6 +1,8 @@
 -- The joined log of the valid logs of all parts is a valid log of the plant.
-use Rattle.std.proofs.Common.{◌≡◌, ◌≢◌, ℕ, ◌+◌, ◌-◌, ◌*◌, ◌^◌, ◌<◌, ◌≤◌, Bool, true, List, [], ◌++◌, length, length-append, map, get_or, Option, Some, None, refl, sym, ap, ◌∙◌, subst, inl, inr, arith, pow_pos}
-use Rattle.std.specs.Prelude.{ℤ, IfSome, ◌↔◌}
+use Rattle.std.proofs.Common.{◌≡◌, ◌≢◌, ℕ, ◌+◌, ◌-◌, ◌*◌, ◌^◌, ◌<◌, ◌≤◌, zero, suc, Bool, true, false, if◌then◌else◌, List, [], ◌∷◌, ◌++◌, drop, flat_map, length, length-append, map, get_or, Option, Some, None, refl, sym, ap, ◌∙◌, subst, inl, inr, arith, pow_pos}
+use Rattle.std.specs.Prelude.{ℤ, IfSome, codes, ◌↔◌}
+use Rattle.std.proofs.lemmas.Bool.{cases_eq, eq-eqb, ne_eqb}
+use Rattle.std.proofs.lemmas.Fmt.{decimal_digit}
 use Rattle.std.specs.List.{All, AllZip}
 use Rattle.std.proofs.lemmas.List.{get_or_append_left, get_or_default, length-map}
 use Rattle.std.proofs.lemmas.List.Elements.{All-append, All-nil, All-weaker}
@@ -37,17 +39,18 @@ use Rattle.proof_tree.specs.Walk.{ended, outcome_of, walked, start}
 use Rattle.proof_tree.proofs.WalkLaw.{walked-whole}
 use Rattle.row_relax.specs.declared.pick.RowPick.{RowPick}
 use Rattle.row_relax.specs.declared.rows.Rows.{Rows}
-use Rattle.row_relax.specs.RowProofs.{RowTree}
+use Rattle.row_relax.specs.RowProofs.{RowItem, RowTree}
 use Rattle.row_relax.specs.Steps.{row_steps}
 use Rattle.row_relax.specs.View.{view_of}
-use Rattle.log_lines.specs.Line.{IsShort}
+use Rattle.log_lines.specs.declared.line.Line.TheVariants.{Header, End}
+use Rattle.log_lines.specs.Line.{IsShort, IsVersion, line_text, number_text}
 use Rattle.log_lines.specs.TextDefect.{log_text_defect}
 use Rattle.proof_log.specs.declared.claim.Claim.{Claim}
 use Rattle.proof_log.specs.declared.claim.Claim.TheVariants.{Infeasible}
-use Rattle.proof_log.specs.Log.{log_text, tree_lines}
+use Rattle.proof_log.specs.Log.{claim_lines, item_lines, lines_text, log_lines, log_text, tree_lines}
 use Rattle.proof_log.specs.Accepted.{leads}
-use Rattle.proof_log.specs.Behind.{behind}
-use Rattle.proof_log.specs.OneText.{IsOver}
+use Rattle.proof_log.specs.Behind.{behind, version_behind}
+use Rattle.proof_log.specs.OneText.{IsLogOver, IsOver}
 use Rattle.proof_log.proofs.GrammarWalk.{at, closed}
 use Rattle.log_lines.specs.declared.grammar.Place.TheVariants.{Node as AtNode}
 use Rattle.plan_images.proofs.Imaging.{HaveSamePoints}
@@ -66,7 +69,7 @@ use Rattle.valid_log.proofs.Saying.{of_plant}
 use Rattle.log_parts.specs.declared.joining.ClaimedPlan.{ClaimedPlan}
 use Rattle.log_parts.specs.Joining.{plan_of, IsBestPlan, IsBestCap, IsJoined}
 use Rattle.log_parts.specs.declared.heads.Declared.{Declared}
-use Rattle.log_parts.specs.Heads.{HasNewest, declared_text, joined_version}
+use Rattle.log_parts.specs.Heads.{HasNewest, IsNewest, declared_text, joined_version}
 use Rattle.log_parts.specs.PartLogs.{IsJoinedLog, IsPartLog, no_tree, tree_over}
 use Rattle.plant_parts.specs.PlantParts.{IsOfPart, cut_root}
 use Rattle.log_parts.specs.laws.Checked.{MayDeclare, head_limits}
@@ -81,19 +84,21 @@ use Rattle.log_parts.proofs.LargerClaims.{claim-at, fine-pointed, given-larger, 
 use Rattle.log_parts.proofs.PartCaps.{IsPart, cap-same, lawful-part}
 use Rattle.log_parts.proofs.HeadTexts.{headed_any, may_deeper, text_plain}
 use Rattle.log_parts.proofs.PartHeads.{as-four, cut-front, cut-stays, derived-of, head-counts, head-whole, none-enlarged, part-larger, root-larger, shown-same}
+use Rattle.log_parts.proofs.PartTexts.{HasLinesOf}
 use Rattle.log_parts.proofs.PartTrees.{IsPartTree}
 use Rattle.log_parts.proofs.RootSplits.{left_root, no-cut, over-cap, over-items, part_cap}
 
 -- ---- the log of a part
 
--- what the log of a part says over the plant's own program, of whose slots' domains cuts have left some
-record IsPartProof (whole : Program) (base left : List Domain) (levels number : ℕ) (tree : RowTree) (claim : Claim) : Type 0 where
+-- what the log of a part, whose lines a log of a version may have, says over the plant's own program, of whose slots' domains cuts have left some
+record IsPartProof (target : ℕ) (whole : Program) (base left : List Domain) (levels number : ℕ) (tree : RowTree) (claim : Claim) : Type 0 where
   part : Program
   bytes : List ℕ
   is : IsPart whole part
   root : part.root ≡ left_root base left levels number
   slots : length part.root ≡ length whole.root
   log : IsLog part bytes tree claim
+  lines : HasLinesOf target log.version
   clean : log_text_defect (limits_of part (4608 - levels)) bytes ≡ None
   sound : IsSoundLog part tree claim
 
@@ -119,7 +124,7 @@ ended-cap Bad proof_cap is = absurd (cc)
 ended-cap NoPoint proof_cap is = (let e : NoPoint ≡ proof_cap = cc in e, λ bad. let e : NoPoint ≡ proof_cap = cc in cc)
 ended-cap (AtMost n) proof_cap is = (let e : AtMost n ≡ proof_cap = cc in e, λ bad. let e : AtMost n ≡ proof_cap = cc in cc)
 
-module _ (whole : Program) (base left : List Domain) (levels number : ℕ) (tree : RowTree) (claim : Claim) (proof : IsPartProof whole base left levels number tree claim) where
+module _ (target : ℕ) (whole : Program) (base left : List Domain) (levels number : ℕ) (tree : RowTree) (claim : Claim) (proof : IsPartProof target whole base left levels number tree claim) where
   -- the cap of its proof, over the part's rows
   own-led : (tree_cap (row_steps proof.part) (view_of proof.part.root) tree ≡ proof.sound.proof_cap) × (proof.sound.proof_cap ≢ Bad)
   own-led =
@@ -147,8 +152,8 @@ module _ (whole : Program) (base left : List Domain) (levels number : ℕ) (tree
   own-written = subst (λ (n : ℕ). IsWrittenLog n tree claim) proof.slots (log-written proof.part proof.bytes tree claim proof.log)
 
   -- its lines lead through it in a log of the plant
-  own-lead : levels ≤ 4608 → (outer : List Bool) → length outer ≡ levels → leads (limits_of whole 4608) (at 2 AtNode outer) (tree_lines tree) ≡ Some (closed 2 outer)
-  own-lead few = part-lead whole proof.part levels proof.bytes tree claim proof.is.rows proof.slots few proof.log proof.clean
+  own-lead : levels ≤ 4608 → (outer : List Bool) → length outer ≡ levels → leads (limits_of whole 4608) (at target AtNode outer) (tree_lines tree) ≡ Some (closed target outer)
+  own-lead few = part-lead target whole proof.part levels proof.bytes tree claim proof.is.rows proof.slots few proof.log proof.lines proof.clean
 
 -- ---- the joined log
 
@@ -156,8 +161,8 @@ module _ (whole : Program) (base left : List Domain) (levels number : ℕ) (tree
 abbrev root_cap : Program → RowTree → Capped
 root_cap program tree = tree_cap (row_steps program) (view_of program.root) tree
 
-module _ (whole : Program) (base left : List Domain) (long : length left ≡ length base) (root_is : whole.root ≡ met base left) (levels : ℕ) (trees : List RowTree) (claims : List Claim) (claim : Claim) (are : AreFirstOfSlots levels base)
-    (few : levels ≤ 8) (within : levels ≤ length base) (each : (part : ℕ) → part < 2 ^ levels → IsPartProof whole base left levels part (get_or trees part no_tree) (get_or claims part Infeasible)) (all : length claims ≡ 2 ^ levels) (joined : IsJoined claims claim) where
+module _ (target : ℕ) (known : IsVersion target) (whole : Program) (base left : List Domain) (long : length left ≡ length base) (root_is : whole.root ≡ met base left) (levels : ℕ) (trees : List RowTree) (claims : List Claim) (claim : Claim) (are : AreFirstOfSlots levels base)
+    (few : levels ≤ 8) (within : levels ≤ length base) (each : (part : ℕ) → part < 2 ^ levels → IsPartProof target whole base left levels part (get_or trees part no_tree) (get_or claims part Infeasible)) (all : length claims ≡ 2 ^ levels) (joined : IsJoined claims claim) where
   -- the root has a domain for each slot
   there : levels ≤ length whole.root
   there = omega (arith, within, ap length root_is, length-met base left long)
@@ -170,10 +175,10 @@ module _ (whole : Program) (base left : List Domain) (long : length left ≡ len
       (λ i l.
       let number : i ≡ 0 * 2 ^ levels + i = omega arith in
       subst (λ (n : ℕ). Q (part_cap whole base left levels n (get_or trees i no_tree))) number
-      (of-cap whole base left levels i (get_or trees i no_tree) (get_or claims i Infeasible) (each i l) Q (holds i l))))
+      (of-cap target whole base left levels i (get_or trees i no_tree) (get_or claims i Infeasible) (each i l) Q (holds i l))))
 
   real : root_cap whole (tree_over 0 levels trees) ≢ Bad
-  real = joined-cap (λ (c : Capped). c ≢ Bad) greater-real (λ part l. (own-led whole base left levels part (get_or trees part no_tree) (get_or claims part Infeasible) (each part l)).1)
+  real = joined-cap (λ (c : Capped). c ≢ Bad) greater-real (λ part l. (own-led target whole base left levels part (get_or trees part no_tree) (get_or claims part Infeasible) (each part l)).1)
 
   -- the items lead to the joined cap
   led : walked {R = Rows} {A = Area} {F = Found} (row_steps whole) (start (view_of whole.root)) (tree_items (tree_over 0 levels trees)) ≡ ended (root_cap whole (tree_over 0 levels trees))
@@ -183,14 +188,14 @@ module _ (whole : Program) (base left : List Domain) (long : length left ≡ len
   all-fine : All (IsFine whole) (tree_items (tree_over 0 levels trees))
   all-fine =
       over-items (IsFine whole) levels levels 0 trees tt (λ k l. tt) (omega arith)
-      (λ i l. fine-parts whole base left levels i (get_or trees i no_tree) (get_or claims i Infeasible) (each i l))
+      (λ i l. fine-parts target whole base left levels i (get_or trees i no_tree) (get_or claims i Infeasible) (each i l))
 
   -- what a place of the claims has
-  at-place : (place : ℕ) → place < length claims → IsPartProof whole base left levels place (get_or trees place no_tree) (get_or claims place Infeasible)
+  at-place : (place : ℕ) → place < length claims → IsPartProof target whole base left levels place (get_or trees place no_tree) (get_or claims place Infeasible)
   at-place place l = each place (omega (arith, l, all))
 
   written-at : (place : ℕ) → place < length claims → IsWrittenClaim (length whole.root) (get_or claims place Infeasible)
-  written-at place l = (own-written whole base left levels place (get_or trees place no_tree) (get_or claims place Infeasible) (at-place place l)).claim_written
+  written-at place l = (own-written target whole base left levels place (get_or trees place no_tree) (get_or claims place Infeasible) (at-place place l)).claim_written
 
   -- the best plan has no defect, and may be written
   best-fine : (plan : Option ClaimedPlan) → IsBestPlan claims plan → IfSome plan (λ p. IsFinePoint whole p.profit p.point)
@@ -237,27 +242,27 @@ module _ (whole : Program) (base left : List Domain) (long : length left ≡ len
       let few_slots = whole.few_slots in
       record {
         items_over = over-items (IsOver (length whole.root)) levels levels 0 trees tt (λ k l. tt) (omega arith)
-            (λ i l. (own-written whole base left levels i (get_or trees i no_tree) (get_or claims i Infeasible) (each i l)).items_over);
+            (λ i l. (own-written target whole base left levels i (get_or trees i no_tree) (get_or claims i Infeasible) (each i l)).items_over);
         items = over-items IsWrittenItem levels levels 0 trees node-written (λ k l. split-written k (omega (arith, l, few))) (omega arith)
-            (λ i l. (own-written whole base left levels i (get_or trees i no_tree) (get_or claims i Infeasible) (each i l)).items);
+            (λ i l. (own-written target whole base left levels i (get_or trees i no_tree) (get_or claims i Infeasible) (each i l)).items);
         claim_written = subst (IsWrittenClaim (length whole.root)) (sym joined.is)
             (with-written (length whole.root) joined.plan joined.cap (best-written joined.plan joined.best_plan) (cap-short joined.cap joined.best_cap));
       }
 
-  joined-log : IsLog whole (log_text 2 (tree_items (tree_over 0 levels trees)) claim) (tree_over 0 levels trees) claim
-  joined-log = record { version = 2; text = refl; over = log-over (length whole.root) (tree_over 0 levels trees) claim joined-written }
+  joined-log : IsLog whole (log_text target (tree_items (tree_over 0 levels trees)) claim) (tree_over 0 levels trees) claim
+  joined-log = record { version = target; text = refl; over = log-over target (length whole.root) (tree_over 0 levels trees) claim known joined-written }
 
   -- its text has no text defect
-  joined-clean : log_text_defect (limits_of whole 4608) (log_text 2 (tree_items (tree_over 0 levels trees)) claim) ≡ None
+  joined-clean : log_text_defect (limits_of whole 4608) (log_text target (tree_items (tree_over 0 levels trees)) claim) ≡ None
   joined-clean =
-      text-clean (limits_of whole 4608) (tree_over 0 levels trees) claim (log-over (length whole.root) (tree_over 0 levels trees) claim joined-written)
-      (over-lead (limits_of whole 4608) levels levels 0 trees [] (omega arith) there (omega (arith, few)) refl
-      (λ i l. own-lead whole base left levels i (get_or trees i no_tree) (get_or claims i Infeasible) (each i l) (omega (arith, few))))
+      text-clean target (limits_of whole 4608) (tree_over 0 levels trees) claim (log-over target (length whole.root) (tree_over 0 levels trees) claim known joined-written)
+      (over-lead target (limits_of whole 4608) levels levels 0 trees [] (omega arith) there (omega (arith, few)) refl
+      (λ i l. own-lead target whole base left levels i (get_or trees i no_tree) (get_or claims i Infeasible) (each i l) (omega (arith, few))))
 
   -- the verdict on it is yes
-  joined-right : IsVerdict whole 4608 (log_text 2 (tree_items (tree_over 0 levels trees)) claim) (verdict.Yes claim)
+  joined-right : IsVerdict whole 4608 (log_text target (tree_items (tree_over 0 levels trees)) claim) (verdict.Yes claim)
   joined-right =
-      let bytes = log_text 2 (tree_items (tree_over 0 levels trees)) claim in
+      let bytes = log_text target (tree_items (tree_over 0 levels trees)) claim in
       subst (λ (found : Option (ℕ × ℕ)). IsVerdictGiven whole bytes found (verdict.Yes claim)) (sym joined-clean)
       (record { tree = tree_over 0 levels trees; is_log = joined-log; sound_log = joined-sound })
 
@@ -288,6 +293,48 @@ pub record AllTrees (plant : Plant) (levels : ℕ) (logs : ℕ → List ℕ) (de
   pub all_trees : length trees ≡ 2 ^ levels
   pub all_claims : length claims ≡ 2 ^ levels
   pub each : (part : ℕ) → part < 2 ^ levels → IsPartTree plant levels part (logs part) declared (get_or heads part 0) (get_or trees part no_tree) (get_or claims part Infeasible)
+
+-- ---- logs of version 4
+
+-- the version of the log behind a head of version 4, and behind any other
+behind-newest : (version : ℕ) → version ≡ 4 → version_behind version ≡ 4
+behind-newest version four = ap (λ (b : Bool). if b then 4 else 2) (eq-eqb version 4 four)
+
+behind-other : (version : ℕ) → version ≢ 4 → version_behind version ≡ 2
+behind-other version other = ap (λ (b : Bool). if b then 4 else 2) (ne_eqb version 4 other)
+
+-- a joined log that is not of version 4 has no part of that version
+not-newest : (newest : Bool) (sums : List Sum) → joined_version newest sums ≢ 4 → newest ≡ false
+not-newest true sums other = absurd (other refl)
+not-newest false sums other = refl
+
+-- the text of a log of version 4 begins with that line
+four-text : (items : List RowItem) (claim : Claim) → log_text 4 items claim ≡ codes "stn-log 4" ++ 10 ∷ lines_text (flat_map item_lines items ++ (claim_lines claim ++ End ∷ []))
+unfolding log_text log_lines lines_text line_text number_text
+four-text items claim = let e = decimal_digit 4 (omega arith) in rw e refl
+
+-- and no text that begins with the line of version 2 is one
+two-first : (rest : List ℕ) → get_or (lines_text (Header 2 ∷ []) ++ rest) 8 0 ≡ 50
+unfolding lines_text line_text number_text
+two-first rest = let e = decimal_digit 2 (omega arith) in rw e refl
+
+-- a log behind a head is of version 4 only where the whole log is
+log-newest : (bytes : List ℕ) (version head : ℕ) (larger : Program) (tree : RowTree) (claim : Claim) (log : IsLog larger (behind version head bytes) tree claim) → (version ≡ 4 → IsNewest bytes) → log.version ≡ 4 → IsNewest bytes
+log-newest bytes version head larger tree claim log newest four = by head (subst (λ (v : ℕ). behind version head bytes ≡ log_text v (tree_items tree) claim) four log.text ∙ four-text (tree_items tree) claim)
+  where
+    rest : List ℕ
+    rest = lines_text (flat_map item_lines (tree_items tree) ++ (claim_lines claim ++ End ∷ []))
+
+    by : (n : ℕ) → behind version n bytes ≡ codes "stn-log 4" ++ 10 ∷ rest → IsNewest bytes
+    by zero text = record { after = rest; is = text }
+    by (suc n) text =
+        elim (cases_eq version 4) [
+          | inl is ↦ newest is
+          | inr other ↦
+              let two : behind version (suc n) bytes ≡ lines_text (Header 2 ∷ []) ++ drop (suc n) bytes = ap (λ (v : ℕ). lines_text (Header v ∷ []) ++ drop (suc n) bytes) (behind-other version other) in
+              let apart : 50 ≡ 52 = sym (two-first (drop (suc n) bytes)) ∙ ap (λ (text : List ℕ). get_or text 8 0) (sym two ∙ text) in
+              absurd (omega (arith, apart))
+        ]
 
 -- the domains of a plant's slots, and more behind them: the first are those of slots
 first-slots : (plant : Plant) (levels : ℕ) (more : List Domain) → Sound plant → levels ≤ length (slots plant) → AreFirstOfSlots levels (plant_root plant ++ more)
@@ -380,10 +427,23 @@ module _ (plant : Plant) (levels : ℕ) (logs : ℕ → List ℕ) (declared : De
   abbrev left-of : (wide : Program) → IsWithHead 4 whole base sums derivations wide → List Domain
   left-of wide added = (grown_by added.between (head_domains whole base sums) derivations).domains
 
+  -- where none of the logs is of version 4, a log of version 2 may have the lines of each
+  lines-two : newest ≡ false → (k : ℕ) (l : k < 2 ^ levels) → HasLinesOf 2 (all.each k l).log.version
+  lines-two old k l =
+      let is = all.each k l in
+      inr (
+        omega arith,
+        λ four.
+            let newest_log = log-newest (logs k) is.version (get_or heads k 0) is.larger (get_or trees k no_tree) is.own is.log is.newest four in
+            let yes = all.known.1 (k, (l, newest_log)) in
+            let clash : true ≡ false = sym yes ∙ old in
+            cc,
+      )
+
   -- what each log says over the plant's program with the head
-  each-proof : (wide : Program) (added : IsWithHead 4 whole base sums derivations wide) → (k : ℕ) → k < 2 ^ levels
-      → IsPartProof wide added.between.root (left-of wide added) levels k (get_or trees k no_tree) (get_or (map (larger_claim sums) claims) k Infeasible)
-  each-proof wide added k l =
+  each-proof : (target : ℕ) → ((k : ℕ) (l : k < 2 ^ levels) → HasLinesOf target (all.each k l).log.version) → (wide : Program) (added : IsWithHead 4 whole base sums derivations wide) → (k : ℕ) → k < 2 ^ levels
+      → IsPartProof target wide added.between.root (left-of wide added) levels k (get_or trees k no_tree) (get_or (map (larger_claim sums) claims) k Infeasible)
+  each-proof target has wide added k l =
       let is = all.each k l in
       let but = but-root plant whole is.program made is.of_part.is_part in
       let claim : is.own ≡ get_or (map (larger_claim sums) claims) k Infeasible = (own-claim k l).0 ∙ sym (claim-at sums claims k (let long = all.all_claims in omega (arith, l, long))) in
@@ -392,11 +452,16 @@ module _ (plant : Plant) (levels : ℕ) (logs : ℕ → List ℕ) (declared : De
       let other = head-counts is.program is.larger base sums derivations (judged ∙ sym (long-same k l)) (head-of-part k l) in
       record {
         part = is.larger;
-        bytes = behind (get_or heads k 0) (logs k);
+        bytes = behind is.version (get_or heads k 0) (logs k);
         is = part-larger whole is.program wide is.larger base sums derivations but (within-root plant whole is.program made is.of_part.is_part) (long-same k l) added (head-of-part k l) (same-whole wide added) (same-part k l);
         root = root-larger whole is.program is.larger base sums derivations added.between levels k levels-there but.rows (root-cut k l) added.with_sums (head-of-part k l);
         slots = other.0 ∙ ap (λ (n : ℕ). n + length sums) (long-same k l) ∙ sym one.0;
-        log = subst (IsLog is.larger (behind (get_or heads k 0) (logs k)) (get_or trees k no_tree)) claim is.log;
+        log = record {
+          version = is.log.version;
+          text = is.log.text ∙ ap (log_text is.log.version (tree_items (get_or trees k no_tree))) claim;
+          over = subst (IsLogOver (length is.larger.root) is.log.version (get_or trees k no_tree)) claim is.log.over;
+        };
+        lines = has k l;
         clean = is.clean;
         sound = subst (IsSoundLog is.larger (get_or trees k no_tree)) claim is.sound;
       }
@@ -427,11 +492,12 @@ module _ (plant : Plant) (levels : ℕ) (logs : ℕ → List ℕ) (declared : De
 
   module _ (claim : Claim) (joined : IsJoined claims claim) where
     -- the joined log over the plant's program with the head
-    right-over : (wide : Program) → IsWithHead 4 whole base sums derivations wide → IsVerdict wide 4608 (log_text 2 (tree_items (tree_over 0 levels trees)) (larger_claim sums claim)) (verdict.Yes (larger_claim sums claim))
-    right-over wide added =
-        joined-right wide added.between.root (left-of wide added) (left-long wide added) (derived-of whole wide base sums derivations added).root levels trees (map (larger_claim sums) claims) (larger_claim sums claim) (first-here added.between added.with_sums) all.few
+    right-over : (target : ℕ) → IsVersion target → ((k : ℕ) (l : k < 2 ^ levels) → HasLinesOf target (all.each k l).log.version) → (wide : Program) → IsWithHead 4 whole base sums derivations wide
+        → IsVerdict wide 4608 (log_text target (tree_items (tree_over 0 levels trees)) (larger_claim sums claim)) (verdict.Yes (larger_claim sums claim))
+    right-over target known has wide added =
+        joined-right target known wide added.between.root (left-of wide added) (left-long wide added) (derived-of whole wide base sums derivations added).root levels trees (map (larger_claim sums) claims) (larger_claim sums claim) (first-here added.between added.with_sums) all.few
         (let long = length-append whole.root (map (sum_domain whole base) sums) in omega (arith, levels-there, ap length added.with_sums.root, long))
-        (each-proof wide added) (length-map claims (larger_claim sums) ∙ all.all_claims) (joined-larger sums claims claim joined)
+        (each-proof target has wide added) (length-map claims (larger_claim sums) ∙ all.all_claims) (joined-larger sums claims claim joined)
 
     -- its point is lawful
     pub joint-pointed : IsPointed whole claim
@@ -464,32 +530,42 @@ module _ (plant : Plant) (levels : ℕ) (logs : ℕ → List ℕ) (declared : De
     given-here wide added = given-larger whole wide sums claim (same-whole wide added) joint-pointed
 
     -- the text of version 2, which declares nothing
-    right-plain : sums ≡ [] → derivations ≡ [] → IsAnyVerdict whole base base 4608 (text 2) (verdict.Yes claim)
-    right-plain none nothing =
+    right-plain : newest ≡ false → sums ≡ [] → derivations ≡ [] → IsAnyVerdict whole base base 4608 (text 2) (verdict.Yes claim)
+    right-plain old none nothing =
         let tree = tree_over 0 levels trees in
         let own : larger_claim sums claim ≡ claim = ap (λ (ss : List Sum). larger_claim ss claim) none ∙ larger-none claim in
         let is = subst (λ (ss : List Sum). IsWithHead 4 whole base ss derivations whole) (sym none) (subst (λ (ds : List Derivation). IsWithHead 4 whole base [] ds whole) (sym nothing) plain-head) in
         let larger = larger_claim sums claim in
-        let right = subst (λ (c : Claim). IsVerdict whole 4608 (log_text 2 (tree_items tree) larger) (verdict.Yes c)) own (right-over whole is) in
+        let right = subst (λ (c : Claim). IsVerdict whole 4608 (log_text 2 (tree_items tree) larger) (verdict.Yes c)) own (right-over 2 (omega arith, omega arith, omega arith) (lines-two old) whole is) in
         subst (λ (bytes : List ℕ). IsAnyVerdict whole base base 4608 bytes (verdict.Yes claim)) (sym (text_plain declared tree larger))
         (plain-verdict whole base base 4608 (tree_items tree) larger (verdict.Yes claim) right)
 
     pub right-any : IsAnyVerdict whole base base 4608 (text (joined_version newest sums)) (verdict.Yes claim)
-    right-any = by (joined_version newest sums) all.may
+    right-any = by (joined_version newest sums) refl all.may
       where
-        by : (version : ℕ) → MayDeclare (head_limits plant levels) version declared → IsAnyVerdict whole base base 4608 (text version) (verdict.Yes claim)
-        by version may = elim may.known [
-          | inl two ↦ subst (λ (v : ℕ). IsAnyVerdict whole base base 4608 (text v) (verdict.Yes claim)) (sym two) (right-plain (may.plain two) (may.few (λ four. omega (arith, two, four))))
+        by : (version : ℕ) → joined_version newest sums ≡ version → MayDeclare (head_limits plant levels) version declared → IsAnyVerdict whole base base 4608 (text version) (verdict.Yes claim)
+        by version is_version may = elim may.known [
+          | inl two ↦
+              let old = not-newest newest sums (λ four. omega (arith, is_version, two, four)) in
+              subst (λ (v : ℕ). IsAnyVerdict whole base base 4608 (text v) (verdict.Yes claim)) (sym two) (right-plain old (may.plain two) (may.few (λ four. omega (arith, two, four))))
           | inr known ↦ elim known [
             | inl three ↦
                 let none = may.few (λ four. omega (arith, three, four)) in
+                let old = not-newest newest sums (λ four. omega (arith, is_version, three, four)) in
+                let inner : 2 ≡ version_behind version = sym (behind-other version (λ four. omega (arith, three, four))) in
                 let is = wide-some.1 in
                 let own : IsWithHead version whole base sums derivations is.between = record { sums_shown = is.sums_shown; between = is.between; with_sums = is.with_sums; derivations_shown = is.derivations_shown; grown = inl (three, refl) } in
-                headed_any whole is.between base version 4608 declared (tree_over 0 levels trees) (larger_claim sums claim) claim (inl three) (may-here version may) own (right-over is.between (three-wide none)) (given-here is.between (three-wide none))
+                headed_any whole is.between base version 4608 declared (tree_over 0 levels trees) (larger_claim sums claim) claim (inl three) (may-here version may) own
+                (subst (λ (v : ℕ). IsVerdict is.between 4608 (log_text v (tree_items (tree_over 0 levels trees)) (larger_claim sums claim)) (verdict.Yes (larger_claim sums claim))) inner
+                (right-over 2 (omega arith, omega arith, omega arith) (lines-two old) is.between (three-wide none)))
+                (given-here is.between (three-wide none))
             | inr four ↦
                 let wide = wide-some in
+                let inner : 4 ≡ version_behind version = sym (behind-newest version four) in
                 headed_any whole wide.0 base version 4608 declared (tree_over 0 levels trees) (larger_claim sums claim) claim (inr four) (may-here version may) (subst (λ (v : ℕ). IsWithHead v whole base sums derivations wide.0) (sym four) wide.1)
-                (right-over wide.0 wide.1) (given-here wide.0 wide.1)
+                (subst (λ (v : ℕ). IsVerdict wide.0 4608 (log_text v (tree_items (tree_over 0 levels trees)) (larger_claim sums claim)) (verdict.Yes (larger_claim sums claim))) inner
+                (right-over 4 (omega arith, omega arith, omega arith) (λ k l. inl refl) wide.0 wide.1))
+                (given-here wide.0 wide.1)
           ]
         ]
 

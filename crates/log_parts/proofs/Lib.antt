@@ -6,6 +6,7 @@ pub mod RootSplits
 pub mod JoinedSound
 pub mod PartTexts
 pub mod JoinedTexts
+pub mod ReadNewest
 pub mod Limits
 pub mod HeadsDiffer
 pub mod HeadTexts

@@ -1,13 +1,13 @@
 -- The caps of trees over a part's rows are those over the whole's.
-use Rattle.std.proofs.Common.{◌≡◌, ℕ, ℤ, ◌<◌, Bool, true, false, ◌&&◌, cond, ltb, List, [], ◌∷◌, length, set, Option, Some, None, option_and_then, refl, sym, ap, ◌∙◌, subst}
-use Rattle.std.specs.Prelude.{◌+ℤ◌, ◌-ℤ◌, ◌*ℤ◌, pos, if◌then◌else◌}
+use Rattle.std.proofs.Common.{◌≡◌, ℕ, ℤ, ◌+◌, ◌<◌, arith, get_or, Bool, true, false, ◌&&◌, cond, ltb, List, [], ◌∷◌, length, set, Option, Some, None, option_and_then, refl, sym, ap, ◌∙◌, subst}
+use Rattle.std.specs.Prelude.{◌+ℤ◌, ◌-ℤ◌, ◌*ℤ◌, pos, int_le, if◌then◌else◌}
 use Rattle.std.specs.List.{All, AllZip, list_all, list_any}
 use Rattle.std.proofs.lemmas.Bool.{and_parts, ltb-true}
 use Rattle.row_kit.specs.declared.domain.Domain.{Domain}
 use Rattle.row_kit.specs.declared.program.Program.{Program}
 use Rattle.row_kit.specs.declared.row.Entry.{Entry}
 use Rattle.row_kit.specs.declared.row.Row.{Row}
-use Rattle.row_kit.specs.Domain.{Holds, count_of, domain_at, no_values, up_to, over, shared}
+use Rattle.row_kit.specs.Domain.{Holds, IsNormal, count_of, domain_at, no_values, values_of, up_to, over, shared}
 use Rattle.row_kit.specs.Point.{IsLawful, LiesIn, worth_of}
 use Rattle.row_kit.specs.Row.{IsKept, entry_at, row_at}
 use Rattle.row_kit.specs.Points.{kept_at}
@@ -18,17 +18,19 @@ use Rattle.range_prop.specs.Cut.{cut_domain, cut_domains, is_bare}
 use Rattle.range_prop.proofs.CutLaws.{cut_within}
 use Rattle.dual_bound.specs.declared.cert.Cert.{Cert}
 use Rattle.dual_bound.specs.Cap.{scaled_cap}
-use Rattle.dual_bound.specs.Total.{is_fit, limits_sum, rows_at, slots_total}
+use Rattle.dual_bound.specs.Total.{greatest, has_total, is_fit, limits_sum, rows_at, slots_total}
+use Rattle.dual_bound.specs.Trimmed.{each_passing, may_exceed, passing, trimmed}
+use Rattle.dual_bound.proofs.Passing.{each-at, each-length, passing_within}
 use Rattle.proof_tree.specs.declared.capped.Capped.{Capped}
 use Rattle.proof_tree.specs.declared.capped.Capped.TheVariants.{AtMost, NoPoint, Bad}
-use Rattle.proof_tree.specs.Cap.{greater}
+use Rattle.proof_tree.specs.Cap.{floor_cap, greater}
 use Rattle.proof_tree.specs.Relaxation.{Steps}
 use Rattle.proof_tree.specs.Tree.{Leaf, no_point, dual, one_point, pending, Tree, leaf, split, tree_cap, leaf_cap, after_cuts, cap_if}
 use Rattle.proof_tree.specs.Views.{View}
 use Rattle.row_relax.specs.declared.pick.RowPick.{RowPick}
 use Rattle.row_relax.specs.RowProofs.{RowTree}
 use Rattle.row_relax.specs.Settle.{are_single, is_lawful, only_point, settled}
-use Rattle.row_relax.specs.Steps.{row_steps, shown_if}
+use Rattle.row_relax.specs.Steps.{floor_by, row_steps, shown_if, view_by}
 use Rattle.row_relax.specs.View.{Fits, IsIn, domains_of, view_of}
 use Rattle.row_relax.specs.laws.Laws.{rows_sound}
 use Rattle.row_relax.specs.laws.Lawful.{lawful_true, true_lawful}
@@ -41,7 +43,7 @@ use Rattle.row_set.proofs.PartPoints.{lies-within}
 
 -- the same steps, but that a view is settled otherwise
 abbrev resettled : {U C P : Type 0} → Steps U C P → (View → Capped) → Steps U C P
-resettled s settle = record { cut = s.cut; left = s.left; right = s.right; empty = s.empty; cap = s.cap; settle = settle }
+resettled s settle = record { cut = s.cut; left = s.left; right = s.right; empty = s.empty; cap = s.cap; settle = settle; floor = s.floor; trim = s.trim }
 
 if_same : (next : Option View) (f g : View → Capped) → ((w : View) → next ≡ Some w → f w ≡ g w) → cap_if next f ≡ cap_if next g
 if_same None f g each = refl
@@ -60,6 +62,7 @@ record AreGood {U C P : Type 0} (s : Steps U C P) (settle : View → Capped) (go
   cut_good : (v w : View) (u : U) → good v → s.cut v u ≡ Some w → good w
   left_good : (v w : View) (k : P) → good v → s.left v k ≡ Some w → good w
   right_good : (v w : View) (k : P) → good v → s.right v k ≡ Some w → good w
+  trim_good : (v : View) (k : P) (c : C) → good v → good (s.trim v k c)
   same : (v : View) → good v → s.settle v ≡ settle v
 
 leaf_same : {U C P : Type 0} (s : Steps U C P) (settle : View → Capped) (good : View → Type 0) → AreGood s settle good → (v : View) (end : Leaf C) → good v → leaf_cap s v end ≡ leaf_cap (resettled s settle) v end
@@ -85,16 +88,18 @@ tree_same s settle good are (leaf cuts found end) v is =
     ∙ ap (λ (next : Option View). cap_if next (λ w. leaf_cap (resettled s settle) w end)) (cuts_same s settle cuts v)
 tree_same s settle good are (split cuts found pick cert a b) v is =
     let other = resettled s settle in
+    let forgotten : View → Capped = λ w. floor_cap (s.floor w pick cert) in
     if_same (after_cuts s v cuts)
-    (λ w. greater (cap_if (s.left w pick) (λ x. tree_cap s x a)) (cap_if (s.right w pick) (λ x. tree_cap s x b)))
-    (λ w. greater (cap_if (s.left w pick) (λ x. tree_cap other x a)) (cap_if (s.right w pick) (λ x. tree_cap other x b)))
+    (λ w. greater (greater (forgotten w) (cap_if (s.left (s.trim w pick cert) pick) (λ x. tree_cap s x a))) (cap_if (s.right (s.trim w pick cert) pick) (λ x. tree_cap s x b)))
+    (λ w. greater (greater (forgotten w) (cap_if (s.left (s.trim w pick cert) pick) (λ x. tree_cap other x a))) (cap_if (s.right (s.trim w pick cert) pick) (λ x. tree_cap other x b)))
     (λ w e.
-    let here = cuts_good s settle good are cuts v w is e in
-    let first = if_same (s.left w pick) (λ x. tree_cap s x a) (λ x. tree_cap other x a) (λ x f. tree_same s settle good are a x (are.left_good w x pick here f)) in
-    let second = if_same (s.right w pick) (λ x. tree_cap s x b) (λ x. tree_cap other x b) (λ x f. tree_same s settle good are b x (are.right_good w x pick here f)) in
-    ap (λ (c : Capped). greater c (cap_if (s.right w pick) (λ x. tree_cap s x b))) first
-    ∙ ap (λ (c : Capped). greater (cap_if (s.left w pick) (λ x. tree_cap other x a)) c) second)
-    ∙ ap (λ (next : Option View). cap_if next (λ w. greater (cap_if (s.left w pick) (λ x. tree_cap other x a)) (cap_if (s.right w pick) (λ x. tree_cap other x b)))) (cuts_same s settle cuts v)
+    let rest = s.trim w pick cert in
+    let here = are.trim_good w pick cert (cuts_good s settle good are cuts v w is e) in
+    let first = if_same (s.left rest pick) (λ x. tree_cap s x a) (λ x. tree_cap other x a) (λ x f. tree_same s settle good are a x (are.left_good rest x pick here f)) in
+    let second = if_same (s.right rest pick) (λ x. tree_cap s x b) (λ x. tree_cap other x b) (λ x f. tree_same s settle good are b x (are.right_good rest x pick here f)) in
+    ap (λ (c : Capped). greater (greater (forgotten w) c) (cap_if (s.right rest pick) (λ x. tree_cap s x b))) first
+    ∙ ap (λ (c : Capped). greater (greater (forgotten w) (cap_if (s.left rest pick) (λ x. tree_cap other x a))) c) second)
+    ∙ ap (λ (next : Option View). cap_if next (λ w. greater (greater (forgotten w) (cap_if (s.left (s.trim w pick cert) pick) (λ x. tree_cap other x a))) (cap_if (s.right (s.trim w pick cert) pick) (λ x. tree_cap other x b)))) (cuts_same s settle cuts v)
 
 -- ---- views within a root
 
@@ -138,6 +143,34 @@ right_inside program v w k is shows =
     let low = ltb-true k.slot (length ds) (shown_there there (kept_at ds k.slot (over k.max)) w shows).0 in
     one_inside program v w there k.slot (shared (domain_at ds k.slot) (over k.max)) is ((rows_sound program).right_fits v w k is.fits shows) low
     (λ x. shared_within (domain_at ds k.slot) (over k.max) x) shows
+
+-- what a floor leaves lies in what was there
+passing_inside : (test : ℕ → ℕ → Bool) (ds : List Domain) (p : List ℕ) → All IsNormal ds → LiesIn (each_passing test 0 ds) p → LiesIn ds p
+passing_inside test ds p normal' lies = record {
+  same_length = lies.same_length ∙ each-length test 0 ds;
+  held = λ k lt.
+      let there : k < length (each_passing test 0 ds) = omega (arith, lt, each-length test 0 ds) in
+      let is = each-at test 0 ds k no_values lt ∙ ap (λ (j : ℕ). passing (test j) (domain_at ds k)) (let e : 0 + k ≡ k = omega arith in e) in
+      passing_within (test k) (domain_at ds k) (get_or p k 0) (normal' k no_values lt).positive (subst (λ (d : Domain). Holds d (get_or p k 0)) is (lies.held k there));
+}
+
+trimmed_inside : (program : Program) (ds : List Domain) (cert : Cert) (floor : ℤ) (p : List ℕ) → All IsNormal ds → LiesIn (trimmed program ds cert floor) p → LiesIn ds p
+unfolding trimmed
+trimmed_inside program ds cert floor p normal' = step (has_total program ds cert)
+  where
+    step : (b : Bool) → LiesIn (cond b (each_passing (may_exceed program ds cert floor) 0 ds) ds) p → LiesIn ds p
+    step true lies = passing_inside (may_exceed program ds cert floor) ds p normal' lies
+    step false lies = lies
+
+trim_inside : (program : Program) (v : View) (k : RowPick) (c : Cert) → IsInside program v → IsInside program ((row_steps program).trim v k c)
+unfolding row_steps
+trim_inside program v k c is = record { fits = (rows_sound program).trim_fits v k c is.fits; lies = λ p lies. is.lies p (by k.floor p lies) }
+  where
+    by : (floor : Option ℤ) (p : List ℕ) → IsIn (view_by program v c floor) p → IsIn v p
+    by None p lies = lies
+    by (Some floor) p lies =
+        let left = trimmed program (domains_of v) c floor in
+        trimmed_inside program (domains_of v) c floor p is.fits.normal (subst (λ (ds : List Domain). LiesIn ds p) (domains_of-view_of left) lies)
 
 -- ---- a part and the whole
 
@@ -188,37 +221,48 @@ settle-same whole part is v inside = by_single (are_single (domains_of v)) refl
         by_lawful (is_lawful part (only_point (domains_of v))) refl
         ∙ ap (λ (test : Bool). cond test (AtMost (worth_of whole (only_point (domains_of v)))) NoPoint) (lawful-same whole part (only_point (domains_of v)) is lies)
 
--- the calls of rows, of which the settling is given
-abbrev steps_of : List Row → List Entry → ℤ → (View → Capped) → Steps RowCut Cert RowPick
-steps_of rows profit base settle = record {
-  cut = λ view cut. let ds = domains_of view in shown_if (ltb cut.row (length rows) && ltb cut.slot (length ds)) (cut_domains (row_at rows cut.row) cut.slot ds);
-  left = λ view pick. let ds = domains_of view in shown_if (ltb pick.slot (length ds)) (kept_at ds pick.slot (up_to pick.max));
-  right = λ view pick. let ds = domains_of view in shown_if (ltb pick.slot (length ds)) (kept_at ds pick.slot (over pick.max));
-  empty = λ view. list_any is_bare (domains_of view);
-  cap = λ view cert.
-      scaled_cap cert.scale
-      (if is_fit (length rows) cert && list_all (λ domain. ltb 0 (count_of domain)) (domains_of view)
-      then Some (((pos cert.scale *ℤ base) +ℤ limits_sum rows cert.mults)
-      +ℤ slots_total (λ slot value. (pos cert.scale *ℤ entry_at profit slot value) -ℤ rows_at rows cert.mults slot value) 0 (domains_of view))
-      else None);
-  settle = settle;
-}
+-- floors count alike over the part's rows and the whole's, and leave the same
+floor-same : (whole part : Program) (domains : List Domain) (cert : Cert) (floor : Option ℤ) → IsPart whole part → floor_by part domains cert floor ≡ floor_by whole domains cert floor
+floor-same whole part domains cert None but = refl
+floor-same whole part domains cert (Some floor) but = λ i. if is_fit (length (but.rows i)) cert && list_all (λ (domain : Domain). ltb 0 (count_of domain)) domains then Some floor else None
+
+trimmed-same : (whole part : Program) (domains : List Domain) (cert : Cert) (floor : ℤ) → IsPart whole part → trimmed part domains cert floor ≡ trimmed whole domains cert floor
+unfolding trimmed
+trimmed-same whole part domains cert floor but = λ i.
+    let gained : ℕ → ℕ → ℤ = λ slot value. (pos cert.scale *ℤ entry_at (but.profit i) slot value) -ℤ rows_at (but.rows i) cert.mults slot value in
+    let total = ((pos cert.scale *ℤ but.base i) +ℤ limits_sum (but.rows i) cert.mults) +ℤ slots_total gained 0 domains in
+    if is_fit (length (but.rows i)) cert && list_all (λ (domain : Domain). ltb 0 (count_of domain)) domains
+    then each_passing (λ slot value. int_le (pos cert.scale *ℤ (floor +ℤ pos 1)) ((total -ℤ greatest (gained slot) (values_of (domain_at domains slot))) +ℤ gained slot value)) 0 domains
+    else domains
+
+trim-same : (whole part : Program) (view : View) (cert : Cert) (floor : Option ℤ) → IsPart whole part → view_by part view cert floor ≡ view_by whole view cert floor
+trim-same whole part view cert None but = refl
+trim-same whole part view cert (Some floor) but = ap view_of (trimmed-same whole part (domains_of view) cert floor but)
 
 -- the part's calls are the whole's, but for settling
 steps-same : (whole part : Program) → IsPart whole part → resettled (row_steps part) (λ v. settled whole (domains_of v)) ≡ row_steps whole
 unfolding row_steps
-steps-same whole part but =
-    let settle : View → Capped = λ v. settled whole (domains_of v) in
-    let one : steps_of part.rows part.profit part.base settle ≡ steps_of whole.rows part.profit part.base settle = ap (λ (rows : List Row). steps_of rows part.profit part.base settle) but.rows in
-    let two : steps_of whole.rows part.profit part.base settle ≡ steps_of whole.rows whole.profit part.base settle = ap (λ (profit : List Entry). steps_of whole.rows profit part.base settle) but.profit in
-    let three : steps_of whole.rows whole.profit part.base settle ≡ steps_of whole.rows whole.profit whole.base settle = ap (λ (base : ℤ). steps_of whole.rows whole.profit base settle) but.base in
-    one ∙ two ∙ three
+steps-same whole part but = λ i. record {
+  cut = λ view cut. shown_if (ltb cut.row (length (but.rows i)) && ltb cut.slot (length (domains_of view))) (cut_domains (row_at (but.rows i) cut.row) cut.slot (domains_of view));
+  left = (row_steps part).left;
+  right = (row_steps part).right;
+  empty = (row_steps part).empty;
+  cap = λ view cert.
+      scaled_cap cert.scale
+      (if is_fit (length (but.rows i)) cert && list_all (λ (domain : Domain). ltb 0 (count_of domain)) (domains_of view)
+      then Some (((pos cert.scale *ℤ but.base i) +ℤ limits_sum (but.rows i) cert.mults)
+      +ℤ slots_total (λ slot value. (pos cert.scale *ℤ entry_at (but.profit i) slot value) -ℤ rows_at (but.rows i) cert.mults slot value) 0 (domains_of view))
+      else None);
+  settle = λ view. settled whole (domains_of view);
+  floor = λ view pick cert. floor-same whole part (domains_of view) cert pick.floor but i;
+  trim = λ view pick cert. trim-same whole part view cert pick.floor but i;
+}
 
 -- the cap of a tree over the root of a part is the same over the part's rows and over the whole's
 pub cap-same : (whole part : Program) (tree : RowTree) → IsPart whole part → tree_cap (row_steps part) (view_of part.root) tree ≡ tree_cap (row_steps whole) (view_of part.root) tree
 cap-same whole part tree is =
     tree_same (row_steps part) (λ v. settled whole (domains_of v)) (IsInside part)
-    (record { cut_good = cut_inside part; left_good = left_inside part; right_good = right_inside part; same = settle-same whole part is }) tree (view_of part.root)
+    (record { cut_good = cut_inside part; left_good = left_inside part; right_good = right_inside part; trim_good = trim_inside part; same = settle-same whole part is }) tree (view_of part.root)
     (record {
       fits = fits_of part part.root refl part.root_normal;
       lies = λ p lies. subst (λ (ds : List Domain). LiesIn ds p) (domains_of-view_of part.root) lies;

@@ -1,5 +1,5 @@
 -- What a valid log of a part says over the part's program with what its head declares.
-use Rattle.std.proofs.Common.{◌≡◌, ℕ, ◌-◌, List, [], length, None, refl, sym, ap, ◌∙◌, subst, arith, inl, inr}
+use Rattle.std.proofs.Common.{◌≡◌, ℕ, ◌-◌, List, [], ◌∷◌, ◌++◌, append_assoc, drop, length, None, refl, sym, ap, ◌∙◌, subst, arith, inl, inr}
 use Rattle.std.proofs.lemmas.List.{take_all}
 use Rattle.std.proofs.lemmas.List.Elements.{All-nil}
 use Rattle.stn_model.specs.declared.plant.Plant.{Plant}
@@ -17,7 +17,8 @@ use Rattle.sum_slots.specs.Shown.{IsShown}
 use Rattle.sum_lines.specs.declared.head.Front.{Front}
 use Rattle.sum_lines.specs.declared.head.Front.TheVariants as front
 use Rattle.sum_lines.specs.declared.head.Head.{Head}
-use Rattle.sum_lines.specs.Front.{IsFront, IsHeaded}
+use Rattle.sum_lines.specs.Front.{BeginsWith, IsFront, IsHeaded}
+use Rattle.sum_lines.specs.Head.{first_line, lines_of as sum_lines_of, lines_text as sum_lines_text}
 use Rattle.derivation_lines.specs.declared.tail.Tail.{Tail}
 use Rattle.derivation_lines.specs.declared.tail.TailFront.{TailFront}
 use Rattle.derivation_lines.specs.declared.tail.TailFront.TheVariants as tailed
@@ -33,6 +34,7 @@ use Rattle.log_parts.specs.declared.heads.Declared.{Declared}
 use Rattle.log_parts.specs.declared.heads.LogFront.{LogFront}
 use Rattle.log_parts.specs.declared.heads.LogFront.TheVariants as head
 use Rattle.log_parts.specs.declared.heads.LogHead.{LogHead}
+use Rattle.log_parts.specs.Heads.{IsNewest}
 use Rattle.log_parts.specs.PartLogs.{IsPartLog}
 use Rattle.log_parts.specs.laws.Checked.{HasFront, IsFoundLog, IsHeadFront, IsLogFront, front_with, head_limits, head_with, no_head}
 use Rattle.log_parts.proofs.Limits.{head_same, judged_same}
@@ -97,10 +99,11 @@ pub record IsHeadLog (program : Program) (judged : List Domain) (depth : ℕ) (b
   pub larger : Program
   pub enlarged : IsWithHead version program judged own.declared.sums own.declared.derivations larger
   pub none : version ≡ 3 → own.declared.derivations ≡ []
+  pub newest : version ≡ 4 → IsNewest bytes
   pub inner : Claim
-  pub valid : IsValidLog larger depth (behind own.bytes bytes) inner
+  pub valid : IsValidLog larger depth (behind version own.bytes bytes) inner
   pub claim_is : claim ≡ given_claim (length program.root) inner
-  pub log : (tree : RowTree) → IsLog larger (behind own.bytes bytes) tree inner → IsAnyLog program judged judged bytes own.declared.sums own.declared.derivations tree claim
+  pub log : (tree : RowTree) → IsLog larger (behind version own.bytes bytes) tree inner → IsAnyLog program judged judged bytes own.declared.sums own.declared.derivations tree claim
 
 -- the point of a claim over the slots stays
 whole_claim : (slots : ℕ) (claim : Claim) → IsClaimOver slots claim → claim ≡ given_claim slots claim
@@ -116,6 +119,7 @@ plain_log program judged depth bytes claim stands valid = record {
   larger = program;
   enlarged = record { sums_shown = All-nil (IsShown program judged); between = program; with_sums = none-enlarged program judged; derivations_shown = tt; grown = inl (refl, refl) };
   none = λ three. refl;
+  newest = λ four. absurd (omega (arith, four));
   inner = claim;
   valid = valid;
   claim_is = whole_claim (length program.root) claim valid.valid.is_log.over.claim_over;
@@ -126,6 +130,14 @@ no_derivations : (limits : Limits) (own : Head) (bytes : List ℕ) (tail : Tail)
 no_derivations limits own bytes tail (inl none) three = (let is = none.1 in cc)
 no_derivations limits own bytes tail (inr some) three = absurd (omega (arith, some.0, three))
 
+-- a head of version 4 begins with that line
+head_newest : (limits : Limits) (own : Head) (bytes : List ℕ) → IsFront limits bytes (front.Headed own) → own.version ≡ 4 → IsNewest bytes
+head_newest limits own bytes stands four =
+    let rest = drop own.bytes bytes in
+    let lines = sum_lines_text (sum_lines_of own.sums) in
+    subst (λ (version : ℕ). BeginsWith (first_line version) bytes) four
+    (record { after = lines ++ rest; is = stands.is ∙ append_assoc (first_line own.version) (10 ∷ lines) rest })
+
 -- with one
 headed_log : (program : Program) (judged : List Domain) (depth : ℕ) (bytes : List ℕ) (own : Head) (claim : Claim) → IsFront (limits_with program depth 0) bytes (front.Headed own)
     → (valid : IsValidBehind program (judged_over judged judged own.version) depth bytes own claim) → IsHeadLog program judged depth bytes (head_with own valid.tail) claim
@@ -134,6 +146,7 @@ headed_log program judged depth bytes own claim stands valid = record {
   larger = valid.larger;
   enlarged = subst (λ (ds : List Domain). IsWithHead own.version program ds own.sums valid.tail.derivations valid.larger) (judged_same judged own.version) valid.enlarged;
   none = no_derivations (limits_with program depth (length own.sums)) own bytes valid.tail valid.follows;
+  newest = head_newest (limits_with program depth 0) own bytes stands;
   inner = valid.own;
   valid = valid.valid;
   claim_is = valid.is;
@@ -183,9 +196,10 @@ pub record IsPartTree (plant : Plant) (levels part : ℕ) (bytes : List ℕ) (de
   pub larger : Program
   pub enlarged : IsWithHead version program (plant_root plant) declared.sums declared.derivations larger
   pub none : version ≡ 3 → declared.derivations ≡ []
+  pub newest : version ≡ 4 → IsNewest bytes
   pub own : Claim
-  pub log : IsLog larger (behind head_bytes bytes) tree own
-  pub clean : log_text_defect (limits_of larger (4608 - levels)) (behind head_bytes bytes) ≡ None
+  pub log : IsLog larger (behind version head_bytes bytes) tree own
+  pub clean : log_text_defect (limits_of larger (4608 - levels)) (behind version head_bytes bytes) ≡ None
   pub sound : IsSoundLog larger tree own
   pub claim_is : claim ≡ given_claim (length program.root) own
   pub is : IsPartLog plant levels part bytes declared tree claim
@@ -202,6 +216,7 @@ with_head plant levels part bytes own claim found says = (
     larger = says.larger;
     enlarged = says.enlarged;
     none = says.none;
+    newest = says.newest;
     own = says.inner;
     log = says.valid.valid.is_log;
     clean = says.valid.clean;

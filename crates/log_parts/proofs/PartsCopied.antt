@@ -34,8 +34,8 @@ tree_over-take slot (suc levels) trees =
     let double : 2 ^ suc levels ≡ 2 ^ levels + 2 ^ levels = omega arith in
     let left : take (2 ^ levels) (take (2 ^ suc levels) trees) ≡ take (2 ^ levels) trees = take_take (2 ^ levels) (2 ^ suc levels) trees (omega (arith, double)) in
     let right : drop (2 ^ levels) (take (2 ^ suc levels) trees) ≡ take (2 ^ levels) (drop (2 ^ levels) trees) = ap (λ (n : ℕ). drop (2 ^ levels) (take n trees)) double ∙ drop-take (2 ^ levels) (2 ^ levels) trees in
-    ap (λ (own : List RowTree). split [] None (record { slot = slot; max = 0 }) no_mults (tree_over (slot + 1) levels own) (tree_over (slot + 1) levels (drop (2 ^ levels) (take (2 ^ suc levels) trees)))) left
-    ∙ ap (split [] None (record { slot = slot; max = 0 }) no_mults (tree_over (slot + 1) levels (take (2 ^ levels) trees)))
+    ap (λ (own : List RowTree). split [] None (record { slot = slot; max = 0; floor = None }) no_mults (tree_over (slot + 1) levels own) (tree_over (slot + 1) levels (drop (2 ^ levels) (take (2 ^ suc levels) trees)))) left
+    ∙ ap (split [] None (record { slot = slot; max = 0; floor = None }) no_mults (tree_over (slot + 1) levels (take (2 ^ levels) trees)))
     (ap (tree_over (slot + 1) levels) right ∙ tree_over-take (slot + 1) levels (drop (2 ^ levels) trees))
 
 drop_drop : (n m : ℕ) (trees : List RowTree) → drop m (drop n trees) ≡ drop (n + m) trees
@@ -48,8 +48,8 @@ drop_drop (suc n) m (tree ∷ trees) =
 -- the items of the tree over slots are the split's, those of the left parts, and those of the right ones
 pub split_over : (slot k part : ℕ) (trees : List RowTree) → (split_items slot ++ items_over (slot + 1) k part trees) ++ items_over (slot + 1) k (part + 2 ^ k) trees ≡ items_over slot (suc k) part trees
 split_over slot k part trees =
-    ap (λ (own : RowTree). Node ∷ (Split (record { slot = slot; max = 0 }) no_mults ∷ (tree_items own ++ items_over (slot + 1) k (part + 2 ^ k) trees))) (sym (tree_over-take (slot + 1) k (drop part trees)))
-    ∙ ap (λ (own : List RowTree). Node ∷ (Split (record { slot = slot; max = 0 }) no_mults ∷ (tree_items (tree_over (slot + 1) k (take (2 ^ k) (drop part trees))) ++ tree_items (tree_over (slot + 1) k own)))) (sym (drop_drop part (2 ^ k) trees))
+    ap (λ (own : RowTree). Node ∷ (Split (record { slot = slot; max = 0; floor = None }) no_mults ∷ (tree_items own ++ items_over (slot + 1) k (part + 2 ^ k) trees))) (sym (tree_over-take (slot + 1) k (drop part trees)))
+    ∙ ap (λ (own : List RowTree). Node ∷ (Split (record { slot = slot; max = 0; floor = None }) no_mults ∷ (tree_items (tree_over (slot + 1) k (take (2 ^ k) (drop part trees))) ++ tree_items (tree_over (slot + 1) k own)))) (sym (drop_drop part (2 ^ k) trees))
 
 -- there is a part
 pub powered : (n : ℕ) → 0 < 2 ^ n
@@ -75,7 +75,7 @@ logs_stay limits count stem heads name m n trees stay apart are part within =
     let own = log_name stem part in
     let same = same_file own (Some m) (Some n) (stay own (λ is. apart part within (sym is))) in
     let here : file_of n own ≡ file_of m own = cc in
-    subst (λ (bytes : List ℕ). IsLogOf limits (behind (get_or heads part 0) bytes) (get_or trees part no_tree)) (sym here) (are part within)
+    subst (λ (bytes : List ℕ). IsLogOf limits (behind 4 (get_or heads part 0) bytes) (get_or trees part no_tree)) (sym here) (are part within)
 
 -- ---- one after another
 
@@ -148,14 +148,14 @@ pub part_copied : (D E : Type 0) (limits : Limits) (count slot part : ℕ) (head
     → HasCopied limits head own old writer new later {D = D} None → HasJoined limits count stem heads (items_over slot 0 part) old writer new later {D = E} None
 part_copied D E limits count slot part head stem heads own None new writer later within taken named copied = tt
 part_copied D E limits count slot part head stem heads own (Some m) new writer later within taken named copied = λ trees are front items has.
-    let is = copied (get_or trees part no_tree) (subst (λ (n : ℕ). IsLogOf limits (behind n (file_of m own)) (get_or trees part no_tree)) (sym taken) (subst (λ (name : List ℕ). IsLogOf limits (behind (get_or heads part 0) (file_of m name)) (get_or trees part no_tree)) (sym named) (are part within))) front items has in
+    let is = copied (get_or trees part no_tree) (subst (λ (n : ℕ). IsLogOf limits (behind 4 n (file_of m own)) (get_or trees part no_tree)) (sym taken) (subst (λ (name : List ℕ). IsLogOf limits (behind 4 (get_or heads part 0) (file_of m name)) (get_or trees part no_tree)) (sym named) (are part within))) front items has in
     (refl, subst (λ (more : List RowItem). HasItems front later new (items ++ more)) (sym (part_items slot part trees)) is.1)
 
 pub part_bad : {D E : Type 0} (limits : Limits) (count slot part : ℕ) (head : ℕ) (stem heads own : List ℕ) (old new : Option FileMap) (writer later : LogWriter) (defect : D) (bad : E) → part < count → head ≡ get_or heads part 0 → own ≡ log_name stem part
     → HasCopied limits head own old writer new later (Some defect) → HasJoined limits count stem heads (items_over slot 0 part) old writer new later (Some bad)
 part_bad limits count slot part head stem heads own None new writer later defect bad within taken named copied = tt
 part_bad limits count slot part head stem heads own (Some m) new writer later defect bad within taken named copied = λ trees are front items has.
-    let is = copied (get_or trees part no_tree) (subst (λ (n : ℕ). IsLogOf limits (behind n (file_of m own)) (get_or trees part no_tree)) (sym taken) (subst (λ (name : List ℕ). IsLogOf limits (behind (get_or heads part 0) (file_of m name)) (get_or trees part no_tree)) (sym named) (are part within))) front items has in
+    let is = copied (get_or trees part no_tree) (subst (λ (n : ℕ). IsLogOf limits (behind 4 n (file_of m own)) (get_or trees part no_tree)) (sym taken) (subst (λ (name : List ℕ). IsLogOf limits (behind 4 (get_or heads part 0) (file_of m name)) (get_or trees part no_tree)) (sym named) (are part within))) front items has in
     let no = is.0 in absurd cc
 
 pub part_broken : (limits : Limits) (count slot part : ℕ) (head : ℕ) (stem heads own : List ℕ) (old new : Option FileMap) (writer : LogWriter) → part < count → head ≡ get_or heads part 0 → own ≡ log_name stem part
@@ -163,7 +163,7 @@ pub part_broken : (limits : Limits) (count slot part : ℕ) (head : ℕ) (stem h
 part_broken limits count slot part head stem heads own None new writer within taken named broken = tt
 part_broken limits count slot part head stem heads own (Some m) new writer within taken named broken = λ trees are front items has.
     subst (λ (more : List RowItem). IsBegun front (name_of writer) new (items ++ more)) (sym (part_items slot part trees))
-    (broken (get_or trees part no_tree) (subst (λ (n : ℕ). IsLogOf limits (behind n (file_of m own)) (get_or trees part no_tree)) (sym taken) (subst (λ (name : List ℕ). IsLogOf limits (behind (get_or heads part 0) (file_of m name)) (get_or trees part no_tree)) (sym named) (are part within))) front items has)
+    (broken (get_or trees part no_tree) (subst (λ (n : ℕ). IsLogOf limits (behind 4 n (file_of m own)) (get_or trees part no_tree)) (sym taken) (subst (λ (name : List ℕ). IsLogOf limits (behind 4 (get_or heads part 0) (file_of m name)) (get_or trees part no_tree)) (sym named) (are part within))) front items has)
 
 -- nothing was put
 pub none_put : (limits : Limits) (count : ℕ) (stem heads : List ℕ) (f : List RowTree → List RowItem) (old : Option FileMap) (writer : LogWriter) → HasJoinBroken limits count stem heads f old writer old

@@ -1,6 +1,6 @@
 -- The tree of splits over a plant's first slots, of whose domains cuts have left some: what its two parts are over, and what holds of its
 -- cap and of its items.
-use Rattle.std.proofs.Common.{◌≡◌, ◌≢◌, ℕ, zero, suc, ◌+◌, ◌*◌, ◌^◌, ◌<◌, ◌≤◌, Bool, true, false, ◌&&◌, cond, eqb, leb, ltb, List, ◌∷◌, ◌++◌, length, get_or, set, take, drop, Option, Some, sym, ap, ◌∙◌, subst, inl, inr, arith, add-one, add-mul, one-mul, mul_assoc}
+use Rattle.std.proofs.Common.{◌≡◌, ◌≢◌, ℕ, zero, suc, ◌+◌, ◌*◌, ◌^◌, ◌<◌, ◌≤◌, Bool, true, false, ◌&&◌, cond, eqb, leb, ltb, List, ◌∷◌, ◌++◌, length, get_or, set, take, drop, Option, Some, sym, ap, ◌∙◌, subst, inl, inr, arith, add-one, add-mul, one-mul, mul_assoc, None, [], refl}
 use Rattle.std.specs.Prelude.{min, max}
 use Rattle.std.specs.List.{All}
 use Rattle.std.proofs.lemmas.Bool.{cases_eq, cases_lt, lt-ltb, cond-true, cond-false}
@@ -17,7 +17,7 @@ use Rattle.proof_tree.specs.declared.capped.Capped.{Capped}
 use Rattle.proof_tree.specs.Cap.{greater}
 use Rattle.proof_tree.specs.declared.item.Item.TheVariants.{Node, Split}
 use Rattle.proof_tree.specs.Items.{tree_items}
-use Rattle.proof_tree.specs.Tree.{tree_cap, cap_if}
+use Rattle.proof_tree.specs.Tree.{tree_cap, cap_if, split}
 use Rattle.proof_tree.specs.Views.{View}
 use Rattle.row_relax.specs.RowProofs.{RowItem, RowTree}
 use Rattle.row_relax.specs.Steps.{row_steps, shown_if}
@@ -135,7 +135,7 @@ module _ (program : Program) (whole left : List Domain) (same : length left ≡ 
   kept-left levels part slot d low = kept-met (cut_root levels part whole) left slot d (same ∙ sym (length-cut levels part whole)) (omega (arith, low, length-cut levels part whole))
 
   left-view : (levels part : ℕ) → IsOfSlot (domain_at whole levels) → levels < length whole
-      → (row_steps program).left (view_of (left_root whole left levels part)) (record { slot = levels; max = 0 }) ≡ Some (view_of (left_root whole left (levels + 1) (part * 2 + 0)))
+      → (row_steps program).left (view_of (left_root whole left levels part)) (record { slot = levels; max = 0; floor = None }) ≡ Some (view_of (left_root whole left (levels + 1) (part * 2 + 0)))
   unfolding row_steps
   left-view levels part is low =
       let ds = left_root whole left levels part in
@@ -146,7 +146,7 @@ module _ (program : Program) (whole left : List Domain) (same : length left ≡ 
       ∙ ap (λ (n : ℕ). left_root whole left n (part * 2 + 0)) (sym (add-one levels)))
 
   right-view : (levels part : ℕ) → IsOfSlot (domain_at whole levels) → levels < length whole
-      → (row_steps program).right (view_of (left_root whole left levels part)) (record { slot = levels; max = 0 }) ≡ Some (view_of (left_root whole left (levels + 1) (part * 2 + 1)))
+      → (row_steps program).right (view_of (left_root whole left levels part)) (record { slot = levels; max = 0; floor = None }) ≡ Some (view_of (left_root whole left (levels + 1) (part * 2 + 1)))
   unfolding row_steps
   right-view levels part is low =
       let ds = left_root whole left levels part in
@@ -195,6 +195,12 @@ split-cap Q closed first second a b f g is also one other =
     subst (λ (next : Option View). Q (greater (cap_if next f) (cap_if second g))) (sym is)
     (subst (λ (next : Option View). Q (greater (f a) (cap_if next g))) (sym also) (closed (f a) (g b) one other))
 
+-- the cap of a split without a floor is the greater of those of its parts
+no-floor : (program : Program) (v : View) (slot : ℕ) (a b : RowTree) → tree_cap (row_steps program) v (split [] None (record { slot = slot; max = 0; floor = None }) no_mults a b)
+    ≡ greater (cap_if ((row_steps program).left v (record { slot = slot; max = 0; floor = None })) (λ x. tree_cap (row_steps program) x a)) (cap_if ((row_steps program).right v (record { slot = slot; max = 0; floor = None })) (λ x. tree_cap (row_steps program) x b))
+unfolding row_steps
+no-floor program v slot a b = refl
+
 -- what holds of the cap of each part's tree, and of the greater of two caps of which it holds, holds of the cap of the tree of splits
 pub over-cap : (Q : Capped → Type 0) → ((a b : Capped) → Q a → Q b → Q (greater a b)) → (program : Program) (whole left : List Domain) → length left ≡ length whole → (total : ℕ) → AreFirstOfSlots total whole → (levels slot part : ℕ) (trees : List RowTree)
     → slot + levels ≡ total → total ≤ length whole
@@ -211,18 +217,19 @@ over-cap Q closed program whole left long total are (suc levels) slot part trees
     let further : (slot + 1) + levels ≡ total = omega (arith, sum) in
     let each_half = subst (λ (n : ℕ). (i : ℕ) → i < n → Q (part_cap program whole left total (part * n + i) (get_or trees i no_tree))) (pow-suc 2 levels) each in
     let halves = in-halves (λ (number : ℕ) (tree : RowTree). Q (part_cap program whole left total number tree)) part half trees each_half in
-    split-cap Q closed
-    ((row_steps program).left (view_of (left_root whole left slot part)) (record { slot = slot; max = 0 })) ((row_steps program).right (view_of (left_root whole left slot part)) (record { slot = slot; max = 0 }))
+    subst Q (sym (no-floor program (view_of (left_root whole left slot part)) slot (tree_over (slot + 1) levels (take half trees)) (tree_over (slot + 1) levels (drop half trees))))
+    (split-cap Q closed
+    ((row_steps program).left (view_of (left_root whole left slot part)) (record { slot = slot; max = 0; floor = None })) ((row_steps program).right (view_of (left_root whole left slot part)) (record { slot = slot; max = 0; floor = None }))
     (view_of (left_root whole left (slot + 1) (part * 2 + 0))) (view_of (left_root whole left (slot + 1) (part * 2 + 1)))
     (λ x. tree_cap (row_steps program) x (tree_over (slot + 1) levels (take half trees))) (λ x. tree_cap (row_steps program) x (tree_over (slot + 1) levels (drop half trees)))
     (left-view program whole left long slot part (are slot (omega (arith, sum))) low) (right-view program whole left long slot part (are slot (omega (arith, sum))) low)
     (over-cap Q closed program whole left long total are levels (slot + 1) (part * 2 + 0) (take half trees) further within halves.0)
-    (over-cap Q closed program whole left long total are levels (slot + 1) (part * 2 + 1) (drop half trees) further within halves.1)
+    (over-cap Q closed program whole left long total are levels (slot + 1) (part * 2 + 1) (drop half trees) further within halves.1))
 
 -- ---- what holds of the items
 
 -- what holds of a node, of each split and of the items of each part's tree holds of those of the tree of splits
-pub over-items : (P : RowItem → Type 0) (total levels slot : ℕ) (trees : List RowTree) → P Node → ((k : ℕ) → k < total → P (Split (record { slot = k; max = 0 }) no_mults)) → slot + levels ≡ total
+pub over-items : (P : RowItem → Type 0) (total levels slot : ℕ) (trees : List RowTree) → P Node → ((k : ℕ) → k < total → P (Split (record { slot = k; max = 0; floor = None }) no_mults)) → slot + levels ≡ total
     → ((i : ℕ) → i < 2 ^ levels → All P (tree_items (get_or trees i no_tree))) → All P (tree_items (tree_over slot levels trees))
 over-items P total zero slot trees node splits sum each = each 0 (omega arith)
 over-items P total (suc levels) slot trees node splits sum each =
@@ -232,8 +239,8 @@ over-items P total (suc levels) slot trees node splits sum each =
     let further : (slot + 1) + levels ≡ total = omega (arith, sum) in
     let each_half = subst (λ (n : ℕ). (i : ℕ) → i < n → All P (tree_items (get_or trees i no_tree))) (pow-suc 2 levels) each in
     let halves = in-halves (λ (number : ℕ) (tree : RowTree). All P (tree_items tree)) 0 half trees each_half in
-    All-cons P Node (Split (record { slot = slot; max = 0 }) no_mults ∷ (tree_items a ++ tree_items b)) node
-    (All-cons P (Split (record { slot = slot; max = 0 }) no_mults) (tree_items a ++ tree_items b) (splits slot (omega (arith, sum)))
+    All-cons P Node (Split (record { slot = slot; max = 0; floor = None }) no_mults ∷ (tree_items a ++ tree_items b)) node
+    (All-cons P (Split (record { slot = slot; max = 0; floor = None }) no_mults) (tree_items a ++ tree_items b) (splits slot (omega (arith, sum)))
     (All-append P (tree_items a) (tree_items b)
     (over-items P total levels (slot + 1) (take half trees) node splits further halves.0)
     (over-items P total levels (slot + 1) (drop half trees) node splits further halves.1)))

@@ -71,7 +71,7 @@ no_tree = leaf [] None no_point
 abbrev pub tree_over : ℕ → ℕ → List RowTree → RowTree
 tree_over slot zero trees = slice_index_or trees 0 no_tree
 tree_over slot (suc levels) trees =
-    split [] None (record { slot = slot; max = 0 }) no_mults (tree_over (slot + 1) levels (take (2 ^ levels) trees)) (tree_over (slot + 1) levels (drop (2 ^ levels) trees))
+    split [] None (record { slot = slot; max = 0; floor = None }) no_mults (tree_over (slot + 1) levels (take (2 ^ levels) trees)) (tree_over (slot + 1) levels (drop (2 ^ levels) trees))
 
 -- The bytes are the joined log of the logs of all parts: each of these is valid, all have the same head, and the bytes are the text of
 -- that head and of the tree of splits in which the parts' trees stand, with the joined claim and its point completed by the values of

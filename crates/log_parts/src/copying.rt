@@ -13,6 +13,9 @@ use row_relax::Rows;
 use std::alloc::Global;
 use stn_edge::Shelf;
 
+// The version with which each log is read again, which has the lines of all others.
+const NEWEST: u8 = 4;
+
 // Puts an item to the log.
 pub(crate) fn put_item<F: Shelf>(
     writer: &mut LogWriter,
@@ -82,7 +85,7 @@ pub(crate) fn copy_log<F: Shelf>(
     ensures write_fault { result ≡ Err JoinStop.WriteFault
         → Rose (F.write_faults files.old) (F.write_faults files.new) }
 {
-    let mut reader = LogReader::begin_behind(alloc, limits, head)?;
+    let mut reader = LogReader::begin_behind(alloc, limits, NEWEST, head)?;
     'parts: for _ in 0..u64::MAX {
         match reader.next(files, name)? {
             LogPart::Item { line: _, item } => put_item(writer, files, &item)?,

@@ -76,7 +76,12 @@ fn split_at(alloc: Global, slot: u32) -> Item<Rows>
         scale: 1,
         mults: List::new(alloc),
     };
-    Item::Split(RowPick { slot, max: 0 }, cert)
+    let pick = RowPick {
+        slot,
+        max: 0,
+        floor: None,
+    };
+    Item::Split(pick, cert)
 }
 
 // Puts the node of a split of a slot.

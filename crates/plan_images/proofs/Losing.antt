@@ -1,5 +1,5 @@
--- Cuts and splits lose no image, so the cap of a proof allows what each plan earns.
-use Rattle.std.proofs.Common.{◌≡◌, ℕ, ℤ, ◌≤ℤ◌, Bool, true, false, cond, List, [], ◌∷◌, Option, Some, None, option_and_then, refl, sym, ap, ◌∙◌, subst, arith, ⊎_elim}
+-- Cuts and splits lose no image of what earns more than their floors, so the cap of a proof allows what each plan earns.
+use Rattle.std.proofs.Common.{◌≡◌, ℕ, ℤ, ◌≤ℤ◌, ◌⊎◌, Bool, true, false, cond, List, [], ◌∷◌, Option, Some, None, option_and_then, refl, sym, ap, ◌∙◌, subst, arith, inl, inr, ⊎_elim}
 use Rattle.std.proofs.lemmas.Int.{ints}
 use Rattle.row_kit.specs.declared.domain.Domain.{Domain}
 use Rattle.row_kit.specs.declared.program.Program.{Program}
@@ -7,15 +7,18 @@ use Rattle.row_kit.specs.Point.{IsLawful, LiesIn, value_of, worth_of}
 use Rattle.range_prop.specs.declared.row_cut.RowCut.{RowCut}
 use Rattle.dual_bound.specs.declared.cert.Cert.{Cert}
 use Rattle.dual_bound.specs.Cap.{CapHolds, cert_cap}
+use Rattle.dual_bound.specs.Total.{has_total}
+use Rattle.dual_bound.specs.Trimmed.{trimmed}
+use Rattle.dual_bound.proofs.Floors.{trimmed_keeps, trimmed_without}
 use Rattle.dual_bound.proofs.Quotients.{cert_cap-holds}
 use Rattle.proof_tree.specs.declared.capped.Capped.{Capped}
 use Rattle.proof_tree.specs.declared.capped.Capped.TheVariants.{AtMost, NoPoint, Bad}
-use Rattle.proof_tree.specs.Cap.{Settles, greater}
-use Rattle.proof_tree.specs.Tree.{Leaf, no_point, dual, one_point, pending, leaf, split, tree_cap, leaf_cap, after_cuts, cap_if}
+use Rattle.proof_tree.specs.Cap.{IsWithinFloor, Settles, greater, floor_cap}
+use Rattle.proof_tree.specs.Tree.{Leaf, no_point, dual, one_point, pending, leaf, split, tree_cap, split_cap, leaf_cap, after_cuts, cap_if}
 use Rattle.proof_tree.specs.Views.{View, Point}
 use Rattle.row_relax.specs.declared.pick.RowPick.{RowPick}
 use Rattle.row_relax.specs.RowProofs.{RowTree}
-use Rattle.row_relax.specs.Steps.{row_steps}
+use Rattle.row_relax.specs.Steps.{floor_by, row_steps, view_by}
 use Rattle.row_relax.specs.View.{Fits, IsIn, domains_of, view_of}
 use Rattle.row_relax.specs.laws.Laws.{rows_sound}
 use Rattle.row_relax.specs.laws.Shown.{domains_of-view_of, fits_of}
@@ -25,11 +28,32 @@ use Rattle.plan_images.specs.Images.{IsImage, IsRelaxation}
 use Rattle.plan_images.specs.Law.{NoneIsLost, RowsSettle}
 use Rattle.plan_images.proofs.Allowing.{allows-half, allows-left, allows-less, allows-right}
 
--- no step of a proof loses a lawful point
+-- a floor leaves a lawful point, or its value is at most the floor
+floor-keeps : (program : Program) (v : View) (cert : Cert) (floor : Option ℤ) (point : List ℕ) → IsIn v point → IsLawful program point → IsIn (view_by program v cert floor) point ⊎ IsWithinFloor (floor_by program (domains_of v) cert floor) (value_of program point)
+floor-keeps program v cert None point lies lawful = inl lies
+floor-keeps program v cert (Some floor) point lies lawful = by (has_total program (domains_of v) cert) refl
+  where
+    left : List Domain
+    left = trimmed program (domains_of v) cert floor
+
+    in_view : LiesIn left point → IsIn (view_of left) point
+    in_view lies = subst (λ (ds : List Domain). LiesIn ds point) (sym (domains_of-view_of left)) lies
+
+    by : (total : Bool) → has_total program (domains_of v) cert ≡ total → IsIn (view_of left) point ⊎ IsWithinFloor (cond total (Some floor) None) (value_of program point)
+    by true is = ⊎_elim (λ (stays : LiesIn left point). inl (in_view stays)) (λ (within : value_of program point ≤ℤ floor). inr within) (trimmed_keeps program (domains_of v) cert floor point is lies lawful.keeps)
+    by false is = inl (in_view (subst (λ (ds : List Domain). LiesIn ds point) (sym (trimmed_without program (domains_of v) cert floor is)) lies))
+
+-- so does what a split forgets
+trim-keeps : (program : Program) (v : View) (pick : RowPick) (cert : Cert) (point : List ℕ) → IsIn v point → IsLawful program point → IsIn ((row_steps program).trim v pick cert) point ⊎ IsWithinFloor ((row_steps program).floor v pick cert) (value_of program point)
+unfolding row_steps
+trim-keeps program v pick cert point lies lawful = floor-keeps program v cert pick.floor point lies lawful
+
+-- no step of a proof loses a lawful point that is worth more than the floors
 pub lawful-kept : (program : Program) (point : List ℕ) → IsLawful program point → LosesNone program point
 lawful-kept program point lawful = record {
   cut = λ v w cut fits is lies. (rows_sound program).cut_keeps v w cut fits is point lies lawful;
   parts = λ v w x pick fits left right lies. (rows_sound program).parts_cover v w x pick fits left right point lies;
+  trim = λ v pick cert fits lies. trim-keeps program v pick cert point lies lawful;
   some = λ v fits empty lies. (rows_sound program).empty_holds v fits empty point lies;
 }
 
@@ -91,16 +115,33 @@ module _ (program : Program) (alone : List ℕ → ℤ) (settle : View → Cappe
   leaf-allows v one_point at = allows-less (settle v) earned (alone point) image.said (sound v point at.fits at.lies image.lawful)
   leaf-allows v (pending cert) at = cert-allows v cert at
 
-  -- two parts: the image lies in one of them
-  pub parts-allow : (v : View) (pick : RowPick) (first second : View → Capped) → Lies program point v → ((x : View) → Lies program point x → Allows (first x) earned) → ((x : View) → Lies program point x → Allows (second x) earned)
-      → (x : Option View) → (row_steps program).left v pick ≡ x → (y : Option View) → (row_steps program).right v pick ≡ y → Allows (greater (cap_if x first) (cap_if y second)) earned
-  parts-allow v pick first second at one other None y left right = tt
-  parts-allow v pick first second at one other (Some x) left None right = allows-half (first x) earned
-  parts-allow v pick first second at one other (Some x) left (Some y) right =
+  -- a floor that is at least the image's value allows what the plan earns
+  floor-allows : (floor : Option ℤ) → IsWithinFloor floor (value_of program point) → Allows (floor_cap floor) earned
+  floor-allows None within = absurd within
+  floor-allows (Some n) within = allows-less (AtMost n) earned (value_of program point) image.value within
+
+  -- a split: the image lies in one of its parts, or is worth at most its floor
+  pub split-allows : (v : View) (pick : RowPick) (cert : Cert) (first second : View → Capped) → Lies program point v → ((x : View) → Lies program point x → Allows (first x) earned) → ((x : View) → Lies program point x → Allows (second x) earned)
+      → (x : Option View) → (row_steps program).left ((row_steps program).trim v pick cert) pick ≡ x → (y : Option View) → (row_steps program).right ((row_steps program).trim v pick cert) pick ≡ y
+      → Allows (greater (greater (floor_cap ((row_steps program).floor v pick cert)) (cap_if x first)) (cap_if y second)) earned
+  split-allows v pick cert first second at one other None left y right =
+      let floor = floor_cap ((row_steps program).floor v pick cert) in
+      allows-left (greater floor Bad) (cap_if y second) earned (allows-half floor earned)
+  split-allows v pick cert first second at one other (Some x) left None right = allows-half (greater (floor_cap ((row_steps program).floor v pick cert)) (first x)) earned
+  split-allows v pick cert first second at one other (Some x) left (Some y) right =
+      let rest = (row_steps program).trim v pick cert in
+      let floor = (row_steps program).floor v pick cert in
+      let fits = (rows_sound program).trim_fits v pick cert at.fits in
+      let kept = lawful-kept program point image.lawful in
+      let on_left : Allows (greater (floor_cap floor) (first x)) earned → Allows (greater (greater (floor_cap floor) (first x)) (second y)) earned = allows-left (greater (floor_cap floor) (first x)) (second y) earned in
       ⊎_elim
-      (λ (in' : IsIn x point). allows-left (first x) (second y) earned (one x (record { fits = (rows_sound program).left_fits v x pick at.fits left; lies = in' })))
-      (λ (in' : IsIn y point). allows-right (first x) (second y) earned (other y (record { fits = (rows_sound program).right_fits v y pick at.fits right; lies = in' })))
-      ((lawful-kept program point image.lawful).parts v x y pick at.fits left right at.lies)
+      (λ (stays : IsIn rest point).
+      ⊎_elim
+      (λ (in' : IsIn x point). on_left (allows-right (floor_cap floor) (first x) earned (one x (record { fits = (rows_sound program).left_fits rest x pick fits left; lies = in' }))))
+      (λ (in' : IsIn y point). allows-right (greater (floor_cap floor) (first x)) (second y) earned (other y (record { fits = (rows_sound program).right_fits rest y pick fits right; lies = in' })))
+      (kept.parts rest x y pick fits left right stays))
+      (λ (within : IsWithinFloor floor (value_of program point)). on_left (allows-left (floor_cap floor) (first x) earned (floor-allows floor within)))
+      (kept.trim v pick cert at.fits at.lies)
 
   -- the cap of what stands after cuts
   cuts-allow : (cuts : List RowCut) (v : View) (cap_at : View → Capped) → Lies program point v → ((w : View) → Lies program point w → Allows (cap_at w) earned) → Allows (cap_if (after_cuts (settled_by program settle) v cuts) cap_at) earned
@@ -117,8 +158,9 @@ module _ (program : Program) (alone : List ℕ → ℤ) (settle : View → Cappe
   tree-allows (leaf cuts found end) v at = cuts-allow cuts v (λ w. leaf_cap (settled_by program settle) w end) at (λ w there. leaf-allows w end there)
   tree-allows (split cuts found pick cert a b) v at =
       cuts-allow cuts v
-      (λ w. greater (cap_if ((row_steps program).left w pick) (λ x. tree_cap (settled_by program settle) x a)) (cap_if ((row_steps program).right w pick) (λ x. tree_cap (settled_by program settle) x b))) at
-      (λ w there. parts-allow w pick (λ x. tree_cap (settled_by program settle) x a) (λ x. tree_cap (settled_by program settle) x b) there (tree-allows a) (tree-allows b) ((row_steps program).left w pick) refl ((row_steps program).right w pick) refl)
+      (λ w. split_cap (settled_by program settle) w pick cert (λ x. tree_cap (settled_by program settle) x a) (λ x. tree_cap (settled_by program settle) x b)) at
+      (λ w there. split-allows w pick cert (λ x. tree_cap (settled_by program settle) x a) (λ x. tree_cap (settled_by program settle) x b) there (tree-allows a) (tree-allows b)
+      ((row_steps program).left ((row_steps program).trim w pick cert) pick) refl ((row_steps program).right ((row_steps program).trim w pick cert) pick) refl)
 
 -- a lawful point lies in the view of the root
 pub root-lies : (program : Program) (point : List ℕ) → IsLawful program point → IsIn (view_of program.root) point

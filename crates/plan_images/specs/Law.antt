@@ -64,7 +64,7 @@ abbrev pub ExtensionsCompose : Type 0
 ExtensionsCompose =
     (plant : Plant) (part given larger : Program) (alone larger_alone : List ℕ → ℤ) → RelaxesPart plant part given alone → Extends given alone larger larger_alone → RelaxesPart plant part larger larger_alone
 
--- no step of a proof loses an image
+-- no step of a proof loses an image, but that a split may forget one of what earns no more than its floor
 abbrev pub NoneIsLost : Type 0
 NoneIsLost = (program : Program) (alone : List ℕ → ℤ) (earned : ℤ) (point : List ℕ) → IsImage program alone earned point → LosesNone program point
 

@@ -14,7 +14,8 @@ pub fn plans_have_images()
     ensures rows { RowsExtend }
     ensures compose { ExtensionsCompose }
 
-    // Cuts and splits lose no image, so the cap of a proof allows what each plan earns, also where plans that earn little are let go.
+    // Cuts and splits lose no image of a plan that earns more than their floors, so the cap of a proof allows what each plan earns, also
+    // where plans that earn little are let go.
     ensures lost { NoneIsLost }
     ensures settled { RowsSettle }
     ensures caps { TreesCap }

@@ -1,10 +1,13 @@
 -- The cap of the proof of a search has at most 30 digits.
-use Rattle.std.proofs.Common.{◌≡◌, ℕ, ◌<◌, ◌^◌, leb, ltb, Bool, true, false, ◌&&◌, cond, List, [], ◌∷◌, length, Option, Some, None, option_and_then, if◌then◌else◌, refl, subst, arith, ℤ, unsigned_abs}
+use Rattle.std.proofs.Common.{◌≡◌, ℕ, ◌<◌, ◌^◌, leb, ltb, Bool, true, false, ◌&&◌, cond, List, [], ◌∷◌, ◌++◌, length, map, Option, Some, None, option_and_then, option_to_list, if◌then◌else◌, refl, subst, arith, ℤ, unsigned_abs}
+use Rattle.std.specs.Prelude.{IfSome}
 use Rattle.std.specs.Int.{int_max}
 use Rattle.std.specs.List.{All, list_all, list_any}
 use Rattle.std.proofs.lemmas.Bool.{and_parts, leb-true}
 use Rattle.std.proofs.lemmas.Int.{ints, clamps}
+use Rattle.std.proofs.lemmas.List.Elements.{All-head, All-tail}
 use Rattle.row_kit.specs.declared.domain.Domain.{Domain}
+use Rattle.row_kit.specs.declared.found.Found.{Found}
 use Rattle.row_kit.specs.declared.program.Program.{Program}
 use Rattle.row_kit.specs.Domain.{IsNormal, count_of}
 use Rattle.row_kit.specs.Point.{worth_of}
@@ -17,16 +20,21 @@ use Rattle.dual_bound.proofs.Fit.{fit_all}
 use Rattle.dual_bound.proofs.Small.{cap_small, total_small}
 use Rattle.proof_tree.specs.declared.capped.Capped.{Capped}
 use Rattle.proof_tree.specs.declared.capped.Capped.TheVariants.{AtMost, NoPoint, Bad}
-use Rattle.proof_tree.specs.Cap.{greater}
-use Rattle.proof_tree.specs.Tree.{Leaf, no_point, dual, one_point, pending, leaf, split, tree_cap, leaf_cap, after_cuts, cap_if}
+use Rattle.proof_tree.specs.declared.item.Item.TheVariants.{Node, Cut, Found as FoundItem, Split}
+use Rattle.proof_tree.specs.Cap.{greater, floor_cap}
+use Rattle.proof_tree.specs.Items.{tree_items}
+use Rattle.proof_tree.specs.Tree.{Leaf, no_point, dual, one_point, pending, leaf, split, tree_cap, leaf_cap, split_cap, after_cuts, cap_if}
 use Rattle.proof_tree.specs.Views.{View}
+use Rattle.row_relax.specs.declared.pick.RowPick.{RowPick}
 use Rattle.row_relax.specs.laws.Lawful.{true_lawful}
 use Rattle.row_relax.specs.laws.Laws.{rows_sound}
 use Rattle.row_relax.specs.laws.Shown.{fits_of}
-use Rattle.row_relax.specs.RowProofs.{RowTree}
+use Rattle.row_relax.specs.RowProofs.{RowItem, RowTree}
 use Rattle.row_relax.specs.Settle.{are_single, is_lawful, only_point, settled}
-use Rattle.row_relax.specs.Steps.{row_steps}
+use Rattle.row_relax.specs.Steps.{floor_by, row_steps}
 use Rattle.row_relax.specs.View.{Fits, domains_of, view_of}
+use Rattle.sum_slots.proofs.Joined.{All-first, All-second}
+use Rattle.branch_tree.specs.Searched.{IsFitItem}
 use Rattle.plan_told.proofs.WorthShort.{worth_short}
 
 -- a fit certificate is usable
@@ -98,19 +106,48 @@ cuts_fit program (u ∷ us) v w fit is = first (λ x there led. cuts_fit program
     first rest None to led = absurd (cc)
     first rest (Some x) to led = rest x ((rows_sound program).cut_fits v x u fit to) led
 
--- the cap of a tree
-tree_short : (program : Program) (tree : RowTree) (v : View) → Fits program v → IsSmallCap (10 ^ 30) (tree_cap (row_steps program) v tree)
-tree_short program (leaf cuts found end) v fit =
-    if_short (10 ^ 30) (after_cuts (row_steps program) v cuts) (λ w. leaf_cap (row_steps program) w end) (λ w is. leaf_short program w end (cuts_fit program cuts v w fit is))
-tree_short program (split cuts found pick cert a b) v fit =
-    if_short (10 ^ 30) (after_cuts (row_steps program) v cuts)
-    (λ w. greater (cap_if ((row_steps program).left w pick) (λ x. tree_cap (row_steps program) x a)) (cap_if ((row_steps program).right w pick) (λ x. tree_cap (row_steps program) x b)))
-    (λ w is.
-    let inner = cuts_fit program cuts v w fit is in
-    greater_short (10 ^ 30) (cap_if ((row_steps program).left w pick) (λ x. tree_cap (row_steps program) x a)) (cap_if ((row_steps program).right w pick) (λ x. tree_cap (row_steps program) x b))
-    (if_short (10 ^ 30) ((row_steps program).left w pick) (λ x. tree_cap (row_steps program) x a) (λ x to. tree_short program a x ((rows_sound program).left_fits w x pick inner to)))
-    (if_short (10 ^ 30) ((row_steps program).right w pick) (λ x. tree_cap (row_steps program) x b) (λ x to. tree_short program b x ((rows_sound program).right_fits w x pick inner to))))
+-- the cap of a floor that has at most 30 digits
+floor_short : (program : Program) (v : View) (cert : Cert) (floor : Option ℤ) → IfSome floor (λ n. unsigned_abs n < 10 ^ 30) → IsSmallCap (10 ^ 30) (floor_cap (floor_by program (domains_of v) cert floor))
+floor_short program v cert None short = tt
+floor_short program v cert (Some n) short = at (has_total program (domains_of v) cert)
+  where
+    at : (total : Bool) → IsSmallCap (10 ^ 30) (floor_cap (cond total (Some n) None))
+    at true = short
+    at false = tt
 
--- the cap of a proof over the root
-pub root_short : (program : Program) (tree : RowTree) → IsSmallCap (10 ^ 30) (tree_cap (row_steps program) (view_of program.root) tree)
-root_short program tree = tree_short program tree (view_of program.root) (fits_of program program.root refl program.root_normal)
+pick_short : (program : Program) (v : View) (pick : RowPick) (cert : Cert) → IfSome pick.floor (λ n. unsigned_abs n < 10 ^ 30) → IsSmallCap (10 ^ 30) (floor_cap ((row_steps program).floor v pick cert))
+unfolding row_steps
+pick_short program v pick cert short = floor_short program v cert pick.floor short
+
+-- what holds of the items of a split holds of its own, and of those of its parts
+split_items : (P : RowItem → Type 0) (cuts : List RowCut) (found : Option Found) (pick : RowPick) (cert : Cert) (a b : RowTree) → All P (tree_items (split cuts found pick cert a b)) → P (Split pick cert) × All P (tree_items a) × All P (tree_items b)
+split_items P cuts found pick cert a b all =
+    let parts : List RowItem = tree_items a ++ tree_items b in
+    let end : List RowItem = Split pick cert ∷ parts in
+    let groups : List RowItem = map FoundItem (option_to_list found) in
+    let made : List RowItem = map Cut cuts in
+    let own = All-second P groups end (All-second P made (groups ++ end) (All-tail P Node (made ++ (groups ++ end)) all)) in
+    let rest = All-tail P (Split pick cert) parts own in
+    (All-head P (Split pick cert) parts own, All-first P (tree_items a) (tree_items b) rest, All-second P (tree_items a) (tree_items b) rest)
+
+-- the cap of a tree whose items may be written
+tree_short : (program : Program) (floors : Bool) (tree : RowTree) (v : View) → Fits program v → All (IsFitItem program floors) (tree_items tree) → IsSmallCap (10 ^ 30) (tree_cap (row_steps program) v tree)
+tree_short program floors (leaf cuts found end) v fit items =
+    if_short (10 ^ 30) (after_cuts (row_steps program) v cuts) (λ w. leaf_cap (row_steps program) w end) (λ w is. leaf_short program w end (cuts_fit program cuts v w fit is))
+tree_short program floors (split cuts found pick cert a b) v fit items =
+    let own = split_items (IsFitItem program floors) cuts found pick cert a b items in
+    if_short (10 ^ 30) (after_cuts (row_steps program) v cuts) (λ w. split_cap (row_steps program) w pick cert (λ x. tree_cap (row_steps program) x a) (λ x. tree_cap (row_steps program) x b))
+    (λ w is.
+    let rest = (row_steps program).trim w pick cert in
+    let inner = (rows_sound program).trim_fits w pick cert (cuts_fit program cuts v w fit is) in
+    let floor = floor_cap ((row_steps program).floor w pick cert) in
+    let first = cap_if ((row_steps program).left rest pick) (λ x. tree_cap (row_steps program) x a) in
+    let second = cap_if ((row_steps program).right rest pick) (λ x. tree_cap (row_steps program) x b) in
+    greater_short (10 ^ 30) (greater floor first) second
+    (greater_short (10 ^ 30) floor first (pick_short program w pick cert own.0.4)
+    (if_short (10 ^ 30) ((row_steps program).left rest pick) (λ x. tree_cap (row_steps program) x a) (λ x to. tree_short program floors a x ((rows_sound program).left_fits rest x pick inner to) own.1)))
+    (if_short (10 ^ 30) ((row_steps program).right rest pick) (λ x. tree_cap (row_steps program) x b) (λ x to. tree_short program floors b x ((rows_sound program).right_fits rest x pick inner to) own.2)))
+
+-- the cap of a proof over the root whose items may be written
+pub root_short : (program : Program) (floors : Bool) (tree : RowTree) → All (IsFitItem program floors) (tree_items tree) → IsSmallCap (10 ^ 30) (tree_cap (row_steps program) (view_of program.root) tree)
+root_short program floors tree items = tree_short program floors tree (view_of program.root) (fits_of program program.root refl program.root_normal) items

@@ -51,9 +51,9 @@ spared_one d = at (d.zero && leb d.lo d.hi)
     at false = omega arith
 
 -- it may be written
-pub empty-writable : (program : Program) → IsWritable program empty_tree
-empty-writable program = record {
-  fit = All-cons (IsFitItem program) Node (Empty ∷ []) tt (All-cons (IsFitItem program) Empty [] tt (All-nil (IsFitItem program)));
+pub empty-writable : (program : Program) (floors : Bool) → IsWritable program floors empty_tree
+empty-writable program floors = record {
+  fit = All-cons (IsFitItem program floors) Node (Empty ∷ []) tt (All-cons (IsFitItem program floors) Empty [] tt (All-nil (IsFitItem program floors)));
   shallow = omega (arith, sum_by-le spared 1 program.root (λ k d within. spared_one (get_or program.root k d)), program.few_slots);
 }
 

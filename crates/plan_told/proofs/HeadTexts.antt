@@ -64,7 +64,7 @@ some_head sums derivations none = cc
 
 -- a valid log over the program with what a head declares is, behind the head, a valid log of the program, of the claim cut back
 pub headed-valid : (program larger : Program) (ranges judged : List Domain) (sums : List Sum) (derivations : List Derivation) (depth : ℕ) (tree : RowTree) (own claim : Claim) → CanHead program judged sums derivations larger
-    → IsVerdict larger depth (log_text 2 (tree_items tree) own) (Yes own) → claim ≡ given_claim (length program.root) own
+    → IsVerdict larger depth (log_text 4 (tree_items tree) own) (Yes own) → claim ≡ given_claim (length program.root) own
     → IsAnyVerdict program ranges judged depth (headed_text sums derivations tree own) (Yes claim)
 headed-valid program larger ranges judged sums derivations depth tree own claim can valid is =
     let head = head_of 4 sums in
@@ -82,8 +82,8 @@ headed-valid program larger ranges judged sums derivations depth tree own claim 
     let kept : AreKept 4 (limits_of program depth) sums = record { declared = can.sums_kept.declared; rows_there = can.sums_kept.rows_there; slots = can.sums_kept.slots; rows = can.sums_kept.rows } in
     let stands = subst (λ (l : Limits). IsFront l bytes (Headed head)) (limits_same program depth)
     (subst (λ (b : List ℕ). IsFront (limits_of program depth) b (Headed head)) (sym text_is) (head_stands (limits_of program depth) sums derivations node.0 kept few)) in
-    let behind_is : behind tail.bytes bytes ≡ log_text 2 (tree_items tree) own =
-    ap (λ (n : ℕ). behind n bytes) (sym all) ∙ behind-head (whole_head sums derivations) (tree_items tree) own (some_head sums derivations) in
+    let behind_is : behind 4 tail.bytes bytes ≡ log_text 4 (tree_items tree) own =
+    ap (λ (n : ℕ). behind 4 n bytes) (sym all) ∙ behind-head 4 (whole_head sums derivations) (tree_items tree) own (some_head sums derivations) in
     let shown : IsShownVerdict program judged depth bytes head tail (Yes claim) = record {
       larger = larger;
       enlarged = can.enlarged;

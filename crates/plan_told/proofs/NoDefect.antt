@@ -1,5 +1,5 @@
 -- A proof that may be written, and whose cap is defined, has no meaning defect.
-use Rattle.std.proofs.Common.{◌≡◌, ◌≢◌, sym, ap, ◌∙◌}
+use Rattle.std.proofs.Common.{◌≡◌, ◌≢◌, Bool, sym, ap, ◌∙◌}
 use Rattle.std.proofs.lemmas.List.Elements.{All-weaker}
 use Rattle.row_kit.specs.declared.area.Area.{Area}
 use Rattle.row_kit.specs.declared.found.Found.{Found}
@@ -21,17 +21,17 @@ use Rattle.valid_log.proofs.FoundSound.{IsFine, items_sound, real_outcome}
 use Rattle.valid_log.proofs.Items.{worth-sound}
 
 -- an item that may be written is no found point with a defect
-item_fine : (program : Program) (item : RowItem) → IsFitItem program item → IsFine program item
-item_fine program Node fit = tt
-item_fine program (Cut cut) fit = tt
-item_fine program (FoundItem found) fit = worth-sound program found.value found.point (fit.lawful, sym fit.worth)
-item_fine program Empty fit = tt
-item_fine program (Dual cert) fit = tt
-item_fine program Point fit = tt
-item_fine program (Pending cert) fit = tt
-item_fine program (Split pick cert) fit = tt
+item_fine : (program : Program) (floors : Bool) (item : RowItem) → IsFitItem program floors item → IsFine program item
+item_fine program floors Node fit = tt
+item_fine program floors (Cut cut) fit = tt
+item_fine program floors (FoundItem found) fit = worth-sound program found.value found.point (fit.lawful, sym fit.worth)
+item_fine program floors Empty fit = tt
+item_fine program floors (Dual cert) fit = tt
+item_fine program floors Point fit = tt
+item_fine program floors (Pending cert) fit = tt
+item_fine program floors (Split pick cert) fit = tt
 
-module _ (program : Program) (tree : RowTree) (cap : Capped) (writable : IsWritable program tree) (is : cap ≡ tree_cap (row_steps program) (view_of program.root) tree) (defined : cap ≢ Bad) where
+module _ (program : Program) (floors : Bool) (tree : RowTree) (cap : Capped) (writable : IsWritable program floors tree) (is : cap ≡ tree_cap (row_steps program) (view_of program.root) tree) (defined : cap ≢ Bad) where
   -- the items of a proof lead to its cap
   items_led : walked {R = Rows} {A = Area} {F = Found} (row_steps program) (start (view_of program.root)) (tree_items tree) ≡ ended cap
   items_led = walked-whole Rows Area Found (row_steps program) tree (view_of program.root) ∙ (ap outcome_of (sym is) ∙ real_outcome cap defined)
@@ -39,6 +39,6 @@ module _ (program : Program) (tree : RowTree) (cap : Capped) (writable : IsWrita
   -- a proof that may be written, and whose cap is defined, has no defect, and leads to its cap
   pub tree-proved : IsProved (row_steps program) program (view_of program.root) (tree_items tree) cap
   tree-proved = record {
-    sound = items_sound program (start (view_of program.root)) (tree_items tree) cap (All-weaker (IsFitItem program) (IsFine program) (item_fine program) (tree_items tree) writable.fit) items_led;
+    sound = items_sound program (start (view_of program.root)) (tree_items tree) cap (All-weaker (IsFitItem program floors) (IsFine program) (item_fine program floors) (tree_items tree) writable.fit) items_led;
     led = items_led;
   }

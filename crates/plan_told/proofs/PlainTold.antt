@@ -1,5 +1,5 @@
 -- What is told of a search over the own program of a part of a plant's choices is right.
-use Rattle.std.proofs.Common.{◌≡◌, ℕ, ◌+◌, ◌*◌, ◌<◌, ◌≤◌, List, length, Option, Some, None, ℤ, ◌≤ℤ◌, ◌<ℤ◌, sym, subst, arith}
+use Rattle.std.proofs.Common.{◌≡◌, ℕ, Bool, false, ◌+◌, ◌*◌, ◌<◌, ◌≤◌, List, length, Option, Some, None, ℤ, ◌≤ℤ◌, ◌<ℤ◌, sym, subst, arith}
 use Rattle.std.specs.Prelude.{IfSome}
 use Rattle.std.specs.List.{All}
 use Rattle.std.proofs.lemmas.Int.{ints}
@@ -45,16 +45,16 @@ use Rattle.plan_told.proofs.Texts.{plain-is}
 use Rattle.plan_told.proofs.ValidLog.{cap-short, valid-tree}
 
 -- the found points of a search are lawful, and stand with their worth
-groups_of : {given : ℕ} (program : Program) (budget : ℕ) (tree : RowTree) (ended : Ended) → IsSearch program given budget tree ended → All (IsGroup program) (found_points tree)
-groups_of program budget tree ended made = subst (All (IsGroup program)) (found_in-tree Rows Area tree) (fit-groups program (tree_items tree) made.writable.fit)
+groups_of : {given : ℕ} (program : Program) (floors : Bool) (budget : ℕ) (tree : RowTree) (ended : Ended) → IsSearch program floors given budget tree ended → All (IsGroup program) (found_points tree)
+groups_of program floors budget tree ended made = subst (All (IsGroup program)) (found_in-tree Rows Area tree) (fit-groups program floors (tree_items tree) made.writable.fit)
 
 best_group : (program : Program) (best : Option Found) (fs : List Found) → IsBest best fs → All (IsGroup program) fs → IfSome best (IsGroup program)
 best_group program None fs best groups = tt
 best_group program (Some found) fs best groups = All-contains (IsGroup program) fs found groups best.0
 
 -- the best found point of a search is lawful, and stands with its worth
-pub best-group : {given : ℕ} (program : Program) (budget : ℕ) (tree : RowTree) (ended : Ended) → IsSearch program given budget tree ended → IfSome ended.best (IsGroup program)
-best-group program budget tree ended made = best_group program ended.best (found_points tree) made.best (groups_of program budget tree ended made)
+pub best-group : {given : ℕ} (program : Program) (floors : Bool) (budget : ℕ) (tree : RowTree) (ended : Ended) → IsSearch program floors given budget tree ended → IfSome ended.best (IsGroup program)
+best-group program floors budget tree ended made = best_group program ended.best (found_points tree) made.best (groups_of program floors budget tree ended made)
 
 -- a proof that is justified counts a box: its root was not left open, since no certificate is held above it
 pub counted-some : (program : Program) (given : ℕ) (tree : RowTree) → IsJustified program given tree → 0 < counted tree
@@ -92,7 +92,7 @@ over_of (AtMost n) None fs best above = tt
 over_of NoPoint best fs is above = above
 over_of Bad best fs is above = above
 
-module _ (plant : Plant) (part : Program) (sound : Sound plant) (is : IsPartOf plant part) (budget : ℕ) (tree : RowTree) (ended : Ended) (of : IsSearchOf part (length part.root) budget ended tree) where
+module _ (plant : Plant) (part : Program) (sound : Sound plant) (is : IsPartOf plant part) (budget : ℕ) (tree : RowTree) (ended : Ended) (of : IsSearchOf part false (length part.root) budget ended tree) where
   -- what the search ended with
   plain_end : IsEnd plant part budget (HasOpenBox part (view_of part.root) tree) ended
   plain_end =
@@ -100,10 +100,10 @@ module _ (plant : Plant) (part : Program) (sound : Sound plant) (is : IsPartOf p
       let spent : ended.spent ≡ counted tree = of.search.spent in
       let few : ended.spent + 1 ≤ 2 * points_of part.root = of.search.few in
       record {
-        group = best-group part budget tree ended of.search;
+        group = best-group part false budget tree ended of.search;
         least = of.search.least;
         caps = bounds-cap (IsAdmitted plant part) (profit plant) part (LiesIn part.root) ended.cap (part-relaxes plant part is) (λ point lawful. lawful.lies) of.search.bounds;
-        short = cap-short part tree ended.cap of.search.cap;
+        short = cap-short part false tree ended.cap of.search.writable of.search.cap;
         shut = λ closed. shut_of ended.cap ended.best (of.search.settled closed);
         over = λ left.
             let was = of.search.left_open left in
@@ -123,13 +123,13 @@ module _ (plant : Plant) (part : Program) (sound : Sound plant) (is : IsPartOf p
         justified = of.search.justified;
         is = plain-is part judged tree (claim_of plant said);
         valid = plain-verdict part (plant_root plant) judged (depth_over part.root) (tree_items tree) (claim_of plant said) (Yes (claim_of plant said))
-            (valid-tree part tree ended.cap of.search.cap (claim_of plant said) of.search.writable of.search.defined borne small);
+            (valid-tree part false tree ended.cap of.search.writable of.search.cap (claim_of plant said) of.search.defined borne small);
         cap = subst (IsCapOf said) of.search.cap most;
         left_open = left;
       }) told says in
       record { outcome = with'.outcome; proof = with'.proof; claim = with'.claim }
 
 -- the best found point of a search has a value for each slot
-pub best-places : (plant : Plant) (part : Program) (sound : Sound plant) (is : IsPartOf plant part) (budget : ℕ) (tree : RowTree) (ended : Ended) → IsSearch part (length part.root) budget tree ended
+pub best-places : (plant : Plant) (part : Program) (sound : Sound plant) (is : IsPartOf plant part) (floors : Bool) (budget : ℕ) (tree : RowTree) (ended : Ended) → IsSearch part floors (length part.root) budget tree ended
     → IfSome ended.best (λ found. length found.point ≡ length (slots plant))
-best-places plant part sound is budget tree ended search = group-places plant part sound is ended.best (best-group part budget tree ended search)
+best-places plant part sound is floors budget tree ended search = group-places plant part sound is ended.best (best-group part floors budget tree ended search)

@@ -1,5 +1,5 @@
 -- What is told of a search over a program with the sums and derivations of a head, as of the given program, is right.
-use Rattle.std.proofs.Common.{◌≡◌, ◌≢◌, ℕ, ◌-◌, ◌*◌, ◌<◌, ◌≤◌, true, false, List, length, Option, Some, None, ℤ, ◌≤ℤ◌, ◌<ℤ◌, refl, sym, subst, arith, inr}
+use Rattle.std.proofs.Common.{◌≡◌, ◌≢◌, ℕ, Bool, ◌-◌, ◌*◌, ◌<◌, ◌≤◌, true, false, List, length, Option, Some, None, ℤ, ◌≤ℤ◌, ◌<ℤ◌, refl, sym, subst, arith, inr}
 use Rattle.std.specs.Prelude.{IfSome, int_lt}
 use Rattle.std.proofs.lemmas.Int.{ints}
 use Rattle.stn_model.specs.declared.plant.Plant.{Plant}
@@ -37,6 +37,7 @@ use Rattle.plan_told.specs.declared.telling.Told.{Told}
 use Rattle.plan_told.proofs.Answering.{IsEnd, IsOver, IsShut, told-with}
 use Rattle.plan_told.proofs.PartPlans.{group-places}
 use Rattle.plan_told.proofs.Endings.{HasEnded, has-ended}
+use Rattle.plan_told.proofs.CleanText.{writable-newest}
 use Rattle.plan_told.proofs.PlainTold.{counted-some}
 use Rattle.plan_told.proofs.ValidLog.{cap-short}
 use Rattle.plan_told.specs.Given.{IsGivenEnded, given_end, least_found, worth_found}
@@ -72,7 +73,7 @@ over_of NoPoint found real over = cc
 over_of Bad found real over = absurd (real refl)
 
 module _ (plant : Plant) (part larger : Program) (judged : List Domain) (sums : List Sum) (derivations : List Derivation) (sound : Sound plant) (is : IsPartOf plant part) (wide : AreRanges part judged) (can : CanHead part judged sums derivations larger)
-    (many : 50000 < points_of part.root) (budget : ℕ) (few : budget ≤ 100000) (tree : RowTree) (ended : Ended) (has : HasEnded larger (length part.root) budget ended tree) where
+    (many : 50000 < points_of part.root) (floors : Bool) (budget : ℕ) (few : budget ≤ 100000) (tree : RowTree) (ended : Ended) (has : HasEnded larger floors (length part.root) budget ended tree) where
   same : HaveSamePoints part larger (completed sums) (given_of part)
   same = head-same part larger judged sums derivations wide can
 
@@ -89,7 +90,7 @@ module _ (plant : Plant) (part larger : Program) (judged : List Domain) (sums : 
         group = group;
         least = given-least part ended.best;
         caps = bounds-cap (IsAdmitted plant part) (profit plant) larger (LiesIn larger.root) ended.cap (head-relaxes part larger judged sums derivations wide can plant is) (λ point lawful. lawful.lies) has.bounds;
-        short = cap-short larger tree ended.cap has.cap;
+        short = cap-short larger floors tree ended.cap has.writable has.cap;
         shut = λ closed. shut_of part ended.cap (best_given part ended.best) has.defined points group closed;
         over = λ over.
             let left = open-left part ended.best ended.cap ended.left_open has.defined has.settled over in
@@ -110,7 +111,7 @@ module _ (plant : Plant) (part larger : Program) (judged : List Domain) (sums : 
           boxes = sym has.spent;
           justified = has.justified;
           is = inr (can.enlarged, refl);
-          valid = valid-head part larger judged sums derivations wide can plant tree ended.cap (claim_of plant said) has.writable has.cap has.defined borne small;
+          valid = valid-head part larger judged sums derivations wide can plant tree ended.cap (claim_of plant said) (writable-newest larger floors tree has.writable) has.cap has.defined borne small;
           cap = subst (IsCapOf said) has.cap most;
           left_open = left;
         },
@@ -119,13 +120,13 @@ module _ (plant : Plant) (part larger : Program) (judged : List Domain) (sums : 
 
 -- what is told of a search over a program with the sums and derivations of a head is right
 pub told-by_head : HeadsAreTold
-told-by_head plant part larger judged sums derivations budget tree ended given told sound is wide can many some few of given_is says =
-    told_given plant part larger judged sums derivations sound is wide can many budget few tree ended (has-ended larger (length part.root) budget some ended tree of) told (subst (λ (end : Ended). IsTold plant end told) given_is says)
+told-by_head plant part larger judged sums derivations floors budget tree ended given told sound is wide can many some few of given_is says =
+    told_given plant part larger judged sums derivations sound is wide can many floors budget few tree ended (has-ended larger floors (length part.root) budget some ended tree of) told (subst (λ (end : Ended). IsTold plant end told) given_is says)
 
 -- the best point as of the part has a value for each slot of the plant
-pub given-places : {budget : ℕ} (plant : Plant) (part larger : Program) (judged : List Domain) (sums : List Sum) (derivations : List Derivation) (tree : RowTree) (ended given : Ended) → Sound plant → IsPartOf plant part → AreRanges part judged → CanHead part judged sums derivations larger
-    → 1 ≤ budget → IsEnding larger (length part.root) budget ended tree → IsGivenEnded part ended given → IfSome given.best (λ found. length found.point ≡ length (slots plant))
-given-places {budget = budget} plant part larger judged sums derivations tree ended given sound is wide can some of given_is =
+pub given-places : {floors : Bool} {budget : ℕ} (plant : Plant) (part larger : Program) (judged : List Domain) (sums : List Sum) (derivations : List Derivation) (tree : RowTree) (ended given : Ended) → Sound plant → IsPartOf plant part → AreRanges part judged → CanHead part judged sums derivations larger
+    → 1 ≤ budget → IsEnding larger floors (length part.root) budget ended tree → IsGivenEnded part ended given → IfSome given.best (λ found. length found.point ≡ length (slots plant))
+given-places {floors = floors} {budget = budget} plant part larger judged sums derivations tree ended given sound is wide can some of given_is =
     subst (λ (end : Ended). IfSome end.best (λ found. length found.point ≡ length (slots plant))) (sym given_is)
     (group-places plant part sound is (best_given part ended.best)
-    (given-group part larger sums (head-same part larger judged sums derivations wide can) ended.best (has-ended larger (length part.root) budget some ended tree of).group))
+    (given-group part larger sums (head-same part larger judged sums derivations wide can) ended.best (has-ended larger floors (length part.root) budget some ended tree of).group))

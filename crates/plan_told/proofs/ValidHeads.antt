@@ -1,6 +1,6 @@
 -- The text of a proof over a program with the sums and derivations of a head, with a claim that its cap bears out, is a valid log of the
 -- given program.
-use Rattle.std.proofs.Common.{◌≡◌, ◌≢◌, ◌⊎◌, inl, inr, ℕ, ◌≤◌, List, length, map, refl, sym, ap, ◌∙◌, arith}
+use Rattle.std.proofs.Common.{◌≡◌, ◌≢◌, ◌⊎◌, inl, inr, ℕ, ◌≤◌, true, List, length, map, refl, sym, ap, ◌∙◌, arith}
 use Rattle.std.specs.List.{sum_by}
 use Rattle.std.proofs.lemmas.List.Sums.{sum_by-append}
 use Rattle.stn_model.specs.declared.plant.Plant.{Plant}
@@ -96,11 +96,11 @@ module _ (part larger : Program) (judged : List Domain) (sums : List Sum) (deriv
   head-relaxes plant is = same-relaxes (IsAdmitted plant part) (profit plant) part larger (completed sums) (given_of part) head-same (part-relaxes plant part is)
 
   -- the text of a proof over it, with a claim over the part that its cap bears out, is a valid log
-  pub valid-head : (plant : Plant) (tree : RowTree) (cap : Capped) (claim : Claim) → IsWritable larger tree → cap ≡ tree_cap (row_steps larger) (view_of larger.root) tree → cap ≢ Bad → IsSoundClaim part cap claim → IsSmallClaim claim
+  pub valid-head : (plant : Plant) (tree : RowTree) (cap : Capped) (claim : Claim) → IsWritable larger true tree → cap ≡ tree_cap (row_steps larger) (view_of larger.root) tree → cap ≢ Bad → IsSoundClaim part cap claim → IsSmallClaim claim
       → IsAnyVerdict part (plant_root plant) judged (depth_over part.root) (headed_text sums derivations tree (larger_claim sums claim)) (Yes claim)
   valid-head plant tree cap claim writable is defined sound small =
       let whole = larger_claim sums claim in
-      let valid = valid-tree larger tree cap is whole writable defined (sound_larger part larger sums head-same cap claim sound) (small_larger sums claim small) in
+      let valid = valid-tree larger true tree cap writable is whole defined (sound_larger part larger sums head-same cap claim sound) (small_larger sums claim small) in
       headed-valid part larger (plant_root plant) judged sums derivations (depth_over part.root) tree whole claim can
-      (yes-deeper larger (depth_over larger.root) (depth_over part.root) (log_text 2 (tree_items tree) whole) whole depth_less valid)
+      (yes-deeper larger (depth_over larger.root) (depth_over part.root) (log_text 4 (tree_items tree) whole) whole depth_less valid)
       (sym (cut_same part larger sums head-same cap claim sound))

@@ -1,5 +1,5 @@
 -- The text of a proof that may be written, with a claim that its cap bears out, is a valid log.
-use Rattle.std.proofs.Common.{◌≡◌, ◌≢◌, ◌^◌, refl, sym, subst}
+use Rattle.std.proofs.Common.{◌≡◌, ◌≢◌, ◌^◌, Bool, refl, sym, subst}
 use Rattle.row_kit.specs.declared.program.Program.{Program}
 use Rattle.dual_bound.specs.Cap.{IsSmallCap}
 use Rattle.proof_tree.specs.declared.capped.Capped.{Capped}
@@ -19,21 +19,22 @@ use Rattle.valid_log.proofs.FoundSound.{claim_sound}
 use Rattle.plan_told.specs.Proofs.{depth_over}
 use Rattle.plan_told.proofs.CapShort.{root_short}
 use Rattle.plan_told.proofs.CleanText.{log_over, text_clean}
+pub use Rattle.plan_told.proofs.CleanText.{text_version}
 use Rattle.plan_told.proofs.NoDefect.{tree-proved}
 pub use Rattle.plan_told.proofs.SmallClaim.{IsSmallClaim}
 
-module _ (program : Program) (tree : RowTree) (cap : Capped) (is : cap ≡ tree_cap (row_steps program) (view_of program.root) tree) where
-  -- the cap of a proof, where it is a number, has at most 30 digits: at `AtMost n` this is `IsShort n`
+module _ (program : Program) (floors : Bool) (tree : RowTree) (cap : Capped) (writable : IsWritable program floors tree) (is : cap ≡ tree_cap (row_steps program) (view_of program.root) tree) where
+  -- the cap of a proof that may be written, where it is a number, has at most 30 digits: at `AtMost n` this is `IsShort n`
   pub cap-short : IsSmallCap (10 ^ 30) cap
-  cap-short = subst (IsSmallCap (10 ^ 30)) (sym is) (root_short program tree)
+  cap-short = subst (IsSmallCap (10 ^ 30)) (sym is) (root_short program floors tree writable.fit)
 
   -- a proof that may be written, with a claim that its cap bears out, is a valid log
-  pub valid-tree : (claim : Claim) → IsWritable program tree → cap ≢ Bad → IsSoundClaim program cap claim → IsSmallClaim claim
-      → IsVerdict program (depth_over program.root) (log_text 2 (tree_items tree) claim) (Yes claim)
-  valid-tree claim writable defined sound small =
-      subst (λ defect. IsVerdictGiven program (log_text 2 (tree_items tree) claim) defect (Yes claim)) (sym (text_clean program tree claim cap writable sound small))
+  pub valid-tree : (claim : Claim) → cap ≢ Bad → IsSoundClaim program cap claim → IsSmallClaim claim
+      → IsVerdict program (depth_over program.root) (log_text (text_version floors) (tree_items tree) claim) (Yes claim)
+  valid-tree claim defined sound small =
+      subst (λ defect. IsVerdictGiven program (log_text (text_version floors) (tree_items tree) claim) defect (Yes claim)) (sym (text_clean program floors tree claim cap writable sound small))
       (record {
         tree = tree;
-        is_log = record { version = 2; text = refl; over = log_over program tree claim cap writable sound small };
-        sound_log = record { proof_cap = cap; proved = tree-proved program tree cap writable is defined; sound = claim_sound program cap claim sound };
+        is_log = record { version = text_version floors; text = refl; over = log_over program floors tree claim cap writable sound small };
+        sound_log = record { proof_cap = cap; proved = tree-proved program floors tree cap writable is defined; sound = claim_sound program cap claim sound };
       })

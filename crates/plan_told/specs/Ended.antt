@@ -1,5 +1,5 @@
 -- Searches that ended, with a count that is exact, and what stands for one where nothing is left to search.
-use Rattle.std.specs.Prelude.{◌≡◌, ◌⊎◌, ℕ, [], None, false}
+use Rattle.std.specs.Prelude.{◌≡◌, ◌⊎◌, ℕ, Bool, [], None, false}
 use Rattle.std.specs.List.{All}
 use Rattle.row_kit.specs.declared.program.Program.{Program}
 use Rattle.row_kit.specs.Domain.{IsOpen}
@@ -9,9 +9,9 @@ use Rattle.row_relax.specs.RowProofs.{RowTree}
 use Rattle.branch_tree.specs.declared.ended.Ended.{Ended}
 use Rattle.branch_tree.specs.Searched.{IsExact, IsSearch}
 
--- this proof is that of a search whose count is exact; slots from the number `given` on are sums
-pub record IsSearchOf (program : Program) (given budget : ℕ) (ended : Ended) (tree : RowTree) : Type 0 where
-  pub search : IsSearch program given budget tree ended
+-- this proof is that of a search whose count is exact; splits have floors only where `floors` says so, and slots from the number `given` on are sums
+pub record IsSearchOf (program : Program) (floors : Bool) (given budget : ℕ) (ended : Ended) (tree : RowTree) : Type 0 where
+  pub search : IsSearch program floors given budget tree ended
   pub exact : IsExact program budget ended
 
 -- the proof of one box that is empty
@@ -29,10 +29,10 @@ pub record IsEmptyRoot (program : Program) (ended : Ended) (tree : RowTree) : Ty
   pub tree_is : tree ≡ empty_tree
 
 -- this proof is that of a search whose count is exact, or where some slot of the root has no value that of one empty box
-abbrev pub IsEnding : Program → ℕ → ℕ → Ended → RowTree → Type 0
-IsEnding program given budget ended tree = IsSearchOf program given budget ended tree ⊎ IsEmptyRoot program ended tree
+abbrev pub IsEnding : Program → Bool → ℕ → ℕ → Ended → RowTree → Type 0
+IsEnding program floors given budget ended tree = IsSearchOf program floors given budget ended tree ⊎ IsEmptyRoot program ended tree
 
 -- a search came to this, or an empty root did, and there is a proof that it made
-pub record IsSearched (program : Program) (given budget : ℕ) (ended : Ended) : Type 0 where
+pub record IsSearched (program : Program) (floors : Bool) (given budget : ℕ) (ended : Ended) : Type 0 where
   pub tree : RowTree
-  pub of : IsEnding program given budget ended tree
+  pub of : IsEnding program floors given budget ended tree

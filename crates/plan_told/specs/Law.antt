@@ -1,5 +1,5 @@
 -- That what is told of a search over a program with the sums and derivations of a head is right.
-use Rattle.std.specs.Prelude.{◌≡◌, ◌<◌, ◌≤◌, ℕ, List, length}
+use Rattle.std.specs.Prelude.{◌≡◌, ◌<◌, ◌≤◌, ℕ, Bool, List, length}
 use Rattle.stn_model.specs.declared.plant.Plant.{Plant}
 use Rattle.stn_model.specs.Sound.{Sound}
 use Rattle.row_kit.specs.declared.domain.Domain.{Domain}
@@ -31,10 +31,10 @@ pub record IsToldByHead (plant : Plant) (part : Program) (judged : List Domain) 
 
 -- What is told of a search over the program of a part of a sound plant's choices with the sums and derivations of a head is right, where
 -- the head is judged over domains in which the part's points lie, and the part has more than 50,000 points, so that no budget reaches its
--- whole count of boxes. So is what is told where some slot of that program's root has no value.
+-- whole count of boxes, whether splits have floors or not. So is what is told where some slot of that program's root has no value.
 abbrev pub HeadsAreTold : Type 0
 HeadsAreTold =
-    (plant : Plant) (part larger : Program) (judged : List Domain) (sums : List Sum) (derivations : List Derivation) (budget : ℕ) (tree : RowTree) (ended given : Ended) (told : Told)
+    (plant : Plant) (part larger : Program) (judged : List Domain) (sums : List Sum) (derivations : List Derivation) (floors : Bool) (budget : ℕ) (tree : RowTree) (ended given : Ended) (told : Told)
     → Sound plant → IsPartOf plant part → AreRanges part judged → CanHead part judged sums derivations larger → 50000 < points_of part.root → 1 ≤ budget → budget ≤ 100000
-    → IsEnding larger (length part.root) budget ended tree → IsGivenEnded part ended given → IsTold plant given told
+    → IsEnding larger floors (length part.root) budget ended tree → IsGivenEnded part ended given → IsTold plant given told
     → IsToldByHead plant part judged sums derivations budget tree told

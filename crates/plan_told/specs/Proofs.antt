@@ -1,5 +1,5 @@
 -- The proof of an outcome, and the log that holds it.
-use Rattle.std.specs.Prelude.{◌≡◌, ◌⊎◌, ℕ, ◌-◌, ⊤, List, [], ◌++◌, length, Option, Some, None, IfSome}
+use Rattle.std.specs.Prelude.{◌≡◌, ◌⊎◌, ℕ, true, false, ◌-◌, ⊤, List, [], ◌++◌, length, Option, Some, None, IfSome}
 use Rattle.std.specs.List.{sum_by}
 use Rattle.std.specs.Option.{option_map}
 use Rattle.stn_edge.specs.Files.{FileMap, file_of}
@@ -54,12 +54,20 @@ IsCapOf (answer.Optimal plan earned) capped = ⊤
 IsCapOf answer.Infeasible capped = ⊤
 IsCapOf (answer.BudgetSpent plan earned cap) capped = capped ≡ AtMost cap
 
--- The text is that of a log of a part, of this proof and this claim over this program: of version 2 over the part's own, or of version 4
--- over that with the sums and derivations which its head declares, judged over domains. No log of another version is written.
+-- the text is that of a log of a part, of this proof and this claim over the part's own program: it is of version 2, and declares nothing
+abbrev pub IsPlainText : Program → List Sum → List Derivation → Program → RowTree → Claim → List ℕ → Type 0
+IsPlainText part sums derivations larger tree own text =
+    (sums ≡ []) × (derivations ≡ []) × (larger ≡ part) × (text ≡ log_text 2 (tree_items tree) own)
+
+-- the text is that of a log of a part over its program with the sums and derivations which its head declares, judged over domains: it is of version 4
+abbrev pub IsHeadedText : Program → List Domain → List Sum → List Derivation → Program → RowTree → Claim → List ℕ → Type 0
+IsHeadedText part judged sums derivations larger tree own text =
+    IsWithHead 4 part judged sums derivations larger × (text ≡ headed_text sums derivations tree own)
+
+-- The text is that of a log of a part, of version 2 without a head or of version 4 with one. No log of another version is written.
 abbrev pub IsLogText : Program → List Domain → List Sum → List Derivation → Program → RowTree → Claim → List ℕ → Type 0
 IsLogText part judged sums derivations larger tree own text =
-    ((sums ≡ []) × (derivations ≡ []) × (larger ≡ part) × (text ≡ log_text 2 (tree_items tree) own))
-    ⊎ (IsWithHead 4 part judged sums derivations larger × (text ≡ headed_text sums derivations tree own))
+    IsPlainText part sums derivations larger tree own text ⊎ IsHeadedText part judged sums derivations larger tree own text
 
 -- A proof of an outcome over the part's program with sums and derivations, or without: no box was split without cause, as many boxes are
 -- counted as the outcome says, and its text with the claim of the answer is a valid log, whose head is judged over these domains. Where
@@ -113,8 +121,8 @@ pub record IsSomeLogBegun (part : Program) (judged : List Domain) (bytes : List 
   pub tree : RowTree
   pub own : Claim
   pub rest : List ℕ
-  pub is : IsLogText part judged sums derivations larger tree own (bytes ++ rest)
-  pub writable : IsWritable larger tree
+  -- only in a log of version 4 a split may have a floor
+  pub is : (IsPlainText part sums derivations larger tree own (bytes ++ rest) × IsWritable larger false tree) ⊎ (IsHeadedText part judged sums derivations larger tree own (bytes ++ rest) × IsWritable larger true tree)
 
 -- what an attempt leaves that did not end: the files are as they were, or the file of this name is a log that was begun
 abbrev pub LeavesSomeBegun : Program → List Domain → List ℕ → Option FileMap → Option FileMap → Type 0

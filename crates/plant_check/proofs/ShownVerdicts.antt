@@ -21,7 +21,7 @@ use Rattle.valid_log.proofs.Holding.{head-points, holds_given}
 
 -- the answer behind a head that is shown is the answer on the file, where the files are told
 pub shown_verdict : {E : Type 0} (program larger : Program) (judged : List Domain) (depth : ℕ) (head : Head) (tail : Tail) (files : Option FileMap) (name : List ℕ) (own : LogVerdict) (slots : ℕ) (r : Result LogVerdict E)
-    → slots ≡ length program.root → IsWithHead head.version program judged head.sums tail.derivations larger → IfSome files (λ m. IsVerdict larger depth (behind tail.bytes (file_of m name)) own)
+    → slots ≡ length program.root → IsWithHead head.version program judged head.sums tail.derivations larger → IfSome files (λ m. IsVerdict larger depth (behind head.version tail.bytes (file_of m name)) own)
     → IfOk r (λ verdict. verdict ≡ given_verdict slots tail.count own)
     → IfOk r (λ verdict. IfSome files (λ m. IsTailVerdict program judged depth (file_of m name) head (Whole tail) verdict))
 shown_verdict program larger judged depth head tail None name own slots (Ok verdict) all enlarged right is = tt
@@ -41,7 +41,7 @@ shown_holds program larger judged head tail own slots (Err e) all wide declared 
 -- the answer where something of a head is not shown
 pub unshown_verdict : {E : Type 0} (program : Program) (judged : List Domain) (depth : ℕ) (head : Head) (tail : Tail) (defect : Defect) (files : Option FileMap) (name : List ℕ) (r : Result LogVerdict E)
     → HasHeadDefect program judged head tail defect.line defect.kind
-    → IfOk r (λ verdict. IfSome files (λ m. verdict ≡ No (unshown_defect tail.count defect.line defect.kind (log_text_defect (limits_behind program depth head tail) (behind tail.bytes (file_of m name))))))
+    → IfOk r (λ verdict. IfSome files (λ m. verdict ≡ No (unshown_defect tail.count defect.line defect.kind (log_text_defect (limits_behind program depth head tail) (behind head.version tail.bytes (file_of m name))))))
     → IfOk r (λ verdict. IfSome files (λ m. IsTailVerdict program judged depth (file_of m name) head (Whole tail) verdict))
 unshown_verdict program judged depth head tail defect None name (Ok verdict) has is = tt
 unshown_verdict program judged depth head tail defect (Some m) name (Ok verdict) has is = inl (record { line = defect.line; kind = defect.kind; has = has; is = is })

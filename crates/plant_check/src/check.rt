@@ -146,10 +146,10 @@ fn check_tailed<F: Shelf>(
     match judge_head(alloc, program, depth, judged, head, tail)? {
         Ok(program) => {
             let rows = Rows { program };
-            let own = check_behind(alloc, &rows, depth, tail.bytes, files, name)?;
+            let own = check_behind(alloc, &rows, depth, head.version, tail.bytes, files, name)?;
             given_verdict(alloc, slots, tail.count, own)
         }
-        Err(defect) => check_text(alloc, limits, tail, defect, files, name),
+        Err(defect) => check_text(alloc, limits, head.version, tail, defect, files, name),
     }
 }
 
@@ -157,6 +157,7 @@ fn check_tailed<F: Shelf>(
 fn check_text<F: Shelf>(
     alloc: Global,
     limits: Limits,
+    version: u8,
     tail: &Tail,
     unshown: Defect,
     files: &mut F,
@@ -166,7 +167,7 @@ fn check_text<F: Shelf>(
     requires count { 1 ≤ tail.now.count }
     ensures verdict { IfOk result (λ verdict. IfSome (F.files files.old)
         (λ m. verdict ≡ No (unshown_defect tail.now.count unshown.line unshown.kind
-        (log_text_defect limits (behind tail.now.bytes (file_of m name.now)))))) }
+        (log_text_defect limits (behind version tail.now.bytes (file_of m name.now)))))) }
     ensures holds { (program : Program) → IfOk result (YesHolds program) }
     ensures fault { result ≡ Err CheckStop.Fault → Rose (F.read_faults files.old) (F.read_faults files.new) }
     ensures same { F.files files.new ≡ F.files files.old }
@@ -175,7 +176,7 @@ fn check_text<F: Shelf>(
     ensures later { F.read_faults files.old ≤ F.read_faults files.new }
     ensures no_write { F.write_faults files.new ≡ F.write_faults files.old }
 {
-    match first_defect(alloc, limits, tail.bytes, files, name)? {
+    match first_defect(alloc, limits, version, tail.bytes, files, name)? {
         Some(defect) => Ok(LogVerdict::No(in_file(tail.count, defect)?)),
         None => Ok(LogVerdict::No(unshown)),
     }

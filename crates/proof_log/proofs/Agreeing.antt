@@ -1,5 +1,5 @@
 -- Where a line leads agrees with what it makes of a group, and where an item leads with where the walk stands.
-use Rattle.std.proofs.Common.{◌≡◌, inl, inr, ⊎_elim, ℕ, ◌+◌, ◌-◌, ◌==◌, nat_le, nat_lt, ◌<◌, ◌≤◌, Bool, true, false, List, [], ◌∷◌, ◌++◌, length, Option, Some, None, is_some, IsTrue, if◌then◌else◌, refl, ap, sym, subst, arith}
+use Rattle.std.proofs.Common.{◌≡◌, inl, inr, ⊎_elim, ℕ, ℤ, ◌+◌, ◌-◌, ◌==◌, nat_le, nat_lt, ◌<◌, ◌≤◌, Bool, true, false, List, [], ◌∷◌, ◌++◌, length, Option, Some, None, is_some, IsTrue, if◌then◌else◌, refl, ap, sym, subst, arith}
 use Rattle.std.specs.Prelude.{⊤, ◌^◌}
 use Rattle.std.proofs.lemmas.Bool.Decides.{nat_tests}
 use Rattle.proof_tree.specs.declared.capped.Capped.{Capped}
@@ -15,28 +15,28 @@ use Rattle.row_relax.specs.declared.pick.RowPick.{RowPick}
 use Rattle.dual_bound.specs.declared.cert.Mult.{Mult}
 use Rattle.row_relax.specs.RowProofs.{RowItem}
 use Rattle.log_lines.specs.declared.line.Line.{Line}
-use Rattle.log_lines.specs.declared.line.Line.TheVariants.{Header, Node as NodeLine, Cut as CutLine, Found as FoundLine, Value as ValueLine, Empty as EmptyLine, Point as PointLine, Dual as DualLine, Pending as PendingLine, Split as SplitLine, Mult as MultLine, ClaimOptimal, ClaimInfeasible, ClaimBetween, ClaimBelow, End as EndLine}
+use Rattle.log_lines.specs.declared.line.Line.TheVariants.{Header, Node as NodeLine, Cut as CutLine, Found as FoundLine, Value as ValueLine, Empty as EmptyLine, Point as PointLine, Dual as DualLine, Pending as PendingLine, Floor as FloorLine, Split as SplitLine, Mult as MultLine, ClaimOptimal, ClaimInfeasible, ClaimBetween, ClaimBelow, End as EndLine}
 use Rattle.log_lines.specs.declared.grammar.Limits.{Limits}
 use Rattle.log_lines.specs.declared.grammar.Place.{Place}
-use Rattle.log_lines.specs.declared.grammar.Place.TheVariants.{Header as AtHeader, Node as AtNode, Inside, Ending, Values as AtValues, Mults as AtMults, Claim as AtClaim, End, Done}
+use Rattle.log_lines.specs.declared.grammar.Place.TheVariants.{Header as AtHeader, Node as AtNode, Inside, Ending, Floored, Values as AtValues, Mults as AtMults, Claim as AtClaim, End, Done}
 use Rattle.log_lines.specs.declared.step.Step.{Step}
 use Rattle.log_lines.specs.declared.step.Step.TheVariants.{At, Opens, Ends}
 use Rattle.log_lines.specs.Line.{IsInRange}
 use Rattle.std.proofs.lemmas.Grind.{common_steps}
 use Rattle.std.proofs.lemmas.List.{length-replicate}
-use Rattle.log_lines.specs.Grammar.{Standing, after_part, part_place, values_step, mults_step, follows, ending_step, inside_step, claim_step, step_of, after_step, first_kind, over_at}
+use Rattle.log_lines.specs.Grammar.{split_step, Standing, after_part, part_place, values_step, mults_step, follows, ending_step, inside_step, claim_step, step_of, after_step, first_kind, over_at}
 use Rattle.proof_log.specs.declared.group.ValueHead.{ValueHead}
 use Rattle.proof_log.specs.declared.group.ValueHead.TheVariants.{Found, Optimal, Between}
 use Rattle.proof_log.specs.declared.group.MultHead.{MultHead}
 use Rattle.proof_log.specs.declared.group.MultHead.TheVariants.{Dual, Pending, Split}
 use Rattle.proof_log.specs.declared.group.Group.{Group}
-use Rattle.proof_log.specs.declared.group.Group.TheVariants.{Nothing, Values, Mults}
+use Rattle.proof_log.specs.declared.group.Group.TheVariants.{Nothing, Floor, Values, Mults}
 use Rattle.proof_log.specs.declared.group.Grown.TheVariants.{More, Whole}
 use Rattle.proof_log.specs.declared.group.Grown.{Grown}
 use Rattle.proof_log.specs.declared.group.Piece.TheVariants.{Item, Claim as ClaimPiece}
 use Rattle.proof_log.specs.Agree.{is_claim, is_split, IsHeadIn, GroupAgrees, least_after, PlaceExpects, IsPastProof, lefts, FormAgrees, IsBody}
 use Rattle.proof_log.specs.Gathered.{IsThere}
-use Rattle.proof_log.specs.Gathering.{padded, value_piece, mult_piece, grown_values, grown_mults, begun, followed, MayBegin, MayValue, MayMult, MayFollow}
+use Rattle.proof_log.specs.Gathering.{padded, value_piece, mult_piece, grown_values, grown_mults, begun, floored, followed, MayBegin, MaySplit, MayValue, MayMult, MayFollow}
 use Rattle.range_prop.specs.declared.row_cut.RowCut.{RowCut}
 use Rattle.dual_bound.specs.declared.cert.Cert.{Cert}
 
@@ -87,12 +87,15 @@ GrownAgrees limits place (More group) _ = ⊥
 GrownAgrees limits place (Whole (Item item)) step = ItemAt place item × IsThere limits item × (step ≡ item_step item)
 GrownAgrees limits place (Whole (ClaimPiece claim)) step = ClaimAt place × (step ≡ At End)
 
--- what may be made whole at each place: an item of a node, of its ending, with multipliers or with values, or a claim
+-- what may be made whole at each place: an item of a node, of its ending, behind a floor, with multipliers or with values, or a claim
 inside_item : (item : RowItem) → IsTrue (may_come ExpectInside item) → ItemAt Inside item
 inside_item item may = record { middle = tt; no_claim = λ past. past; comes = λ expected is. rw is may }
 
 ending_item : (item : RowItem) → IsTrue (may_come ExpectEnd item) → ItemAt Ending item
 ending_item item may = record { middle = tt; no_claim = λ past. past; comes = λ expected is. rw is may }
+
+floored_item : (pick : RowPick) (cert : Cert) → ItemAt Floored (SplitItem pick cert)
+floored_item pick cert = record { middle = tt; no_claim = λ past. past; comes = λ expected. ⊎_elim (λ is. rw is refl) (λ is. rw is refl) }
 
 mults_item : (left : ℕ) (above : Option ℕ) (split : Bool) (item : RowItem) → IsTrue (may_come ExpectInside item) → IsTrue (may_come ExpectEnd item) → ItemAt (AtMults left above split) item
 mults_item left above split item inside end = record { middle = tt; no_claim = λ past. past; comes = λ expected. ⊎_elim (λ is. rw is inside) (λ is. rw is end) }
@@ -166,20 +169,28 @@ module _ (limits : Limits) (few_rows : limits.rows < 2 ^ 32) (few_slots : limits
       let small : scale ≤ 1048576 = not_below 1048576 scale first.0 in
       (omega arith, subst (GrownAgrees limits place (grown_mults head count [])) is (mults_agree limits place head count None split [] is_head inside stays whole))
 
-  module _ (place : Place) (ends : (item : RowItem) → IsTrue (may_come ExpectEnd item) → ItemAt place item) (stays : (n : ℕ) (m : Option ℕ) (split : Bool) → StaysAt place (AtMults n m split)) where
+  -- the line of a split
+  split_begins : (place : Place) → ((pick : RowPick) (cert : Cert) → ItemAt place (SplitItem pick cert)) → ((n : ℕ) (m : Option ℕ) → StaysAt place (AtMults n m true)) → (opened : ℕ) (floor : Option ℤ) (line : Line) (step : Step) → split_step line ≡ Some step → over_at limits opened line ≡ None → MaySplit line × GrownAgrees limits place (floored floor line) step
+  split_begins place comes stays opened floor (SplitLine slot max scale count) step is tests =
+      let test = passed (nat_le limits.slots slot) 5 ((nat_lt 1048576 scale, 7) ∷ (nat_lt 50000 count, 8) ∷ []) tests in
+      let inside : slot < limits.slots = not_at_least limits.slots slot test.0 in
+      let pick : RowPick = record { slot = slot; max = max; floor = floor } in
+      let rest = cert_agrees place (Split pick scale) scale count true step refl inside stays (comes pick (record { scale = scale; mults = [] }), inside, refl) (some_same (mults_step count None true) step is) test.1 in
+      ((omega arith, rest.0), rest.1)
+  split_begins place comes stays opened floor _ step is tests = cc
+
+  module _ (place : Place) (ends : (item : RowItem) → IsTrue (may_come ExpectEnd item) → ItemAt place item) (stays : (n : ℕ) (m : Option ℕ) (split : Bool) → StaysAt place (AtMults n m split)) (stays_floored : StaysAt place Floored) where
     ending_begins : (version opened : ℕ) (line : Line) (step : Step) → ending_step version line ≡ Some step → over_at limits opened line ≡ None → Begins_at limits place line step
     ending_begins version opened EmptyLine step is tests = (tt, (ends Empty refl, tt, sym (some_same Ends step is)))
     ending_begins version opened PointLine step is tests =
-        let test = where_true (version == 2) Ends step is in
+        let test = where_true (nat_le 2 version) Ends step is in
         (tt, (ends Point refl, tt, sym test.1))
     ending_begins version opened (DualLine scale count) step is tests = cert_agrees place (Dual scale) scale count false step refl tt (λ n m. stays n m false) (ends (DualItem (record { scale = scale; mults = [] })) refl, tt, refl) (some_same (mults_step count None false) step is) tests
     ending_begins version opened (PendingLine scale count) step is tests = cert_agrees place (Pending scale) scale count false step refl tt (λ n m. stays n m false) (ends (PendingItem (record { scale = scale; mults = [] })) refl, tt, refl) (some_same (mults_step count None false) step is) tests
-    ending_begins version opened (SplitLine slot max scale count) step is tests =
-        let test = passed (nat_le limits.slots slot) 5 ((nat_lt 1048576 scale, 7) ∷ (nat_lt 50000 count, 8) ∷ []) tests in
-        let inside : slot < limits.slots = not_at_least limits.slots slot test.0 in
-        let pick : RowPick = record { slot = slot; max = max } in
-        let rest = cert_agrees place (Split pick scale) scale count true step refl inside (λ n m. stays n m true) (ends (SplitItem pick (record { scale = scale; mults = [] })) refl, inside, refl) (some_same (mults_step count None true) step is) test.1 in
-        ((omega arith, rest.0), rest.1)
+    ending_begins version opened (FloorLine profit) step is tests =
+        let test = where_true (version == 4) (At Floored) step is in
+        (tt, subst (GrownAgrees limits place (More (Floor profit))) test.1 (tt, stays_floored))
+    ending_begins version opened (SplitLine slot max scale count) step is tests = split_begins place (λ pick cert. ends (SplitItem pick cert) refl) (λ n m. stays n m true) opened None (SplitLine slot max scale count) step is tests
     ending_begins version opened _ step is tests = cc
 
   inside_begins : (version opened : ℕ) (line : Line) (step : Step) → inside_step version line ≡ Some step → over_at limits opened line ≡ None → Begins_at limits Inside line step
@@ -191,7 +202,7 @@ module _ (limits : Limits) (few_rows : limits.rows < 2 ^ 32) (few_slots : limits
       ((omega arith, omega arith), (inside_item (Cut (record { row = row; slot = slot })) refl, (row_in, slot_in), sym (some_same (At Inside) step is)))
   inside_begins version opened (FoundLine value count) step is tests =
       (tt, subst (GrownAgrees limits Inside (grown_values limits.slots (Found value) count [])) (some_same (values_step count None false) step is) (values_agree limits Inside (Found value) count None false [] refl refl (λ n m. record { middle = tt; middle_later = tt; stands = record { expects = λ expected is. (refl, is); past = λ past. absurd past } }) (inside_item (FoundItem (record { value = value; point = padded limits.slots [] })) refl, tt, refl)))
-  inside_begins version opened line step is tests = ending_begins Inside ends stays version opened line step is tests
+  inside_begins version opened line step is tests = ending_begins Inside ends stays (record { middle = tt; middle_later = tt; stands = record { expects = λ expected is. inl is; past = λ past. absurd past } }) version opened line step is tests
     where
       ends : (item : RowItem) → IsTrue (may_come ExpectEnd item) → ItemAt Inside item
       ends Node may = inside_item Node may
@@ -277,7 +288,8 @@ module _ (limits : Limits) (few_rows : limits.rows < 2 ^ 32) (few_slots : limits
   line_follows version opened AtHeader Nothing line step range body agree is tests = absurd (header_only version line step is body)
   line_follows version opened AtNode Nothing line step range body agree is tests = node_begins version line step is
   line_follows version opened Inside Nothing line step range body agree is tests = inside_begins version opened line step is tests
-  line_follows version opened Ending Nothing line step range body agree is tests = ending_begins Ending ending_item (λ n m split. record { middle = tt; middle_later = tt; stands = record { expects = λ expected is. inr is; past = λ past. absurd past } }) version opened line step is tests
+  line_follows version opened Floored (Floor profit) line step range body agree is tests = split_begins Floored floored_item (λ n m. record { middle = tt; middle_later = tt; stands = record { expects = λ expected is. is; past = λ past. absurd past } }) opened (Some profit) line step is tests
+  line_follows version opened Ending Nothing line step range body agree is tests = ending_begins Ending ending_item (λ n m split. record { middle = tt; middle_later = tt; stands = record { expects = λ expected is. inr is; past = λ past. absurd past } }) (record { middle = tt; middle_later = tt; stands = record { expects = λ expected is. inr is; past = λ past. absurd past } }) version opened line step is tests
   line_follows version opened (AtValues left above claim) (Values head remaining point) line step range body agree is tests = values_lines version left remaining opened above claim head point line step range agree.0 agree.1 agree.2 agree.3 is tests
   line_follows version opened (AtMults left above split) (Mults head remaining mults) line step range body agree is tests = mults_lines version left remaining opened above split head mults line step agree.0 agree.1 agree.2 agree.3 is tests
   line_follows version opened AtClaim Nothing line step range body agree is tests = claim_begins line step is

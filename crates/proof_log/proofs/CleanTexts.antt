@@ -11,7 +11,7 @@ use Rattle.proof_tree.proofs.Forms.{whole_tree}
 use Rattle.proof_tree.specs.Items.{tree_items}
 use Rattle.log_lines.specs.declared.grammar.Limits.{Limits}
 use Rattle.log_lines.specs.declared.grammar.Place.{Place}
-use Rattle.log_lines.specs.declared.grammar.Place.TheVariants.{Header as AtHeader, Node as AtNode, Inside, Ending, Values as AtValues, Mults as AtMults, Claim as AtClaim, End as AtEnd, Done}
+use Rattle.log_lines.specs.declared.grammar.Place.TheVariants.{Header as AtHeader, Node as AtNode, Inside, Ending, Floored, Values as AtValues, Mults as AtMults, Claim as AtClaim, End as AtEnd, Done}
 use Rattle.log_lines.specs.declared.line.Line.{Line}
 use Rattle.log_lines.specs.declared.line.Line.TheVariants.{Header, End}
 use Rattle.log_lines.specs.Grammar.{Standing, new_standing, next, over, line_defect}
@@ -217,6 +217,7 @@ done_is AtHeader is = cc
 done_is AtNode is = cc
 done_is Inside is = cc
 done_is Ending is = cc
+done_is Floored is = cc
 done_is (AtValues left above of_claim) is = cc
 done_is (AtMults left above splits) is = cc
 done_is AtClaim is = cc

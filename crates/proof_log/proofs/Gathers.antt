@@ -19,7 +19,7 @@ use Rattle.log_lines.specs.declared.line.Line.{Line}
 use Rattle.log_lines.specs.declared.line.Line.TheVariants.{Header as HeaderLine, End as EndLine}
 use Rattle.log_lines.specs.declared.grammar.Limits.{Limits}
 use Rattle.log_lines.specs.declared.grammar.Place.{Place}
-use Rattle.log_lines.specs.declared.grammar.Place.TheVariants.{Header as AtHeader, Node as AtNode, Inside, Ending, Values as AtValues, Mults as AtMults, Claim as AtClaim, End, Done}
+use Rattle.log_lines.specs.declared.grammar.Place.TheVariants.{Header as AtHeader, Node as AtNode, Inside, Ending, Floored, Values as AtValues, Mults as AtMults, Claim as AtClaim, End, Done}
 use Rattle.log_lines.specs.declared.step.Step.{Step}
 use Rattle.log_lines.specs.declared.step.Step.TheVariants.{Begins, At, Opens, Ends}
 use Rattle.log_lines.specs.Line.{IsLine}
@@ -61,6 +61,7 @@ middle_lines : (version : ℕ) (place : Place) (items : List RowItem) (group : G
 middle_lines version AtNode items group middle = refl
 middle_lines version Inside items group middle = refl
 middle_lines version Ending items group middle = refl
+middle_lines version Floored items group middle = refl
 middle_lines version (AtValues left above of_claim) items group middle = refl
 middle_lines version (AtMults left above splits) items group middle = refl
 middle_lines version AtClaim items group middle = refl

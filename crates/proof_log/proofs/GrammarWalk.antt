@@ -1,9 +1,9 @@
 -- The lines of a log lead the grammar from its begin to its end.
-use Rattle.std.proofs.Common.{◌≡◌, ◌≢◌, ℕ, ◌+◌, ◌-◌, ◌<◌, ◌≤◌, Bool, true, false, cond, not, ◌&&◌, ◌==◌, leb, ltb, eqb, if◌then◌else◌, List, [], ◌∷◌, ◌++◌, map, length, flat_map, take, drop, Option, None, Some, option_to_list, option_and_then, refl, sym, ap, ◌∙◌, arith, ⊎_elim, zero-add, add_comm, append-nil}
+use Rattle.std.proofs.Common.{◌≡◌, ◌≢◌, ℕ, ℤ, ◌+◌, ◌-◌, ◌<◌, ◌≤◌, Bool, true, false, cond, not, ◌&&◌, ◌==◌, leb, ltb, eqb, if◌then◌else◌, List, [], ◌∷◌, ◌++◌, map, length, flat_map, take, drop, Option, None, Some, option_to_list, option_and_then, refl, sym, ap, ◌∙◌, arith, ⊎_elim, zero-add, add_comm, append-nil}
 use Rattle.std.specs.List.{All}
 use Rattle.std.specs.Option.{option_map, option_map_or}
 use Rattle.std.proofs.Math.Seq.{take-append_seam, drop-append_seam}
-use Rattle.std.proofs.lemmas.Bool.{and_parts, leb-true, ltb-true, lt-ltb, false_from_ne_true, cases_eq, eq-eqb, ne_eqb}
+use Rattle.std.proofs.lemmas.Bool.{and_parts, leb-true, le-leb, ltb-true, lt-ltb, false_from_ne_true, cases_eq, eq-eqb, ne_eqb}
 use Rattle.std.proofs.lemmas.Grind.{flat_map-append}
 use Rattle.std.proofs.lemmas.List.Sums.{sum_by-cons}
 use Rattle.std.proofs.lemmas.List.Elements.{All-head, All-tail, All-same, All-take, All-drop}
@@ -17,18 +17,18 @@ use Rattle.proof_tree.specs.Items.{leaf_item, tree_items, depth}
 use Rattle.proof_tree.specs.Tree.{Leaf, no_point, dual, one_point, pending, leaf, split as parted}
 use Rattle.row_relax.specs.declared.RowPick.{RowPick}
 use Rattle.log_lines.specs.declared.line.Line.{Line}
-use Rattle.log_lines.specs.declared.line.Line.TheVariants.{Node as NodeLine, Cut as CutLine, Found as FoundLine, Value as ValueLine, Point as PointLine, Dual as DualLine, Pending as PendingLine, Split as SplitLine, Mult as MultLine, ClaimOptimal, ClaimBetween, End as EndLine}
+use Rattle.log_lines.specs.declared.line.Line.TheVariants.{Node as NodeLine, Cut as CutLine, Found as FoundLine, Value as ValueLine, Point as PointLine, Dual as DualLine, Pending as PendingLine, Floor as FloorLine, Split as SplitLine, Mult as MultLine, ClaimOptimal, ClaimBetween, End as EndLine}
 use Rattle.log_lines.specs.declared.grammar.Limits.{Limits}
 use Rattle.log_lines.specs.declared.grammar.Place.{Place}
-use Rattle.log_lines.specs.declared.grammar.Place.TheVariants.{Node as AtNode, Inside, Ending, Values, Mults, Claim as AtClaim, End as AtEnd}
+use Rattle.log_lines.specs.declared.grammar.Place.TheVariants.{Node as AtNode, Inside, Ending, Floored, Values, Mults, Claim as AtClaim, End as AtEnd}
 use Rattle.log_lines.specs.declared.step.Step.{Step}
 use Rattle.log_lines.specs.declared.step.Step.TheVariants.{Begins, At, Opens, Ends}
 use Rattle.log_lines.specs.Grammar.{values_step, mults_step, follows, step_of, Standing, after_part, part_place, after_step, first_kind, next, over, line_defect}
 use Rattle.proof_log.specs.declared.claim.Claim.{Claim}
 use Rattle.proof_log.specs.declared.claim.Claim.TheVariants.{Optimal, Infeasible, Between, Below}
 use Rattle.row_relax.specs.RowProofs.{RowItem, RowTree}
-use Rattle.proof_log.specs.Log.{started, value_lines, mult_line, item_lines, tree_lines, claim_lines, log_lines}
-use Rattle.proof_log.specs.Accepted.{unless, leads, IsFitItem, IsFitClaim, LogsAreAccepted}
+use Rattle.proof_log.specs.Log.{floor_lines, started, value_lines, mult_line, item_lines, tree_lines, claim_lines, log_lines}
+use Rattle.proof_log.specs.Accepted.{unless, leads, MayFloor, IsFitItem, IsFitClaim, LogsAreAccepted}
 
 -- all of two lists
 pub front : {X : Type 0} (P : X → Type 0) (xs ys : List X) → All P (xs ++ ys) → All P xs
@@ -220,10 +220,10 @@ module _ (limits : Limits) where
       ∙ mults_lead version 0 None place cert.mults beside sides (above_none 0) p.1
 
   -- the line of a point, at a place where it may come
-  point_lead : (version : ℕ) (place : Place) (sides : List Bool) → version ≡ 2 → step_of version place PointLine ≡ (if version == 2 then Some Ends else None) → leads limits (at version place sides) (PointLine ∷ []) ≡ Some (closed version sides)
+  point_lead : (version : ℕ) (place : Place) (sides : List Bool) → 2 ≤ version → step_of version place PointLine ≡ (if leb 2 version then Some Ends else None) → leads limits (at version place sides) (PointLine ∷ []) ≡ Some (closed version sides)
   point_lead version place sides new is =
       let here = at version place sides in
-      leads-cons here (closed version sides) PointLine [] (on-step here PointLine Ends (is ∙ ap (λ (b : Bool). if b then Some Ends else None) (eq-eqb version 2 new)) refl)
+      leads-cons here (closed version sides) PointLine [] (on-step here PointLine Ends (is ∙ ap (λ (b : Bool). if b then Some Ends else None) (le-leb 2 version new)) refl)
 
   -- the lines of an end
   leaf_lead : (version : ℕ) (found : Option Found) (end : Leaf Cert) (sides : List Bool) → IsFitItem limits version (leaf_item end) → leads limits (at version (place_in found) sides) (item_lines (leaf_item end)) ≡ Some (closed version sides)
@@ -237,16 +237,26 @@ module _ (limits : Limits) where
   leaf_lead version None (pending cert) sides fit = cert_lead version Inside sides (PendingLine cert.scale (length cert.mults)) cert false fit refl (sizes cert fit)
   leaf_lead version (Some found) (pending cert) sides fit = cert_lead version Ending sides (PendingLine cert.scale (length cert.mults)) cert false fit refl (sizes cert fit)
 
-  split_lead : (version : ℕ) (found : Option Found) (pick : RowPick) (cert : Cert) (sides : List Bool) → pick.slot < limits.slots → is_fit limits.rows cert ≡ true → leads limits (at version (place_in found) sides) (item_lines (Split pick cert)) ≡ Some (at version AtNode (false ∷ sides))
+  -- the line of a floor, at a place where it may come
+  floor_lead : (version : ℕ) (place : Place) (sides : List Bool) (profit : ℤ) (lines : List Line) (end : Option Standing) → version ≡ 4 → step_of version place (FloorLine profit) ≡ (if version == 4 then Some (At Floored) else None) → leads limits (at version Floored sides) lines ≡ end → leads limits (at version place sides) (FloorLine profit ∷ lines) ≡ end
+  floor_lead version place sides profit lines end new is rest =
+      let here = at version place sides in
+      leads-cons here (at version Floored sides) (FloorLine profit) lines
+      (on-step here (FloorLine profit) (At Floored) (is ∙ ap (λ (b : Bool). if b then Some (At Floored) else None) (eq-eqb version 4 new)) refl)
+      ∙ rest
+
+  split_lead : (version : ℕ) (found : Option Found) (pick : RowPick) (cert : Cert) (sides : List Bool) → pick.slot < limits.slots → is_fit limits.rows cert ≡ true → MayFloor version pick.floor → leads limits (at version (place_in found) sides) (item_lines (Split pick cert)) ≡ Some (at version AtNode (false ∷ sides))
   unfolding item_lines
-  split_lead version found pick cert sides named fit =
+  split_lead version found pick cert sides named fit may =
       let others = (ltb 1048576 cert.scale, 7) ∷ ((ltb 50000 (length cert.mults), 8) ∷ []) in
       let clean = passes (leb limits.slots pick.slot) 5 others (not_below limits.slots pick.slot named) (sizes cert fit) in
-      each found clean
+      by found pick.floor may clean
     where
-      each : (found : Option Found) → first_kind ((leb limits.slots pick.slot, 5) ∷ ((ltb 1048576 cert.scale, 7) ∷ ((ltb 50000 (length cert.mults), 8) ∷ []))) ≡ None → leads limits (at version (place_in found) sides) (SplitLine pick.slot pick.max cert.scale (length cert.mults) ∷ map mult_line cert.mults) ≡ Some (at version AtNode (false ∷ sides))
-      each None clean = cert_lead version Inside sides (SplitLine pick.slot pick.max cert.scale (length cert.mults)) cert true fit refl clean
-      each (Some found) clean = cert_lead version Ending sides (SplitLine pick.slot pick.max cert.scale (length cert.mults)) cert true fit refl clean
+      by : (found : Option Found) (floor : Option ℤ) → MayFloor version floor → first_kind ((leb limits.slots pick.slot, 5) ∷ ((ltb 1048576 cert.scale, 7) ∷ ((ltb 50000 (length cert.mults), 8) ∷ []))) ≡ None → leads limits (at version (place_in found) sides) (floor_lines floor ++ (SplitLine pick.slot pick.max cert.scale (length cert.mults) ∷ map mult_line cert.mults)) ≡ Some (at version AtNode (false ∷ sides))
+      by None None may clean = cert_lead version Inside sides (SplitLine pick.slot pick.max cert.scale (length cert.mults)) cert true fit refl clean
+      by (Some found) None may clean = cert_lead version Ending sides (SplitLine pick.slot pick.max cert.scale (length cert.mults)) cert true fit refl clean
+      by None (Some profit) new clean = floor_lead version Inside sides profit (SplitLine pick.slot pick.max cert.scale (length cert.mults) ∷ map mult_line cert.mults) _ new refl (cert_lead version Floored sides (SplitLine pick.slot pick.max cert.scale (length cert.mults)) cert true fit refl clean)
+      by (Some found) (Some profit) new clean = floor_lead version Ending sides profit (SplitLine pick.slot pick.max cert.scale (length cert.mults) ∷ map mult_line cert.mults) _ new refl (cert_lead version Floored sides (SplitLine pick.slot pick.max cert.scale (length cert.mults)) cert true fit refl clean)
 
   -- the lines of cuts
   cut_step : (version : ℕ) (cut : RowCut) (sides : List Bool) → cut.row < limits.rows → cut.slot < limits.slots → on (at version Inside sides) (CutLine cut.row cut.slot) ≡ Some (at version Inside sides)
@@ -314,7 +324,7 @@ module _ (limits : Limits) where
       let deep_a : depth a + length (false ∷ sides) ≤ limits.depth + 1 = omega arith in
       let deep_b : depth b + length (true ∷ sides) ≤ limits.depth + 1 = omega arith in
       node_lead version cuts found last sides (Some (closed version sides)) (omega arith) (front Fit (map Cut cuts) (group ++ last) inner) (front Fit group last rest)
-      (leads-then here left (item_lines (Split pick cert)) (flat_map item_lines both) (split_lead version found pick cert sides named.0 named.1)
+      (leads-then here left (item_lines (Split pick cert)) (flat_map item_lines both) (split_lead version found pick cert sides named.0 named.1 named.2)
       ∙ ap (leads limits left) (flat_map-append item_lines (tree_items a) (tree_items b))
       ∙ leads-then left right (tree_lines a) (tree_lines b) (tree_lead version a (false ∷ sides) (front Fit (tree_items a) (tree_items b) parts) deep_a)
       ∙ tree_lead version b (true ∷ sides) (back Fit (tree_items a) (tree_items b) parts) deep_b)

@@ -6,7 +6,7 @@ use Rattle.std.proofs.lemmas.List.Elements.{All-head, All-tail, All-weaker}
 use Rattle.std.proofs.lemmas.List.Splits.{slice_split_at, length-slice_split}
 use Rattle.log_lines.specs.declared.grammar.Limits.{Limits}
 use Rattle.log_lines.specs.declared.grammar.Place.{Place}
-use Rattle.log_lines.specs.declared.grammar.Place.TheVariants.{Header as AtHeader, Node as AtNode, Inside, Ending, Values, Mults, Claim as AtClaim, End as AtEnd, Done}
+use Rattle.log_lines.specs.declared.grammar.Place.TheVariants.{Header as AtHeader, Node as AtNode, Inside, Ending, Floored, Values, Mults, Claim as AtClaim, End as AtEnd, Done}
 use Rattle.log_lines.specs.declared.line.Line.{Line}
 use Rattle.log_lines.specs.Line.{IsLine, line_text}
 use Rattle.log_lines.specs.Grammar.{Standing, next, line_defect, new_standing}
@@ -30,6 +30,7 @@ not_done version AtHeader sides line later is = refl
 not_done version AtNode sides line later is = refl
 not_done version Inside sides line later is = refl
 not_done version Ending sides line later is = refl
+not_done version Floored sides line later is = refl
 not_done version (Values left above of_claim) sides line later is = refl
 not_done version (Mults left above beside) sides line later is = refl
 not_done version AtClaim sides line later is = refl

@@ -1,5 +1,5 @@
 -- The lines of a log are the lines of no other log, and no first part of those of another.
-use Rattle.std.proofs.Common.{◌≡◌, ◌≢◌, ℕ, ℤ, ◌+◌, ◌≤◌, Bool, true, false, List, [], ◌∷◌, ◌++◌, map, length, flat_map, refl, sym, ap, ◌∙◌, arith, ⊎_elim, append_assoc, append-nil, length-append}
+use Rattle.std.proofs.Common.{◌≡◌, ◌≢◌, ℕ, ℤ, Option, None, Some, ◌+◌, ◌≤◌, Bool, true, false, List, [], ◌∷◌, ◌++◌, map, length, flat_map, refl, sym, ap, ◌∙◌, arith, ⊎_elim, append_assoc, append-nil, length-append}
 use Rattle.std.proofs.lemmas.List.{append_cancel_left}
 use Rattle.std.specs.List.{All}
 use Rattle.std.proofs.lemmas.Bool.{cases_eq}
@@ -12,7 +12,7 @@ use Rattle.proof_tree.specs.Items.{tree_items}
 use Rattle.proof_tree.specs.declared.item.Item.TheVariants.{Node, Cut, Found as FoundItem, Empty, Dual, Point, Pending, Split}
 use Rattle.row_relax.specs.declared.RowPick.{RowPick}
 use Rattle.log_lines.specs.declared.line.Line.{Line}
-use Rattle.log_lines.specs.declared.line.Line.TheVariants.{Header, Value as ValueLine, ClaimOptimal, ClaimInfeasible, ClaimBetween, ClaimBelow, End as EndLine}
+use Rattle.log_lines.specs.declared.line.Line.TheVariants.{Header, Value as ValueLine, Floor as FloorLine, Split as SplitLine, ClaimOptimal, ClaimInfeasible, ClaimBetween, ClaimBelow, End as EndLine}
 use Rattle.log_lines.specs.Line.{IsLine, line_text}
 use Rattle.log_lines.specs.Reader.{HasNoFeed}
 use Rattle.log_lines.proofs.LineBytes.{HasNoFeed-line_text}
@@ -20,7 +20,7 @@ use Rattle.log_lines.proofs.SaidLines.{one_line}
 use Rattle.proof_log.specs.declared.claim.Claim.{Claim}
 use Rattle.proof_log.specs.declared.claim.Claim.TheVariants.{Optimal, Infeasible, Between, Below}
 use Rattle.row_relax.specs.RowProofs.{RowItem, RowTree}
-use Rattle.proof_log.specs.Log.{started, value_lines, mult_line, item_lines, claim_lines, log_lines, lines_text, log_text}
+use Rattle.proof_log.specs.Log.{floor_lines, started, value_lines, mult_line, item_lines, claim_lines, log_lines, lines_text, log_text}
 use Rattle.proof_log.specs.OneText.{IsOver, IsClaimOver, IsLogOver, LogsHaveOneText}
 use Rattle.proof_log.proofs.GrammarWalk.{started-zero, started-more, value_lines-zero, value_lines-more}
 use Rattle.proof_tree.proofs.OneTree.{tree_same}
@@ -102,9 +102,10 @@ cut_is : (x y : RowCut) → x.row ≡ y.row → x.slot ≡ y.slot → x ≡ y
 cut_is x y row slot =
     let made : ℕ → ℕ → RowCut = λ r s. record { row = r; slot = s } in ap (λ (r : ℕ). made r x.slot) row ∙ ap (made y.row) slot
 
-pick_is : (x y : RowPick) → x.slot ≡ y.slot → x.max ≡ y.max → x ≡ y
-pick_is x y slot most =
-    let made : ℕ → ℕ → RowPick = λ s m. record { slot = s; max = m } in ap (λ (s : ℕ). made s x.max) slot ∙ ap (made y.slot) most
+pick_is : (x y : RowPick) → x.slot ≡ y.slot → x.max ≡ y.max → x.floor ≡ y.floor → x ≡ y
+pick_is x y slot most floor =
+    let made : ℕ → ℕ → Option ℤ → RowPick = λ s m f. record { slot = s; max = m; floor = f } in
+    ap (λ (s : ℕ). made s x.max x.floor) slot ∙ ap (λ (m : ℕ). made y.slot m x.floor) most ∙ ap (made y.slot y.max) floor
 
 cert_is : (x y : Cert) → x.scale ≡ y.scale → x.mults ≡ y.mults → x ≡ y
 cert_is x y scale mults =
@@ -133,9 +134,60 @@ cert_same : (c d : Cert) (a b : List Line) → c.scale ≡ d.scale → length c.
 cert_same c d a b scale long same =
     let parts = mults_same c.mults d.mults a b long same in (cert_is c d scale parts.0, parts.1)
 
+-- floors whose lines stand in front of those of splits
+floor_same : (f g : Option ℤ) (slot most scale count slot2 most2 scale2 count2 : ℕ) (a b : List Line) → floor_lines f ++ (SplitLine slot most scale count ∷ a) ≡ floor_lines g ++ (SplitLine slot2 most2 scale2 count2 ∷ b)
+    → (f ≡ g) × (SplitLine slot most scale count ∷ a ≡ SplitLine slot2 most2 scale2 count2 ∷ b)
+floor_same None None slot most scale count slot2 most2 scale2 count2 a b same = (refl, same)
+floor_same (Some m) (Some n) slot most scale count slot2 most2 scale2 count2 a b same =
+    let profit : m ≡ n = cc in (ap Some profit, cc)
+floor_same _ _ slot most scale count slot2 most2 scale2 count2 a b same = cc
+
+-- the line of a split, or of its floor, stands first
+is_split : List Line → Bool
+is_split (FloorLine profit ∷ lines) = true
+is_split (SplitLine slot most scale count ∷ lines) = true
+is_split _ = false
+
+-- an item is a split
+is_split_item : RowItem → Bool
+is_split_item (Split pick cert) = true
+is_split_item _ = false
+
+split_first : (item : RowItem) (lines : List Line) → is_split (item_lines item ++ lines) ≡ is_split_item item
+unfolding item_lines is_split is_split_item
+split_first Node lines = refl
+split_first (Cut cut) lines = refl
+split_first (FoundItem found) lines = refl
+split_first Empty lines = refl
+split_first (Dual cert) lines = refl
+split_first Point lines = refl
+split_first (Pending cert) lines = refl
+split_first (Split pick cert) lines = at pick.floor
+  where
+    at : (floor : Option ℤ) → is_split ((floor_lines floor ++ (SplitLine pick.slot pick.max cert.scale (length cert.mults) ∷ map mult_line cert.mults)) ++ lines) ≡ true
+    at None = refl
+    at (Some profit) = refl
+
+-- splits whose lines stand in front of others
+split_same : (p q : RowPick) (c d : Cert) (a b : List Line) → item_lines (Split p c) ++ a ≡ item_lines (Split q d) ++ b → (◌≡◌ {A = RowItem} (Split p c) (Split q d)) × (a ≡ b)
+unfolding item_lines
+split_same p q c d a b same =
+    let own : List Line = SplitLine p.slot p.max c.scale (length c.mults) ∷ map mult_line c.mults in
+    let other : List Line = SplitLine q.slot q.max d.scale (length d.mults) ∷ map mult_line d.mults in
+    let grouped : floor_lines p.floor ++ (own ++ a) ≡ floor_lines q.floor ++ (other ++ b) = sym (append_assoc (floor_lines p.floor) own a) ∙ same ∙ append_assoc (floor_lines q.floor) other b in
+    let floors = floor_same p.floor q.floor p.slot p.max c.scale (length c.mults) q.slot q.max d.scale (length d.mults) (map mult_line c.mults ++ a) (map mult_line d.mults ++ b) grouped in
+    let lines = floors.1 in
+    let slot : p.slot ≡ q.slot = cc in
+    let most : p.max ≡ q.max = cc in
+    let scale : c.scale ≡ d.scale = cc in
+    let long : length c.mults ≡ length d.mults = cc in
+    let rest : map mult_line c.mults ++ a ≡ map mult_line d.mults ++ b = cc in
+    let parts = cert_same c d a b scale long rest in
+    (ap (λ (pick : RowPick). Split pick c) (pick_is p q slot most floors.0) ∙ ap (Split q) parts.0, parts.1)
+
 -- items whose lines stand in front of others
 item_same : (slots : ℕ) (i j : RowItem) (a b : List Line) → IsOver slots i → IsOver slots j → item_lines i ++ a ≡ item_lines j ++ b → (i ≡ j) × (a ≡ b)
-unfolding item_lines
+unfolding item_lines is_split_item
 item_same slots Node Node a b over_i over_j same = (refl, cc)
 item_same slots (Cut c) (Cut d) a b over_i over_j same =
     let row : c.row ≡ d.row = cc in
@@ -161,15 +213,10 @@ item_same slots (Pending c) (Pending d) a b over_i over_j same =
     let rest : map mult_line c.mults ++ a ≡ map mult_line d.mults ++ b = cc in
     let parts = cert_same c d a b scale long rest in
     (ap Pending parts.0, parts.1)
-item_same slots (Split p c) (Split q d) a b over_i over_j same =
-    let slot : p.slot ≡ q.slot = cc in
-    let most : p.max ≡ q.max = cc in
-    let scale : c.scale ≡ d.scale = cc in
-    let long : length c.mults ≡ length d.mults = cc in
-    let rest : map mult_line c.mults ++ a ≡ map mult_line d.mults ++ b = cc in
-    let parts = cert_same c d a b scale long rest in
-    (ap (λ (pick : RowPick). Split pick c) (pick_is p q slot most) ∙ ap (Split q) parts.0, parts.1)
-item_same slots _ _ a b over_i over_j same = cc
+item_same slots (Split p c) (Split q d) a b over_i over_j same = split_same p q c d a b same
+item_same slots i j a b over_i over_j same =
+    let kinds : is_split_item i ≡ is_split_item j = sym (split_first i a) ∙ ap is_split same ∙ split_first j b in
+    cc
 
 -- claims whose lines stand in front of others
 claim_same : (slots : ℕ) (c d : Claim) (a b : List Line) → IsClaimOver slots c → IsClaimOver slots d → claim_lines c ++ a ≡ claim_lines d ++ b → (c ≡ d) × (a ≡ b)
@@ -216,7 +263,11 @@ item_first Empty lines = refl
 item_first (Dual cert) lines = refl
 item_first Point lines = refl
 item_first (Pending cert) lines = refl
-item_first (Split pick cert) lines = refl
+item_first (Split pick cert) lines = at pick.floor
+  where
+    at : (floor : Option ℤ) → is_claim ((floor_lines floor ++ (SplitLine pick.slot pick.max cert.scale (length cert.mults) ∷ map mult_line cert.mults)) ++ lines) ≡ false
+    at None = refl
+    at (Some profit) = refl
 
 -- items whose lines stand in front of a claim's
 items_same : (slots : ℕ) (is js : List RowItem) (a b : List Line) → All (IsOver slots) is → All (IsOver slots) js → is_claim a ≡ true → is_claim b ≡ true → flat_map item_lines is ++ a ≡ flat_map item_lines js ++ b → (is ≡ js) × (a ≡ b)
@@ -261,7 +312,7 @@ log_same slots v w s t c d rest over_s over_t same =
     record { version = version; tree = (tree_same s t [] [] whole).0; claim = claims.0; no_rest = sym none }
 
 -- two texts without line feeds, each before its line feed
-feed_unique : (a b c d : List ℕ) → HasNoFeed a → HasNoFeed c → a ++ (10 ∷ b) ≡ c ++ (10 ∷ d) → (a ≡ c) × (b ≡ d)
+pub feed_unique : (a b c d : List ℕ) → HasNoFeed a → HasNoFeed c → a ++ (10 ∷ b) ≡ c ++ (10 ∷ d) → (a ≡ c) × (b ≡ d)
 feed_unique [] b [] d in_a in_c same = (refl, cc)
 feed_unique [] b (y ∷ c) d in_a in_c same =
     let first : y ≡ 10 = cc in absurd (All-head (λ k. k ≢ 10) y c in_c first)

@@ -31,32 +31,32 @@ abbrev pub ToldEnd : Option FileMap → List ℕ → Reading → Reading → Lin
 ToldEnd told name old new end = IfSome told (λ m. EndsLine (file_of m name) old new end)
 
 -- at its first byte
-pub read_begun : (told : Option FileMap) (name : List ℕ) → IsReadTo told name 0 [] 0
-read_begun None name = tt
-read_begun (Some m) name = ap (λ t. t ++ file_of m name) (sym lines_text-none)
+pub read_begun : (told : Option FileMap) (name : List ℕ) (version : ℕ) → IsReadTo told name version 0 [] 0
+read_begun None name version = tt
+read_begun (Some m) name version = ap (λ t. t ++ file_of m name) (sym lines_text-none)
 
-pub left_begun : (told : Option FileMap) (name : List ℕ) (limits : Limits) → IsDefectOfRest told name 0 limits new_standing 1 0
-left_begun None name limits = tt
-left_begun (Some m) name limits = refl
+pub left_begun : (told : Option FileMap) (name : List ℕ) (version : ℕ) (limits : Limits) → IsDefectOfRest told name version 0 limits new_standing 1 0
+left_begun None name version limits = tt
+left_begun (Some m) name version limits = refl
 
 pub ahead_begun : (told : Option FileMap) (name : List ℕ) → IfSome told (λ m. IsAhead (file_of m name) 0 [])
 ahead_begun None name = tt
 ahead_begun (Some m) name = refl
 
 -- after a whole line
-pub read_more : (told : Option FileMap) (name : List ℕ) (head : ℕ) (lines : List Line) (line : Line) (old new : Reading) → IsReadTo told name head lines old.place → ToldEnd told name old new Whole → line_text line ≡ new.line → IsReadTo told name head (lines ++ line ∷ []) new.place
-read_more None name head lines line old new read ends text = tt
-read_more (Some m) name head lines line old new read ends text =
+pub read_more : (told : Option FileMap) (name : List ℕ) (version head : ℕ) (lines : List Line) (line : Line) (old new : Reading) → IsReadTo told name version head lines old.place → ToldEnd told name old new Whole → line_text line ≡ new.line → IsReadTo told name version head (lines ++ line ∷ []) new.place
+read_more None name version head lines line old new read ends text = tt
+read_more (Some m) name version head lines line old new read ends text =
     let later = drop new.place (file_of m name) in
     let front : lines_text lines ++ drop old.place (file_of m name) ≡ lines_text lines ++ (new.line ++ 10 ∷ later) = ap (λ t. lines_text lines ++ t) ends.0 in
     let whole : lines_text (lines ++ line ∷ []) ≡ lines_text lines ++ (new.line ++ 10 ∷ []) = lines_text-more lines line ∙ ap (λ t. lines_text lines ++ (t ++ 10 ∷ [])) text in
     let joined : (lines_text lines ++ (new.line ++ 10 ∷ [])) ++ later ≡ lines_text lines ++ (new.line ++ 10 ∷ later) = append_assoc (lines_text lines) (new.line ++ 10 ∷ []) later ∙ ap (λ t. lines_text lines ++ t) (append_assoc new.line (10 ∷ []) later) in
     read ∙ (front ∙ (sym joined ∙ ap (λ t. t ++ later) (sym whole)))
 
-pub left_more : (told : Option FileMap) (name : List ℕ) (head : ℕ) (limits : Limits) (standing later : Standing) (number : ℕ) (old new : Reading) (end : LineEnd) → IsDefectOfRest told name head limits standing number old.place → ToldEnd told name old new end
-    → ((rest after : List ℕ) → EndsAs rest new.line end after → rest_defect limits standing number rest ≡ rest_defect limits later (number + 1) after) → IsDefectOfRest told name head limits later (number + 1) new.place
-left_more None name head limits standing later number old new end left ends goes = tt
-left_more (Some m) name head limits standing later number old new end left ends goes =
+pub left_more : (told : Option FileMap) (name : List ℕ) (version head : ℕ) (limits : Limits) (standing later : Standing) (number : ℕ) (old new : Reading) (end : LineEnd) → IsDefectOfRest told name version head limits standing number old.place → ToldEnd told name old new end
+    → ((rest after : List ℕ) → EndsAs rest new.line end after → rest_defect limits standing number rest ≡ rest_defect limits later (number + 1) after) → IsDefectOfRest told name version head limits later (number + 1) new.place
+left_more None name version head limits standing later number old new end left ends goes = tt
+left_more (Some m) name version head limits standing later number old new end left ends goes =
     left ∙ goes (drop old.place (file_of m name)) (drop new.place (file_of m name)) (ends_as (file_of m name) old new end ends)
 
 pub ahead_more : (told : Option FileMap) (name : List ℕ) (old new : Reading) → ToldEnd told name old new Whole → IfSome told (λ m. IsAhead (file_of m name) new.place new.ahead)
@@ -64,16 +64,16 @@ ahead_more None name old new ends = tt
 ahead_more (Some m) name old new ends = ends.1
 
 -- at a defect
-pub left_bad : (told : Option FileMap) (name : List ℕ) (head : ℕ) (limits : Limits) (standing : Standing) (number : ℕ) (defect : ℕ × ℕ) (old new : Reading) (end : LineEnd) → IsDefectOfRest told name head limits standing number old.place → ToldEnd told name old new end
-    → ((rest after : List ℕ) → EndsAs rest new.line end after → rest_defect limits standing number rest ≡ Some defect) → IfSome told (λ m. log_text_defect limits (behind head (file_of m name)) ≡ Some defect)
-left_bad None name head limits standing number defect old new end left ends is = tt
-left_bad (Some m) name head limits standing number defect old new end left ends is =
+pub left_bad : (told : Option FileMap) (name : List ℕ) (version head : ℕ) (limits : Limits) (standing : Standing) (number : ℕ) (defect : ℕ × ℕ) (old new : Reading) (end : LineEnd) → IsDefectOfRest told name version head limits standing number old.place → ToldEnd told name old new end
+    → ((rest after : List ℕ) → EndsAs rest new.line end after → rest_defect limits standing number rest ≡ Some defect) → IfSome told (λ m. log_text_defect limits (behind version head (file_of m name)) ≡ Some defect)
+left_bad None name version head limits standing number defect old new end left ends is = tt
+left_bad (Some m) name version head limits standing number defect old new end left ends is =
     left ∙ is (drop old.place (file_of m name)) (drop new.place (file_of m name)) (ends_as (file_of m name) old new end ends)
 
 -- at the end of the log, with which the file ends
-pub read_over : (told : Option FileMap) (name : List ℕ) (head : ℕ) (limits : Limits) (lines : List Line) (standing : Standing) (number : ℕ) (old new : Reading) (end : LineEnd) → IsReadTo told name head lines old.place → IsDefectOfRest told name head limits standing number old.place → ToldEnd told name old new end
-    → ((rest after : List ℕ) → EndsAs rest new.line end after → (rest_defect limits standing number rest ≡ None) × (rest ≡ [])) → IfSome told (λ m. (behind head (file_of m name) ≡ lines_text lines) × (log_text_defect limits (behind head (file_of m name)) ≡ None))
-read_over None name head limits lines standing number old new end read left ends is = tt
-read_over (Some m) name head limits lines standing number old new end read left ends is =
+pub read_over : (told : Option FileMap) (name : List ℕ) (version head : ℕ) (limits : Limits) (lines : List Line) (standing : Standing) (number : ℕ) (old new : Reading) (end : LineEnd) → IsReadTo told name version head lines old.place → IsDefectOfRest told name version head limits standing number old.place → ToldEnd told name old new end
+    → ((rest after : List ℕ) → EndsAs rest new.line end after → (rest_defect limits standing number rest ≡ None) × (rest ≡ [])) → IfSome told (λ m. (behind version head (file_of m name) ≡ lines_text lines) × (log_text_defect limits (behind version head (file_of m name)) ≡ None))
+read_over None name version head limits lines standing number old new end read left ends is = tt
+read_over (Some m) name version head limits lines standing number old new end read left ends is =
     let both = is (drop old.place (file_of m name)) (drop new.place (file_of m name)) (ends_as (file_of m name) old new end ends) in
     (read ∙ ap (λ t. lines_text lines ++ t) both.1 ∙ append-nil (lines_text lines), left ∙ both.0)

@@ -1,5 +1,5 @@
 -- The lines of a log may be written.
-use Rattle.std.proofs.Common.{◌≡◌, ◌≢◌, ℕ, ◌+◌, ◌<◌, ◌≤◌, ◌^◌, ◌&&◌, ◌==◌, not, leb, ltb, ℤ, pos, true, List, [], ◌∷◌, ◌++◌, map, length, flat_map, arith, ⊎_elim}
+use Rattle.std.proofs.Common.{◌≡◌, ◌≢◌, ℕ, ◌+◌, ◌<◌, ◌≤◌, ◌^◌, ◌&&◌, ◌==◌, not, leb, ltb, ℤ, pos, true, Option, None, Some, IfSome, List, [], ◌∷◌, ◌++◌, map, length, flat_map, arith, ⊎_elim}
 use Rattle.std.specs.List.{All}
 use Rattle.std.proofs.lemmas.Bool.{and_parts, leb-true, ltb-true, cases_eq}
 use Rattle.std.proofs.lemmas.List.Elements.{All-nil, All-cons, All-append, All-head, All-tail, All-same}
@@ -9,13 +9,13 @@ use Rattle.dual_bound.specs.Total.{are_fit, is_fit}
 use Rattle.proof_tree.specs.declared.item.Item.TheVariants.{Node, Cut, Found as FoundItem, Empty, Dual, Point, Pending, Split}
 use Rattle.proof_tree.specs.Items.{tree_items}
 use Rattle.log_lines.specs.declared.line.Line.{Line}
-use Rattle.log_lines.specs.declared.line.Line.TheVariants.{Header, Value as ValueLine, End as EndLine}
+use Rattle.log_lines.specs.declared.line.Line.TheVariants.{Header, Value as ValueLine, Floor as FloorLine, End as EndLine}
 use Rattle.log_lines.specs.declared.grammar.Limits.{Limits}
 use Rattle.log_lines.specs.Line.{IsLine, IsShort}
 use Rattle.proof_log.specs.declared.claim.Claim.{Claim}
 use Rattle.proof_log.specs.declared.claim.Claim.TheVariants.{Optimal, Infeasible, Between, Below}
 use Rattle.row_relax.specs.RowProofs.{RowItem}
-use Rattle.proof_log.specs.Log.{started, value_lines, mult_line, item_lines, claim_lines, log_lines}
+use Rattle.proof_log.specs.Log.{floor_lines, started, value_lines, mult_line, item_lines, claim_lines, log_lines}
 use Rattle.proof_log.specs.OneText.{IsClaimOver}
 use Rattle.proof_log.specs.Accepted.{IsFitItem, IsFitClaim, AreBytes, IsShortItem, IsShortClaim, LogsMayBeWritten}
 use Rattle.proof_log.proofs.GrammarWalk.{value_lines-zero, value_lines-more}
@@ -82,6 +82,11 @@ cert_sizes rows cert fit =
 pub one_line_of : (line : Line) → IsLine line → All IsLine (line ∷ [])
 one_line_of line is = All-cons IsLine line [] is (All-nil IsLine)
 
+-- the line of a floor
+floor_written : (floor : Option ℤ) → IfSome floor IsShort → All IsLine (floor_lines floor)
+floor_written None short = All-nil IsLine
+floor_written (Some profit) short = one_line_of (FloorLine profit) (record { short = more profit [] short none; in_range = tt })
+
 item_written : (limits : Limits) (version : ℕ) (item : RowItem) → limits.rows < 2 ^ 32 → limits.slots < 2 ^ 32 → IsFitItem limits version item → IsShortItem item → All IsLine (item_lines item)
 unfolding item_lines
 item_written limits version Node rows slots fit short = one_line_of _ (record { short = none; in_range = tt })
@@ -108,14 +113,15 @@ item_written limits version (Pending cert) rows slots fit short =
 item_written limits version (Split pick cert) rows slots fit short =
     let sizes = cert_sizes limits.rows cert fit.1 in
     let slot : pick.slot < limits.slots = fit.0 in
-    All-cons IsLine _ (map mult_line cert.mults)
+    All-append IsLine (floor_lines pick.floor) _ (floor_written pick.floor short.1)
+    (All-cons IsLine _ (map mult_line cert.mults)
     (record {
       short = more (pos pick.slot) (pos pick.max ∷ (pos cert.scale ∷ (pos (length cert.mults) ∷ []))) (natural pick.slot (omega arith))
           (more (pos pick.max) (pos cert.scale ∷ (pos (length cert.mults) ∷ [])) (natural pick.max (omega arith))
           (more (pos cert.scale) (pos (length cert.mults) ∷ []) sizes.scale (more (pos (length cert.mults)) [] sizes.count none)));
-      in_range = short;
+      in_range = short.0;
     })
-    (mults_written limits.rows 0 cert.mults rows sizes.mults)
+    (mults_written limits.rows 0 cert.mults rows sizes.mults))
 
 items_written : (limits : Limits) (version : ℕ) (items : List RowItem) → limits.rows < 2 ^ 32 → limits.slots < 2 ^ 32 → All (IsFitItem limits version) items → All IsShortItem items → All IsLine (flat_map item_lines items)
 items_written limits version [] rows slots fit short = All-nil IsLine
@@ -147,7 +153,8 @@ claim_written limits (Below most) slots fit short = one_line_of _ (record { shor
 -- the lines of a log may be written
 pub logs_written : LogsMayBeWritten
 unfolding log_lines
-logs_written limits version tree claim rows slots low high fit claim_fits short claim_short =
-    All-cons IsLine (Header version) _ (record { short = more (pos version) [] (natural version (omega arith)) none; in_range = (low, high) })
+logs_written limits version tree claim rows slots known fit claim_fits short claim_short =
+    let low : version ≤ 4 = known.1 in
+    All-cons IsLine (Header version) _ (record { short = more (pos version) [] (natural version (omega arith)) none; in_range = known })
     (All-append IsLine (flat_map item_lines (tree_items tree)) (claim_lines claim ++ EndLine ∷ []) (items_written limits version (tree_items tree) rows slots fit short)
     (All-append IsLine (claim_lines claim) (EndLine ∷ []) (claim_written limits claim slots claim_fits claim_short) (one_line_of EndLine (record { short = none; in_range = tt }))))

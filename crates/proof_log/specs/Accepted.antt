@@ -1,5 +1,5 @@
 -- That the lines of a log may come one after another.
-use Rattle.std.specs.Prelude.{◌≡◌, ℕ, ◌<◌, ◌≤◌, true, ⊤, List, [], ◌∷◌, length, Option, None, Some, option_and_then, ◌+◌, ◌^◌}
+use Rattle.std.specs.Prelude.{◌≡◌, ℕ, ℤ, ◌<◌, ◌≤◌, true, ⊤, List, [], ◌∷◌, length, Option, None, Some, IfSome, option_and_then, ◌+◌, ◌^◌}
 use Rattle.std.specs.List.{All}
 use Rattle.proof_tree.specs.declared.item.Item.TheVariants.{Node, Cut, Found, Empty, Dual, Point, Pending, Split}
 use Rattle.proof_tree.specs.Items.{tree_items, depth}
@@ -8,7 +8,7 @@ use Rattle.log_lines.specs.declared.line.Line.{Line}
 use Rattle.log_lines.specs.declared.grammar.Limits.{Limits}
 use Rattle.log_lines.specs.declared.grammar.Place.TheVariants.{Done}
 use Rattle.log_lines.specs.Grammar.{Standing, next, line_defect, new_standing}
-use Rattle.log_lines.specs.Line.{IsLine, IsShort}
+use Rattle.log_lines.specs.Line.{IsLine, IsShort, IsVersion}
 use Rattle.log_lines.specs.TextDefect.{log_text_defect}
 use Rattle.proof_log.specs.declared.claim.Claim.{Claim}
 use Rattle.proof_log.specs.declared.claim.Claim.TheVariants.{Optimal, Infeasible, Between, Below}
@@ -25,16 +25,21 @@ abbrev pub leads : Limits → Standing → List Line → Option Standing
 leads limits standing [] = Some standing
 leads limits standing (line ∷ lines) = option_and_then (λ later. leads limits later lines) (unless (line_defect limits standing line) (next standing line))
 
--- an item that a log of this version may have: its rows and slots are there, its certificate is fit, and it is a point only from version 2 on
+-- a floor that a log of this version may have: one only in version 4
+abbrev pub MayFloor : ℕ → Option ℤ → Type 0
+MayFloor version None = ⊤
+MayFloor version (Some profit) = version ≡ 4
+
+-- an item that a log of this version may have: its rows and slots are there, its certificate is fit, it is a point only from version 2 on, and has a floor only in version 4
 abbrev pub IsFitItem : Limits → ℕ → RowItem → Type 0
 IsFitItem limits version Node = ⊤
 IsFitItem limits version (Cut cut) = (cut.row < limits.rows) × (cut.slot < limits.slots)
 IsFitItem limits version (Found found) = length found.point ≤ limits.slots
 IsFitItem limits version Empty = ⊤
 IsFitItem limits version (Dual cert) = is_fit limits.rows cert ≡ true
-IsFitItem limits version Point = version ≡ 2
+IsFitItem limits version Point = 2 ≤ version
 IsFitItem limits version (Pending cert) = is_fit limits.rows cert ≡ true
-IsFitItem limits version (Split pick cert) = (pick.slot < limits.slots) × (is_fit limits.rows cert ≡ true)
+IsFitItem limits version (Split pick cert) = (pick.slot < limits.slots) × (is_fit limits.rows cert ≡ true) × MayFloor version pick.floor
 
 -- a claim that a log may have: its slots are there
 abbrev pub IsFitClaim : Limits → Claim → Type 0
@@ -68,7 +73,7 @@ IsShortItem Empty = ⊤
 IsShortItem (Dual cert) = ⊤
 IsShortItem Point = ⊤
 IsShortItem (Pending cert) = ⊤
-IsShortItem (Split pick cert) = pick.max ≤ 254
+IsShortItem (Split pick cert) = (pick.max ≤ 254) × IfSome pick.floor IsShort
 
 -- the numbers of a claim have at most 30 digits and keep their ranges
 abbrev pub IsShortClaim : Claim → Type 0
@@ -80,5 +85,5 @@ IsShortClaim (Below cap) = IsShort cap
 -- the lines of such a log may be written, where its numbers have at most 30 digits and keep their ranges
 abbrev pub LogsMayBeWritten : Type 0
 LogsMayBeWritten =
-    (limits : Limits) (version : ℕ) (tree : RowTree) (claim : Claim) → limits.rows < 2 ^ 32 → limits.slots < 2 ^ 32 → 1 ≤ version → version ≤ 2
+    (limits : Limits) (version : ℕ) (tree : RowTree) (claim : Claim) → limits.rows < 2 ^ 32 → limits.slots < 2 ^ 32 → IsVersion version
     → All (IsFitItem limits version) (tree_items tree) → IsFitClaim limits claim → All IsShortItem (tree_items tree) → IsShortClaim claim → All IsLine (log_lines version (tree_items tree) claim)

@@ -9,14 +9,14 @@ use Rattle.log_lines.specs.declared.line.Line.{Line}
 use Rattle.log_lines.specs.declared.line.Line.TheVariants.{Header as HeaderLine, End as EndLine}
 use Rattle.log_lines.specs.declared.grammar.Limits.{Limits}
 use Rattle.log_lines.specs.declared.grammar.Place.{Place}
-use Rattle.log_lines.specs.declared.grammar.Place.TheVariants.{Header, Node as AtNode, Inside, Ending, Values as AtValues, Mults as AtMults, Claim as AtClaim, End, Done}
+use Rattle.log_lines.specs.declared.grammar.Place.TheVariants.{Header, Node as AtNode, Inside, Ending, Floored, Values as AtValues, Mults as AtMults, Claim as AtClaim, End, Done}
 use Rattle.log_lines.specs.Grammar.{Standing}
 use Rattle.proof_log.specs.declared.group.ValueHead.{ValueHead}
 use Rattle.proof_log.specs.declared.group.ValueHead.TheVariants.{Found, Optimal, Between}
 use Rattle.proof_log.specs.declared.group.MultHead.{MultHead}
 use Rattle.proof_log.specs.declared.group.MultHead.TheVariants.{Dual, Pending, Split}
 use Rattle.proof_log.specs.declared.group.Group.{Group}
-use Rattle.proof_log.specs.declared.group.Group.TheVariants.{Nothing, Values, Mults}
+use Rattle.proof_log.specs.declared.group.Group.TheVariants.{Nothing, Floor, Values, Mults}
 
 -- whether values belong to a claim
 abbrev pub is_claim : ValueHead → Bool
@@ -47,6 +47,7 @@ GroupAgrees limits Header Nothing = ⊤
 GroupAgrees limits AtNode Nothing = ⊤
 GroupAgrees limits Inside Nothing = ⊤
 GroupAgrees limits Ending Nothing = ⊤
+GroupAgrees limits Floored (Floor profit) = ⊤
 GroupAgrees limits (AtValues left above claim) (Values head remaining point) =
     (0 < left) × (remaining ≡ left) × (length point ≡ least_after above) × (is_claim head ≡ claim)
 GroupAgrees limits (AtMults left above split) (Mults head remaining mults) =
@@ -62,6 +63,7 @@ PlaceExpects Header expected = expected ≡ ExpectNode
 PlaceExpects AtNode expected = expected ≡ ExpectNode
 PlaceExpects Inside expected = expected ≡ ExpectInside
 PlaceExpects Ending expected = expected ≡ ExpectEnd
+PlaceExpects Floored expected = (expected ≡ ExpectInside) ⊎ (expected ≡ ExpectEnd)
 PlaceExpects (AtValues left above claim) expected = (claim ≡ false) × (expected ≡ ExpectInside)
 PlaceExpects (AtMults left above split) expected = (expected ≡ ExpectInside) ⊎ (expected ≡ ExpectEnd)
 PlaceExpects AtClaim expected = ⊥

@@ -1,18 +1,18 @@
 -- The lines of what has been gathered so far of an item or of a claim.
-use Rattle.std.specs.Prelude.{◌≡◌, ◌+◌, ◌-◌, ◌==◌, ◌<◌, ◌≤◌, ◌^◌, ⊤, ℕ, List, [], ◌∷◌, ◌++◌, map, length, replicate, if◌then◌else◌}
+use Rattle.std.specs.Prelude.{◌≡◌, ◌+◌, ◌-◌, ◌==◌, ◌<◌, ◌≤◌, ◌^◌, ⊤, ℕ, ℤ, Option, None, Some, List, [], ◌∷◌, ◌++◌, map, length, replicate, if◌then◌else◌}
 use Rattle.dual_bound.specs.declared.cert.Mult.{Mult}
 use Rattle.proof_tree.specs.declared.item.Item.TheVariants.{Node, Cut, Found as FoundItem, Empty, Dual as DualItem, Point, Pending as PendingItem, Split as SplitItem}
 use Rattle.proof_log.specs.declared.claim.Claim.TheVariants.{Optimal as OptimalClaim, Infeasible, Between as BetweenClaim, Below}
 use Rattle.proof_log.specs.OneText.{IsOver, IsClaimOver}
-use Rattle.proof_log.specs.Log.{started, value_lines, mult_line, item_lines, claim_lines}
+use Rattle.proof_log.specs.Log.{floor_lines, started, value_lines, mult_line, item_lines, claim_lines}
 use Rattle.log_lines.specs.declared.line.Line.{Line}
-use Rattle.log_lines.specs.declared.line.Line.TheVariants.{Header, Node as NodeLine, Cut as CutLine, Found as FoundLine, Value as ValueLine, Empty as EmptyLine, Point as PointLine, Dual as DualLine, Pending as PendingLine, Split as SplitLine, Mult as MultLine, ClaimOptimal, ClaimInfeasible, ClaimBetween, ClaimBelow, End as EndLine}
+use Rattle.log_lines.specs.declared.line.Line.TheVariants.{Header, Node as NodeLine, Cut as CutLine, Found as FoundLine, Value as ValueLine, Empty as EmptyLine, Point as PointLine, Dual as DualLine, Pending as PendingLine, Floor as FloorLine, Split as SplitLine, Mult as MultLine, ClaimOptimal, ClaimInfeasible, ClaimBetween, ClaimBelow, End as EndLine}
 use Rattle.proof_log.specs.declared.group.ValueHead.{ValueHead}
 use Rattle.proof_log.specs.declared.group.ValueHead.TheVariants.{Found, Optimal, Between}
 use Rattle.proof_log.specs.declared.group.MultHead.{MultHead}
 use Rattle.proof_log.specs.declared.group.MultHead.TheVariants.{Dual, Pending, Split}
 use Rattle.proof_log.specs.declared.group.Group.{Group}
-use Rattle.proof_log.specs.declared.group.Group.TheVariants.{Nothing, Values, Mults}
+use Rattle.proof_log.specs.declared.group.Group.TheVariants.{Nothing, Floor, Values, Mults}
 use Rattle.proof_log.specs.declared.group.Piece.{Piece}
 use Rattle.proof_log.specs.declared.group.Piece.TheVariants.{Item, Claim as ClaimPiece}
 use Rattle.proof_log.specs.declared.group.Grown.{Grown}
@@ -24,17 +24,18 @@ value_head_line (Found value) count = FoundLine value count
 value_head_line (Optimal profit) count = ClaimOptimal profit count
 value_head_line (Between profit most) count = ClaimBetween profit most count
 
--- the line before this many lines of multipliers
-abbrev pub mult_head_line : MultHead → ℕ → Line
-mult_head_line (Dual scale) count = DualLine scale count
-mult_head_line (Pending scale) count = PendingLine scale count
-mult_head_line (Split pick scale) count = SplitLine pick.slot pick.max scale count
+-- the lines before this many lines of multipliers
+abbrev pub mult_head_lines : MultHead → ℕ → List Line
+mult_head_lines (Dual scale) count = DualLine scale count ∷ []
+mult_head_lines (Pending scale) count = PendingLine scale count ∷ []
+mult_head_lines (Split pick scale) count = floor_lines pick.floor ++ (SplitLine pick.slot pick.max scale count ∷ [])
 
 -- the lines of a group so far
 abbrev pub group_lines : Group → List Line
 group_lines Nothing = []
+group_lines (Floor profit) = floor_lines (Some profit)
 group_lines (Values head left point) = value_head_line head (left + started point) ∷ value_lines 0 point
-group_lines (Mults head left mults) = mult_head_line head (left + length mults) ∷ map mult_line mults
+group_lines (Mults head left mults) = mult_head_lines head (left + length mults) ++ map mult_line mults
 
 -- the lines of an item or of a claim
 abbrev pub piece_lines : Piece → List Line
@@ -71,6 +72,11 @@ grown_values slots head left point =
 abbrev pub grown_mults : MultHead → ℕ → List Mult → Grown
 grown_mults head left mults = if left == 0 then Whole (mult_piece head mults) else More (Mults head left mults)
 
+-- what the line of a split begins that has this floor, or none; nothing where it is another line
+abbrev pub floored : Option ℤ → Line → Grown
+floored floor (SplitLine slot max scale count) = grown_mults (Split (record { slot = slot; max = max; floor = floor }) scale) count []
+floored floor _ = More Nothing
+
 -- what a line begins; nothing where it begins neither an item nor a claim
 abbrev pub begun : ℕ → Line → Grown
 begun slots (Header version) = More Nothing
@@ -82,7 +88,8 @@ begun slots EmptyLine = Whole (Item Empty)
 begun slots PointLine = Whole (Item Point)
 begun slots (DualLine scale count) = grown_mults (Dual scale) count []
 begun slots (PendingLine scale count) = grown_mults (Pending scale) count []
-begun slots (SplitLine slot max scale count) = grown_mults (Split (record { slot = slot; max = max }) scale) count []
+begun slots (FloorLine profit) = More (Floor profit)
+begun slots (SplitLine slot max scale count) = floored None (SplitLine slot max scale count)
 begun slots (MultLine row factor) = More Nothing
 begun slots (ClaimOptimal profit count) = grown_values slots (Optimal profit) count []
 begun slots ClaimInfeasible = Whole (ClaimPiece Infeasible)
@@ -103,6 +110,7 @@ multed head left mults _ = More Nothing
 -- what a line makes of a group
 abbrev pub followed : ℕ → Group → Line → Grown
 followed slots Nothing line = begun slots line
+followed slots (Floor profit) line = floored (Some profit) line
 followed slots (Values head left point) line = valued slots head left point line
 followed slots (Mults head left mults) line = multed head left mults line
 
@@ -110,6 +118,11 @@ followed slots (Mults head left mults) line = multed head left mults line
 abbrev pub HasLines : ℕ → List Line → Grown → Type 0
 HasLines slots lines (More group) = group_lines group ≡ lines
 HasLines slots lines (Whole piece) = (piece_lines piece ≡ lines) × IsPieceOver slots piece
+
+-- a line is that of a split, and its numbers fit those of the item
+abbrev pub MaySplit : Line → Type 0
+MaySplit (SplitLine slot max scale count) = (slot < 2 ^ 32) × (scale < 2 ^ 32)
+MaySplit _ = ⊥
 
 -- a line may begin an item or a claim, and its numbers fit those of the item
 abbrev pub MayBegin : Line → Type 0
@@ -122,7 +135,8 @@ MayBegin EmptyLine = ⊤
 MayBegin PointLine = ⊤
 MayBegin (DualLine scale count) = scale < 2 ^ 32
 MayBegin (PendingLine scale count) = scale < 2 ^ 32
-MayBegin (SplitLine slot max scale count) = (slot < 2 ^ 32) × (scale < 2 ^ 32)
+MayBegin (FloorLine profit) = ⊤
+MayBegin (SplitLine slot max scale count) = MaySplit (SplitLine slot max scale count)
 MayBegin (MultLine row factor) = ⊥
 MayBegin (ClaimOptimal profit count) = ⊤
 MayBegin ClaimInfeasible = ⊤
@@ -150,5 +164,6 @@ MayMult left _ = ⊥
 -- a line may follow a group
 abbrev pub MayFollow : ℕ → Group → Line → Type 0
 MayFollow slots Nothing line = MayBegin line
+MayFollow slots (Floor profit) line = MaySplit line
 MayFollow slots (Values head left point) line = MayValue slots left point line
 MayFollow slots (Mults head left mults) line = MayMult left line

@@ -1,5 +1,5 @@
 -- The lines in which a proof and its claim are written, and the text that they are.
-use Rattle.std.specs.Prelude.{ℕ, ◌+◌, ◌==◌, if◌then◌else◌, List, [], ◌∷◌, ◌++◌, map, length, flat_map, count_by, not, drop, None}
+use Rattle.std.specs.Prelude.{ℕ, ℤ, ◌+◌, ◌==◌, if◌then◌else◌, List, [], ◌∷◌, ◌++◌, map, length, flat_map, count_by, not, drop, Option, None, Some}
 use Rattle.std.specs.List.{sum_by}
 use Rattle.row_kit.specs.declared.area.Area.{Area}
 use Rattle.row_kit.specs.declared.found.Found.{Found}
@@ -14,7 +14,7 @@ use Rattle.proof_tree.specs.Tree.{Tree, tree_at}
 use Rattle.row_relax.specs.declared.RowPick.{RowPick}
 use Rattle.row_relax.specs.declared.Rows.{Rows}
 use Rattle.log_lines.specs.declared.line.Line.{Line}
-use Rattle.log_lines.specs.declared.line.Line.TheVariants.{Header, Node as NodeLine, Cut as CutLine, Found as FoundLine, Value as ValueLine, Empty as EmptyLine, Point as PointLine, Dual as DualLine, Pending as PendingLine, Split as SplitLine, Mult as MultLine, ClaimOptimal, ClaimInfeasible, ClaimBetween, ClaimBelow, End as EndLine}
+use Rattle.log_lines.specs.declared.line.Line.TheVariants.{Header, Node as NodeLine, Cut as CutLine, Found as FoundLine, Value as ValueLine, Empty as EmptyLine, Point as PointLine, Dual as DualLine, Pending as PendingLine, Floor as FloorLine, Split as SplitLine, Mult as MultLine, ClaimOptimal, ClaimInfeasible, ClaimBetween, ClaimBelow, End as EndLine}
 use Rattle.log_lines.specs.Line.{line_text}
 use Rattle.proof_log.specs.declared.claim.Claim.{Claim}
 use Rattle.proof_log.specs.declared.claim.Claim.TheVariants.{Optimal, Infeasible, Between, Below}
@@ -37,7 +37,12 @@ value_lines slot (value ∷ point) = value_line slot value ++ value_lines (slot 
 abbrev pub mult_line : Mult → Line
 mult_line mult = MultLine mult.row mult.factor
 
--- the lines of an item: one that says what it is, and those of its point's values or of its certificate's multipliers
+-- the line of a floor, where there is one
+abbrev pub floor_lines : Option ℤ → List Line
+floor_lines None = []
+floor_lines (Some profit) = FloorLine profit ∷ []
+
+-- the lines of an item: one that says what it is, behind that of a split's floor, and those of its point's values or of its certificate's multipliers
 unfoldable pub item_lines : RowItem → List Line
 item_lines Node = NodeLine ∷ []
 item_lines (Cut cut) = CutLine cut.row cut.slot ∷ []
@@ -46,7 +51,7 @@ item_lines Empty = EmptyLine ∷ []
 item_lines (Dual cert) = DualLine cert.scale (length cert.mults) ∷ map mult_line cert.mults
 item_lines Point = PointLine ∷ []
 item_lines (Pending cert) = PendingLine cert.scale (length cert.mults) ∷ map mult_line cert.mults
-item_lines (Split pick cert) = SplitLine pick.slot pick.max cert.scale (length cert.mults) ∷ map mult_line cert.mults
+item_lines (Split pick cert) = floor_lines pick.floor ++ (SplitLine pick.slot pick.max cert.scale (length cert.mults) ∷ map mult_line cert.mults)
 
 -- the lines of a proof: those of its items
 abbrev pub tree_lines : RowTree → List Line

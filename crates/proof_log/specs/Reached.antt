@@ -11,5 +11,5 @@ use Rattle.proof_log.specs.LogReading.{HasRead, IsRead}
 
 -- what a reader has read was built of its items, with its claim; or the whole log was read
 abbrev pub HasReached : Option FileMap → List ℕ → Limits → LogReader → Reached → Type 0
-HasReached told name limits reader (Part built claim) = (items : List RowItem) × HasRead told name 0 limits items claim reader × IsBuilt items built
+HasReached told name limits reader (Part built claim) = (items : List RowItem) × HasRead told name 2 0 limits items claim reader × IsBuilt items built
 HasReached told name limits reader (LogReached log) = IfSome told (λ m. IsRead limits (file_of m name) log)

@@ -4,6 +4,7 @@ ghost use Rattle.log_lines.specs.declared.line.Line.{Line as AnyLine};
 ghost use Rattle.log_lines.specs.Grammar.{Standing, new_standing, next};
 ghost use Rattle.log_lines.specs.Line.{IsLine};
 ghost use Rattle.proof_log.specs.Agree.{IsBody};
+ghost use Rattle.proof_log.specs.Behind.{version_behind};
 ghost use Rattle.proof_log.specs.declared.group.Group.TheVariants as Group;
 ghost use Rattle.proof_log.specs.Gathered.{HasGathered, HasMade, IsGood, LineComes, MovesAs};
 ghost use Rattle.proof_log.specs.Gathering.{followed, MayFollow};
@@ -58,15 +59,20 @@ impl Gatherer {
         }
     }
 
-    /// A gatherer that has taken the first line of a log of version 2.
-    pub(crate) fn headed(alloc: Global, limits: Limits) -> Result<Gatherer, AllocError>
+    /// A gatherer that has taken the first line of the log that is read behind a head of this version.
+    pub(crate) fn headed(alloc: Global, limits: Limits, version: u8) -> Result<Gatherer, AllocError>
         ensures limits { IfOk result (λ gatherer. gatherer.limits ≡ limits) }
         ensures grammar { IfOk result
-            (λ gatherer. next new_standing (AnyLine.Header 2) ≡ Some gatherer.grammar) }
-        ensures gathered { IfOk result (HasGathered (AnyLine.Header 2 ∷ []) [] None) }
+            (λ gatherer. next new_standing (AnyLine.Header (version_behind version))
+            ≡ Some gatherer.grammar) }
+        ensures gathered { IfOk result
+            (HasGathered (AnyLine.Header (version_behind version) ∷ []) [] None) }
     {
         let mut grammar = Grammar::new(alloc);
-        let _ = grammar.take(&limits, &Line::Header { version: 2 })?;
+        let line = Line::Header {
+            version: version_behind(version),
+        };
+        let _ = grammar.take(&limits, &line)?;
         Ok(Gatherer {
             limits,
             grammar,
@@ -166,6 +172,13 @@ impl Gatherer {
         let group = std::mem::replace(&mut self.group, Group::Nothing);
         follow(alloc, self.limits.slots as usize, group, line)
     }
+}
+
+// The version of the log that is read behind a head of a version.
+fn version_behind(version: u8) -> u8
+    ensures { result ≡ version_behind version }
+{
+    if version == 4 { 4 } else { 2 }
 }
 
 // Whether a line is neither the header nor the end line.

@@ -1,6 +1,6 @@
 //! The gathering of lines into items and a claim.
-ghost use Rattle.std.specs.Prelude.{ℕ, [], ◌≡◌, ◌≤◌, length, OnOk, IfOk};
-ghost use Rattle.proof_log.specs.Gathering.{HasCert, padded, value_piece, mult_piece, grown_values, grown_mults, begun, valued, multed, followed, MayBegin, MayValue, MayMult, MayFollow};
+ghost use Rattle.std.specs.Prelude.{ℕ, [], ◌≡◌, ◌≤◌, length, Some, OnOk, IfOk};
+ghost use Rattle.proof_log.specs.Gathering.{HasCert, padded, value_piece, mult_piece, grown_values, grown_mults, begun, valued, multed, floored, followed, MayBegin, MaySplit, MayValue, MayMult, MayFollow};
 
 use crate::claim::Claim;
 use crate::group::{Group, Grown, MultHead, Piece, ValueHead};
@@ -84,6 +84,7 @@ fn begin(alloc: Global, slots: usize, line: Line) -> Result<Grown, AllocError>
             row: row as u32,
             slot: slot as u32,
         })))),
+        Line::Floor { profit } => Ok(Grown::More(Group::Floor { profit })),
         Line::Empty => Ok(Grown::Whole(Piece::Item(Item::Empty))),
         Line::Point => Ok(Grown::Whole(Piece::Item(Item::Point))),
         Line::ClaimInfeasible => Ok(Grown::Whole(Piece::Claim(Claim::Infeasible))),
@@ -140,6 +141,31 @@ fn begin_mults(alloc: Global, line: Line) -> Grown
             let pick = RowPick {
                 slot: slot as u32,
                 max,
+                floor: None,
+            };
+            let scale = scale as u32;
+            grow_mults(MultHead::Split { pick, scale }, count, List::new(alloc))
+        }
+        _ => unreachable!(),
+    }
+}
+
+/// The line of the split that a floor belongs to.
+fn follow_floor(alloc: Global, profit: &i128, line: Line) -> Grown
+    requires { MaySplit line }
+    ensures { result ≡ floored (Some profit.now) line }
+{
+    match line {
+        Line::Split {
+            slot,
+            max,
+            scale,
+            count,
+        } => {
+            let pick = RowPick {
+                slot: slot as u32,
+                max,
+                floor: Some(*profit),
             };
             let scale = scale as u32;
             grow_mults(MultHead::Split { pick, scale }, count, List::new(alloc))
@@ -206,6 +232,7 @@ pub(crate) fn follow(
 {
     match group {
         Group::Nothing => begin(alloc, slots, line),
+        Group::Floor { profit } => Ok(follow_floor(alloc, &profit, line)),
         Group::Values { head, left, point } => follow_value(slots, head, left, point, line),
         Group::Mults { head, left, mults } => follow_mult(slots, head, left, mults, line),
     }

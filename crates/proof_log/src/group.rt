@@ -32,6 +32,10 @@ pub enum MultHead {
 pub enum Group {
     /// No group is open.
     Nothing,
+    /// A floor, whose split has to come.
+    Floor {
+        profit: i128,
+    },
     /// Value lines: the values of the slots so far.
     Values {
         head: ValueHead,

@@ -5,7 +5,7 @@
 //!
 //! `LogReader` reads a log from a file, part by part: items that may come one after another, the claim once they are those of a
 //! whole proof, and the end, with which the file is the text of a log without a defect; or the first text defect of the file. It
-//! holds the lines of one item at most. Behind a head of the file it reads the log of version 2 whose first line stood there.
+//! holds the lines of one item at most. Behind a head of the file it reads the log whose first line stood there, of version 4 or 2.
 //! `first_defect` gives the first text defect of a log, or none. `read_log` gives the log of which some bytes are the text, so
 //! that `put_log` of it is those bytes again, or their first text defect.
 #![tactic(auto)]

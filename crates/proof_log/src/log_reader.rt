@@ -44,8 +44,8 @@ pub struct LogReader {
 impl LogReader {
     /// A reader at the first byte of a file, whose numbers are to keep the limits.
     pub fn begin(alloc: Global, limits: Limits) -> Result<LogReader, AllocError>
-        ensures { IfOk result (λ reader. (told : Option FileMap) (name : Items ℕ)
-            → HasRead told name 0 limits [] None reader) }
+        ensures { IfOk result (λ reader. (told : Option FileMap) (name : Items ℕ) (version : ℕ)
+            → HasRead told name version 0 limits [] None reader) }
     {
         let lines = LineReader::begin(alloc)?;
         let gatherer = Gatherer::new(alloc, limits);
@@ -56,17 +56,23 @@ impl LogReader {
         })
     }
 
-    /// A reader behind a head of so many bytes, or at the first byte of the file where they are none. What it reads behind a head
-    /// is a log of version 2 whose first line was read; lines are counted from that one on.
-    pub fn begin_behind(alloc: Global, limits: Limits, head: u64) -> Result<LogReader, AllocError>
+    /// A reader behind a head of a version and of so many bytes, or at the first byte of the file where they are none. What it
+    /// reads behind a head is a log whose first line was read, of version 4 behind a head of that version, and else of version 2;
+    /// lines are counted from that one on.
+    pub fn begin_behind(
+        alloc: Global,
+        limits: Limits,
+        version: u8,
+        head: u64,
+    ) -> Result<LogReader, AllocError>
         ensures { IfOk result (λ reader. (told : Option FileMap) (name : Items ℕ)
-            → HasRead told name head limits [] None reader) }
+            → HasRead told name version head limits [] None reader) }
     {
         if head == 0 {
             return LogReader::begin(alloc, limits);
         }
         let lines = LineReader::begin_at(alloc, head)?;
-        let gatherer = Gatherer::headed(alloc, limits)?;
+        let gatherer = Gatherer::headed(alloc, limits, version)?;
         Ok(LogReader {
             alloc,
             lines,
@@ -78,12 +84,12 @@ impl LogReader {
     /// failed. The files are as before.
     pub fn next<F: Shelf>(&mut self, files: &mut F, name: &str) -> Result<LogPart, Stop>
         requires allowed { IsTrue (F.may_read files.old name.now) }
-        requires open { (head : _) × (limits : _) × (items : Items RowItem) × (claim : _)
-            × HasRead (F.files files.old) name.now head limits items claim self.old }
+        requires open { (version : _) × (head : _) × (limits : _) × (items : Items RowItem) × (claim : _)
+            × HasRead (F.files files.old) name.now version head limits items claim self.old }
         ensures part { IfOk result
-            (λ part. (head : _) (limits : _) (items : Items RowItem) (claim : _)
-            → HasRead (F.files files.old) name.now head limits items claim self.old
-            → IsPartAfter (F.files files.old) name.now head limits items claim self.new part) }
+            (λ part. (version : _) (head : _) (limits : _) (items : Items RowItem) (claim : _)
+            → HasRead (F.files files.old) name.now version head limits items claim self.old
+            → IsPartAfter (F.files files.old) name.now version head limits items claim self.new part) }
         ensures same { F.files files.new ≡ F.files files.old }
         ensures readable { F.may_read files.new ≡ F.may_read files.old }
         ensures writable { F.may_write files.new ≡ F.may_write files.old }
@@ -105,14 +111,14 @@ impl LogReader {
     // Reads the next line: the part that it makes whole, or None where the part goes on.
     fn step<F: Shelf>(&mut self, files: &mut F, name: &str) -> Result<Option<LogPart>, Stop>
         requires allowed { IsTrue (F.may_read files.old name.now) }
-        requires open { (head : _) × (limits : _) × (items : Items RowItem) × (claim : _)
-            × HasRead (F.files files.old) name.now head limits items claim self.old }
+        requires open { (version : _) × (head : _) × (limits : _) × (items : Items RowItem) × (claim : _)
+            × HasRead (F.files files.old) name.now version head limits items claim self.old }
         ensures part { IfOk result
-            (λ part. (head : _) (limits : _) (items : Items RowItem) (claim : _)
-            → HasRead (F.files files.old) name.now head limits items claim self.old
-            → MatchOption part (HasRead (F.files files.old) name.now head limits items claim
+            (λ part. (version : _) (head : _) (limits : _) (items : Items RowItem) (claim : _)
+            → HasRead (F.files files.old) name.now version head limits items claim self.old
+            → MatchOption part (HasRead (F.files files.old) name.now version head limits items claim
             self.new)
-            (IsPartAfter (F.files files.old) name.now head limits items claim self.new)) }
+            (IsPartAfter (F.files files.old) name.now version head limits items claim self.new)) }
         ensures same { F.files files.new ≡ F.files files.old }
         ensures readable { F.may_read files.new ≡ F.may_read files.old }
         ensures writable { F.may_write files.new ≡ F.may_write files.old }

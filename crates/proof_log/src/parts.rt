@@ -2,7 +2,7 @@
 
 ghost use Rattle.std.specs.Prelude.{◌≡◌, ◌++◌, ◌∷◌, map, OnOk};
 ghost use Rattle.proof_tree.specs.declared.item.Item.{Item};
-ghost use Rattle.proof_log.specs.Log.{item_lines, lines_text, mult_line, started, value_line, value_lines};
+ghost use Rattle.proof_log.specs.Log.{floor_lines, item_lines, lines_text, mult_line, started, value_line, value_lines};
 
 use dual_bound::{Cert, Mult};
 use log_lines::{Line, put_line};
@@ -117,7 +117,18 @@ pub(crate) fn put_pending(alloc: Global, cert: &Cert, into: &mut Vec<u8>) -> Res
     put_mults(alloc, cert.mults.as_slice(), into)
 }
 
-// Appends the lines of a split.
+// Appends the line of a floor, if there is one.
+#[tactic(auto, unfolding(crate::specs::Log::lines_text))]
+fn put_floor(alloc: Global, floor: &Option<i128>, into: &mut Vec<u8>) -> Result<(), AllocError>
+    ensures { OnOk result (into.new.items ≡ into.old.items ++ lines_text (floor_lines floor.now)) }
+{
+    match floor {
+        Some(profit) => put_line(alloc, &Line::Floor { profit: *profit }, into),
+        None => Ok(()),
+    }
+}
+
+// Appends the lines of a split, with that of its floor.
 #[tactic(auto, unfolding(crate::specs::Log::lines_text, crate::specs::Log::item_lines))]
 pub(crate) fn put_split(
     alloc: Global,
@@ -128,6 +139,7 @@ pub(crate) fn put_split(
     ensures { OnOk result (into.new.items
         ≡ into.old.items ++ lines_text (item_lines (Item.Split pick.now cert.now))) }
 {
+    put_floor(alloc, &pick.floor, into)?;
     let slot = u128::from(pick.slot);
     let scale = u128::from(cert.scale);
     let count = cert.mults.len() as u128;

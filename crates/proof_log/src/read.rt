@@ -94,11 +94,11 @@ pub enum Reached {
 fn take_part(built: Built<Rows>, claim: Option<Claim>, part: LogPart) -> Result<Reached, LogStop>
     requires { (told : Option FileMap) × (name : Items ℕ) × (limits : Limits)
         × (items : Items RowItem) × (reader : LogReader)
-        × IsPartAfter told name 0 limits items claim reader part × IsBuilt items built }
+        × IsPartAfter told name 2 0 limits items claim reader part × IsBuilt items built }
     ensures reached { IfOk result
         (λ reached. (told : Option FileMap) (name : Items ℕ) (limits : Limits)
         → (items : Items RowItem) (reader : LogReader)
-        → IsPartAfter told name 0 limits items claim reader part → IsBuilt items built
+        → IsPartAfter told name 2 0 limits items claim reader part → IsBuilt items built
         → HasReached told name limits reader reached) }
     ensures defect { (defect : Defect) → result ≡ Err (LogStop.Defect defect)
         → part ≡ LogPart.Bad defect }

@@ -11,19 +11,20 @@ use log_lines::{Defect, Limits};
 use std::alloc::Global;
 use stn_edge::{Shelf, Stop};
 
-/// The first text defect of the log behind a head of so many bytes (0: of the file), or None where it has none. It reads the file
+/// The first text defect of the log behind a head of a version and of so many bytes (0: of the file), or None where it has none. It reads the file
 /// once and keeps nothing of it; it holds what a reader of logs holds. Lines are counted from the first line of that log on.
 /// `Failed` comes only where a read failed. The files are as before.
 pub fn first_defect<F: Shelf>(
     alloc: Global,
     limits: Limits,
+    version: u8,
     head: u64,
     files: &mut F,
     name: &str,
 ) -> Result<Option<Defect>, Stop>
     requires allowed { IsTrue (F.may_read files.old name.now) }
     ensures defect { IfOk result (λ defect. IfSome (F.files files.old)
-        (λ m. log_text_defect limits (behind head (file_of m name.now)) ≡ option_map
+        (λ m. log_text_defect limits (behind version head (file_of m name.now)) ≡ option_map
         (λ d. (d.line, d.kind)) defect)) }
     ensures same { F.files files.new ≡ F.files files.old }
     ensures readable { F.may_read files.new ≡ F.may_read files.old }
@@ -33,7 +34,7 @@ pub fn first_defect<F: Shelf>(
     ensures fault { result ≡ Err Stop.Failed
         → Rose (F.read_faults files.old) (F.read_faults files.new) }
 {
-    let mut reader = LogReader::begin_behind(alloc, limits, head)?;
+    let mut reader = LogReader::begin_behind(alloc, limits, version, head)?;
     'parts: for _ in 0..u64::MAX {
         match reader.next(files, name)? {
             LogPart::Item { line: _, item: _ } => {}

@@ -21,7 +21,7 @@ use Rattle.proof_tree.specs.Tree.{Leaf, Tree, leaf, split as two_parts, tree_of}
 use Rattle.proof_tree.specs.Walk.{Opened, Stage, Outcome, going, ended, misplaced, may_come, part_ended, walked, start}
 use Rattle.proof_tree.proofs.Forms.{any_steps-cap, tree_whole, going-may, whole-not_going}
 use Rattle.proof_tree.proofs.OneTree.{items-one_tree}
-use Rattle.proof_tree.proofs.WalkLaw.{stage_at, walked-append, walked-tree}
+use Rattle.proof_tree.proofs.WalkLaw.{stage_at, split_over, walked-append, walked-tree}
 
 -- which items may come in a node that has begun
 abbrev pub inside : {F : Type 0} → Option F → Expected
@@ -44,7 +44,7 @@ inside-none (Some f) there = cc
 
 -- an open split as the form of its items has it
 abbrev pub held_split : {U C P F : Type 0} → SplitNode U C P F → Opened P
-held_split split = record { view = []; pick = split.pick; left = option_map (λ proof. NoPoint) split.left }
+held_split split = record { view = []; pick = split.pick; floor = None; left = option_map (λ proof. NoPoint) split.left }
 
 -- where the items of a builder stand
 abbrev pub held_stage : {U C P F : Type 0} → List (SplitNode U C P F) → Option (BegunNode U F) → Stage P
@@ -68,11 +68,11 @@ module _ (R A U C P F : Type 0) where
       at None = refl
       at (Some f) = refl
 
-  led-left : (outer : List (Opened P)) (pick : P) (left : Option (Proof U C P F)) → led (stage_at ExpectNode (record { view = []; pick = pick; left = None } ∷ outer) []) (items_if proof_items left) ≡ stage_at ExpectNode (record { view = []; pick = pick; left = option_map (λ proof. NoPoint) left } ∷ outer) []
+  led-left : (outer : List (Opened P)) (pick : P) (left : Option (Proof U C P F)) → led (stage_at ExpectNode (split_over [] pick None None ∷ outer) []) (items_if proof_items left) ≡ stage_at ExpectNode (split_over [] pick None (option_map (λ proof. NoPoint) left) ∷ outer) []
   led-left outer pick None = refl
   led-left outer pick (Some proof) =
-      walked-tree R A F any_steps (tree_of proof) (record { view = []; pick = pick; left = None } ∷ outer) []
-      ∙ ap (part_ended (any_steps {U = U} {C = C}) (record { view = []; pick = pick; left = None } ∷ outer)) (any_steps-cap U C P [] (tree_of proof))
+      walked-tree R A F any_steps (tree_of proof) (split_over [] pick None None ∷ outer) []
+      ∙ ap (part_ended (any_steps {U = U} {C = C}) (split_over [] pick None None ∷ outer)) (any_steps-cap U C P [] (tree_of proof))
 
   led-split : (outer : List (Opened P)) (split : SplitNode U C P F) → led (stage_at ExpectNode outer []) (split_items split) ≡ stage_at ExpectNode (held_split split ∷ outer) []
   led-split outer split =

@@ -1,22 +1,22 @@
 -- Items in their places are the first of those of a proof.
-use Rattle.std.proofs.Common.{◌≡◌, ◌≢◌, List, [], ◌∷◌, ◌++◌, map, Option, Some, None, if◌then◌else◌, Bool, true, false, refl, ap, sym, ◌∙◌, subst, append_assoc}
+use Rattle.std.proofs.Common.{◌≡◌, ◌≢◌, List, [], ◌∷◌, ◌++◌, Option, Some, None, refl, ap, sym, ◌∙◌}
 use Rattle.std.specs.Prelude.{⊤}
 use Rattle.std.specs.List.{All}
 use Rattle.std.proofs.lemmas.List.{append-nil}
 use Rattle.std.proofs.lemmas.List.Elements.{All-append, All-cons, All-head, All-nil, All-tail, filter_map-append}
 use Rattle.proof_tree.specs.declared.capped.Capped.{Capped}
-use Rattle.proof_tree.specs.declared.capped.Capped.TheVariants.{AtMost, NoPoint, Bad}
+use Rattle.proof_tree.specs.declared.capped.Capped.TheVariants.{NoPoint}
 use Rattle.proof_tree.specs.declared.item.Item.{Item}
-use Rattle.proof_tree.specs.declared.item.Item.TheVariants.{Node, Cut, Found, Empty, Dual, Point, Pending, Split}
+use Rattle.proof_tree.specs.declared.item.Item.TheVariants.{Node, Empty}
 use Rattle.proof_tree.specs.declared.walk.Expected.{Expected}
 use Rattle.proof_tree.specs.declared.walk.Expected.TheVariants.{Node as ExpectNode, Inside, End, Nothing}
-use Rattle.proof_tree.specs.Cap.{greater}
+use Rattle.proof_tree.specs.Cap.{greater, floor_cap}
 use Rattle.proof_tree.specs.Form.{any_steps, form_of}
 use Rattle.proof_tree.specs.Items.{tree_items, found_of, found_in}
 use Rattle.proof_tree.specs.Nodes.{found_points}
 use Rattle.proof_tree.specs.Tree.{Tree}
 use Rattle.proof_tree.specs.Views.{View}
-use Rattle.proof_tree.specs.Walk.{Opened, Stage, Outcome, going, ended, undefined, misplaced, may_come, going_to, close, close_split, part_ended, taken, step, after, walked, start}
+use Rattle.proof_tree.specs.Walk.{Opened, Outcome, going, ended, undefined, misplaced, close, close_split, walked, start}
 use Rattle.proof_tree.proofs.Folds.{found_in-tree}
 use Rattle.proof_tree.proofs.Forms.{form-awaits, form-defined, tree_whole}
 use Rattle.proof_tree.proofs.WalkLaw.{stage_at, walked-append, walked-misplaced}
@@ -84,7 +84,7 @@ module _ (R A U C P F : Type 0) where
     where
       at : (left : Option Capped) → ((c : Capped) → (cap : Capped) × (led (close (any_steps {U = U} {C = C}) splits c) (closing splits) ≡ ended cap))
           → (cap : Capped) × (led (close_split (any_steps {U = U} {C = C}) split splits part_cap left (close (any_steps {U = U} {C = C}) splits)) (right_items left ++ closing splits) ≡ ended cap)
-      at None rest = rest (greater part_cap NoPoint)
+      at None rest = rest (greater (greater (floor_cap split.floor) part_cap) NoPoint)
       at (Some left) rest = rest (greater left part_cap)
 
   led-ending : (expected : Expected) (splits : List (Opened P)) (v : View) → expected ≢ Nothing → (cap : Capped) × (led (stage_at expected splits v) (ending expected ++ closing splits) ≡ ended cap)

@@ -7,13 +7,13 @@ use Rattle.proof_tree.specs.declared.item.Item.{Item}
 use Rattle.proof_tree.specs.declared.item.Item.TheVariants.{Node, Cut, Found, Empty, Dual, Point, Pending, Split}
 use Rattle.proof_tree.specs.declared.walk.Expected.{Expected}
 use Rattle.proof_tree.specs.declared.walk.Expected.TheVariants.{Node as ExpectNode, Inside, Nothing}
-use Rattle.proof_tree.specs.Cap.{greater}
+use Rattle.proof_tree.specs.Cap.{greater, floor_cap}
 use Rattle.proof_tree.specs.Form.{any_steps, form_of, MayComeAfter, AreWhole}
 use Rattle.proof_tree.specs.Items.{tree_items}
 use Rattle.proof_tree.specs.Relaxation.{Steps}
 use Rattle.proof_tree.specs.Tree.{Leaf, no_point, dual, one_point, pending, Tree, leaf, split as two_parts, tree_cap, leaf_cap, after_cuts}
 use Rattle.proof_tree.specs.Views.{View}
-use Rattle.proof_tree.specs.Walk.{Opened, Stage, Outcome, going, ended, undefined, misplaced, may_come, going_to, close, close_split, part_ended, taken, step, after, walked, start, outcome_of}
+use Rattle.proof_tree.specs.Walk.{Opened, Stage, Outcome, going, ended, undefined, misplaced, may_come, going_to, close, close_split, part_ended, split_open, taken, step, after, walked, start, outcome_of}
 use Rattle.proof_tree.proofs.WalkLaw.{walked-append, walked-next, walked-misplaced, walked-whole}
 use Rattle.proof_tree.proofs.WalkTree.{walked-is_tree}
 
@@ -41,9 +41,9 @@ whole_tree items whole = let is = walked-is_tree _ _ _ any_steps [] items NoPoin
 pub tree_whole : (R A : Type 0) {U C P F : Type 0} (tree : Tree U C P F) → AreWhole {R = R} {A = A} (tree_items tree)
 tree_whole R A tree = walked-whole R A _ any_steps tree [] ∙ ap outcome_of (any_steps-cap _ _ _ [] tree)
 
--- an open split as the form has it: a left part that has ended has the cap of no point
+-- an open split as the form has it: it has no floor, and a left part that has ended has the cap of no point
 abbrev pub form_split : {P : Type 0} → Opened P → Opened P
-form_split split = record { view = []; pick = split.pick; left = option_map (λ cap. NoPoint) split.left }
+form_split split = record { view = []; pick = split.pick; floor = None; left = option_map (λ cap. NoPoint) split.left }
 
 -- a stage as the form has it: the same items may come, and the same left parts of the open splits have ended
 abbrev pub form_stage : {P : Type 0} → Stage P → Stage P
@@ -76,7 +76,7 @@ module _ {U C P : Type 0} (s : Steps U C P) where
     where
       at : (left : Option Capped) → ((c : Capped) → Alike (close s splits c) (close (any_steps {U = U} {C = C}) (map form_split splits) NoPoint))
           → Alike (close_split s split splits part_cap left (close s splits)) (close_split (any_steps {U = U} {C = C}) (form_split split) (map form_split splits) NoPoint (option_map (λ cap. NoPoint) left) (close (any_steps {U = U} {C = C}) (map form_split splits)))
-      at None rest = alike-next ExpectNode (record split { left = Some part_cap } ∷ splits) (s.right split.view split.pick)
+      at None rest = alike-next ExpectNode (record split { left = Some (greater (floor_cap split.floor) part_cap) } ∷ splits) (s.right split.view split.pick)
       at (Some left) rest = rest (greater left part_cap)
 
   alike-ended : (splits : List (Opened P)) (part_cap : Capped) → Alike (part_ended s splits part_cap) (close (any_steps {U = U} {C = C}) (map form_split splits) NoPoint)
@@ -93,7 +93,7 @@ module _ {R A U C P F : Type 0} (s : Steps U C P) where
   alike-taken splits v (Dual cert) = alike-ended s splits (leaf_cap s v (dual cert))
   alike-taken splits v Point = alike-ended s splits (leaf_cap s v one_point)
   alike-taken splits v (Pending cert) = alike-ended s splits (leaf_cap s v (pending cert))
-  alike-taken splits v (Split pick cert) = alike-next s ExpectNode (record { view = v; pick = pick; left = None } ∷ splits) (s.left v pick)
+  alike-taken splits v (Split pick cert) = alike-next s ExpectNode (split_open s v pick cert ∷ splits) (s.left (s.trim v pick cert) pick)
 
   alike-step : (stage : Stage P) (item : Item R A U C P F) → Alike (step s stage item) (step any_steps (form_stage stage) item)
   alike-step stage item = at (may_come stage.expected item)

@@ -1,4 +1,5 @@
 pub mod Building
+pub mod Caps
 pub mod Completing
 pub mod Folds
 pub mod Forms

@@ -1,8 +1,6 @@
 -- Facts of each node of a tree: weaker ones, two together, and what they say of the found points.
-use Rattle.std.proofs.Common.{List, [], ◌++◌, Option, Some, None, option_to_list}
-use Rattle.std.specs.List.{All}
+use Rattle.std.proofs.Common.{List, ◌++◌, Option, Some, None, option_to_list}
 use Rattle.std.specs.Option.{IsSomeAnd}
-use Rattle.std.proofs.lemmas.List.Elements.{All-append}
 use Rattle.proof_tree.specs.Nodes.{Node, EachNode, found_points}
 use Rattle.proof_tree.specs.Relaxation.{Steps}
 use Rattle.proof_tree.specs.Tree.{Tree, leaf, split, after_cuts}
@@ -26,8 +24,8 @@ module _ {U C P F : Type 0} (s : Steps U C P) where
       there-weaker (after_cuts s v cuts) _ _
       (λ w at. (
         step _ at.0,
-        there-weaker (s.left w pick) _ _ (λ x. EachNode-weaker Before After step (Some cert) (before ++ option_to_list found) x a) at.1,
-        there-weaker (s.right w pick) _ _ (λ y. EachNode-weaker Before After step (Some cert) (before ++ (option_to_list found ++ found_points a)) y b) at.2,
+        there-weaker (s.left (s.trim w pick cert) pick) _ _ (λ x. EachNode-weaker Before After step (Some cert) (before ++ option_to_list found) x a) at.1,
+        there-weaker (s.right (s.trim w pick cert) pick) _ _ (λ y. EachNode-weaker Before After step (Some cert) (before ++ (option_to_list found ++ found_points a)) y b) at.2,
       ))
       holds
 
@@ -39,7 +37,7 @@ module _ {U C P F : Type 0} (s : Steps U C P) where
       there-both (after_cuts s v cuts) _ _ _
       (λ w at too. (
         step _ at.0 too.0,
-        there-both (s.left w pick) _ _ _ (λ x. EachNode-both One Other Both step (Some cert) (before ++ option_to_list found) x a) at.1 too.1,
-        there-both (s.right w pick) _ _ _ (λ y. EachNode-both One Other Both step (Some cert) (before ++ (option_to_list found ++ found_points a)) y b) at.2 too.2,
+        there-both (s.left (s.trim w pick cert) pick) _ _ _ (λ x. EachNode-both One Other Both step (Some cert) (before ++ option_to_list found) x a) at.1 too.1,
+        there-both (s.right (s.trim w pick cert) pick) _ _ _ (λ y. EachNode-both One Other Both step (Some cert) (before ++ (option_to_list found ++ found_points a)) y b) at.2 too.2,
       ))
       one other

@@ -1,38 +1,19 @@
 -- The cap of a tree bounds the worth of every lawful point, whatever the relaxation.
-use Rattle.std.proofs.Common.{◌≡◌, ℤ, ◌≤ℤ◌, ◌⊎◌, Bool, true, false, cond, List, [], ◌∷◌, Option, Some, None, option_and_then, refl, ap, ◌∙◌, subst, arith, ⊎_elim}
-use Rattle.std.specs.Int.{int_max}
+use Rattle.std.proofs.Common.{◌≡◌, ℤ, ◌≤ℤ◌, ◌⊎◌, Bool, true, false, cond, List, [], ◌∷◌, Option, Some, None, option_and_then, inl, inr, refl, ap, sym, ◌∙◌, subst, ⊎_elim}
 use Rattle.std.specs.Int.Signed.{≤ℤ_refl}
-use Rattle.std.proofs.lemmas.Int.{ints, clamps}
 use Rattle.proof_tree.specs.declared.capped.Capped.{Capped}
 use Rattle.proof_tree.specs.declared.capped.Capped.TheVariants.{AtMost, NoPoint, Bad}
-use Rattle.proof_tree.specs.Cap.{Bounds, Settles, greater}
+use Rattle.proof_tree.specs.Cap.{Bounds, Settles, IsWithinFloor, greater, floor_cap}
 use Rattle.proof_tree.specs.Relaxation.{Steps, IsSound}
-use Rattle.proof_tree.specs.Tree.{Leaf, no_point, dual, one_point, pending, Tree, leaf, split, tree_cap, leaf_cap, after_cuts, cap_if}
+use Rattle.proof_tree.specs.Tree.{Leaf, no_point, dual, one_point, pending, Tree, leaf, split, tree_cap, split_cap, leaf_cap, after_cuts, cap_if}
 use Rattle.proof_tree.specs.Views.{View, Point}
-
--- what is at most one of two numbers is at most the greater of them
-int_max-left : (x a b : ℤ) → x ≤ℤ a → x ≤ℤ int_max a b
-int_max-left x a b h = omega (arith, ints, clamps)
-
-int_max-right : (x a b : ℤ) → x ≤ℤ b → x ≤ℤ int_max a b
-int_max-right x a b h = omega (arith, ints, clamps)
+use Rattle.proof_tree.proofs.Caps.{Bounds-greater, floor-bad, floor-bounds}
 
 -- a cap of some points is a cap of lawful points among them
 Bounds-fewer : (P Q L : Point → Type 0) (worth : Point → ℤ) (cap : Capped) → ((p : Point) → Q p → L p → P p) → Bounds P L worth cap → Bounds Q L worth cap
 Bounds-fewer P Q L worth (AtMost n) within bound = λ p q l. bound p (within p q l) l
 Bounds-fewer P Q L worth NoPoint within bound = λ p q l. bound p (within p q l) l
 Bounds-fewer P Q L worth Bad within bound = tt
-
--- the greater of two caps is a cap of what either caps
-Bounds-greater : (P Q R L : Point → Type 0) (worth : Point → ℤ) (a b : Capped) → ((p : Point) → R p → P p ⊎ Q p) → Bounds P L worth a → Bounds Q L worth b → Bounds R L worth (greater a b)
-Bounds-greater P Q R L worth Bad b either first second = tt
-Bounds-greater P Q R L worth NoPoint (AtMost n) either first second = λ p r l. ⊎_elim (λ x. absurd (first p x l)) (λ x. second p x l) (either p r)
-Bounds-greater P Q R L worth NoPoint NoPoint either first second = λ p r l. ⊎_elim (λ x. first p x l) (λ x. second p x l) (either p r)
-Bounds-greater P Q R L worth NoPoint Bad either first second = tt
-Bounds-greater P Q R L worth (AtMost m) Bad either first second = tt
-Bounds-greater P Q R L worth (AtMost m) NoPoint either first second = λ p r l. ⊎_elim (λ x. first p x l) (λ x. absurd (second p x l)) (either p r)
-Bounds-greater P Q R L worth (AtMost m) (AtMost n) either first second =
-    λ p r l. ⊎_elim (λ x. int_max-left (worth p) m n (first p x l)) (λ x. int_max-right (worth p) m n (second p x l)) (either p r)
 
 -- what settling an area answers is a cap of its points
 Bounds-Settles : (P L : Point → Type 0) (worth : Point → ℤ) (cap : Capped) → Settles P L worth cap → Bounds P L worth cap
@@ -80,12 +61,29 @@ module _ {U C P : Type 0} (s : Steps U C P) (fits : View → Type 0) (is_point :
   leaf_cap-bounds v one_point fit = Bounds-Settles (is_point v) is_lawful worth (s.settle v) (sound.settles v fit)
   leaf_cap-bounds v (pending cert) fit = sound.cap_bounds v cert fit
 
-  -- the greater of the caps of the two parts is a cap of both together
-  parts-bounds : (w : View) (pick : P) (first second : View → Capped) → fits w → ((x : View) → fits x → Bounds (is_point x) is_lawful worth (first x)) → ((x : View) → fits x → Bounds (is_point x) is_lawful worth (second x)) → (x : Option View) → s.left w pick ≡ x → (y : Option View) → s.right w pick ≡ y → Bounds (is_point w) is_lawful worth (greater (cap_if x first) (cap_if y second))
-  parts-bounds w pick first second fit one other None is_left y is_right = tt
-  parts-bounds w pick first second fit one other (Some x) is_left None is_right = absurd (sound.parts_alike w x pick fit is_left is_right)
-  parts-bounds w pick first second fit one other (Some x) is_left (Some y) is_right =
-      Bounds-greater (is_point x) (is_point y) (is_point w) is_lawful worth (first x) (second y) (sound.parts_cover w x y pick fit is_left is_right) (one x (sound.left_fits w x pick fit is_left)) (other y (sound.right_fits w y pick fit is_right))
+  -- a point that a split has not forgotten is in one of the parts
+  in_a_part : (w x y : View) (pick : P) (cert : C) → fits w → s.left (s.trim w pick cert) pick ≡ Some x → s.right (s.trim w pick cert) pick ≡ Some y
+      → (p : Point) → is_point w p → is_lawful p → (IsWithinFloor (s.floor w pick cert) (worth p) ⊎ is_point x p) ⊎ is_point y p
+  in_a_part w x y pick cert fit is_left is_right p in_view lawful =
+      ⊎_elim
+      (λ stays. ⊎_elim (λ here. inl (inr here)) (λ here. inr here) (sound.parts_cover (s.trim w pick cert) x y pick (sound.trim_fits w pick cert fit) is_left is_right p stays))
+      (λ within. inl (inl within))
+      (sound.trim_keeps w pick cert fit p in_view lawful)
+
+  -- the greatest of the caps of a floor and of the two parts is a cap of what is split
+  split_cap-bounds : (w : View) (pick : P) (cert : C) (first second : View → Capped) → fits w → ((x : View) → fits x → Bounds (is_point x) is_lawful worth (first x)) → ((x : View) → fits x → Bounds (is_point x) is_lawful worth (second x))
+      → (x : Option View) → s.left (s.trim w pick cert) pick ≡ x → (y : Option View) → s.right (s.trim w pick cert) pick ≡ y
+      → Bounds (is_point w) is_lawful worth (greater (greater (floor_cap (s.floor w pick cert)) (cap_if x first)) (cap_if y second))
+  split_cap-bounds w pick cert first second fit one other None is_left y is_right =
+      subst (λ cap. Bounds (is_point w) is_lawful worth (greater cap (cap_if y second))) (sym (floor-bad (s.floor w pick cert))) tt
+  split_cap-bounds w pick cert first second fit one other (Some x) is_left None is_right = absurd (sound.parts_alike (s.trim w pick cert) x pick (sound.trim_fits w pick cert fit) is_left is_right)
+  split_cap-bounds w pick cert first second fit one other (Some x) is_left (Some y) is_right =
+      let floor = s.floor w pick cert in
+      let fit_rest = sound.trim_fits w pick cert fit in
+      let Within : Point → Type 0 = λ p. IsWithinFloor floor (worth p) in
+      let Left : Point → Type 0 = λ p. Within p ⊎ is_point x p in
+      let left_cap = Bounds-greater Within (is_point x) Left is_lawful worth (floor_cap floor) (first x) (λ p either lawful. either) (floor-bounds is_lawful worth floor) (one x (sound.left_fits (s.trim w pick cert) x pick fit_rest is_left)) in
+      Bounds-greater Left (is_point y) (is_point w) is_lawful worth (greater (floor_cap floor) (first x)) (second y) (in_a_part w x y pick cert fit is_left is_right) left_cap (other y (sound.right_fits (s.trim w pick cert) y pick fit_rest is_right))
 
 -- the cap of a tree bounds the worth of every lawful point
 pub tree_cap-bounds : {U C P F : Type 0} (s : Steps U C P) (fits : View → Type 0) (is_point : View → Point → Type 0) (is_lawful : Point → Type 0) (worth : Point → ℤ) → IsSound s fits is_point is_lawful worth → (tree : Tree U C P F) (v : View) → fits v → Bounds (is_point v) is_lawful worth (tree_cap s v tree)
@@ -97,4 +95,6 @@ tree_cap-bounds s fits is_point is_lawful worth sound (split cuts found pick cer
     let to = cuts_to s fits is_point is_lawful worth sound cuts v fit in
     let first = tree_cap-bounds s fits is_point is_lawful worth sound a in
     let second = tree_cap-bounds s fits is_point is_lawful worth sound b in
-    Bounds-cap_if s fits is_point is_lawful worth sound v (after_cuts s v cuts) (λ w. greater (cap_if (s.left w pick) (λ x. tree_cap s x a)) (cap_if (s.right w pick) (λ x. tree_cap s x b))) (λ w is. parts-bounds s fits is_point is_lawful worth sound w pick (λ x. tree_cap s x a) (λ x. tree_cap s x b) (to w is).0 first second (s.left w pick) refl (s.right w pick) refl) (λ w is. (to w is).1)
+    Bounds-cap_if s fits is_point is_lawful worth sound v (after_cuts s v cuts) (λ w. split_cap s w pick cert (λ x. tree_cap s x a) (λ x. tree_cap s x b))
+    (λ w is. split_cap-bounds s fits is_point is_lawful worth sound w pick cert (λ x. tree_cap s x a) (λ x. tree_cap s x b) (to w is).0 first second (s.left (s.trim w pick cert) pick) refl (s.right (s.trim w pick cert) pick) refl)
+    (λ w is. (to w is).1)

@@ -1,21 +1,26 @@
 -- The law of the walk: the items of a tree lead to its cap, and no more splits are open than the tree is deep.
-use Rattle.std.proofs.Common.{◌≡◌, ◌≢◌, ℕ, ◌+◌, ◌-◌, ◌<◌, ◌≤◌, Bool, true, false, List, [], ◌∷◌, ◌++◌, map, length, Option, Some, None, option_to_list, option_and_then, if◌then◌else◌, refl, ap, sym, ◌∙◌, subst, arith}
+use Rattle.std.proofs.Common.{◌≡◌, ◌≢◌, ℕ, ℤ, ◌+◌, ◌-◌, ◌<◌, ◌≤◌, Bool, true, false, List, [], ◌∷◌, ◌++◌, map, length, Option, Some, None, option_to_list, option_and_then, if◌then◌else◌, refl, ap, sym, ◌∙◌, subst, arith}
 use Rattle.proof_tree.specs.declared.capped.Capped.{Capped}
 use Rattle.proof_tree.specs.declared.capped.Capped.TheVariants.{AtMost, NoPoint, Bad}
 use Rattle.proof_tree.specs.declared.item.Item.{Item}
 use Rattle.proof_tree.specs.declared.item.Item.TheVariants.{Cut, Found, Empty, Dual, Point, Pending, Split}
 use Rattle.proof_tree.specs.declared.walk.Expected.{Expected}
 use Rattle.proof_tree.specs.declared.walk.Expected.TheVariants.{Node as ExpectNode, Inside, End}
-use Rattle.proof_tree.specs.Cap.{greater}
+use Rattle.proof_tree.specs.Cap.{greater, floor_cap}
 use Rattle.proof_tree.specs.Items.{leaf_item, tree_items, depth}
 use Rattle.proof_tree.specs.Relaxation.{Steps}
-use Rattle.proof_tree.specs.Tree.{Leaf, no_point, dual, one_point, pending, Tree, leaf, split, tree_cap, leaf_cap, after_cuts, cap_if}
+use Rattle.proof_tree.specs.Tree.{Leaf, no_point, dual, one_point, pending, Tree, leaf, split, tree_cap, split_cap, leaf_cap, after_cuts, cap_if}
 use Rattle.proof_tree.specs.Views.{View}
-use Rattle.proof_tree.specs.Walk.{Opened, Stage, Outcome, going, ended, undefined, misplaced, may_come, going_to, close, close_split, part_ended, taken, step, after, walked, start, outcome_of, open_count, ComesNext, Tells}
+use Rattle.proof_tree.specs.Walk.{Opened, Stage, Outcome, going, ended, undefined, misplaced, may_come, going_to, close, close_split, part_ended, split_open, taken, step, after, walked, start, outcome_of, open_count, ComesNext, Tells}
+use Rattle.proof_tree.proofs.Caps.{floor-bad, floor-not_bad}
 
 -- the stage where these items may come, with these splits open, over this view
 abbrev pub stage_at : {P : Type 0} → Expected → List (Opened P) → View → Outcome P
 stage_at expected splits v = going (record { expected = expected; splits = splits; view = v })
+
+-- an open split over this view
+abbrev pub split_over : {P : Type 0} → View → P → Option ℤ → Option Capped → Opened P
+split_over v pick floor left = record { view = v; pick = pick; floor = floor; left = left }
 
 -- where no split is open, a part that has ended is the proof
 part_ended-none : {U C P : Type 0} (s : Steps U C P) (proof_cap : Capped) → part_ended s [] proof_cap ≡ outcome_of proof_cap
@@ -64,47 +69,57 @@ module _ (R A F : Type 0) {U C P : Type 0} (s : Steps U C P) where
   walked-leaf splits (Some w) (Some f) (pending cert) = refl
 
   -- a found point and a split open its left part
-  walked-split : (splits : List (Opened P)) (w : View) (found : Option F) (pick : P) (cert : C) (xs : List (Item R A U C P F)) → walked s (stage_at Inside splits w) (map Found (option_to_list found) ++ (Split pick cert ∷ xs)) ≡ walked s (going_to ExpectNode (record { view = w; pick = pick; left = None } ∷ splits) (s.left w pick)) xs
+  walked-split : (splits : List (Opened P)) (w : View) (found : Option F) (pick : P) (cert : C) (xs : List (Item R A U C P F)) → walked s (stage_at Inside splits w) (map Found (option_to_list found) ++ (Split pick cert ∷ xs)) ≡ walked s (going_to ExpectNode (split_open s w pick cert ∷ splits) (s.left (s.trim w pick cert) pick)) xs
   walked-split splits w None pick cert xs = refl
   walked-split splits w (Some f) pick cert xs = refl
 
-  -- the second part of a split closes it with the greater of the two caps
-  right_part : (splits : List (Opened P)) (w : View) (pick : P) (first : Capped) (second : View → Capped) (items : List (Item R A U C P F)) (next : Option View) → first ≢ Bad → ((y : View) → walked s (stage_at ExpectNode (record { view = w; pick = pick; left = Some first } ∷ splits) y) items ≡ part_ended s (record { view = w; pick = pick; left = Some first } ∷ splits) (second y)) → walked s (going_to ExpectNode (record { view = w; pick = pick; left = Some first } ∷ splits) next) items ≡ part_ended s splits (greater first (cap_if next second))
-  right_part splits w pick Bad second items next not_bad rest = absurd (not_bad refl)
-  right_part splits w pick NoPoint second items None not_bad rest = walked-undefined items
-  right_part splits w pick (AtMost n) second items None not_bad rest = walked-undefined items
-  right_part splits w pick NoPoint second items (Some y) not_bad rest = rest y ∙ ends (second y)
+  -- the second part of a split closes it with the greater of what stands by then and that part's cap
+  right_part : (splits : List (Opened P)) (v : View) (pick : P) (floor : Option ℤ) (first : Capped) (second : View → Capped) (items : List (Item R A U C P F)) (next : Option View) → first ≢ Bad → ((y : View) → walked s (stage_at ExpectNode (split_over v pick floor (Some first) ∷ splits) y) items ≡ part_ended s (split_over v pick floor (Some first) ∷ splits) (second y)) → walked s (going_to ExpectNode (split_over v pick floor (Some first) ∷ splits) next) items ≡ part_ended s splits (greater first (cap_if next second))
+  right_part splits v pick floor Bad second items next not_bad rest = absurd (not_bad refl)
+  right_part splits v pick floor NoPoint second items None not_bad rest = walked-undefined items
+  right_part splits v pick floor (AtMost n) second items None not_bad rest = walked-undefined items
+  right_part splits v pick floor NoPoint second items (Some y) not_bad rest = rest y ∙ ends (second y)
     where
-      ends : (cap_y : Capped) → part_ended s (record { view = w; pick = pick; left = Some NoPoint } ∷ splits) cap_y ≡ part_ended s splits (greater NoPoint cap_y)
+      ends : (cap_y : Capped) → part_ended s (split_over v pick floor (Some NoPoint) ∷ splits) cap_y ≡ part_ended s splits (greater NoPoint cap_y)
       ends Bad = refl
       ends NoPoint = refl
       ends (AtMost m) = refl
-  right_part splits w pick (AtMost n) second items (Some y) not_bad rest = rest y ∙ ends (second y)
+  right_part splits v pick floor (AtMost n) second items (Some y) not_bad rest = rest y ∙ ends (second y)
     where
-      ends : (cap_y : Capped) → part_ended s (record { view = w; pick = pick; left = Some (AtMost n) } ∷ splits) cap_y ≡ part_ended s splits (greater (AtMost n) cap_y)
+      ends : (cap_y : Capped) → part_ended s (split_over v pick floor (Some (AtMost n)) ∷ splits) cap_y ≡ part_ended s splits (greater (AtMost n) cap_y)
       ends Bad = refl
       ends NoPoint = refl
       ends (AtMost m) = refl
+
+  -- where the first part of a split has no cap, the split has none
+  left_capless : (splits : List (Opened P)) (floor : Option ℤ) (other : Capped) (items : List (Item R A U C P F)) → walked s undefined items ≡ part_ended s splits (greater (greater (floor_cap floor) Bad) other)
+  left_capless splits floor other items = walked-undefined items ∙ ap (λ cap. part_ended s splits (greater cap other)) (sym (floor-bad floor))
 
   -- the first part of a split ends, and its second part begins where it has a cap
-  left_ended : (splits : List (Opened P)) (w : View) (pick : P) (first : Capped) (second : View → Capped) (items : List (Item R A U C P F)) (next : Option View) → s.right w pick ≡ next → ((cap_x : Capped) (y : View) → walked s (stage_at ExpectNode (record { view = w; pick = pick; left = Some cap_x } ∷ splits) y) items ≡ part_ended s (record { view = w; pick = pick; left = Some cap_x } ∷ splits) (second y)) → walked s (part_ended s (record { view = w; pick = pick; left = None } ∷ splits) first) items ≡ part_ended s splits (greater first (cap_if next second))
-  left_ended splits w pick Bad second items next is rest = walked-undefined items
-  left_ended splits w pick NoPoint second items next is rest = rw is (right_part splits w pick NoPoint second items next (λ e. cc) (rest NoPoint))
-  left_ended splits w pick (AtMost n) second items next is rest = rw is (right_part splits w pick (AtMost n) second items next (λ e. cc) (rest (AtMost n)))
+  left_ended : (splits : List (Opened P)) (v : View) (pick : P) (floor : Option ℤ) (first : Capped) (second : View → Capped) (items : List (Item R A U C P F)) (next : Option View) → s.right v pick ≡ next → ((cap_x : Capped) (y : View) → walked s (stage_at ExpectNode (split_over v pick floor (Some cap_x) ∷ splits) y) items ≡ part_ended s (split_over v pick floor (Some cap_x) ∷ splits) (second y)) → walked s (part_ended s (split_over v pick floor None ∷ splits) first) items ≡ part_ended s splits (greater (greater (floor_cap floor) first) (cap_if next second))
+  left_ended splits v pick floor Bad second items next is rest = left_capless splits floor (cap_if next second) items
+  left_ended splits v pick floor NoPoint second items next is rest =
+      let so_far = greater (floor_cap floor) NoPoint in
+      rw is (right_part splits v pick floor so_far second items next (floor-not_bad floor NoPoint (λ e. cc)) (rest so_far))
+  left_ended splits v pick floor (AtMost n) second items next is rest =
+      let so_far = greater (floor_cap floor) (AtMost n) in
+      rw is (right_part splits v pick floor so_far second items next (floor-not_bad floor (AtMost n) (λ e. cc)) (rest so_far))
 
-  -- both parts of a split lead from its first view to the greater of their caps
-  both_parts : (splits : List (Opened P)) (w : View) (pick : P) (first second : View → Capped) (xs ys : List (Item R A U C P F)) (next : Option View) → ((x : View) → walked s (stage_at ExpectNode (record { view = w; pick = pick; left = None } ∷ splits) x) xs ≡ part_ended s (record { view = w; pick = pick; left = None } ∷ splits) (first x)) → ((cap_x : Capped) (y : View) → walked s (stage_at ExpectNode (record { view = w; pick = pick; left = Some cap_x } ∷ splits) y) ys ≡ part_ended s (record { view = w; pick = pick; left = Some cap_x } ∷ splits) (second y)) → walked s (going_to ExpectNode (record { view = w; pick = pick; left = None } ∷ splits) next) (xs ++ ys) ≡ part_ended s splits (greater (cap_if next first) (cap_if (s.right w pick) second))
-  both_parts splits w pick first second xs ys None one other = walked-undefined (xs ++ ys)
-  both_parts splits w pick first second xs ys (Some x) one other =
-      walked-append (stage_at ExpectNode (record { view = w; pick = pick; left = None } ∷ splits) x) xs ys
-      ∙ (ap (λ o. walked s o ys) (one x) ∙ left_ended splits w pick (first x) second ys (s.right w pick) refl other)
+  -- both parts of a split lead from its first view to the greatest of its floor's and their caps
+  both_parts : (splits : List (Opened P)) (v : View) (pick : P) (floor : Option ℤ) (first second : View → Capped) (xs ys : List (Item R A U C P F)) (next : Option View) → ((x : View) → walked s (stage_at ExpectNode (split_over v pick floor None ∷ splits) x) xs ≡ part_ended s (split_over v pick floor None ∷ splits) (first x)) → ((cap_x : Capped) (y : View) → walked s (stage_at ExpectNode (split_over v pick floor (Some cap_x) ∷ splits) y) ys ≡ part_ended s (split_over v pick floor (Some cap_x) ∷ splits) (second y)) → walked s (going_to ExpectNode (split_over v pick floor None ∷ splits) next) (xs ++ ys) ≡ part_ended s splits (greater (greater (floor_cap floor) (cap_if next first)) (cap_if (s.right v pick) second))
+  both_parts splits v pick floor first second xs ys None one other = left_capless splits floor (cap_if (s.right v pick) second) (xs ++ ys)
+  both_parts splits v pick floor first second xs ys (Some x) one other =
+      walked-append (stage_at ExpectNode (split_over v pick floor None ∷ splits) x) xs ys
+      ∙ (ap (λ o. walked s o ys) (one x) ∙ left_ended splits v pick floor (first x) second ys (s.right v pick) refl other)
 
-  -- a found point, a split and the items of its parts lead from the view after the cuts to the greater of their caps
-  walked-parts : (splits : List (Opened P)) (found : Option F) (pick : P) (cert : C) (first second : View → Capped) (xs ys : List (Item R A U C P F)) (next : Option View) → ((inner : List (Opened P)) (x : View) → walked s (stage_at ExpectNode inner x) xs ≡ part_ended s inner (first x)) → ((inner : List (Opened P)) (y : View) → walked s (stage_at ExpectNode inner y) ys ≡ part_ended s inner (second y)) → walked s (going_to Inside splits next) (map Found (option_to_list found) ++ (Split pick cert ∷ (xs ++ ys))) ≡ part_ended s splits (cap_if next (λ w. greater (cap_if (s.left w pick) first) (cap_if (s.right w pick) second)))
+  -- a found point, a split and the items of its parts lead from the view after the cuts to the split's cap
+  walked-parts : (splits : List (Opened P)) (found : Option F) (pick : P) (cert : C) (first second : View → Capped) (xs ys : List (Item R A U C P F)) (next : Option View) → ((inner : List (Opened P)) (x : View) → walked s (stage_at ExpectNode inner x) xs ≡ part_ended s inner (first x)) → ((inner : List (Opened P)) (y : View) → walked s (stage_at ExpectNode inner y) ys ≡ part_ended s inner (second y)) → walked s (going_to Inside splits next) (map Found (option_to_list found) ++ (Split pick cert ∷ (xs ++ ys))) ≡ part_ended s splits (cap_if next (λ w. split_cap s w pick cert first second))
   walked-parts splits found pick cert first second xs ys None one other = walked-undefined (map Found (option_to_list found) ++ (Split pick cert ∷ (xs ++ ys)))
   walked-parts splits found pick cert first second xs ys (Some w) one other =
+      let rest = s.trim w pick cert in
+      let floor = s.floor w pick cert in
       walked-split splits w found pick cert (xs ++ ys)
-      ∙ both_parts splits w pick first second xs ys (s.left w pick) (one (record { view = w; pick = pick; left = None } ∷ splits)) (λ cap_x. other (record { view = w; pick = pick; left = Some cap_x } ∷ splits))
+      ∙ both_parts splits rest pick floor first second xs ys (s.left rest pick) (one (split_over rest pick floor None ∷ splits)) (λ cap_x. other (split_over rest pick floor (Some cap_x) ∷ splits))
 
   -- the items of a tree lead to its cap
   pub walked-tree : (tree : Tree U C P F) (splits : List (Opened P)) (v : View) → walked {R = R} {A = A} s (stage_at ExpectNode splits v) (tree_items tree) ≡ part_ended s splits (tree_cap s v tree)
@@ -194,7 +209,7 @@ module _ (R A F : Type 0) {U C P : Type 0} (s : Steps U C P) where
   close-count (o ∷ os) part_cap = at_left o.left (close-count os)
     where
       at_left : (left : Option Capped) → ((c : Capped) → open_count (close s os c) ≤ length os) → open_count (close_split s o os part_cap left (close s os)) ≤ length (o ∷ os)
-      at_left None rest = going_to-count ExpectNode (record o { left = Some part_cap } ∷ os) (s.right o.view o.pick)
+      at_left None rest = going_to-count ExpectNode (record o { left = Some (greater (floor_cap o.floor) part_cap) } ∷ os) (s.right o.view o.pick)
       at_left (Some l) rest = let inner = rest (greater l part_cap) in omega arith
 
   part_ended-count : (splits : List (Opened P)) (part_cap : Capped) → open_count (part_ended s splits part_cap) ≤ length splits
@@ -229,23 +244,30 @@ module _ (R A F : Type 0) {U C P : Type 0} (s : Steps U C P) where
   Within-right n splits ys None rest = Within-undefined n ys
   Within-right n splits ys (Some y) rest = rest y
 
-  Within-second : (n : ℕ) (splits : List (Opened P)) (w : View) (pick : P) (first : Capped) (ys : List (Item R A U C P F)) → ((c : Capped) (y : View) → Within n (stage_at ExpectNode (record { view = w; pick = pick; left = Some c } ∷ splits) y) ys) → Within n (part_ended s (record { view = w; pick = pick; left = None } ∷ splits) first) ys
-  Within-second n splits w pick Bad ys rest = Within-undefined n ys
-  Within-second n splits w pick NoPoint ys rest = Within-right n (record { view = w; pick = pick; left = Some NoPoint } ∷ splits) ys (s.right w pick) (rest NoPoint)
-  Within-second n splits w pick (AtMost m) ys rest = Within-right n (record { view = w; pick = pick; left = Some (AtMost m) } ∷ splits) ys (s.right w pick) (rest (AtMost m))
+  Within-second : (n : ℕ) (splits : List (Opened P)) (v : View) (pick : P) (floor : Option ℤ) (first : Capped) (ys : List (Item R A U C P F)) → ((c : Capped) (y : View) → Within n (stage_at ExpectNode (split_over v pick floor (Some c) ∷ splits) y) ys) → Within n (part_ended s (split_over v pick floor None ∷ splits) first) ys
+  Within-second n splits v pick floor Bad ys rest = Within-undefined n ys
+  Within-second n splits v pick floor NoPoint ys rest =
+      let so_far = greater (floor_cap floor) NoPoint in
+      Within-right n (split_over v pick floor (Some so_far) ∷ splits) ys (s.right v pick) (rest so_far)
+  Within-second n splits v pick floor (AtMost m) ys rest =
+      let so_far = greater (floor_cap floor) (AtMost m) in
+      Within-right n (split_over v pick floor (Some so_far) ∷ splits) ys (s.right v pick) (rest so_far)
 
-  Within-both : (n : ℕ) (splits : List (Opened P)) (w : View) (pick : P) (first : View → Capped) (xs ys : List (Item R A U C P F)) (next : Option View) → ((x : View) → Within n (stage_at ExpectNode (record { view = w; pick = pick; left = None } ∷ splits) x) xs) → ((x : View) → walked s (stage_at ExpectNode (record { view = w; pick = pick; left = None } ∷ splits) x) xs ≡ part_ended s (record { view = w; pick = pick; left = None } ∷ splits) (first x)) → ((c : Capped) (y : View) → Within n (stage_at ExpectNode (record { view = w; pick = pick; left = Some c } ∷ splits) y) ys) → Within n (going_to ExpectNode (record { view = w; pick = pick; left = None } ∷ splits) next) (xs ++ ys)
-  Within-both n splits w pick first xs ys None one led other = Within-undefined n (xs ++ ys)
-  Within-both n splits w pick first xs ys (Some x) one led other =
-      Within-append n (stage_at ExpectNode (record { view = w; pick = pick; left = None } ∷ splits) x) xs ys (one x)
-      (subst (λ o. Within n o ys) (sym (led x)) (Within-second n splits w pick (first x) ys other))
+  Within-both : (n : ℕ) (splits : List (Opened P)) (v : View) (pick : P) (floor : Option ℤ) (first : View → Capped) (xs ys : List (Item R A U C P F)) (next : Option View) → ((x : View) → Within n (stage_at ExpectNode (split_over v pick floor None ∷ splits) x) xs) → ((x : View) → walked s (stage_at ExpectNode (split_over v pick floor None ∷ splits) x) xs ≡ part_ended s (split_over v pick floor None ∷ splits) (first x)) → ((c : Capped) (y : View) → Within n (stage_at ExpectNode (split_over v pick floor (Some c) ∷ splits) y) ys) → Within n (going_to ExpectNode (split_over v pick floor None ∷ splits) next) (xs ++ ys)
+  Within-both n splits v pick floor first xs ys None one led other = Within-undefined n (xs ++ ys)
+  Within-both n splits v pick floor first xs ys (Some x) one led other =
+      Within-append n (stage_at ExpectNode (split_over v pick floor None ∷ splits) x) xs ys (one x)
+      (subst (λ o. Within n o ys) (sym (led x)) (Within-second n splits v pick floor (first x) ys other))
 
   Within-parts : (n : ℕ) (splits : List (Opened P)) (found : Option F) (pick : P) (cert : C) (first : View → Capped) (xs ys : List (Item R A U C P F)) (next : Option View) → length splits ≤ n → ((inner : List (Opened P)) (x : View) → length inner ≤ length splits + 1 → Within n (stage_at ExpectNode inner x) xs) → ((inner : List (Opened P)) (x : View) → walked s (stage_at ExpectNode inner x) xs ≡ part_ended s inner (first x)) → ((inner : List (Opened P)) (y : View) → length inner ≤ length splits + 1 → Within n (stage_at ExpectNode inner y) ys) → Within n (going_to Inside splits next) (map Found (option_to_list found) ++ (Split pick cert ∷ (xs ++ ys)))
   Within-parts n splits found pick cert first xs ys None few one led other = Within-undefined n (map Found (option_to_list found) ++ (Split pick cert ∷ (xs ++ ys)))
   Within-parts n splits found pick cert first xs ys (Some w) few one led other = at found
     where
-      both : Within n (going_to ExpectNode (record { view = w; pick = pick; left = None } ∷ splits) (s.left w pick)) (xs ++ ys)
-      both = Within-both n splits w pick first xs ys (s.left w pick) (λ x. one (record { view = w; pick = pick; left = None } ∷ splits) x (omega arith)) (led (record { view = w; pick = pick; left = None } ∷ splits)) (λ c y. other (record { view = w; pick = pick; left = Some c } ∷ splits) y (omega arith))
+      both : Within n (going_to ExpectNode (split_open s w pick cert ∷ splits) (s.left (s.trim w pick cert) pick)) (xs ++ ys)
+      both =
+          let rest = s.trim w pick cert in
+          let floor = s.floor w pick cert in
+          Within-both n splits rest pick floor first xs ys (s.left rest pick) (λ x. one (split_over rest pick floor None ∷ splits) x (omega arith)) (led (split_over rest pick floor None ∷ splits)) (λ c y. other (split_over rest pick floor (Some c) ∷ splits) y (omega arith))
 
       at : (f : Option F) → Within n (stage_at Inside splits w) (map Found (option_to_list f) ++ (Split pick cert ∷ (xs ++ ys)))
       at None = (few, both)

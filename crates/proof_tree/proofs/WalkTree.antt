@@ -7,13 +7,13 @@ use Rattle.proof_tree.specs.declared.item.Item.{Item}
 use Rattle.proof_tree.specs.declared.item.Item.TheVariants.{Node, Cut, Found, Empty, Dual, Point, Pending, Split}
 use Rattle.proof_tree.specs.declared.walk.Expected.TheVariants.{Node as ExpectNode, Inside, End}
 use Rattle.proof_tree.specs.Items.{leaf_item, tree_items}
-use Rattle.proof_tree.specs.Cap.{Bounds}
+use Rattle.proof_tree.specs.Cap.{Bounds, greater, floor_cap}
 use Rattle.proof_tree.specs.Relaxation.{Steps, IsSound}
 use Rattle.proof_tree.specs.Tree.{Leaf, no_point, dual, one_point, pending, Tree, leaf, split, tree_cap}
 use Rattle.proof_tree.specs.Views.{View, Point as ViewPoint}
 use Rattle.proof_tree.specs.Walk.{Opened, Stage, Outcome, going, ended, undefined, misplaced, going_to, part_ended, walked, start}
 use Rattle.proof_tree.proofs.Sound.{tree_cap-bounds}
-use Rattle.proof_tree.proofs.WalkLaw.{stage_at, walked-append, walked-undefined, walked-misplaced, walked-tree}
+use Rattle.proof_tree.proofs.WalkLaw.{stage_at, split_over, walked-append, walked-undefined, walked-misplaced, walked-tree}
 
 -- how a node ends: with a leaf, or with a split and its parts
 data Tail (U C P F : Type 0) : Type 0 where
@@ -89,23 +89,23 @@ module _ (R A F : Type 0) {U C P : Type 0} (s : Steps U C P) where
       record { cuts = u ∷ node.cuts; found = node.found; tail = node.tail; later = node.later; is = ap (λ xs. Cut u ∷ xs) node.is }
 
   -- the right part of a split
-  last_part : (fuel : ℕ) (splits : List (Opened P)) (v : View) (items : List (Item R A U C P F)) (proof_cap : Capped) (k : P) (c : C) (first : BeginsTree items) (left_cap : Capped) (next : Option View) → Shorter fuel proof_cap → length first.later ≤ fuel → walked s (going_to ExpectNode (record { view = v; pick = k; left = Some left_cap } ∷ splits) next) first.later ≡ ended proof_cap → BeginsTail (Split k c ∷ items)
-  last_part fuel splits v items proof_cap k c first left_cap None begins less led = capless first.later proof_cap led
-  last_part fuel splits v items proof_cap k c first left_cap (Some w) begins less led =
-      let second = begins (record { view = v; pick = k; left = Some left_cap } ∷ splits) w first.later less led in
+  last_part : (fuel : ℕ) (splits : List (Opened P)) (v : View) (items : List (Item R A U C P F)) (proof_cap : Capped) (k : P) (c : C) (floor : Option ℤ) (first : BeginsTree items) (so_far : Capped) (next : Option View) → Shorter fuel proof_cap → length first.later ≤ fuel → walked s (going_to ExpectNode (split_over v k floor (Some so_far) ∷ splits) next) first.later ≡ ended proof_cap → BeginsTail (Split k c ∷ items)
+  last_part fuel splits v items proof_cap k c floor first so_far None begins less led = capless first.later proof_cap led
+  last_part fuel splits v items proof_cap k c floor first so_far (Some w) begins less led =
+      let second = begins (split_over v k floor (Some so_far) ∷ splits) w first.later less led in
       let both : items ≡ (tree_items first.tree ++ tree_items second.tree) ++ second.later = first.is ∙ ap (λ xs. tree_items first.tree ++ xs) second.is ∙ sym (append_assoc (tree_items first.tree) (tree_items second.tree) second.later) in
       record { tail = parting k c first.tree second.tree; later = second.later; is = ap (λ xs. Split k c ∷ xs) both }
 
-  right_part : (fuel : ℕ) (splits : List (Opened P)) (v : View) (items : List (Item R A U C P F)) (proof_cap : Capped) (k : P) (c : C) (first : BeginsTree items) (left_cap : Capped) → Shorter fuel proof_cap → length first.later ≤ fuel → walked s (part_ended s (record { view = v; pick = k; left = None } ∷ splits) left_cap) first.later ≡ ended proof_cap → BeginsTail (Split k c ∷ items)
-  right_part fuel splits v items proof_cap k c first Bad begins less led = capless first.later proof_cap led
-  right_part fuel splits v items proof_cap k c first NoPoint begins less led = last_part fuel splits v items proof_cap k c first NoPoint (s.right v k) begins less led
-  right_part fuel splits v items proof_cap k c first (AtMost n) begins less led = last_part fuel splits v items proof_cap k c first (AtMost n) (s.right v k) begins less led
+  right_part : (fuel : ℕ) (splits : List (Opened P)) (v : View) (items : List (Item R A U C P F)) (proof_cap : Capped) (k : P) (c : C) (floor : Option ℤ) (first : BeginsTree items) (left_cap : Capped) → Shorter fuel proof_cap → length first.later ≤ fuel → walked s (part_ended s (split_over v k floor None ∷ splits) left_cap) first.later ≡ ended proof_cap → BeginsTail (Split k c ∷ items)
+  right_part fuel splits v items proof_cap k c floor first Bad begins less led = capless first.later proof_cap led
+  right_part fuel splits v items proof_cap k c floor first NoPoint begins less led = last_part fuel splits v items proof_cap k c floor first (greater (floor_cap floor) NoPoint) (s.right v k) begins less led
+  right_part fuel splits v items proof_cap k c floor first (AtMost n) begins less led = last_part fuel splits v items proof_cap k c floor first (greater (floor_cap floor) (AtMost n)) (s.right v k) begins less led
 
   -- the left part of a split
-  left_part : (fuel : ℕ) (splits : List (Opened P)) (v : View) (items : List (Item R A U C P F)) (proof_cap : Capped) (k : P) (c : C) (next : Option View) → Shorter fuel proof_cap → length items ≤ fuel → walked s (going_to ExpectNode (record { view = v; pick = k; left = None } ∷ splits) next) items ≡ ended proof_cap → BeginsTail (Split k c ∷ items)
-  left_part fuel splits v items proof_cap k c None begins short led = capless items proof_cap led
-  left_part fuel splits v items proof_cap k c (Some w) begins short led =
-      let all : List (Opened P) = record { view = v; pick = k; left = None } ∷ splits in
+  left_part : (fuel : ℕ) (splits : List (Opened P)) (v : View) (items : List (Item R A U C P F)) (proof_cap : Capped) (k : P) (c : C) (floor : Option ℤ) (next : Option View) → Shorter fuel proof_cap → length items ≤ fuel → walked s (going_to ExpectNode (split_over v k floor None ∷ splits) next) items ≡ ended proof_cap → BeginsTail (Split k c ∷ items)
+  left_part fuel splits v items proof_cap k c floor None begins short led = capless items proof_cap led
+  left_part fuel splits v items proof_cap k c floor (Some w) begins short led =
+      let all : List (Opened P) = split_over v k floor None ∷ splits in
       let first = begins all w items short led in
       let long = ap length first.is ∙ length-append (tree_items first.tree) first.later in
       let less : length first.later ≤ fuel = omega (arith, short, long) in
@@ -113,7 +113,7 @@ module _ (R A F : Type 0) {U C P : Type 0} (s : Steps U C P) where
       ap (λ o. walked s o first.later) (sym (walked-tree R A F s first.tree all w))
       ∙ sym (walked-append R A F s (stage_at ExpectNode all w) (tree_items first.tree) first.later)
       ∙ ap (walked s (stage_at ExpectNode all w)) (sym first.is) ∙ led in
-      right_part fuel splits v items proof_cap k c first (tree_cap s w first.tree) begins less rest
+      right_part fuel splits v items proof_cap k c floor first (tree_cap s w first.tree) begins less rest
 
   mutual
     -- items that come to an end where a node has to come begin with those of a tree
@@ -146,7 +146,7 @@ module _ (R A F : Type 0) {U C P : Type 0} (s : Steps U C P) where
     begins-node fuel splits v (Point ∷ items) proof_cap short led = record { cuts = []; found = None; tail = closing one_point; later = items; is = refl }
     begins-node fuel splits v (Pending c ∷ items) proof_cap short led = record { cuts = []; found = None; tail = closing (pending c); later = items; is = refl }
     begins-node zero splits v (Split k c ∷ items) proof_cap short led = absurd (omega arith)
-    begins-node (suc fuel) splits v (Split k c ∷ items) proof_cap short led = at_tail (left_part fuel splits v items proof_cap k c (s.left v k) (λ inner w others less more. begins-tree fuel inner w others proof_cap less more) (omega arith) led)
+    begins-node (suc fuel) splits v (Split k c ∷ items) proof_cap short led = at_tail (left_part fuel splits (s.trim v k c) items proof_cap k c (s.floor v k c) (s.left (s.trim v k c) k) (λ inner w others less more. begins-tree fuel inner w others proof_cap less more) (omega arith) led)
 
     -- items that come to an end where an end has to come begin with one
     begins-tail : (fuel : ℕ) (splits : List (Opened P)) (v : View) (items : List (Item R A U C P F)) (proof_cap : Capped) → length items ≤ fuel → walked s (stage_at End splits v) items ≡ ended proof_cap → BeginsTail items
@@ -159,7 +159,7 @@ module _ (R A F : Type 0) {U C P : Type 0} (s : Steps U C P) where
     begins-tail fuel splits v (Point ∷ items) proof_cap short led = record { tail = closing one_point; later = items; is = refl }
     begins-tail fuel splits v (Pending c ∷ items) proof_cap short led = record { tail = closing (pending c); later = items; is = refl }
     begins-tail zero splits v (Split k c ∷ items) proof_cap short led = absurd (omega arith)
-    begins-tail (suc fuel) splits v (Split k c ∷ items) proof_cap short led = left_part fuel splits v items proof_cap k c (s.left v k) (λ inner w others less more. begins-tree fuel inner w others proof_cap less more) (omega arith) led
+    begins-tail (suc fuel) splits v (Split k c ∷ items) proof_cap short led = left_part fuel splits (s.trim v k c) items proof_cap k c (s.floor v k c) (s.left (s.trim v k c) k) (λ inner w others less more. begins-tree fuel inner w others proof_cap less more) (omega arith) led
 
   -- the cap of an outcome that has ended
   same_cap : (outcome : Outcome P) (a b : Capped) → outcome ≡ ended a → outcome ≡ ended b → a ≡ b

@@ -6,7 +6,7 @@ use Rattle.proof_tree.specs.declared.walk.OpenSplit.{OpenSplit}
 use Rattle.proof_tree.specs.declared.walk.Walk.{Walk}
 use Rattle.proof_tree.specs.declared.walk.Took.TheVariants.{More}
 use Rattle.proof_tree.specs.declared.walk.Expected.TheVariants.{Node}
-use Rattle.proof_tree.specs.Cap.{greater}
+use Rattle.proof_tree.specs.Cap.{greater, floor_cap}
 use Rattle.proof_tree.specs.Relaxation.{Steps}
 use Rattle.proof_tree.specs.Views.{View, view_at, present, KeepsViews}
 use Rattle.proof_tree.specs.Walk.{opened, StandBelow, going, going_to, stage_of, close}
@@ -55,23 +55,30 @@ module _ {U C P : Type 0} (s : Steps U C P) where
       let inner = opened-moved a b (split.mark + 1) first splits (λ m below. same m (omega arith)) stand.2 in
       cc
 
+  -- in an area that keeps the views both hold
+  StandBelow-kept : (views later : List View) (first : ℕ) (splits : List (OpenSplit P)) → KeepsViews views later → StandBelow s views (length views) first splits → StandBelow s later (length later) first splits
+  StandBelow-kept views later first splits keeps stand =
+      let up : length views ≤ length later = grind (arith, common_steps) in
+      StandBelow-moved views later (length views) (length later) first splits up (λ m below. view_at-kept views later m keeps below) stand
+
+  opened-kept : (views later : List View) (first : ℕ) (splits : List (OpenSplit P)) → KeepsViews views later → StandBelow s views (length views) first splits → map (opened later) splits ≡ map (opened views) splits
+  opened-kept views later first splits keeps stand = opened-moved views later (length views) first splits (λ m below. view_at-kept views later m keeps below) stand
+
 module _ {R A U C P F : Type 0} (s : Steps U C P) (first : ℕ) where
   -- a step that narrows the area leads to the stage over the new view
   pub Led-forward : (old new : Walk R A U C P F) (views later : List View) (next : Option View) → new.first ≡ old.first → next ≡ Some (present later) → KeepsViews views later → StandBelow s views (length views) first new.splits → Led s first old views More new later (going_to new.expected (map (opened views) new.splits) next)
   Led-forward old new views later next same leads keeps stand =
-      let kept : (m : ℕ) → m < length views → view_at later m ≡ view_at views m = λ m below. view_at-kept views later m keeps below in
-      let shown : map (opened later) new.splits ≡ map (opened views) new.splits = opened-moved s views later (length views) first new.splits kept stand in
-      let up : length views ≤ length later = grind (arith, common_steps) in
+      let shown : map (opened later) new.splits ≡ map (opened views) new.splits = opened-kept s views later first new.splits keeps stand in
       let start : first < length views = StandBelow-first s views (length views) first new.splits stand in
       record {
         answer = rw (leads, shown) refl;
-        stands = StandBelow-moved s views later (length views) (length later) first new.splits up kept stand;
+        stands = StandBelow-kept s views later first new.splits keeps stand;
         same_first = same;
         goes_back = take-kept views later first keeps start;
       }
 
   -- a step that goes back to a split and on to its right part leads to the stage over the new view
-  pub Led-back : (old new : Walk R A U C P F) (views later : List View) (split : OpenSplit P) (splits : List (OpenSplit P)) (next : Option View) (left : Option Capped) → new.first ≡ old.first → next ≡ Some (present later) → KeepsViews (take (split.mark + 1) views) later → StandBelow s views (length views) first (split ∷ splits) → new.splits ≡ record { mark = split.mark; pick = split.pick; left = left } ∷ splits → Led s first old views More new later (going_to new.expected (record { view = view_at views split.mark; pick = split.pick; left = left } ∷ map (opened views) splits) next)
+  pub Led-back : (old new : Walk R A U C P F) (views later : List View) (split : OpenSplit P) (splits : List (OpenSplit P)) (next : Option View) (left : Option Capped) → new.first ≡ old.first → next ≡ Some (present later) → KeepsViews (take (split.mark + 1) views) later → StandBelow s views (length views) first (split ∷ splits) → new.splits ≡ record split { left = left } ∷ splits → Led s first old views More new later (going_to new.expected (opened views (record split { left = left }) ∷ map (opened views) splits) next)
   Led-back old new views later split splits next left same leads keeps stand held =
       let here : split.mark < length views = stand.0 in
       let reset = take (split.mark + 1) views in
@@ -83,7 +90,7 @@ module _ {R A U C P F : Type 0} (s : Steps U C P) (first : ℕ) where
       let stand_reset : StandBelow s reset (length reset) first new.splits = rw (held, long) (omega arith, subst (λ v. IsSome (s.right v split.pick)) (sym seen) stand.1, inner) in
       let led = Led-forward old new reset later next same leads keeps stand_reset in
       let start : first < split.mark + 1 = StandBelow-first s views (split.mark + 1) first splits stand.2 in
-      let drawn : map (opened reset) new.splits ≡ record { view = view_at views split.mark; pick = split.pick; left = left } ∷ map (opened views) splits = rw (held, seen, outer) refl in
+      let drawn : map (opened reset) new.splits ≡ opened views (record split { left = left }) ∷ map (opened views) splits = rw (held, seen, outer) refl in
       record {
         answer = subst (λ xs. going_to new.expected xs next ≡ going (stage_of new later)) drawn led.answer;
         stands = led.stands;
@@ -98,20 +105,34 @@ IsSome-named (Some v) not_none = refl
 
 module _ {R A U C P F : Type 0} (s : Steps U C P) (first : ℕ) where
   -- a split that is opened at the area's own mark leads to the stage over the view of its left part
-  pub Led-split : (old new : Walk R A U C P F) (views later : List View) (mark : ℕ) (pick : P) (splits : List (OpenSplit P)) (next : Option View) → new.first ≡ old.first → mark + 1 ≡ length views → next ≡ Some (present later) → KeepsViews views later → IsSome (s.right (present views) pick) → StandBelow s views (length views) first splits → new.splits ≡ record { mark = mark; pick = pick; left = None } ∷ splits → Led s first old views More new later (going_to new.expected (record { view = present views; pick = pick; left = None } ∷ map (opened views) splits) next)
-  Led-split old new views later mark pick splits next same own leads keeps named stand held =
-      let at : mark ≡ length views - 1 = omega arith in
-      let seen : view_at views mark ≡ present views = ap (view_at views) at in
-      let below : StandBelow s views (mark + 1) first splits = subst (λ m. StandBelow s views m first splits) (sym own) stand in
-      let under : mark < length views = omega arith in
-      let all : StandBelow s views (length views) first new.splits = rw held (under, subst (λ v. IsSome (s.right v pick)) (sym seen) named, below) in
+  Led-split : (old new : Walk R A U C P F) (views later : List View) (split : OpenSplit P) (splits : List (OpenSplit P)) (next : Option View) → new.first ≡ old.first → split.mark + 1 ≡ length views → next ≡ Some (present later) → KeepsViews views later → IsSome (s.right (present views) split.pick) → StandBelow s views (length views) first splits → new.splits ≡ split ∷ splits
+      → Led s first old views More new later (going_to new.expected (record { view = present views; pick = split.pick; floor = split.floor; left = split.left } ∷ map (opened views) splits) next)
+  Led-split old new views later split splits next same own leads keeps named stand held =
+      let at : split.mark ≡ length views - 1 = omega arith in
+      let seen : view_at views split.mark ≡ present views = ap (view_at views) at in
+      let below : StandBelow s views (split.mark + 1) first splits = subst (λ m. StandBelow s views m first splits) (sym own) stand in
+      let under : split.mark < length views = omega arith in
+      let all : StandBelow s views (length views) first new.splits = rw held (under, subst (λ v. IsSome (s.right v split.pick)) (sym seen) named, below) in
       let led = Led-forward s first old new views later next same leads keeps all in
-      let drawn : map (opened views) new.splits ≡ record { view = present views; pick = pick; left = None } ∷ map (opened views) splits = rw (held, seen) refl in
+      let drawn : map (opened views) new.splits ≡ record { view = present views; pick = split.pick; floor = split.floor; left = split.left } ∷ map (opened views) splits = rw (held, seen) refl in
       record {
         answer = subst (λ xs. going_to new.expected xs next ≡ going (stage_of new later)) drawn led.answer;
         stands = led.stands;
         same_first = same;
         goes_back = led.goes_back;
+      }
+
+  -- and so does one that has forgotten points before
+  pub Led-trimmed : (old new : Walk R A U C P F) (views trimmed later : List View) (split : OpenSplit P) (splits : List (OpenSplit P)) (next : Option View) → new.first ≡ old.first → split.mark + 1 ≡ length trimmed → next ≡ Some (present later) → KeepsViews views trimmed → KeepsViews trimmed later → IsSome (s.right (present trimmed) split.pick) → StandBelow s views (length views) first splits → new.splits ≡ split ∷ splits
+      → Led s first old views More new later (going_to new.expected (record { view = present trimmed; pick = split.pick; floor = split.floor; left = split.left } ∷ map (opened views) splits) next)
+  Led-trimmed old new views trimmed later split splits next same own leads kept keeps named stand held =
+      let led = Led-split old new trimmed later split splits next same own leads keeps named (StandBelow-kept s views trimmed first splits kept stand) held in
+      let start : first < length views = StandBelow-first s views (length views) first splits stand in
+      record {
+        answer = subst (λ xs. going_to new.expected (record { view = present trimmed; pick = split.pick; floor = split.floor; left = split.left } ∷ xs) next ≡ going (stage_of new later)) (opened-kept s views trimmed first splits kept stand) led.answer;
+        stands = led.stands;
+        same_first = same;
+        goes_back = led.goes_back ∙ take-kept views trimmed first kept start;
       }
 
 -- a split whose left part has ended closes with the greater of the two caps
@@ -121,7 +142,7 @@ close-innermost s views all split splits left cap_so_far held is =
     rw (held, its) refl
 
 -- a split whose left part has not ended goes on to its right part
-pub close-begin : {U C P : Type 0} (s : Steps U C P) (views : List View) (all : List (OpenSplit P)) (split : OpenSplit P) (splits : List (OpenSplit P)) (cap_so_far : Capped) → all ≡ split ∷ splits → innermost_left all ≡ None → close s (map (opened views) all) cap_so_far ≡ going_to Node (record { view = view_at views split.mark; pick = split.pick; left = Some cap_so_far } ∷ map (opened views) splits) (s.right (view_at views split.mark) split.pick)
+pub close-begin : {U C P : Type 0} (s : Steps U C P) (views : List View) (all : List (OpenSplit P)) (split : OpenSplit P) (splits : List (OpenSplit P)) (cap_so_far : Capped) → all ≡ split ∷ splits → innermost_left all ≡ None → close s (map (opened views) all) cap_so_far ≡ going_to Node (opened views (record split { left = Some (greater (floor_cap split.floor) cap_so_far) }) ∷ map (opened views) splits) (s.right (view_at views split.mark) split.pick)
 close-begin s views all split splits cap_so_far held is =
     let its : split.left ≡ None = subst (λ xs. innermost_left xs ≡ None) held is in
     rw (held, its) refl

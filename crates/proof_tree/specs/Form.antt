@@ -1,11 +1,11 @@
 -- Where the items of a proof stand, whatever the proof is over: which item may come next, and when the items are whole.
-use Rattle.std.specs.Prelude.{◌≡◌, ◌≢◌, true, List, [], ◌∷◌, ◌++◌, Some}
+use Rattle.std.specs.Prelude.{◌≡◌, ◌≢◌, true, List, [], ◌∷◌, ◌++◌, Some, None}
 use Rattle.proof_tree.specs.declared.capped.Capped.TheVariants.{NoPoint}
 use Rattle.proof_tree.specs.declared.item.Item.{Item}
 use Rattle.proof_tree.specs.Relaxation.{Steps}
 use Rattle.proof_tree.specs.Walk.{Outcome, ended, misplaced, walked, start}
 
--- steps under which each cut and each part is there and each end gives a cap
+-- steps under which each cut and each part is there, no split has a floor and each end gives a cap
 abbrev pub any_steps : {U C P : Type 0} → Steps U C P
 any_steps = record {
   cut = λ v u. Some v;
@@ -14,6 +14,8 @@ any_steps = record {
   empty = λ v. true;
   cap = λ v c. NoPoint;
   settle = λ v. NoPoint;
+  floor = λ v k c. None;
+  trim = λ v k c. v;
 }
 
 -- where items stand: what they lead to under those steps

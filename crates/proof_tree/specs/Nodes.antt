@@ -31,7 +31,7 @@ pub record Node (U C P F : Type 0) : Type 0 where
   pub view : View
   pub end : NodeEnd C P
 
--- each node has a view after its cuts, and the fact holds of it; the tree hangs below a parent's certificate, after some found points, over a view
+-- each node has a view after its cuts, and the fact holds of it; a split's parts are those of what it has not forgotten; the tree hangs below a parent's certificate, after some found points, over a view
 abbrev pub EachNode : {U C P F : Type 0} → (Node U C P F → Type 0) → Steps U C P → Option C → List F → View → Tree U C P F → Type 0
 EachNode Holds s parent before v (leaf cuts found end) =
     IsSomeAnd (after_cuts s v cuts)
@@ -39,8 +39,8 @@ EachNode Holds s parent before v (leaf cuts found end) =
 EachNode Holds s parent before v (split cuts found pick cert a b) =
     IsSomeAnd (after_cuts s v cuts)
     (λ w. Holds (record { parent = parent; before = before; cuts = cuts; found = found; view = w; end = parted pick cert })
-    × IsSomeAnd (s.left w pick) (λ x. EachNode Holds s (Some cert) (before ++ option_to_list found) x a)
-    × IsSomeAnd (s.right w pick) (λ y. EachNode Holds s (Some cert) (before ++ (option_to_list found ++ found_points a)) y b))
+    × IsSomeAnd (s.left (s.trim w pick cert) pick) (λ x. EachNode Holds s (Some cert) (before ++ option_to_list found) x a)
+    × IsSomeAnd (s.right (s.trim w pick cert) pick) (λ y. EachNode Holds s (Some cert) (before ++ (option_to_list found ++ found_points a)) y b))
 
 -- the fact of a node that splits, with its pick and its certificate
 abbrev pub AtSplit : {U C P F : Type 0} → (Node U C P F → P → C → Type 0) → Node U C P F → NodeEnd C P → Type 0

@@ -1,7 +1,7 @@
 -- What the calls of a relaxation answer, and the laws that they keep.
 use Rattle.std.specs.Prelude.{◌≡◌, ◌≢◌, ◌⊎◌, Bool, true, ℤ, Option, Some, None}
 use Rattle.proof_tree.specs.declared.capped.Capped.{Capped}
-use Rattle.proof_tree.specs.Cap.{Bounds, Settles}
+use Rattle.proof_tree.specs.Cap.{Bounds, Settles, IsWithinFloor}
 use Rattle.proof_tree.specs.Views.{View, Point}
 
 -- what the calls of a relaxation answer on a view; none says that the cut or the pick names nothing that is there
@@ -12,6 +12,10 @@ pub record Steps (U C P : Type 0) : Type 0 where
   pub empty : View → Bool
   pub cap : View → C → Capped
   pub settle : View → Capped
+  -- the profit that a split forgets points up to; none where it forgets none
+  pub floor : View → P → C → Option ℤ
+  -- what is left of a view once a split has forgotten points
+  pub trim : View → P → C → View
 
 -- the laws of a relaxation, on views that fit
 pub record IsSound {U C P : Type 0} (s : Steps U C P) (fits : View → Type 0) (is_point : View → Point → Type 0) (is_lawful : Point → Type 0) (worth : Point → ℤ) : Type 0 where
@@ -31,3 +35,7 @@ pub record IsSound {U C P : Type 0} (s : Steps U C P) (fits : View → Type 0) (
   pub cap_bounds : (v : View) (c : C) → fits v → Bounds (is_point v) is_lawful worth (s.cap v c)
   -- a view that is settled has one point, and its worth
   pub settles : (v : View) → fits v → Settles (is_point v) is_lawful worth (s.settle v)
+  -- what is left once a split has forgotten points fits
+  pub trim_fits : (v : View) (k : P) (c : C) → fits v → fits (s.trim v k c)
+  -- what a split forgets is worth at most its floor
+  pub trim_keeps : (v : View) (k : P) (c : C) → fits v → (p : Point) → is_point v p → is_lawful p → is_point (s.trim v k c) p ⊎ IsWithinFloor (s.floor v k c) (worth p)

@@ -4,7 +4,7 @@ use Rattle.proof_tree.specs.declared.capped.Capped.{Capped}
 use Rattle.proof_tree.specs.declared.capped.Capped.TheVariants.{NoPoint, Bad}
 use Rattle.proof_tree.specs.declared.proof.Proof.{Proof}
 use Rattle.proof_tree.specs.declared.proof.End.{End, Empty, Dual, Point, Pending, Split'}
-use Rattle.proof_tree.specs.Cap.{greater}
+use Rattle.proof_tree.specs.Cap.{greater, floor_cap}
 use Rattle.proof_tree.specs.Relaxation.{Steps}
 use Rattle.proof_tree.specs.Views.{View}
 
@@ -50,9 +50,14 @@ leaf_cap s v (dual cert) = s.cap v cert
 leaf_cap s v one_point = s.settle v
 leaf_cap s v (pending cert) = s.cap v cert
 
--- the cap of a tree over a view: that of its leaf after its cuts, or the greater of its two parts' caps
+-- the cap of a split over a view: the greatest of its floor's and of its two parts' caps, the parts being those of what it has not forgotten
+abbrev pub split_cap : {U C P : Type 0} → Steps U C P → View → P → C → (View → Capped) → (View → Capped) → Capped
+split_cap s w pick cert left_cap right_cap =
+    greater (greater (floor_cap (s.floor w pick cert)) (cap_if (s.left (s.trim w pick cert) pick) left_cap))
+    (cap_if (s.right (s.trim w pick cert) pick) right_cap)
+
+-- the cap of a tree over a view: that of its leaf or of its split after its cuts
 abbrev pub tree_cap : {U C P F : Type 0} → Steps U C P → View → Tree U C P F → Capped
 tree_cap s v (leaf cuts found end) = cap_if (after_cuts s v cuts) (λ w. leaf_cap s w end)
 tree_cap s v (split cuts found pick cert a b) =
-    cap_if (after_cuts s v cuts)
-    (λ w. greater (cap_if (s.left w pick) (λ x. tree_cap s x a)) (cap_if (s.right w pick) (λ x. tree_cap s x b)))
+    cap_if (after_cuts s v cuts) (λ w. split_cap s w pick cert (λ x. tree_cap s x a) (λ x. tree_cap s x b))

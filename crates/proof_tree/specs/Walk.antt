@@ -1,5 +1,5 @@
 -- The walk over a proof's items: where it stands, what an item leads to, and what a list of items leads to.
-use Rattle.std.specs.Prelude.{◌≡◌, ℕ, ◌+◌, ◌<◌, ◌-◌, Bool, true, false, List, [], ◌∷◌, map, length, take, Option, Some, None, IsSome, MatchOption, unwrap_or, if◌then◌else◌, fold, IsTrue, ⊤}
+use Rattle.std.specs.Prelude.{◌≡◌, ℕ, ℤ, ◌+◌, ◌<◌, ◌-◌, Bool, true, false, List, [], ◌∷◌, map, length, take, Option, Some, None, IsSome, MatchOption, unwrap_or, if◌then◌else◌, fold, IsTrue, ⊤}
 use Rattle.proof_tree.specs.declared.capped.Capped.{Capped}
 use Rattle.proof_tree.specs.declared.capped.Capped.TheVariants.{AtMost, NoPoint, Bad}
 use Rattle.proof_tree.specs.declared.item.Item.{Item}
@@ -10,15 +10,16 @@ use Rattle.proof_tree.specs.declared.walk.OpenSplit.{OpenSplit}
 use Rattle.proof_tree.specs.declared.walk.Took.{Took}
 use Rattle.proof_tree.specs.declared.walk.Took.TheVariants.{More, Done, Bad as TookBad}
 use Rattle.proof_tree.specs.declared.walk.Walk.{Walk}
-use Rattle.proof_tree.specs.Cap.{greater}
+use Rattle.proof_tree.specs.Cap.{greater, floor_cap}
 use Rattle.proof_tree.specs.Relaxation.{Steps}
 use Rattle.proof_tree.specs.Tree.{no_point, dual, one_point, pending, leaf_cap}
 use Rattle.proof_tree.specs.Views.{View, view_at, present}
 
--- an open split: the view at it, its pick, and the cap of its left part once that has ended
+-- an open split: the view of what it has not forgotten, its pick, its floor, and once its left part has ended the greater of that part's cap and the floor's
 pub record Opened (P : Type 0) : Type 0 where
   pub view : View
   pub pick : P
+  pub floor : Option ℤ
   pub left : Option Capped
 
 -- where a walk stands: which items may come, the open splits, innermost first, and the present view
@@ -53,7 +54,7 @@ going_to expected splits (Some v) = going (record { expected = expected; splits 
 
 -- where the innermost open split's left part has ended its right part begins, and where its right part has ended so has the part in which it stands
 abbrev pub close_split : {U C P : Type 0} → Steps U C P → Opened P → List (Opened P) → Capped → Option Capped → (Capped → Outcome P) → Outcome P
-close_split s split splits cap None close = going_to ExpectNode (record split { left = Some cap } ∷ splits) (s.right split.view split.pick)
+close_split s split splits cap None close = going_to ExpectNode (record split { left = Some (greater (floor_cap split.floor) cap) } ∷ splits) (s.right split.view split.pick)
 close_split s split splits cap (Some left) close = close (greater left cap)
 
 -- a part ends with a cap: where no split is open, the proof ends with it
@@ -67,7 +68,11 @@ part_ended s splits Bad = undefined
 part_ended s splits NoPoint = close s splits NoPoint
 part_ended s splits (AtMost n) = close s splits (AtMost n)
 
--- what an item leads to that may come: a node is entered, a cut narrows the view, a split opens its left part, any other end ends a part
+-- a split that has just been opened in this view
+abbrev pub split_open : {U C P : Type 0} → Steps U C P → View → P → C → Opened P
+split_open s v pick cert = record { view = s.trim v pick cert; pick = pick; floor = s.floor v pick cert; left = None }
+
+-- what an item leads to that may come: a node is entered, a cut narrows the view, a split forgets points and opens its left part, any other end ends a part
 abbrev pub taken : {R A U C P F : Type 0} → Steps U C P → List (Opened P) → View → Item R A U C P F → Outcome P
 taken s splits v Node = going_to Inside splits (Some v)
 taken s splits v (Cut cut) = going_to Inside splits (s.cut v cut)
@@ -76,7 +81,8 @@ taken s splits v Empty = part_ended s splits (leaf_cap s v no_point)
 taken s splits v (Dual cert) = part_ended s splits (leaf_cap s v (dual cert))
 taken s splits v Point = part_ended s splits (leaf_cap s v one_point)
 taken s splits v (Pending cert) = part_ended s splits (leaf_cap s v (pending cert))
-taken s splits v (Split pick cert) = going_to ExpectNode (record { view = v; pick = pick; left = None } ∷ splits) (s.left v pick)
+taken s splits v (Split pick cert) =
+    going_to ExpectNode (split_open s v pick cert ∷ splits) (s.left (s.trim v pick cert) pick)
 
 -- what an item leads to
 abbrev pub step : {R A U C P F : Type 0} → Steps U C P → Stage P → Item R A U C P F → Outcome P
@@ -126,7 +132,7 @@ Tells misplaced later proof_cap = ⊥
 
 -- an open split as the views of its area show it
 abbrev pub opened : {P : Type 0} → List View → OpenSplit P → Opened P
-opened views split = record { view = view_at views split.mark; pick = split.pick; left = split.left }
+opened views split = record { view = view_at views split.mark; pick = split.pick; floor = split.floor; left = split.left }
 
 -- where a walk stands in an area with these views
 abbrev pub stage_of : {R A U C P F : Type 0} → Walk R A U C P F → List View → Stage P

@@ -1,6 +1,6 @@
 //! Caps on the worths of points.
 ghost use Rattle.std.specs.Prelude.{◌≡◌};
-ghost use Rattle.proof_tree.specs.Cap.{greater};
+ghost use Rattle.proof_tree.specs.Cap.{greater, floor_cap};
 
 /// A cap on the worths of a set of points.
 #[derive(Clone, Copy, PartialEq, Eq, Debug)]
@@ -24,5 +24,15 @@ pub fn greater_cap(one: Capped, other: Capped) -> Capped
         (Capped::NoPoint, cap) => cap,
         (cap, Capped::NoPoint) => cap,
         (Capped::AtMost(a), Capped::AtMost(b)) => Capped::AtMost(a.max(b)),
+    }
+}
+
+/// The cap of what a split forgets, from its floor: no point where it forgets none.
+pub fn floor_cap(floor: Option<i128>) -> Capped
+    ensures { result ≡ floor_cap floor }
+{
+    match floor {
+        Some(floor) => Capped::AtMost(floor),
+        None => Capped::NoPoint,
     }
 }

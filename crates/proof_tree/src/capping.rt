@@ -4,7 +4,7 @@ ghost use Rattle.proof_tree.specs.Cap.{Bounds};
 ghost use Rattle.proof_tree.specs.Views.{View, present, KeepsViews};
 ghost use Rattle.proof_tree.specs.Tree.{Tree, tree_at, tree_of, tree_cap, after_cuts, leaf_cap, no_point};
 
-use crate::capped::{Capped, greater_cap};
+use crate::capped::{Capped, floor_cap, greater_cap};
 use crate::proof::{End, Proof};
 use crate::relaxation::Relaxation;
 
@@ -81,12 +81,13 @@ fn cap_end<R: Relaxation>(
         End::Dual(cert) => r.cap(area, cert),
         End::Point => r.settle(area),
         End::Pending(cert) => r.cap(area, cert),
-        End::Split(pick, _, left, right) => {
+        End::Split(pick, cert, left, right) => {
+            let floor = floor_cap(r.trim(area, pick, cert));
             let at_split = r.mark(area);
             if !r.left(area, pick) {
                 return Capped::Bad;
             }
-            let left_cap = cap_of(r, area, left);
+            let left_cap = greater_cap(floor, cap_of(r, area, left));
             r.back(area, at_split);
             if !r.right(area, pick) {
                 return Capped::Bad;

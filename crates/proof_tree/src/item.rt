@@ -19,6 +19,7 @@ pub enum Item<R: Relaxation> {
     Point,
     /// The node is left open, with a certificate that caps its area.
     Pending(R::Cert),
-    /// The area has two parts; the certificate shows why it was split.
+    /// The area has two parts, once what the pick's floor and the certificate take away is forgotten; the
+    /// certificate shows why it was split.
     Split(R::Pick, R::Cert),
 }

@@ -20,7 +20,7 @@ mod tree_taker;
 mod walk;
 
 pub use builder::{BegunNode, Built, SplitNode, TreeBuilder};
-pub use capped::{Capped, greater_cap};
+pub use capped::{Capped, floor_cap, greater_cap};
 pub use capping::{cap_law, cap_of};
 pub use item::Item;
 pub use list::List;

@@ -14,8 +14,9 @@ pub enum End<U, C, P, F> {
     Point,
     /// The node is left open; the certificate caps its area.
     Pending(C),
-    /// The area has two parts, left and right of the pick, and a proof of each. The certificate gives no
-    /// cap: it shows why the area was split.
+    /// The split forgets the points that the pick's floor and the certificate take away, if the pick has
+    /// a floor. What is left has two parts, left and right of the pick, and a proof of each. The
+    /// certificate gives no cap: it shows why the area was split.
     Split(P, C, Box<Proof<U, C, P, F>>, Box<Proof<U, C, P, F>>),
 }
 

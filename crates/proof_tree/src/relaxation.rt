@@ -1,7 +1,7 @@
 //! What a proof asks of the areas that it caps.
 ghost use Rattle.std.specs.Prelude.{◌≡◌, ◌+◌, ◌<◌, ℤ, List as Listed, length, take};
 ghost use Rattle.proof_tree.specs.Relaxation.{Steps, IsSound};
-ghost use Rattle.proof_tree.specs.Views.{View, Point, present, MovesTo};
+ghost use Rattle.proof_tree.specs.Views.{View, Point, present, MovesTo, KeepsViews};
 
 use crate::capped::Capped;
 
@@ -81,6 +81,16 @@ pub trait Relaxation {
         ensures fits { fits self.now (present (views area.new)) }
         ensures moves { MovesTo ((steps self.now).right (present (views area.old)) pick.now)
             (views area.old) (views area.new) result };
+
+    /// Takes away points that are worth at most the floor of a split, by its certificate, and answers that
+    /// floor, in money units; none where nothing is taken away.
+    fn trim(&self, area: &mut Self::Area, pick: &Self::Pick, cert: &Self::Cert) -> Option<i128>
+        requires { fits self.now (present (views area.old)) }
+        ensures fits { fits self.now (present (views area.new)) }
+        ensures floor { result ≡ (steps self.now).floor (present (views area.old)) pick.now cert.now }
+        ensures trimmed { present (views area.new)
+            ≡ (steps self.now).trim (present (views area.old)) pick.now cert.now }
+        ensures keeps { KeepsViews (views area.old) (views area.new) };
 
     /// The area's own mark.
     fn mark(&self, area: &Self::Area) -> u32

@@ -5,10 +5,11 @@ ghost use Rattle.proof_tree.specs.declared.item.Item.{Item};
 ghost use Rattle.proof_tree.specs.declared.item.Item.TheVariants.{Point};
 ghost use Rattle.proof_tree.specs.Tree.{Tree, tree_cap};
 ghost use Rattle.proof_tree.specs.Views.{View, present, view_at};
-ghost use Rattle.proof_tree.specs.Walk.{may_come, stage_of, opened, first_mark, StandBelow, Stands, IsAnswer, GoesBack, going_to, step, taken, part_ended, close, walked, start, outcome_of, open_count, ComesNext, Tells};
+ghost use Rattle.proof_tree.specs.Walk.{may_come, stage_of, opened, first_mark, StandBelow, Stands, IsAnswer, GoesBack, going_to, step, taken, part_ended, close, split_open, walked, start, outcome_of, open_count, ComesNext, Tells};
+ghost use Rattle.proof_tree.specs.Cap.{greater, floor_cap};
 ghost use Rattle.proof_tree.specs.laws.Led.{innermost_left, Led};
 
-use crate::capped::{Capped, greater_cap};
+use crate::capped::{Capped, floor_cap, greater_cap};
 use crate::capping::empty_cap;
 use crate::item::Item;
 use crate::relaxation::Relaxation;
@@ -31,11 +32,13 @@ pub enum Expected {
 /// A split that is not closed yet.
 #[derive(Clone, Copy)]
 pub struct OpenSplit<P> {
-    /// The area's mark at the split.
+    /// The mark of the area that the split divides: what the split has not forgotten.
     pub mark: u32,
     /// What names the parts.
     pub pick: P,
-    /// The cap of the left part, once that part has ended.
+    /// The floor of the split, in money units, if it has one.
+    pub floor: Option<i128>,
+    /// Once the left part has ended, the greater of its cap and the floor's.
     pub left: Option<Capped>,
 }
 
@@ -120,10 +123,10 @@ impl<R: Relaxation> Walk<R> {
 
     /// Takes an item, which has to be one that may come next, in an area in which the walk stands.
     ///
-    /// `Node` enters a node, a cut narrows the area, `Split` opens its left part, and every other end
-    /// gives its cap to the part that it ends. After a left part the area goes back to the split and the
-    /// right part begins; after a right part its split ends the part in which it stands, with the greater
-    /// of the two caps. Where no split is left open the answer is `Done` with the cap of the proof, and
+    /// `Node` enters a node, a cut narrows the area, `Split` takes away what its floor forgets and opens its
+    /// left part, and every other end gives its cap to the part that it ends. After a left part the area
+    /// goes back to the split and the right part begins; after a right part its split ends the part in
+    /// which it stands, with the greatest of its floor and the two caps. Where no split is left open the answer is `Done` with the cap of the proof, and
     /// the area is what it was before the first item. `Bad` comes exactly where a cut or a pick names
     /// nothing, or an end has no cap; the area is then as before this item. After `Done` and `Bad` no
     /// item may come. After an error the walk and the area are as before.
@@ -220,7 +223,7 @@ impl<R: Relaxation> Walk<R> {
                 let cap = r.cap(area, cert);
                 Ok(self.end_part(r, area, first, cap))
             }
-            Item::Split(pick, _) => self.open_split(r, area, first, pick),
+            Item::Split(pick, cert) => self.open_split(r, area, first, pick, cert),
         }
     }
 
@@ -244,13 +247,14 @@ impl<R: Relaxation> Walk<R> {
         }
     }
 
-    // Opens the left part of a split.
+    // Forgets what the split's floor takes away, and opens the left part of the rest.
     fn open_split(
         &mut self,
         r: &R,
         area: &mut R::Area,
         first: u32,
         pick: &R::Pick,
+        cert: &R::Cert,
     ) -> Result<Took, AllocError>
         requires fits { R.fits r.now (present (R.views area.old)) }
         requires stands { StandBelow (R.steps r.now) (R.views area.old) (length (R.views area.old))
@@ -259,22 +263,34 @@ impl<R: Relaxation> Walk<R> {
         ensures led { IfOk result (λ took. Led (R.steps r.now) first self.old (R.views area.old)
             took self.new (R.views area.new)
             (going_to Expected.Node
-            (record { view = present (R.views area.old); pick = pick.now; left = None }
+            (split_open (R.steps r.now) (present (R.views area.old)) pick.now cert.now
             ∷ map (opened (R.views area.old)) self.old.splits)
-            ((R.steps r.now).left (present (R.views area.old)) pick.now))) }
+            ((R.steps r.now).left
+            ((R.steps r.now).trim (present (R.views area.old)) pick.now cert.now)
+            pick.now))) }
         ensures err { OnErr result ((self.new ≡ self.old) × (R.views area.new ≡ R.views area.old)) }
     {
-        let mark = r.mark(area);
+        let at_node = r.mark(area);
         self.splits.push(OpenSplit {
-            mark,
+            mark: at_node,
             pick: *pick,
+            floor: None,
             left: None,
         })?;
+        let floor = r.trim(area, pick, cert);
+        let mark = r.mark(area);
+        self.splits.set_top(OpenSplit {
+            mark,
+            pick: *pick,
+            floor,
+            left: None,
+        });
         if r.left(area, pick) {
             self.expected = Expected::Node;
             Ok(Took::More)
         } else {
             let _split = self.splits.pop();
+            r.back(area, at_node);
             self.expected = Expected::Nothing;
             Ok(Took::Bad)
         }
@@ -353,7 +369,8 @@ impl<R: Relaxation> Walk<R> {
             (record {
               view = view_at (R.views area.old) split.mark;
               pick = split.pick;
-              left = Some cap;
+              floor = split.floor;
+              left = Some (greater (floor_cap split.floor) cap);
             }
             ∷ map (opened (R.views area.old)) (drop 1 self.old.splits))
             ((R.steps r.now).right (view_at (R.views area.old) split.mark) split.pick)) }
@@ -364,7 +381,8 @@ impl<R: Relaxation> Walk<R> {
         self.splits.set_top(OpenSplit {
             mark: split.mark,
             pick: split.pick,
-            left: Some(cap),
+            floor: split.floor,
+            left: Some(greater_cap(floor_cap(split.floor), cap)),
         });
         self.expected = Expected::Node;
         Took::More

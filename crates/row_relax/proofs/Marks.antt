@@ -43,11 +43,15 @@ fits_now program marks slots normal' = subst (Fits program) (sym (shown-views ma
 pub take-views : (n : ℕ) (marks new : List (List Domain)) → new ≡ take n marks → map view_of new ≡ take n (map view_of marks)
 take-views n marks new e = ap (map view_of) e ∙ sym (take-map view_of n marks)
 
+-- marks that stay have views that stay
+pub keeps_views : (marks new : List (List Domain)) → take (length marks) new ≡ marks → KeepsViews (map view_of marks) (map view_of new)
+keeps_views marks new e =
+    ap (λ (n : ℕ). take n (map view_of new)) (length-map marks view_of)
+    ∙ take-map view_of (length marks) new
+    ∙ ap (map view_of) e
+
 keeps : (marks : List (List Domain)) (slot : ℕ) (d : Domain) → KeepsViews (map view_of marks) (map view_of (with_domain marks slot d))
-keeps marks slot d =
-    ap (λ (n : ℕ). take n (map view_of (with_domain marks slot d))) (length-map marks view_of)
-    ∙ take-map view_of (length marks) (with_domain marks slot d)
-    ∙ ap (map view_of) (take-with_domain marks slot d)
+keeps marks slot d = keeps_views marks (with_domain marks slot d) (take-with_domain marks slot d)
 
 -- a step that gives a slot a domain leads to its view
 pub moves_there : (marks new : List (List Domain)) (slot : ℕ) (d : Domain) (there : Bool) → there ≡ true → slot < length (present marks) → new ≡ with_domain marks slot d → MovesTo (shown_if there (set (present marks) slot d)) (map view_of marks) (map view_of new) true

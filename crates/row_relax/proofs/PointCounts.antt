@@ -1,5 +1,5 @@
--- How many points the steps leave: a cut never adds one, and the two parts of a split share out those of the whole.
-use Rattle.std.proofs.Common.{◌≡◌, ◌+◌, ◌<◌, ◌≤◌, Bool, true, false, ◌&&◌, cond, eqb, ltb, List, length, get_or, refl, sym, ap, ◌∙◌, subst, arith, Some, ⊎_elim}
+-- How many points the steps leave: a cut or a floor never adds one, and the two parts of a split share out those of the whole.
+use Rattle.std.proofs.Common.{◌≡◌, ◌+◌, ◌<◌, ◌≤◌, Bool, true, false, ◌&&◌, cond, eqb, ltb, List, length, get_or, refl, sym, ap, ◌∙◌, subst, arith, Option, Some, None, ⊎_elim, ℤ}
 use Rattle.std.specs.List.{Any, list_any}
 use Rattle.std.proofs.lemmas.Bool.{and_parts, cases_eq, eq-eqb, eqb-true, false≢true, ltb-true}
 use Rattle.std.proofs.lemmas.List.Folds.{Any-from_list_any, list_any-from_Any}
@@ -14,13 +14,16 @@ use Rattle.row_kit.proofs.PointCounts.{points-any_bare, points-none, points-sing
 use Rattle.range_prop.specs.declared.row_cut.RowCut.{RowCut}
 use Rattle.range_prop.specs.Cut.{cut_domains, is_bare}
 use Rattle.range_prop.proofs.CutLaws.{cut_points}
+use Rattle.dual_bound.specs.declared.cert.Cert.{Cert}
+use Rattle.dual_bound.specs.Trimmed.{trimmed}
+use Rattle.dual_bound.proofs.Floors.{trimmed_fewer}
 use Rattle.proof_tree.specs.declared.capped.Capped.TheVariants.{AtMost, NoPoint, Bad}
 use Rattle.proof_tree.specs.Views.{View}
 use Rattle.row_relax.specs.declared.pick.RowPick.{RowPick}
 use Rattle.row_relax.specs.Settle.{are_single, is_lawful, only_point, settled}
-use Rattle.row_relax.specs.Steps.{row_steps}
+use Rattle.row_relax.specs.Steps.{row_steps, view_by}
 use Rattle.row_relax.specs.View.{Fits, domains_of, points_in}
-use Rattle.row_relax.specs.laws.Shown.{domains_there, shown_there}
+use Rattle.row_relax.specs.laws.Shown.{domains_of-view_of, domains_there, shown_there}
 
 -- a cut adds no point
 pub points-cut : (program : Program) (v w : View) (cut : RowCut) → Fits program v → (row_steps program).cut v cut ≡ Some w → points_in w ≤ points_in v
@@ -45,6 +48,17 @@ unfolding row_steps
 points-right program v w pick is =
     let ds = domains_of v in
     subst (λ (xs : List Domain). points_of xs ≤ points_of ds) (sym (domains_there (ltb pick.slot (length ds)) (kept_at ds pick.slot (over pick.max)) w is)) (points-kept_le ds pick.slot (over pick.max))
+
+-- nor does what a split forgets
+pub points-trim : (program : Program) (v : View) (pick : RowPick) (cert : Cert) → Fits program v → points_in ((row_steps program).trim v pick cert) ≤ points_in v
+unfolding row_steps
+points-trim program v pick cert fit = by_floor pick.floor
+  where
+    by_floor : (floor : Option ℤ) → points_in (view_by program v cert floor) ≤ points_in v
+    by_floor None = omega arith
+    by_floor (Some floor) =
+        subst (λ (xs : List Domain). points_of xs ≤ points_of (domains_of v)) (sym (domains_of-view_of (trimmed program (domains_of v) cert floor)))
+        (trimmed_fewer program (domains_of v) cert floor fit.normal)
 
 -- the points of the two parts of a split sum to those of the whole
 pub points-both : (program : Program) (v left right : View) (pick : RowPick) → Fits program v → (row_steps program).left v pick ≡ Some left → (row_steps program).right v pick ≡ Some right → points_in left + points_in right ≡ points_in v

@@ -3,6 +3,7 @@
 //! `Rows` keeps the laws of `Relaxation`, so that the cap of each `RowProof` bounds the worth of every lawful point.
 #![tactic(auto)]
 
+mod forgetting;
 mod pick;
 mod rows;
 mod settling;

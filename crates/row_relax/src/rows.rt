@@ -6,6 +6,7 @@ ghost use Rattle.row_relax.specs.View.{view_of, Fits, IsIn};
 ghost use Rattle.row_relax.specs.Steps.{row_steps};
 ghost use Rattle.row_relax.specs.laws.Laws.{rows_sound};
 
+use crate::forgetting::forget;
 use crate::pick::RowPick;
 use crate::settling::settle;
 use dual_bound::{Cert, cap};
@@ -96,6 +97,13 @@ impl Relaxation for Rows {
         }
         area.above(pick.slot, pick.max);
         true
+    }
+
+    fn trim(&self, area: &mut Area, pick: &RowPick, cert: &Cert) -> Option<i128> {
+        match &pick.floor {
+            None => None,
+            Some(floor) => forget(&self.program, area, cert, floor),
+        }
     }
 
     fn mark(&self, area: &Area) -> u32 {

@@ -114,6 +114,7 @@ fn searched(alloc: Global, rows: &Rows, left: u32) -> (Option<TakeStop>, u32)
         alloc,
         rows,
         slot_count(rows),
+        false,
         7,
         &[],
         &mut hinter,
@@ -164,7 +165,16 @@ fn dived(alloc: Global, rows: &Rows) -> Result<(bool, Capped, u32), AllocError>
 {
     let mut hinter = Silent { asked: 0 };
     let given = slot_count(rows);
-    let (found, exact) = search_guided(alloc, rows, given, 100_000, &[], &mut hinter, &mut Diver)?;
+    let (found, exact) = search_guided(
+        alloc,
+        rows,
+        given,
+        false,
+        100_000,
+        &[],
+        &mut hinter,
+        &mut Diver,
+    )?;
     Ok((found.left_open && !exact, found.cap, found.spent))
 }
 

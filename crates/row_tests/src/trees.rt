@@ -38,12 +38,14 @@ fn split(alloc: Global, level: u32, rest: RowProof) -> Result<RowProof, AllocErr
         let pick = RowPick {
             slot,
             max: 8 - round,
+            floor: None,
         };
         End::Split(pick, plain(alloc), closed, rest)
     } else {
         let pick = RowPick {
             slot,
             max: 246 + round,
+            floor: None,
         };
         End::Split(pick, plain(alloc), rest, closed)
     };

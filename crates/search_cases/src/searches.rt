@@ -3,7 +3,7 @@ ghost use Rattle.std.specs.Prelude.{◌≤◌};
 ghost use Rattle.branch_tree.specs.Searched.{IsSearchable};
 
 use crate::advisers::{Liar, Silent, Splitter, Teller};
-use crate::told::{put_best, put_search, put_split};
+use crate::told::{put_best, put_floor, put_search, put_split};
 use branch_tree::{Hinter, Searched, is_searchable, search, search_guided};
 use case_programs::{bytes_of, put_cap};
 use case_tables::Sheet;
@@ -25,6 +25,7 @@ pub fn answer_step(
     match verb {
         "search" | "hint" => plain(alloc, rows, sheet),
         "begin" => begun(alloc, rows, sheet),
+        "floor" => floored(alloc, rows, sheet),
         "lie" => guided(alloc, rows, false, sheet),
         "leave" => guided(alloc, rows, true, sheet),
         "split" => split(alloc, rows, sheet),
@@ -78,7 +79,16 @@ fn search_plain<H: Hinter>(
     requires budget { (1 ≤ budget) × (budget ≤ 100000) }
 {
     let given = slot_count(rows);
-    search(alloc, rows, given, budget, start, hinter, &mut PlainGuide)
+    search(
+        alloc,
+        rows,
+        given,
+        false,
+        budget,
+        start,
+        hinter,
+        &mut PlainGuide,
+    )
 }
 
 // `begin BUDGET VALUE ..`, without plans that are offered: a search that begins with this point, which may not be lawful.
@@ -90,6 +100,40 @@ fn begun(alloc: Global, rows: &Rows, sheet: &mut Sheet) -> Result<(), AllocError
     let found = search_plain(alloc, rows, budget, &start, &mut Silent)?;
     put_search(&found, sheet);
     Ok(())
+}
+
+// `floor BUDGET VALUE ..`: as `begin`, where splits may have floors, and the floor of the root's split.
+fn floored(alloc: Global, rows: &Rows, sheet: &mut Sheet) -> Result<(), AllocError>
+    requires { IsSearchable rows.now.program }
+{
+    let budget = budget_of(sheet);
+    let start = bytes_of(alloc, sheet)?;
+    let found = search_floored(alloc, rows, budget, &start)?;
+    put_search(&found, sheet);
+    put_floor(&found.tree, sheet);
+    Ok(())
+}
+
+fn search_floored(
+    alloc: Global,
+    rows: &Rows,
+    budget: u32,
+    start: &[u8],
+) -> Result<Searched, AllocError>
+    requires searchable { IsSearchable rows.now.program }
+    requires budget { (1 ≤ budget) × (budget ≤ 100000) }
+{
+    let given = slot_count(rows);
+    search(
+        alloc,
+        rows,
+        given,
+        true,
+        budget,
+        start,
+        &mut Silent,
+        &mut PlainGuide,
+    )
 }
 
 // `lie BUDGET` and `leave BUDGET`, with a guide that advises what is not there, and may leave every part open: the best point,
@@ -120,6 +164,7 @@ fn search_lying(
         alloc,
         rows,
         slot_count(rows),
+        false,
         budget,
         &[],
         &mut hinter,
@@ -160,6 +205,7 @@ fn search_splitting(
         alloc,
         rows,
         given,
+        false,
         1_000,
         &[],
         &mut Silent,

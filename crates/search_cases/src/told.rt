@@ -33,3 +33,20 @@ pub fn put_split(tree: &RowProof, sheet: &mut Sheet) {
         _ => sheet.line("not split"),
     }
 }
+
+/// Prints the floor of the root's split.
+pub fn put_floor(tree: &RowProof, sheet: &mut Sheet) {
+    match &tree.end {
+        End::Split(pick, ..) => put_number("floor ", pick.floor, sheet),
+        _ => sheet.line("not split"),
+    }
+}
+
+fn put_number(name: &str, number: Option<i128>, sheet: &mut Sheet) {
+    sheet.put(name);
+    match number {
+        Some(number) => sheet.show(number),
+        None => sheet.put("none"),
+    }
+    sheet.line("");
+}

@@ -1,5 +1,5 @@
 -- What is told of searches over a part's own program, and over that with what a head declares.
-use Rattle.std.proofs.Common.{◌≡◌, ℕ, ◌<◌, ◌≤◌, length, ap₂, ◌∙◌, subst, inl, inr, List, Option, IfSome}
+use Rattle.std.proofs.Common.{◌≡◌, ℕ, true, false, ◌<◌, ◌≤◌, length, ap₂, ◌∙◌, subst, inl, inr, List, Option, IfSome}
 use Rattle.stn_model.specs.declared.plant.Plant.{Plant}
 use Rattle.stn_model.specs.Sound.{Sound}
 use Rattle.time_grid.specs.Slots.{slots}
@@ -22,39 +22,39 @@ use Rattle.stn_solve.specs.declared.heading.Headed.{Headed}
 use Rattle.stn_solve.specs.laws.Heading.{IsHeaded}
 
 -- over a part's own program nothing but a search comes to an end: each slot of its root has a value
-pub plain-search : (plant : Plant) (part : Program) (given budget : ℕ) (ended : Ended) (tree : RowTree) → IsPartOf plant part → IsEnding part given budget ended tree → IsSearchOf part given budget ended tree
+pub plain-search : (plant : Plant) (part : Program) (given budget : ℕ) (ended : Ended) (tree : RowTree) → IsPartOf plant part → IsEnding part false given budget ended tree → IsSearchOf part false given budget ended tree
 plain-search plant part given budget ended tree is (inl of) = of
 plain-search plant part given budget ended tree is (inr of) = absurd (of.bare is.each_open)
 
 -- a search is one by another name of the number from which on slots are sums
-from-given : (program : Program) (given own budget : ℕ) (tree : RowTree) (ended : Ended) → given ≡ own → IsSearchOf program given budget ended tree → IsSearchOf program own budget ended tree
-from-given program given own budget tree ended is of = subst (λ n. IsSearchOf program n budget ended tree) is of
+from-given : (program : Program) (given own budget : ℕ) (tree : RowTree) (ended : Ended) → given ≡ own → IsSearchOf program false given budget ended tree → IsSearchOf program false own budget ended tree
+from-given program given own budget tree ended is of = subst (λ n. IsSearchOf program false n budget ended tree) is of
 
 module _ (plant : Plant) (part : Program) (given budget : ℕ) (tree : RowTree) (ended : Ended) (sound : Sound plant) (is : IsPartOf plant part) (same : given ≡ length part.root)
-    (of : IsSearchOf part given budget ended tree) where
+    (of : IsSearchOf part false given budget ended tree) where
   -- its best point has a value for each slot of the plant
   pub plain-places : IfSome ended.best (λ found. length found.point ≡ length (slots plant))
-  plain-places = best-places plant part sound is budget tree ended (from-given part given (length part.root) budget tree ended same of).search
+  plain-places = best-places plant part sound is false budget tree ended (from-given part given (length part.root) budget tree ended same of).search
 
   -- what is told of it is right
   pub plain-right : (told : Told) → IsTold plant ended told → IsToldRight plant part budget tree told
   plain-right told says = told-right plant part sound is budget tree ended (from-given part given (length part.root) budget tree ended same of) told says
 
 module _ (plant : Plant) (part : Program) (judged : List Domain) (headed : Headed) (budget : ℕ) (tree : RowTree) (ended own : Ended) (sound : Sound plant) (is : IsPartOf plant part) (wide : AreRanges part judged) (with_head : IsHeaded part judged headed)
-    (some : 1 ≤ budget) (of : IsEnding headed.rows.program headed.given budget ended tree) (as_given : own ≡ given_end headed.given headed.least ended) where
+    (some : 1 ≤ budget) (of : IsEnding headed.rows.program true headed.given budget ended tree) (as_given : own ≡ given_end headed.given headed.least ended) where
   -- what the search ended with is as of the part
   own_is : IsGivenEnded part ended own
   own_is = as_given ∙ ap₂ (λ (slots : ℕ) (least : Option Found). given_end slots least ended) with_head.given with_head.least
 
   -- it is a search in which the slots after the part's are sums
-  own_of : IsEnding headed.rows.program (length part.root) budget ended tree
-  own_of = subst (λ (n : ℕ). IsEnding headed.rows.program n budget ended tree) with_head.given of
+  own_of : IsEnding headed.rows.program true (length part.root) budget ended tree
+  own_of = subst (λ (n : ℕ). IsEnding headed.rows.program true n budget ended tree) with_head.given of
 
   -- its best point has a value for each slot of the plant
   pub headed-places : IfSome own.best (λ found. length found.point ≡ length (slots plant))
-  headed-places = given-places {budget = budget} plant part headed.rows.program judged headed.sums with_head.derivations tree ended own sound is wide with_head.can some own_of own_is
+  headed-places = given-places {floors = true} {budget = budget} plant part headed.rows.program judged headed.sums with_head.derivations tree ended own sound is wide with_head.can some own_of own_is
 
   -- what is told of it is right
   pub headed-right : 50000 < points_of part.root → budget ≤ 100000 → (told : Told) → IsTold plant own told → IsToldByHead plant part judged headed.sums with_head.derivations budget tree told
   headed-right many few told says =
-      told-by_head plant part headed.rows.program judged headed.sums with_head.derivations budget tree ended own told sound is wide with_head.can many some few own_of own_is says
+      told-by_head plant part headed.rows.program judged headed.sums with_head.derivations true budget tree ended own told sound is wide with_head.can many some few own_of own_is says

@@ -13,6 +13,7 @@ ghost use Rattle.stn_solve.specs.Begun.{EarnsPoint};
 use crate::heading::{Headed, completed, with_head};
 use crate::logging::{Logged, search_logged};
 use crate::searching::search_only;
+use crate::split_rules::SplitRules;
 use box_advice::Advisers;
 use plan_told::{Told, given_ended, larger_claim, told_of};
 use row_kit::{Domain, List, Program, is_lawful};
@@ -48,7 +49,11 @@ pub fn plan_headed<A: Advisers>(
         ..
     } = with_head::<A>(alloc, part, judged)?;
     let whole = completed(alloc, sums.as_slice(), start, lawful)?;
-    let ended = search_only::<A>(alloc, &rows, given, budget, whole.as_slice())?;
+    let rules = SplitRules {
+        given,
+        floors: true,
+    };
+    let ended = search_only::<A>(alloc, &rows, rules, budget, whole.as_slice())?;
     let own = given_ended(alloc, given as usize, least, ended)?;
     let Told { outcome, .. } = told_of(alloc, plant, own)?;
     Ok(outcome)
@@ -95,10 +100,14 @@ pub fn solve_headed_to<A: Advisers, F: Shelf>(
         least,
     } = with_head::<A>(alloc, part, judged)?;
     let begun = completed(alloc, sums.as_slice(), start, lawful)?;
+    let rules = SplitRules {
+        given,
+        floors: true,
+    };
     let Logged { ended, writer } = search_logged::<A, _>(
         alloc,
         &rows,
-        given,
+        rules,
         budget,
         begun.as_slice(),
         head.as_slice(),

@@ -16,6 +16,7 @@ mod plain;
 mod plant;
 mod searching;
 mod solved;
+mod split_rules;
 
 pub use part::{plan_rows, solve_rows_to};
 pub use plain::solve_rows;

@@ -1,5 +1,5 @@
 //! Searches whose proof is written to a log behind a head while they go on.
-ghost use Rattle.std.specs.Prelude.{◌≡◌, ◌≤◌, ◌↔◌, true, length, Err, IsTrue, IfOk, OnErr};
+ghost use Rattle.std.specs.Prelude.{◌≡◌, ◌≤◌, ◌↔◌, Bool, true, length, Err, IsTrue, IfOk, OnErr};
 ghost use Rattle.std.specs.List.{All};
 ghost use Rattle.stn_edge.specs.Count.{Rose};
 ghost use Rattle.row_kit.specs.Domain.{IsOpen};
@@ -9,6 +9,7 @@ ghost use Rattle.proof_log.specs.Writer.{KeepsOthers, writing};
 ghost use Rattle.stn_solve.specs.laws.Logging.{IsLogged, LeavesBegun, stored};
 
 use crate::searching::empty_end;
+use crate::split_rules::SplitRules;
 use advised_search::{search_advised, search_hinted};
 use box_advice::Advisers;
 use branch_tree::{Ended, is_searchable};
@@ -27,11 +28,11 @@ pub struct Logged {
 }
 
 // Searches the root with the advice on plans, and where its count is not exact anew without it, log and all. A root in which some slot
-// has no value is one empty box. The log begins with a head. Slots from the number `given` on are sums.
+// has no value is one empty box. The log begins with a head.
 pub fn search_logged<A: Advisers, F: Shelf>(
     alloc: Global,
     rows: &Rows,
-    given: u32,
+    rules: SplitRules,
     budget: u32,
     start: &[u8],
     head: &[u8],
@@ -43,12 +44,12 @@ pub fn search_logged<A: Advisers, F: Shelf>(
     requires budget { (1 ≤ budget) × (budget ≤ 100000) }
     requires allowed { IsTrue (F.may_write files.old name.now) }
     ensures logged { IfOk result (λ logged. IsLogged
-        (IsEnding rows.now.program given budget logged.ended)
-        rows.now.program head.now name.now
+        (IsEnding rows.now.program rules.floors rules.given budget logged.ended)
+        rows.now.program rules.floors head.now name.now
         (writing F.files F.read_faults F.may_read F.may_write logged.writer files.new)) }
     ensures begun { IfOk result (λ logged. IsWorth rows.now.program start.now logged.ended.best) }
-    ensures err { OnErr result (LeavesBegun rows.now.program head.now name.now (F.files files.old)
-        (F.files files.new)) }
+    ensures err { OnErr result (LeavesBegun rows.now.program rules.floors head.now name.now
+        (F.files files.old) (F.files files.new)) }
     ensures kept { KeepsOthers
         (stored F.files F.read_faults F.may_read F.may_write name.now files.old)
         (stored F.files F.read_faults F.may_read F.may_write name.now files.new) }
@@ -60,12 +61,12 @@ pub fn search_logged<A: Advisers, F: Shelf>(
         return log_empty(alloc, rows, head, files, name);
     }
     let (logged, exact) = log_advised::<A, _>(
-        alloc, rows, given, budget, start, head, files, name,
+        alloc, rows, rules, budget, start, head, files, name,
     )?;
     if exact {
         return Ok(logged);
     }
-    log_hinted::<A, _>(alloc, rows, given, budget, start, head, files, name)
+    log_hinted::<A, _>(alloc, rows, rules, budget, start, head, files, name)
 }
 
 // Begins a log and writes the proof of one empty box: some slot of the root has no value.
@@ -78,11 +79,13 @@ fn log_empty<F: Shelf>(
 ) -> Result<Logged, Stop>
     requires bare { ¬ All IsOpen rows.now.program.root }
     requires allowed { IsTrue (F.may_write files.old name.now) }
-    ensures logged { IfOk result (λ logged. IsLogged (IsEmptyRoot rows.now.program logged.ended)
-        rows.now.program head.now name.now
+    ensures logged { (floors : Bool)
+        → IfOk result (λ logged. IsLogged (IsEmptyRoot rows.now.program logged.ended)
+        rows.now.program floors head.now name.now
         (writing F.files F.read_faults F.may_read F.may_write logged.writer files.new)) }
-    ensures err { OnErr result (LeavesBegun rows.now.program head.now name.now (F.files files.old)
-        (F.files files.new)) }
+    ensures err { (floors : Bool)
+        → OnErr result (LeavesBegun rows.now.program floors head.now name.now
+        (F.files files.old) (F.files files.new)) }
     ensures kept { KeepsOthers
         (stored F.files F.read_faults F.may_read F.may_write name.now files.old)
         (stored F.files F.read_faults F.may_read F.may_write name.now files.new) }
@@ -102,7 +105,7 @@ fn log_empty<F: Shelf>(
 fn log_advised<A: Advisers, F: Shelf>(
     alloc: Global,
     rows: &Rows,
-    given: u32,
+    rules: SplitRules,
     budget: u32,
     start: &[u8],
     head: &[u8],
@@ -113,15 +116,16 @@ fn log_advised<A: Advisers, F: Shelf>(
     requires budget { (1 ≤ budget) × (budget ≤ 100000) }
     requires allowed { IsTrue (F.may_write files.old name.now) }
     ensures logged { IfOk result (λ found.
-        IsLogged (λ tree. IsSearch rows.now.program given budget tree found.0.ended)
-        rows.now.program head.now name.now
+        IsLogged
+        (λ tree. IsSearch rows.now.program rules.floors rules.given budget tree found.0.ended)
+        rows.now.program rules.floors head.now name.now
         (writing F.files F.read_faults F.may_read F.may_write found.0.writer files.new)) }
     ensures begun { IfOk result
         (λ found. IsWorth rows.now.program start.now found.0.ended.best) }
     ensures exact { IfOk result
         (λ found. found.1 ≡ true → IsExact rows.now.program budget found.0.ended) }
-    ensures err { OnErr result (LeavesBegun rows.now.program head.now name.now (F.files files.old)
-        (F.files files.new)) }
+    ensures err { OnErr result (LeavesBegun rows.now.program rules.floors head.now name.now
+        (F.files files.old) (F.files files.new)) }
     ensures kept { KeepsOthers
         (stored F.files F.read_faults F.may_read F.may_write name.now files.old)
         (stored F.files F.read_faults F.may_read F.may_write name.now files.new) }
@@ -130,7 +134,16 @@ fn log_advised<A: Advisers, F: Shelf>(
         → Rose (F.write_faults files.old) (F.write_faults files.new) }
 {
     let mut writer = LogWriter::begin_with(alloc, files, name, head)?;
-    match search_advised::<A, _, _>(alloc, rows, given, budget, start, &mut writer, files) {
+    match search_advised::<A, _, _>(
+        alloc,
+        rows,
+        rules.given,
+        rules.floors,
+        budget,
+        start,
+        &mut writer,
+        files,
+    ) {
         Ok(guided) => {
             let exact = guided.exact;
             let logged = Logged {
@@ -147,7 +160,7 @@ fn log_advised<A: Advisers, F: Shelf>(
 fn log_hinted<A: Advisers, F: Shelf>(
     alloc: Global,
     rows: &Rows,
-    given: u32,
+    rules: SplitRules,
     budget: u32,
     start: &[u8],
     head: &[u8],
@@ -158,13 +171,14 @@ fn log_hinted<A: Advisers, F: Shelf>(
     requires budget { (1 ≤ budget) × (budget ≤ 100000) }
     requires allowed { IsTrue (F.may_write files.old name.now) }
     ensures logged { IfOk result (λ logged.
-        IsLogged (λ tree. IsSearch rows.now.program given budget tree logged.ended)
-        rows.now.program head.now name.now
+        IsLogged
+        (λ tree. IsSearch rows.now.program rules.floors rules.given budget tree logged.ended)
+        rows.now.program rules.floors head.now name.now
         (writing F.files F.read_faults F.may_read F.may_write logged.writer files.new)) }
     ensures begun { IfOk result (λ logged. IsWorth rows.now.program start.now logged.ended.best) }
     ensures exact { IfOk result (λ logged. IsExact rows.now.program budget logged.ended) }
-    ensures err { OnErr result (LeavesBegun rows.now.program head.now name.now (F.files files.old)
-        (F.files files.new)) }
+    ensures err { OnErr result (LeavesBegun rows.now.program rules.floors head.now name.now
+        (F.files files.old) (F.files files.new)) }
     ensures kept { KeepsOthers
         (stored F.files F.read_faults F.may_read F.may_write name.now files.old)
         (stored F.files F.read_faults F.may_read F.may_write name.now files.new) }
@@ -173,7 +187,16 @@ fn log_hinted<A: Advisers, F: Shelf>(
         → Rose (F.write_faults files.old) (F.write_faults files.new) }
 {
     let mut writer = LogWriter::begin_with(alloc, files, name, head)?;
-    match search_hinted::<A, _, _>(alloc, rows, given, budget, start, &mut writer, files) {
+    match search_hinted::<A, _, _>(
+        alloc,
+        rows,
+        rules.given,
+        rules.floors,
+        budget,
+        start,
+        &mut writer,
+        files,
+    ) {
         Ok(ended) => Ok(Logged { ended, writer }),
         Err(stop) => Err(stop_of(stop)),
     }

@@ -15,6 +15,7 @@ ghost use Rattle.plan_told.specs.Proofs.{HasProof, LeavesSomeBegun, IsProofOf, b
 use crate::logging::{Logged, search_logged};
 use crate::searching::{search_built, search_only, slot_count};
 use crate::solved::Solved;
+use crate::split_rules::SplitRules;
 use box_advice::Advisers;
 use branch_tree::{Ended, Searched};
 use log_lines::{Line, put_line};
@@ -41,7 +42,11 @@ pub fn plan_plain<A: Advisers>(
     ensures begun { IfOk result
         (λ outcome. EarnsPoint rows.now.program start.now outcome.answer) }
 {
-    let ended = search_only::<A>(alloc, rows, slot_count(rows), budget, start)?;
+    let rules = SplitRules {
+        given: slot_count(rows),
+        floors: false,
+    };
+    let ended = search_only::<A>(alloc, rows, rules, budget, start)?;
     let Told { outcome, .. } = told_of(alloc, plant, ended)?;
     Ok(outcome)
 }
@@ -63,13 +68,17 @@ pub fn solve_rows<A: Advisers>(
     ensures claim { IfOk result
         (λ solved. solved.claim ≡ claim_of plant.now solved.outcome.answer) }
 {
+    let rules = SplitRules {
+        given: slot_count(rows),
+        floors: false,
+    };
     let Searched {
         tree,
         best,
         cap,
         spent,
         left_open,
-    } = search_built::<A>(alloc, rows, slot_count(rows), budget)?;
+    } = search_built::<A>(alloc, rows, rules, budget)?;
     let ended = Ended {
         best,
         cap,
@@ -116,10 +125,14 @@ pub fn solve_plain_to<A: Advisers, F: Shelf>(
 {
     let head = plain_head(alloc)?;
     let given = slot_count(rows);
+    let rules = SplitRules {
+        given,
+        floors: false,
+    };
     let Logged { ended, writer } = search_logged::<A, _>(
         alloc,
         rows,
-        given,
+        rules,
         budget,
         start,
         head.as_slice(),

@@ -5,6 +5,7 @@ ghost use Rattle.branch_tree.specs.Searched.{IsSearchable, IsWorth, ended_of};
 ghost use Rattle.plan_told.specs.Ended.{IsSearchOf, IsSearched, empty_end};
 
 use crate::item_dropper::ItemDropper;
+use crate::split_rules::SplitRules;
 use advised_search::{build_advised, build_hinted, search_advised, search_hinted};
 use box_advice::Advisers;
 use branch_tree::{Ended, Searched, is_searchable};
@@ -32,22 +33,22 @@ pub(crate) fn empty_end() -> Ended
 }
 
 // Searches the root, beginning with a point where that is lawful, and drops the proof. A root in which some slot has no value is one
-// empty box. Slots from the number `given` on are sums.
+// empty box.
 pub fn search_only<A: Advisers>(
     alloc: Global,
     rows: &Rows,
-    given: u32,
+    rules: SplitRules,
     budget: u32,
     start: &[u8],
 ) -> Result<Ended, AllocError>
     requires slots { length rows.now.program.root ≤ 512 }
     requires rows { length rows.now.program.rows ≤ 50000 }
     requires budget { (1 ≤ budget) × (budget ≤ 100000) }
-    ensures ended { IfOk result (IsSearched rows.now.program given budget) }
+    ensures ended { IfOk result (IsSearched rows.now.program rules.floors rules.given budget) }
     ensures begun { IfOk result (λ ended. IsWorth rows.now.program start.now ended.best) }
 {
     if is_searchable(&rows.program) {
-        search_open::<A>(alloc, rows, given, budget, start)
+        search_open::<A>(alloc, rows, rules, budget, start)
     } else {
         Ok(empty_end())
     }
@@ -57,20 +58,21 @@ pub fn search_only<A: Advisers>(
 fn search_open<A: Advisers>(
     alloc: Global,
     rows: &Rows,
-    given: u32,
+    rules: SplitRules,
     budget: u32,
     start: &[u8],
 ) -> Result<Ended, AllocError>
     requires searchable { IsSearchable rows.now.program }
     requires budget { (1 ≤ budget) × (budget ≤ 100000) }
-    ensures ended { IfOk result (IsSearched rows.now.program given budget) }
+    ensures ended { IfOk result (IsSearched rows.now.program rules.floors rules.given budget) }
     ensures begun { IfOk result (λ ended. IsWorth rows.now.program start.now ended.best) }
 {
     let mut taker = ItemDropper;
     let Ok(guided) = search_advised::<A, _, _>(
         alloc,
         rows,
-        given,
+        rules.given,
+        rules.floors,
         budget,
         start,
         &mut taker,
@@ -81,7 +83,16 @@ fn search_open<A: Advisers>(
     if guided.exact {
         return Ok(guided.ended);
     }
-    match search_hinted::<A, _, _>(alloc, rows, given, budget, start, &mut taker, &mut ()) {
+    match search_hinted::<A, _, _>(
+        alloc,
+        rows,
+        rules.given,
+        rules.floors,
+        budget,
+        start,
+        &mut taker,
+        &mut (),
+    ) {
         Ok(ended) => Ok(ended),
         Err(_) => Err(AllocError),
     }
@@ -91,17 +102,24 @@ fn search_open<A: Advisers>(
 pub fn search_built<A: Advisers>(
     alloc: Global,
     rows: &Rows,
-    given: u32,
+    rules: SplitRules,
     budget: u32,
 ) -> Result<Searched, AllocError>
     requires searchable { IsSearchable rows.now.program }
     requires budget { (1 ≤ budget) × (budget ≤ 100000) }
-    ensures { IfOk result (λ searched. IsSearchOf rows.now.program given budget
+    ensures { IfOk result (λ searched. IsSearchOf rows.now.program rules.floors rules.given budget
         (ended_of searched) (tree_of searched.tree)) }
 {
-    let (searched, exact) = build_advised::<A>(alloc, rows, given, budget, &[])?;
+    let (searched, exact) = build_advised::<A>(
+        alloc,
+        rows,
+        rules.given,
+        rules.floors,
+        budget,
+        &[],
+    )?;
     if exact {
         return Ok(searched);
     }
-    build_hinted::<A>(alloc, rows, given, budget, &[])
+    build_hinted::<A>(alloc, rows, rules.given, rules.floors, budget, &[])
 }

@@ -1,19 +1,20 @@
 -- Programs with the sums and derivations of one head answer alike.
 use Rattle.std.proofs.Common.{◌≡◌, ℕ, ◌≤◌, Bool, true, false, ◌&&◌, nat_lt, List, [], ◌∷◌, ◌++◌, length, map, take, drop, None, ◌⊎◌, inl, inr, refl, sym, ap, ap₂, ◌∙◌, subst, arith, ℤ, pos, ◌+ℤ◌, ◌-ℤ◌, ◌*ℤ◌}
-use Rattle.std.specs.Prelude.{int_le, Some, if◌then◌else◌}
+use Rattle.std.specs.Prelude.{int_le, Option, Some, if◌then◌else◌}
 use Rattle.std.specs.List.{All, list_all}
 use Rattle.std.proofs.lemmas.List.{length-append, length-take-le, take-append-drop}
 use Rattle.row_kit.specs.declared.domain.Domain.{Domain}
 use Rattle.row_kit.specs.declared.program.Program.{Program}
 use Rattle.row_kit.specs.declared.row.Row.{Row}
 use Rattle.row_kit.specs.Change.{changeovers}
-use Rattle.row_kit.specs.Domain.{count_of}
+use Rattle.row_kit.specs.Domain.{count_of, domain_at, values_of}
 use Rattle.row_kit.specs.Point.{IsLawful, LiesIn, worth_of}
 use Rattle.row_kit.specs.Row.{IsKept, entries_sum, entry_at, row_at}
 use Rattle.range_prop.specs.Cut.{cut_domains}
 use Rattle.dual_bound.specs.declared.cert.Cert.{Cert}
 use Rattle.dual_bound.specs.Cap.{cert_cap, scaled_cap}
-use Rattle.dual_bound.specs.Total.{is_fit, limits_sum, rows_at, slots_total}
+use Rattle.dual_bound.specs.Total.{greatest, is_fit, limits_sum, rows_at, slots_total}
+use Rattle.dual_bound.specs.Trimmed.{each_passing, trimmed}
 use Rattle.proof_tree.specs.declared.capped.Capped.{Capped}
 use Rattle.proof_tree.specs.declared.capped.Capped.TheVariants.{AtMost, NoPoint, Bad}
 use Rattle.proof_tree.specs.declared.item.Item.TheVariants.{Node, Cut, Found, Empty, Dual, Point, Pending, Split}
@@ -23,7 +24,7 @@ use Rattle.proof_tree.specs.Walk.{Outcome, going, ended, undefined, misplaced, a
 use Rattle.row_relax.specs.declared.pick.RowPick.{RowPick}
 use Rattle.row_relax.specs.RowProofs.{RowItem, RowTree}
 use Rattle.row_relax.specs.Settle.{are_held, are_single, is_lawful, only_point, settled}
-use Rattle.row_relax.specs.Steps.{row_steps, shown_if}
+use Rattle.row_relax.specs.Steps.{floor_by, row_steps, shown_if, view_by}
 use Rattle.row_relax.specs.View.{domains_of, view_of}
 use Rattle.row_relax.specs.laws.Lawful.{true_lawful}
 use Rattle.log_lines.specs.declared.grammar.Limits.{Limits}
@@ -150,6 +151,24 @@ same_cap a b domains cert same = λ i.
     then Some (((pos cert.scale *ℤ same.base i) +ℤ limits_sum (same.rows i) cert.mults) +ℤ slots_total (λ slot value. (pos cert.scale *ℤ entry_at (same.profit i) slot value) -ℤ rows_at (same.rows i) cert.mults slot value) 0 domains)
     else None)
 
+-- floors count alike, and leave the same
+same_floor : (a b : Program) (domains : List Domain) (cert : Cert) (floor : Option ℤ) → IsAlike a b → floor_by a domains cert floor ≡ floor_by b domains cert floor
+same_floor a b domains cert None same = refl
+same_floor a b domains cert (Some floor) same = λ i. if is_fit (length (same.rows i)) cert && list_all (λ (domain : Domain). nat_lt 0 (count_of domain)) domains then Some floor else None
+
+same_trimmed : (a b : Program) (domains : List Domain) (cert : Cert) (floor : ℤ) → IsAlike a b → trimmed a domains cert floor ≡ trimmed b domains cert floor
+unfolding trimmed
+same_trimmed a b domains cert floor same = λ i.
+    let gained : ℕ → ℕ → ℤ = λ slot value. (pos cert.scale *ℤ entry_at (same.profit i) slot value) -ℤ rows_at (same.rows i) cert.mults slot value in
+    let total = ((pos cert.scale *ℤ same.base i) +ℤ limits_sum (same.rows i) cert.mults) +ℤ slots_total gained 0 domains in
+    if is_fit (length (same.rows i)) cert && list_all (λ (domain : Domain). nat_lt 0 (count_of domain)) domains
+    then each_passing (λ slot value. int_le (pos cert.scale *ℤ (floor +ℤ pos 1)) ((total -ℤ greatest (gained slot) (values_of (domain_at domains slot))) +ℤ gained slot value)) 0 domains
+    else domains
+
+same_left : (a b : Program) (view : View) (cert : Cert) (floor : Option ℤ) → IsAlike a b → view_by a view cert floor ≡ view_by b view cert floor
+same_left a b view cert None same = refl
+same_left a b view cert (Some floor) same = ap view_of (same_trimmed a b (domains_of view) cert floor same)
+
 -- a choice whose number is only compared where both tests hold
 same_choice : (s t : Bool) (x y : ℤ) → (t ≡ true → x ≡ y) → (if s then (if t then AtMost x else NoPoint) else Bad) ≡ (if s then (if t then AtMost y else NoPoint) else Bad)
 same_choice false t x y is = refl
@@ -174,6 +193,8 @@ same_steps a b same = λ i. record {
   empty = (row_steps a).empty;
   cap = λ view cert. same_cap a b (domains_of view) cert same i;
   settle = λ view. same_settled a b (domains_of view) same i;
+  floor = λ view pick cert. same_floor a b (domains_of view) cert pick.floor same i;
+  trim = λ view pick cert. same_left a b view cert pick.floor same i;
 }
 
 -- ---- the same logs

@@ -52,7 +52,7 @@ yes_tail : (program : Program) (judged : List Domain) (depth : ℕ) (bytes : Lis
     → IsTailVerdict program judged depth bytes head tail (Yes claim) → IsValidBehind program judged depth bytes head claim
 yes_tail program judged depth bytes head (Whole tail) claim follows' (inl unshown) = let is = unshown.is in absurd cc
 yes_tail program judged depth bytes head (Whole tail) claim follows' (inr is) =
-    let has = own_yes is.larger (length program.root) depth tail.count (behind tail.bytes bytes) claim is.own is.right is.is in
+    let has = own_yes is.larger (length program.root) depth tail.count (behind head.version tail.bytes bytes) claim is.own is.right is.is in
     record { tail = tail; follows = follows'; larger = is.larger; enlarged = is.enlarged; own = has.own; valid = has.valid; is = has.is }
 yes_tail program judged depth bytes head (tailed.Bad defect) claim follows' right = absurd cc
 
@@ -121,7 +121,7 @@ valid_tail : (program : Program) (judged : List Domain) (depth : ℕ) (bytes : L
     → IsTailVerdict program judged depth bytes head (Whole valid.tail) verdict → verdict ≡ Yes claim
 valid_tail program judged depth bytes head claim verdict valid (inl unshown) = absurd (no_head_defect program valid.larger judged head valid.tail unshown.line unshown.kind valid.enlarged unshown.has)
 valid_tail program judged depth bytes head claim verdict valid (inr is) =
-    let rest = behind valid.tail.bytes bytes in
+    let rest = behind head.version valid.tail.bytes bytes in
     let same = alike head.version program valid.larger is.larger judged head.sums valid.tail.derivations valid.enlarged is.enlarged in
     let own : is.own ≡ Yes valid.own = (exact is.larger depth rest is.own valid.own is.right).1 (valid_alike valid.larger is.larger depth rest valid.own same valid.valid) in
     is.is ∙ ap (given_verdict (length program.root) valid.tail.count) own ∙ ap Yes (sym valid.is)

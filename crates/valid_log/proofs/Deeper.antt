@@ -8,7 +8,7 @@ use Rattle.std.proofs.lemmas.Bool.Decides.{nat_tests}
 use Rattle.row_kit.specs.declared.program.Program.{Program}
 use Rattle.log_lines.specs.declared.grammar.Limits.{Limits}
 use Rattle.log_lines.specs.declared.line.Line.{Line}
-use Rattle.log_lines.specs.declared.line.Line.TheVariants.{Header, Node, Cut, Found, Value, Empty, Point, Dual, Pending, Split, Mult, ClaimOptimal, ClaimInfeasible, ClaimBetween, ClaimBelow, End}
+use Rattle.log_lines.specs.declared.line.Line.TheVariants.{Header, Node, Cut, Found, Value, Empty, Point, Dual, Pending, Floor, Split, Mult, ClaimOptimal, ClaimInfeasible, ClaimBetween, ClaimBelow, End}
 use Rattle.log_lines.specs.Grammar.{Standing, new_standing, next, over_at, over, line_defect}
 use Rattle.log_lines.specs.Said.{line_said}
 use Rattle.log_lines.specs.TextDefect.{text_defect, part_defect, after_bytes, is_done, log_text_defect}
@@ -73,6 +73,7 @@ module _ (limits : Limits) (depth : ℕ) (more : limits.depth ≤ depth) where
   over-deeper opened Point none = none
   over-deeper opened (Dual scale count) none = none
   over-deeper opened (Pending scale count) none = none
+  over-deeper opened (Floor profit) none = none
   over-deeper opened (Split slot most scale count) none = none
   over-deeper opened (Mult row factor) none = none
   over-deeper opened (ClaimOptimal earned count) none = none
@@ -155,7 +156,7 @@ shown-deeper program judged depth more bytes head tail claim (Yes said) less is 
   larger = is.larger;
   enlarged = is.enlarged;
   own = Yes said;
-  right = yes-deeper is.larger depth more (behind tail.bytes bytes) said less (rw same at is.right);
+  right = yes-deeper is.larger depth more (behind head.version tail.bytes bytes) said less (rw same at is.right);
   is = rw same at is.is;
 }
 shown-deeper program judged depth more bytes head tail claim (No defect) less is same = let e = is.is in cc

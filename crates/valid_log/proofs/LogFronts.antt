@@ -77,7 +77,7 @@ pub headed-verdict : (program larger : Program) (ranges root : List Domain) (sum
 headed-verdict program larger ranges root sums depth tree own claim may enlarged valid is =
     let head = head_of 3 sums in
     let same : head.bytes + length (tail_text []) ≡ length (head_text 3 sums) = omega (arith, ap length lines_text-nil) in
-    let text = sym (ap (λ (n : ℕ). behind n (sums_text sums tree own)) same ∙ behind-head (head_text 3 sums) (tree_items tree) own (some_head sums)) in
+    let text = sym (ap (λ (n : ℕ). behind 3 n (sums_text sums tree own)) same ∙ behind-head 3 (head_text 3 sums) (tree_items tree) own (some_head sums)) in
     let shown : IsShownVerdict program ranges depth (sums_text sums tree own) head (tail_of head []) (Yes claim) = record {
       larger = larger;
       enlarged = record { sums_shown = may.shown; between = larger; with_sums = enlarged; derivations_shown = tt; grown = inl (refl, refl) };

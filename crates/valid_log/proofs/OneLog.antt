@@ -36,9 +36,9 @@ module _ (program : Program) (ranges root : List Domain) (bytes : List ℕ) (sum
       let declared : sums ≡ other_sums = log.declares ∙ sym other.declares in
       let derived : derivations ≡ other_derivations = log.derives ∙ ap (λ (t : Tail). t.derivations) (sym same_tail) ∙ sym other.derives in
       let enlarged = subst (λ (s : List Sum). IsWithHead head.version program judged s derivations other.larger) (sym declared) (subst (λ (d : List Derivation). IsWithHead head.version program judged other_sums d other.larger) (sym derived) other.enlarged) in
-      let text = subst (λ (t : Tail). IsLog other.larger (behind t.bytes bytes) other_tree other.own) same_tail other.is_log in
-      let second = log_alike other.larger log.larger (behind log.tail.bytes bytes) other_tree other.own (alike head.version program other.larger log.larger judged sums derivations enlarged log.enlarged) text in
-      let same = same_text log.larger (behind log.tail.bytes bytes) tree other_tree log.own other.own log.is_log second in
+      let text = subst (λ (t : Tail). IsLog other.larger (behind head.version t.bytes bytes) other_tree other.own) same_tail other.is_log in
+      let second = log_alike other.larger log.larger (behind head.version log.tail.bytes bytes) other_tree other.own (alike head.version program other.larger log.larger judged sums derivations enlarged log.enlarged) text in
+      let same = same_text log.larger (behind head.version log.tail.bytes bytes) tree other_tree log.own other.own log.is_log second in
       record {
         sums_same = declared;
         derivations_same = derived;

@@ -111,14 +111,14 @@ pub record IsUnshownVerdict (program : Program) (judged : List Domain) (depth : 
   pub line : ℕ
   pub kind : ℕ
   pub has : HasHeadDefect program judged head tail line kind
-  pub is : verdict ≡ No (unshown_defect tail.count line kind (log_text_defect (limits_behind program depth head tail) (behind tail.bytes bytes)))
+  pub is : verdict ≡ No (unshown_defect tail.count line kind (log_text_defect (limits_behind program depth head tail) (behind head.version tail.bytes bytes)))
 
 -- the answer on a file whose sums and derivations are all shown: that on the log behind its head, over the program with them
 pub record IsShownVerdict (program : Program) (judged : List Domain) (depth : ℕ) (bytes : List ℕ) (head : Head) (tail : Tail) (verdict : LogVerdict) : Type 0 where
   pub larger : Program
   pub enlarged : IsWithHead head.version program judged head.sums tail.derivations larger
   pub own : LogVerdict
-  pub right : IsVerdict larger depth (behind tail.bytes bytes) own
+  pub right : IsVerdict larger depth (behind head.version tail.bytes bytes) own
   pub is : verdict ≡ given_verdict (length program.root) tail.count own
 
 -- the answer on a file with a head, behind which this stands
@@ -153,7 +153,7 @@ pub record IsLogBehind (program : Program) (judged : List Domain) (bytes : List 
   pub larger : Program
   pub enlarged : IsWithHead head.version program judged sums derivations larger
   pub own : Claim
-  pub is_log : IsLog larger (behind tail.bytes bytes) tree own
+  pub is_log : IsLog larger (behind head.version tail.bytes bytes) tree own
   pub claim_is : claim ≡ given_claim (length program.root) own
 
 -- bytes with such a front are the text of a log that declares these sums and derivations, of this proof and this claim
@@ -176,7 +176,7 @@ pub record IsValidBehind (program : Program) (judged : List Domain) (depth : ℕ
   pub larger : Program
   pub enlarged : IsWithHead head.version program judged head.sums tail.derivations larger
   pub own : Claim
-  pub valid : IsValidLog larger depth (behind tail.bytes bytes) own
+  pub valid : IsValidLog larger depth (behind head.version tail.bytes bytes) own
   pub is : claim ≡ given_claim (length program.root) own
 
 -- bytes with such a front are a valid log of a claim

@@ -8,8 +8,8 @@ use Rattle.range_prop.specs.declared.row_cut.RowCut.{RowCut}
 use Rattle.dual_bound.specs.declared.cert.Cert.{Cert}
 use Rattle.proof_tree.specs.declared.capped.Capped.{Capped}
 use Rattle.proof_tree.specs.declared.capped.Capped.TheVariants.{AtMost, NoPoint, Bad}
-use Rattle.proof_tree.specs.Cap.{Bounds, greater}
-use Rattle.proof_tree.specs.Tree.{leaf, split, cap_if, leaf_cap}
+use Rattle.proof_tree.specs.Cap.{Bounds}
+use Rattle.proof_tree.specs.Tree.{leaf, split, leaf_cap, split_cap}
 use Rattle.proof_tree.specs.Views.{View, Point}
 use Rattle.row_relax.specs.RowProofs.{RowTree}
 use Rattle.row_relax.specs.Steps.{row_steps}
@@ -18,7 +18,7 @@ use Rattle.plan_images.specs.Caps.{Allows}
 use Rattle.plan_images.specs.Images.{IsImage}
 use Rattle.plan_images.proofs.Allowing.{allows-each}
 use Rattle.plan_images.proofs.Imaging.{own-image}
-use Rattle.plan_images.proofs.Losing.{Lies, cert-allows, cut-lies, lawful-kept, leaf-allows, parts-allow, rows-settle}
+use Rattle.plan_images.proofs.Losing.{Lies, cert-allows, cut-lies, lawful-kept, leaf-allows, rows-settle, split-allows}
 use Rattle.what_if.specs.Loose.{after_all, after_cut, certified, lesser, loose_cap, loosened, no_mults, or_else, within}
 
 allows_or_else : (own other : Capped) (earned : ℤ) → Allows own earned → Allows other earned → Allows (or_else own other) earned
@@ -84,10 +84,11 @@ module _ (program : Program) (earned : ℤ) (p : Point) (image : IsImage program
       let there = after_all-lies cuts v at in
       let first : View → Capped = λ x. loose_cap capped program x a in
       let second : View → Capped = λ x. loose_cap capped program x b in
-      let parts = greater (cap_if ((row_steps program).left w pick) first) (cap_if ((row_steps program).right w pick) second) in
+      let rest = (row_steps program).trim w pick cert in
+      let parts = split_cap (row_steps program) w pick cert first second in
       loosened-allows w (within capped program w cert parts) there
       (within-allows capped w cert parts there
-      (parts-allow program (worth_of program) (row_steps program).settle (rows-settle program) earned p image w pick first second there (loose-allows capped a) (loose-allows capped b) ((row_steps program).left w pick) refl ((row_steps program).right w pick) refl))
+      (split-allows program (worth_of program) (row_steps program).settle (rows-settle program) earned p image w pick cert first second there (loose-allows capped a) (loose-allows capped b) ((row_steps program).left rest pick) refl ((row_steps program).right rest pick) refl))
 
 -- the loose cap bounds the worth of every lawful point
 pub loose_cap-bounds : (capped : Bool) (program : Program) (tree : RowTree) (v : View) → Fits program v → Bounds (IsIn v) (IsLawful program) (worth_of program) (loose_cap capped program v tree)

@@ -167,15 +167,16 @@ plain_valid_if program ranges bytes (Err e) stands none own = tt
 
 -- ---- a log with a head
 
--- the line of the header of version 2
-header_line : codes "stn-log 2\n" ≡ lines_text (Header 2 ∷ [])
+-- the line of the header of version 4, and of any other that of version 2
+header_line : (newest : Bool) → (if newest then codes "stn-log 4\n" else codes "stn-log 2\n") ≡ lines_text (Header (if newest then 4 else 2) ∷ [])
 unfolding lines_text line_text number_text
-header_line = rw (decimal_digit 2 (omega arith)) refl
+header_line true = rw (decimal_digit 4 (omega arith)) refl
+header_line false = rw (decimal_digit 2 (omega arith)) refl
 
--- the header of version 2, and what follows a head, are what is read behind it
-pub behind_is : (head : ℕ) (bytes front rest : List ℕ) → 1 ≤ head → front ≡ codes "stn-log 2\n" → rest ≡ front ++ drop head bytes → rest ≡ behind head bytes
-behind_is zero bytes front rest some is all = absurd (omega (arith, some))
-behind_is (suc n) bytes front rest some is all = all ∙ ap (λ (text : List ℕ). text ++ drop (suc n) bytes) (is ∙ header_line)
+-- the header, and what follows a head, are what is read behind it
+pub behind_is : (version head : ℕ) (bytes front rest : List ℕ) → 1 ≤ head → front ≡ (if version == 4 then codes "stn-log 4\n" else codes "stn-log 2\n") → rest ≡ front ++ drop head bytes → rest ≡ behind version head bytes
+behind_is version zero bytes front rest some is all = absurd (omega (arith, some))
+behind_is version (suc n) bytes front rest some is all = all ∙ ap (λ (text : List ℕ). text ++ drop (suc n) bytes) (is ∙ header_line (version == 4))
 
 -- domains that are both those of version 3 and those of the command are those over which a head is judged
 judged-same : (ranges : List Domain) (version : ℕ) → judged_over ranges ranges version ≡ ranges
@@ -222,7 +223,7 @@ given-taken program larger ranges head tail given kept held of is =
 -- a valid log behind a head, over the program with it, is valid with its claim cut back
 pub headed_valid : (program larger : Program) (ranges : List Domain) (bytes : List ℕ) (head : Head) (tail : Tail) (own : Log) (log : ValidLog) → AreRanges program ranges → IsFront (limits_with program 4608 0) bytes (Headed head)
     → IsTail (limits_with program 4608 (length head.sums)) head bytes (Whole tail) → IsTailHeld (limits_with program 4608 (length head.sums)) head tail → IsKeptHead (limits_with program 4608 0) head
-    → IsWithHead head.version program ranges head.sums tail.derivations larger → IsOwnLog larger (behind tail.bytes bytes) (tree_of own.tree) own.claim
+    → IsWithHead head.version program ranges head.sums tail.derivations larger → IsOwnLog larger (behind head.version tail.bytes bytes) (tree_of own.tree) own.claim
     → IsHeadOf head tail log.head → log.tree ≡ own.tree → log.claim ≡ given_claim (length program.root) own.claim → IsAnyOwnLog program ranges bytes log
 headed_valid program larger ranges bytes head tail own log wide stands follows' held kept enlarged valid of tree_is claim_is =
     let trees : tree_of own.tree ≡ tree_of log.tree = ap tree_of (sym tree_is) in
@@ -239,7 +240,7 @@ headed_valid program larger ranges bytes head tail own log wide stands follows' 
             larger = larger;
             enlarged = enlarged;
             own = Yes own.claim;
-            right = own_verdict larger (behind tail.bytes bytes) (tree_of own.tree) own.claim valid;
+            right = own_verdict larger (behind head.version tail.bytes bytes) (tree_of own.tree) own.claim valid;
             is = ap Yes claim_is;
           });
         });
@@ -255,7 +256,7 @@ headed_valid program larger ranges bytes head tail own log wide stands follows' 
           larger = larger;
           enlarged = subst (λ (v : ℕ). IsWithHead v program ranges log.head.sums log.head.derivations larger) (own-version head tail log.head kept.version of) given;
           own = own.claim;
-          is_log = subst (λ (tree : RowTree). IsLog larger (behind tail.bytes bytes) tree own.claim) trees valid.is_log;
+          is_log = subst (λ (tree : RowTree). IsLog larger (behind head.version tail.bytes bytes) tree own.claim) trees valid.is_log;
           claim_is = claim_is;
         });
       };
@@ -300,7 +301,7 @@ head_within program bytes head is =
     omega (arith, own, long)
 
 -- a file whose head is shown has the defect behind it, over the program with the head
-pub shown_defect : (program larger : Program) (ranges : List Domain) (bytes rest : List ℕ) (head : Head) (tail : Tail) (stop own : LogStop) (defect : Defect) → IsWithHead head.version program ranges head.sums tail.derivations larger → rest ≡ behind tail.bytes bytes
+pub shown_defect : (program larger : Program) (ranges : List Domain) (bytes rest : List ℕ) (head : Head) (tail : Tail) (stop own : LogStop) (defect : Defect) → IsWithHead head.version program ranges head.sums tail.derivations larger → rest ≡ behind head.version tail.bytes bytes
     → ((before : Defect) → own ≡ StopDefect before → IsVerdict larger 4608 rest (No before)) → IsStopInFile tail.count own stop → stop ≡ StopDefect defect → IsTailVerdict program ranges 4608 bytes head (Whole tail) (No defect)
 shown_defect program larger ranges bytes rest head tail stop own defect enlarged are each in_lines is =
     let found = in_lines defect is in inr (record {

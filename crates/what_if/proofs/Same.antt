@@ -1,5 +1,5 @@
 -- The loose cap is always defined, and is the proof's own cap where that is.
-use Rattle.std.proofs.Common.{◌≡◌, ◌≢◌, ℕ, ◌≤◌, Bool, true, false, ◌&&◌, not, cond, ltb, List, [], ◌∷◌, length, Option, Some, None, option_and_then, refl, sym, ap, ◌∙◌, subst, arith}
+use Rattle.std.proofs.Common.{◌≡◌, ◌≢◌, ℕ, ◌≤◌, Bool, true, false, ◌&&◌, not, cond, ltb, List, [], ◌∷◌, length, Option, Some, None, option_and_then, ℤ, refl, sym, ap, ◌∙◌, subst, arith}
 use Rattle.std.specs.Prelude.{unwrap_or}
 use Rattle.std.specs.List.{list_all, list_any}
 use Rattle.std.proofs.lemmas.Bool.{eq-eqb, eqb-true}
@@ -15,14 +15,15 @@ use Rattle.dual_bound.specs.Total.{is_fit, total_of}
 use Rattle.dual_bound.proofs.Fit.{open_decides}
 use Rattle.proof_tree.specs.declared.capped.Capped.{Capped}
 use Rattle.proof_tree.specs.declared.capped.Capped.TheVariants.{AtMost, NoPoint, Bad}
-use Rattle.proof_tree.specs.Cap.{greater}
-use Rattle.proof_tree.specs.Tree.{Leaf, no_point, dual, one_point, pending, leaf, split, after_cuts, cap_if, leaf_cap, tree_cap}
+use Rattle.proof_tree.specs.Cap.{greater, floor_cap}
+use Rattle.proof_tree.specs.Tree.{Leaf, no_point, dual, one_point, pending, leaf, split, after_cuts, cap_if, leaf_cap, split_cap, tree_cap}
 use Rattle.proof_tree.specs.Views.{View}
+use Rattle.row_relax.specs.declared.pick.RowPick.{RowPick}
 use Rattle.row_relax.specs.RowProofs.{RowTree}
-use Rattle.row_relax.specs.Steps.{row_steps}
+use Rattle.row_relax.specs.Steps.{floor_by, row_steps}
 use Rattle.row_relax.specs.View.{Fits, domains_of, points_in}
 use Rattle.row_relax.specs.laws.Laws.{rows_sound}
-use Rattle.row_relax.proofs.PointCounts.{points-cut, points-empty, points-left, points-right, points-settled, points-some}
+use Rattle.row_relax.proofs.PointCounts.{points-cut, points-empty, points-left, points-right, points-settled, points-some, points-trim}
 use Rattle.what_if.specs.Loose.{after_all, loose_cap, loosened, no_mults, or_else, within}
 
 at_most_none : (a b : ℕ) → a ≤ b → b ≡ 0 → a ≡ 0
@@ -42,6 +43,17 @@ cert_cap-empty program ds cert e =
     by_fit (is_fit (length program.rows) cert) (list_all (λ d. ltb 0 (count_of d)) ds) none
   where
     by_fit : (fit all : Bool) → all ≡ false → scaled_cap cert.scale (cond (fit && all) (Some (total_of program ds cert)) None) ≡ Bad
+    by_fit true all e = rw e refl
+    by_fit false all e = refl
+
+-- nor does it forget anything there
+floor_by-empty : (program : Program) (ds : List Domain) (cert : Cert) (floor : Option ℤ) → list_any is_bare ds ≡ true → floor_by program ds cert floor ≡ None
+floor_by-empty program ds cert None e = refl
+floor_by-empty program ds cert (Some floor) e =
+    let none : list_all (λ d. ltb 0 (count_of d)) ds ≡ false = sym (open_all ds) ∙ ap not e in
+    by_fit (is_fit (length program.rows) cert) (list_all (λ d. ltb 0 (count_of d)) ds) none
+  where
+    by_fit : (fit all : Bool) → all ≡ false → cond (fit && all) (Some floor) None ≡ None
     by_fit true all e = rw e refl
     by_fit false all e = refl
 
@@ -75,7 +87,7 @@ pub loose_cap-defined : (capped : Bool) (program : Program) (tree : RowTree) (v 
 loose_cap-defined capped program (leaf cuts found end) v = loosened-defined program (after_all program v cuts) (leaf_cap (row_steps program) (after_all program v cuts) end)
 loose_cap-defined capped program (split cuts found pick cert a b) v =
     let w = after_all program v cuts in
-    loosened-defined program w (within capped program w cert (greater (cap_if ((row_steps program).left w pick) (λ x. loose_cap capped program x a)) (cap_if ((row_steps program).right w pick) (λ x. loose_cap capped program x b))))
+    loosened-defined program w (within capped program w cert (split_cap (row_steps program) w pick cert (λ x. loose_cap capped program x a) (λ x. loose_cap capped program x b)))
 
 -- ---- where the proof's own cap is defined
 
@@ -154,6 +166,18 @@ module _ (program : Program) where
   unfolding row_steps
   cap-none v cert none = cert_cap-empty program (domains_of v) cert (empty-none v none)
 
+  -- nothing is forgotten of a view without points
+  floor-none : (v : View) (pick : RowPick) (cert : Cert) → points_in v ≡ 0 → floor_cap ((row_steps program).floor v pick cert) ≡ NoPoint
+  unfolding row_steps
+  floor-none v pick cert none = ap floor_cap (floor_by-empty program (domains_of v) cert pick.floor (empty-none v none))
+
+  -- and it stays without any
+  trim-none : (v : View) (pick : RowPick) (cert : Cert) → IsNone v → IsNone ((row_steps program).trim v pick cert)
+  trim-none v pick cert is = record {
+    fits = (rows_sound program).trim_fits v pick cert is.fits;
+    none = at_most_none (points_in ((row_steps program).trim v pick cert)) (points_in v) (points-trim program v pick cert is.fits) is.none;
+  }
+
   -- a leaf over a view without points has no point, where it has a cap
   leaf_cap-none : (v : View) (end : Leaf Cert) → points_in v ≡ 0 → leaf_cap (row_steps program) v end ≢ Bad → leaf_cap (row_steps program) v end ≡ NoPoint
   leaf_cap-none v no_point none is = rw (empty-none v none) refl
@@ -172,20 +196,24 @@ module _ (program : Program) where
       part-none (after_cuts (row_steps program) v cuts) (λ w. leaf_cap (row_steps program) w end)
       (λ w led. leaf_cap-none w end (after_cuts-none cuts v w at led).none)
   tree_cap-none (split cuts found pick cert a b) v at =
-      part-none (after_cuts (row_steps program) v cuts) (λ w. greater (cap_if ((row_steps program).left w pick) (λ x. tree_cap (row_steps program) x a)) (cap_if ((row_steps program).right w pick) (λ x. tree_cap (row_steps program) x b)))
+      part-none (after_cuts (row_steps program) v cuts) (λ w. split_cap (row_steps program) w pick cert (λ x. tree_cap (row_steps program) x a) (λ x. tree_cap (row_steps program) x b))
       (λ w led is.
+      let rest = (row_steps program).trim w pick cert in
       let there = after_cuts-none cuts v w at led in
-      let first = cap_if ((row_steps program).left w pick) (λ x. tree_cap (row_steps program) x a) in
-      let second = cap_if ((row_steps program).right w pick) (λ x. tree_cap (row_steps program) x b) in
-      greater-none first second
-      (part-none ((row_steps program).left w pick) (λ x. tree_cap (row_steps program) x a) (λ x to. tree_cap-none a x (record {
-        fits = (rows_sound program).left_fits w x pick there.fits to;
-        none = at_most_none (points_in x) (points_in w) (points-left program w x pick to) there.none;
-      })) (greater-first first second is))
-      (part-none ((row_steps program).right w pick) (λ x. tree_cap (row_steps program) x b) (λ x to. tree_cap-none b x (record {
-        fits = (rows_sound program).right_fits w x pick there.fits to;
-        none = at_most_none (points_in x) (points_in w) (points-right program w x pick to) there.none;
-      })) (greater-second first second is)))
+      let still = trim-none w pick cert there in
+      let floor = floor_cap ((row_steps program).floor w pick cert) in
+      let first = cap_if ((row_steps program).left rest pick) (λ x. tree_cap (row_steps program) x a) in
+      let second = cap_if ((row_steps program).right rest pick) (λ x. tree_cap (row_steps program) x b) in
+      greater-none (greater floor first) second
+      (greater-none floor first (floor-none w pick cert there.none)
+      (part-none ((row_steps program).left rest pick) (λ x. tree_cap (row_steps program) x a) (λ x to. tree_cap-none a x (record {
+        fits = (rows_sound program).left_fits rest x pick still.fits to;
+        none = at_most_none (points_in x) (points_in rest) (points-left program rest x pick to) still.none;
+      })) (greater-second floor first (greater-first (greater floor first) second is))))
+      (part-none ((row_steps program).right rest pick) (λ x. tree_cap (row_steps program) x b) (λ x to. tree_cap-none b x (record {
+        fits = (rows_sound program).right_fits rest x pick still.fits to;
+        none = at_most_none (points_in x) (points_in rest) (points-right program rest x pick to) still.none;
+      })) (greater-second (greater floor first) second is)))
 
   -- what an end gives where its own cap is defined
   part-same : (next : Option View) (loose own : View → Capped) → ((x : View) → next ≡ Some x → own x ≢ Bad → loose x ≡ own x) → cap_if next own ≢ Bad → cap_if next loose ≡ cap_if next own
@@ -206,18 +234,21 @@ loose_cap-same program (leaf cuts found end) v fit is =
     ∙ sym own
 loose_cap-same program (split cuts found pick cert a b) v fit is =
     let s = row_steps program in
-    let loose_parts : View → Capped = λ w. greater (cap_if (s.left w pick) (λ x. loose_cap false program x a)) (cap_if (s.right w pick) (λ x. loose_cap false program x b)) in
-    let own_parts : View → Capped = λ w. greater (cap_if (s.left w pick) (λ x. tree_cap s x a)) (cap_if (s.right w pick) (λ x. tree_cap s x b)) in
+    let loose_parts : View → Capped = λ w. split_cap s w pick cert (λ x. loose_cap false program x a) (λ x. loose_cap false program x b) in
+    let own_parts : View → Capped = λ w. split_cap s w pick cert (λ x. tree_cap s x a) (λ x. tree_cap s x b) in
     let there = cap_if-there (after_cuts s v cuts) own_parts is in
     let w = there.0 in
     let own : tree_cap s v (split cuts found pick cert a b) ≡ own_parts w = ap (λ x. cap_if x own_parts) there.1 in
     let at = after_all-same program cuts v w fit there.1 in
     let defined : own_parts w ≢ Bad = λ e. is (own ∙ e) in
-    let first = cap_if (s.left w pick) (λ x. tree_cap s x a) in
-    let second = cap_if (s.right w pick) (λ x. tree_cap s x b) in
-    let left_same = part-same program (s.left w pick) (λ x. loose_cap false program x a) (λ x. tree_cap s x a) (λ x to. loose_cap-same program a x ((rows_sound program).left_fits w x pick at.1 to)) (greater-first first second defined) in
-    let right_same = part-same program (s.right w pick) (λ x. loose_cap false program x b) (λ x. tree_cap s x b) (λ x to. loose_cap-same program b x ((rows_sound program).right_fits w x pick at.1 to)) (greater-second first second defined) in
-    let same : loose_parts w ≡ own_parts w = ap (λ x. greater x (cap_if (s.right w pick) (λ y. loose_cap false program y b))) left_same ∙ ap (λ x. greater first x) right_same in
+    let rest = s.trim w pick cert in
+    let rest_fits = (rows_sound program).trim_fits w pick cert at.1 in
+    let floor = floor_cap (s.floor w pick cert) in
+    let first = cap_if (s.left rest pick) (λ x. tree_cap s x a) in
+    let second = cap_if (s.right rest pick) (λ x. tree_cap s x b) in
+    let left_same = part-same program (s.left rest pick) (λ x. loose_cap false program x a) (λ x. tree_cap s x a) (λ x to. loose_cap-same program a x ((rows_sound program).left_fits rest x pick rest_fits to)) (greater-second floor first (greater-first (greater floor first) second defined)) in
+    let right_same = part-same program (s.right rest pick) (λ x. loose_cap false program x b) (λ x. tree_cap s x b) (λ x to. loose_cap-same program b x ((rows_sound program).right_fits rest x pick rest_fits to)) (greater-second (greater floor first) second defined) in
+    let same : loose_parts w ≡ own_parts w = ap (λ x. greater (greater floor x) (cap_if (s.right rest pick) (λ y. loose_cap false program y b))) left_same ∙ ap (λ x. greater (greater floor first) x) right_same in
     let empty_none : s.empty w ≡ true → own_parts w ≡ NoPoint = λ e. tree_cap-none program (split [] None pick cert a b) w (record { fits = at.1; none = points-empty program w e }) defined in
     ap (λ x. loosened program x (loose_parts x)) at.0
     ∙ ap (λ x. loosened program w x) same

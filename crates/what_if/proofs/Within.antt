@@ -7,8 +7,8 @@ use Rattle.std.proofs.lemmas.Int.{fold-int_min_bounds}
 use Rattle.row_kit.specs.declared.program.Program.{Program}
 use Rattle.proof_tree.specs.declared.capped.Capped.{Capped}
 use Rattle.proof_tree.specs.declared.capped.Capped.TheVariants.{AtMost, NoPoint, Bad}
-use Rattle.proof_tree.specs.Cap.{greater}
-use Rattle.proof_tree.specs.Tree.{leaf, split, after_cuts, cap_if, leaf_cap, tree_cap}
+use Rattle.proof_tree.specs.Cap.{greater, floor_cap}
+use Rattle.proof_tree.specs.Tree.{leaf, split, after_cuts, cap_if, leaf_cap, split_cap, tree_cap}
 use Rattle.proof_tree.specs.Views.{View}
 use Rattle.row_relax.specs.RowProofs.{RowTree}
 use Rattle.row_relax.specs.Steps.{row_steps}
@@ -84,18 +84,25 @@ loose-no_more program (leaf cuts found end) v fit is =
     subst (λ x. NoMore (loosened program x (leaf_cap s x end)) (tree_cap s v (leaf cuts found end))) (sym at.0) (subst (NoMore (loosened program w (leaf_cap s w end))) (sym own) less)
 loose-no_more program (split cuts found pick cert a b) v fit is =
     let s = row_steps program in
-    let loose_parts : View → Capped = λ w. greater (cap_if (s.left w pick) (λ x. loose_cap true program x a)) (cap_if (s.right w pick) (λ x. loose_cap true program x b)) in
-    let own_parts : View → Capped = λ w. greater (cap_if (s.left w pick) (λ x. tree_cap s x a)) (cap_if (s.right w pick) (λ x. tree_cap s x b)) in
+    let loose_parts : View → Capped = λ w. split_cap s w pick cert (λ x. loose_cap true program x a) (λ x. loose_cap true program x b) in
+    let own_parts : View → Capped = λ w. split_cap s w pick cert (λ x. tree_cap s x a) (λ x. tree_cap s x b) in
     let there = cap_if-there (after_cuts s v cuts) own_parts is in
     let w = there.0 in
     let own : tree_cap s v (split cuts found pick cert a b) ≡ own_parts w = ap (λ x. cap_if x own_parts) there.1 in
     let at = after_all-same program cuts v w fit there.1 in
     let defined : own_parts w ≢ Bad = λ e. is (own ∙ e) in
-    let first = cap_if (s.left w pick) (λ x. tree_cap s x a) in
-    let second = cap_if (s.right w pick) (λ x. tree_cap s x b) in
-    let left_less = part-no_more (s.left w pick) (λ x. loose_cap true program x a) (λ x. tree_cap s x a) (λ x to. loose-no_more program a x ((rows_sound program).left_fits w x pick at.1 to)) (greater-first first second defined) in
-    let right_less = part-no_more (s.right w pick) (λ x. loose_cap true program x b) (λ x. tree_cap s x b) (λ x to. loose-no_more program b x ((rows_sound program).right_fits w x pick at.1 to)) (greater-second first second defined) in
-    let parts : NoMore (loose_parts w) (own_parts w) = greater-no_more (cap_if (s.left w pick) (λ x. loose_cap true program x a)) (cap_if (s.right w pick) (λ x. loose_cap true program x b)) first second left_less right_less in
+    let rest = s.trim w pick cert in
+    let rest_fits = (rows_sound program).trim_fits w pick cert at.1 in
+    let floor = floor_cap (s.floor w pick cert) in
+    let first = cap_if (s.left rest pick) (λ x. tree_cap s x a) in
+    let second = cap_if (s.right rest pick) (λ x. tree_cap s x b) in
+    let one_defined = greater-first (greater floor first) second defined in
+    let loose_first = cap_if (s.left rest pick) (λ x. loose_cap true program x a) in
+    let loose_second = cap_if (s.right rest pick) (λ x. loose_cap true program x b) in
+    let left_less = part-no_more (s.left rest pick) (λ x. loose_cap true program x a) (λ x. tree_cap s x a) (λ x to. loose-no_more program a x ((rows_sound program).left_fits rest x pick rest_fits to)) (greater-second floor first one_defined) in
+    let right_less = part-no_more (s.right rest pick) (λ x. loose_cap true program x b) (λ x. tree_cap s x b) (λ x to. loose-no_more program b x ((rows_sound program).right_fits rest x pick rest_fits to)) (greater-second (greater floor first) second defined) in
+    let one_less = greater-no_more floor loose_first floor first (own-no_more floor (greater-first floor first one_defined)) left_less in
+    let parts : NoMore (loose_parts w) (own_parts w) = greater-no_more (greater floor loose_first) loose_second (greater floor first) second one_less right_less in
     let less : NoMore (loosened program w (within true program w cert (loose_parts w))) (own_parts w) =
     loosened-no_more program w (within true program w cert (loose_parts w)) (own_parts w) (lesser-no_more (certified program w cert) (loose_parts w) (own_parts w) parts) in
     subst (λ x. NoMore (loosened program x (within true program x cert (loose_parts x))) (tree_cap s v (split cuts found pick cert a b))) (sym at.0) (subst (NoMore (loosened program w (within true program w cert (loose_parts w)))) (sym own) less)

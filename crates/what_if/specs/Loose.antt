@@ -7,8 +7,7 @@ use Rattle.range_prop.specs.declared.row_cut.RowCut.{RowCut}
 use Rattle.dual_bound.specs.declared.cert.Cert.{Cert}
 use Rattle.proof_tree.specs.declared.capped.Capped.{Capped}
 use Rattle.proof_tree.specs.declared.capped.Capped.TheVariants.{AtMost, NoPoint, Bad}
-use Rattle.proof_tree.specs.Cap.{greater}
-use Rattle.proof_tree.specs.Tree.{leaf, split, cap_if, leaf_cap}
+use Rattle.proof_tree.specs.Tree.{leaf, split, leaf_cap, split_cap}
 use Rattle.proof_tree.specs.Views.{View, present}
 use Rattle.plan_images.specs.Caps.{Allows}
 use Rattle.row_relax.specs.RowProofs.{RowTree}
@@ -53,20 +52,19 @@ lesser (AtMost a) (AtMost b) = AtMost (int_min a b)
 abbrev pub certified : Program → View → Cert → Capped
 certified program v cert = or_else ((row_steps program).cap v cert) ((row_steps program).cap v no_mults)
 
--- what its two parts give of a split: where splits have caps of their own, the lesser of that and the cap of its certificate
+-- what a split gives whose floor and two parts give this: where splits have caps of their own, the lesser of that and the cap of its certificate
 abbrev pub within : Bool → Program → View → Cert → Capped → Capped
 within false program v cert parts = parts
 within true program v cert parts = lesser (certified program v cert) parts
 
--- the loose cap of a proof over a view: what its end gives after its cuts, where a split has the greater of its two parts' loose caps, and where splits have caps of their own no more than that of its certificate
+-- the loose cap of a proof over a view: what its end gives after its cuts, where a split has the greatest of its floor's and of its two parts' loose caps, the parts being those of what it has not forgotten, and where splits have caps of their own no more than that of its certificate
 abbrev pub loose_cap : Bool → Program → View → RowTree → Capped
 loose_cap capped program v (leaf cuts found end) =
     loosened program (after_all program v cuts) (leaf_cap (row_steps program) (after_all program v cuts) end)
 loose_cap capped program v (split cuts found pick cert a b) =
     loosened program (after_all program v cuts)
     (within capped program (after_all program v cuts) cert
-    (greater (cap_if ((row_steps program).left (after_all program v cuts) pick) (λ x. loose_cap capped program x a))
-    (cap_if ((row_steps program).right (after_all program v cuts) pick) (λ x. loose_cap capped program x b))))
+    (split_cap (row_steps program) (after_all program v cuts) pick cert (λ x. loose_cap capped program x a) (λ x. loose_cap capped program x b)))
 
 -- a number as a cap: none says that there is no point
 abbrev pub as_cap : Option ℤ → Capped

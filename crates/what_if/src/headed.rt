@@ -1,5 +1,5 @@
 //! A log behind a head, read of its bytes and checked.
-ghost use Rattle.std.specs.Prelude.{◌≡◌, ◌≤◌, length, Err, IfOk};
+ghost use Rattle.std.specs.Prelude.{◌≡◌, ◌≤◌, ◌==◌, if◌then◌else◌, codes, length, Err, IfOk};
 ghost use Rattle.proof_tree.specs.Tree.{tree_of};
 ghost use Rattle.log_lines.specs.declared.defect.Defect.{Defect};
 ghost use Rattle.log_lines.specs.TextDefect.{log_text_defect};
@@ -78,7 +78,7 @@ fn tailed_log(
 {
     let slots = program.root.len();
     let limits = limits_behind(&program, MOST_DEPTH, &head, &tail);
-    let rest = behind(alloc, tail.bytes, bytes)?;
+    let rest = behind(alloc, head.version, tail.bytes, bytes)?;
     match judge_head(alloc, program, MOST_DEPTH, ranges, &head, &tail)? {
         Err(defect) => Err(unshown_stop(alloc, &limits, tail.count, defect, rest.as_slice())),
         Ok(program) => {
@@ -91,13 +91,24 @@ fn tailed_log(
     }
 }
 
-// The log that is read behind so many bytes: the header of version 2, and what follows them.
-fn behind(alloc: Global, head: u64, bytes: &[u8]) -> Result<Vec<u8>, AllocError>
+// The first line of the log that is read behind a head of a version.
+fn first_line(version: u8) -> &'static str
+    ensures { result.now ≡ (if version == 4 then codes "stn-log 4\n" else codes "stn-log 2\n") }
+{
+    if version == 4 {
+        "stn-log 4\n"
+    } else {
+        "stn-log 2\n"
+    }
+}
+
+// The log that is read behind a head of a version and of so many bytes: its header, and what follows them.
+fn behind(alloc: Global, version: u8, head: u64, bytes: &[u8]) -> Result<Vec<u8>, AllocError>
     requires some { 1 ≤ head }
     requires within { head ≤ length bytes.now }
-    ensures { IfOk result (λ rest. rest.items ≡ behind head bytes.now) }
+    ensures { IfOk result (λ rest. rest.items ≡ behind version head bytes.now) }
 {
-    let mut rest = Vec::from_slice(alloc, "stn-log 2\n".as_bytes())?;
+    let mut rest = Vec::from_slice(alloc, first_line(version).as_bytes())?;
     rest.extend_from_slice(&bytes[head as usize..])?;
     Ok(rest)
 }

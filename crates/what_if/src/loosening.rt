@@ -11,7 +11,7 @@ ghost use Rattle.what_if.specs.Loose.{AnswersTo, after_all, after_cut, lesser, l
 ghost use Rattle.what_if.specs.laws.Own.{own_cap};
 
 use dual_bound::Cert;
-use proof_tree::{Capped, End, Relaxation, greater_cap};
+use proof_tree::{Capped, End, Relaxation, floor_cap, greater_cap};
 use range_prop::RowCut;
 use row_kit::{Area, Found, List};
 use row_relax::{RowPick, RowProof, Rows};
@@ -19,9 +19,10 @@ use std::alloc::Global;
 
 /// The most that a lawful point of the area can be worth, by a proof that may be of other rows: none says that the area has no
 /// lawful point. The cuts are made, and a cut of a row or a slot that is not there is no cut. Where some domain is then empty
-/// there is no point. Else a split gives the greater of its parts' answers, and where splits have caps of their own (`capped`) no
-/// more than the cap of its certificate. Any other end gives its cap. Where a certificate has no cap, that of scale 1 without
-/// multipliers serves, as for a split of a slot that is not there.
+/// there is no point. Else a split with a floor forgets points anew, by its certificate over these rows; a split gives the greatest
+/// of its floor and its parts' answers, and where splits have caps of their own (`capped`) no more than the cap of its certificate.
+/// Any other end gives its cap. Where a certificate has no cap, that of scale 1 without multipliers serves, as for a split of a slot
+/// that is not there.
 ///
 /// It takes no memory: what it is passed serves the empty list of multipliers. It costs what the proof's cap costs, and where splits
 /// have caps of their own the caps of their certificates, of which one number is held for each open split.
@@ -114,16 +115,13 @@ fn end_cap(
         End::Point => rows.settle(area),
         End::Pending(cert) => rows.cap(area, cert),
         End::Split(pick, cert, left, right) => {
-            let left_cap = left_cap(rows, area, plain, capped, pick, left);
+            let mark = rows.mark(area);
+            let floor = floor_cap(rows.trim(area, pick, cert));
+            let left_cap = greater_cap(floor, left_cap(rows, area, plain, capped, pick, left));
             let right_cap = right_cap(rows, area, plain, capped, pick, right);
-            within(
-                rows,
-                area,
-                plain,
-                capped,
-                cert,
-                greater_cap(left_cap, right_cap),
-            )
+            rows.back(area, mark);
+            let parts = greater_cap(left_cap, right_cap);
+            within(rows, area, plain, capped, cert, parts)
         }
     }
 }
@@ -212,7 +210,7 @@ fn empty_cap(rows: &Rows, area: &Area) -> Capped
     }
 }
 
-// What a split gives whose parts give this.
+// What a split gives whose floor and parts give this.
 fn within(
     rows: &Rows,
     area: &Area,

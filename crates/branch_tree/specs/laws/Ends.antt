@@ -1,5 +1,5 @@
 -- How the nodes of a search end, and what its choices are. Only clauses of private functions cite it.
-use Rattle.std.specs.Prelude.{◌≡◌, ◌≢◌, ℕ, Bool, true, false, if◌then◌else◌, List, Option, Some, None, IfSome, ℤ, ◌≤ℤ◌, int_lt, ⊤}
+use Rattle.std.specs.Prelude.{◌≡◌, ◌≢◌, ℕ, ◌^◌, ◌<◌, Bool, true, false, if◌then◌else◌, List, Option, Some, None, IfSome, ℤ, ◌≤ℤ◌, int_lt, unsigned_abs, ⊤}
 use Rattle.std.specs.List.{All, Contains, sum_by}
 use Rattle.std.specs.Option.{IsSomeAnd}
 use Rattle.row_kit.specs.declared.domain.Domain.{Domain}
@@ -17,7 +17,7 @@ use Rattle.proof_tree.specs.Views.{View}
 use Rattle.row_relax.specs.declared.pick.RowPick.{RowPick}
 use Rattle.row_relax.specs.Steps.{row_steps}
 use Rattle.row_relax.specs.View.{Fits, domains_of}
-use Rattle.branch_tree.specs.Justified.{RowNode, IsGroup, IsPolished, IsParted, HasCause, IsLeftOpen, found_up_to}
+use Rattle.branch_tree.specs.Justified.{RowNode, IsGroup, IsPolished, IsParted, HasCause, IsLeftOpen, found_up_to, left_by}
 use Rattle.row_relax.specs.RowProofs.{RowItem}
 use Rattle.branch_tree.specs.Splits.{splits_of}
 
@@ -76,12 +76,18 @@ says_more NoPoint (AtMost most) = true
 says_more (AtMost cap) (AtMost most) = int_lt cap most
 says_more _ _ = false
 
--- what is judged of a box with points: a certificate leaves nothing above the best worth, it has one point, or it is to be split
-abbrev pub IsBoxVerdict : Program → ℕ → List Domain → Option ℤ → RowItem → Type 0
-IsBoxVerdict program given domains best (Dual cert) = is_over (cert_cap program domains cert) best ≡ false
-IsBoxVerdict program given domains best Point = All IsSingle domains
-IsBoxVerdict program given domains best (Split pick cert) = IsPolished program domains cert × IsParted given domains pick × (is_over (cert_cap program domains cert) best ≡ true)
-IsBoxVerdict program given domains best _ = ⊥
+-- what may be the floor of a split: the best worth, where splits may have floors and it has at most 30 digits
+abbrev pub IsFloor : Bool → Option ℤ → ℤ → Type 0
+IsFloor floors best floor = (floors ≡ true) × (best ≡ Some floor) × (unsigned_abs floor < 10 ^ 30)
+
+-- what is judged of a box with points: a certificate leaves nothing above the best worth, it has one point, or it is to be split, with no floor but what may be one
+abbrev pub IsBoxVerdict : Program → Bool → ℕ → List Domain → Option ℤ → RowItem → Type 0
+IsBoxVerdict program floors given domains best (Dual cert) = is_over (cert_cap program domains cert) best ≡ false
+IsBoxVerdict program floors given domains best Point = All IsSingle domains
+IsBoxVerdict program floors given domains best (Split pick cert) =
+    IsPolished program domains cert × IsParted given (left_by program domains cert pick.floor) pick × (is_over (cert_cap program domains cert) best ≡ true)
+    × IfSome pick.floor (IsFloor floors best)
+IsBoxVerdict program floors given domains best _ = ⊥
 
 -- the one of two found points that is worth more, the first where both are worth the same
 abbrev pub better_of : Option Found → Option Found → Option Found

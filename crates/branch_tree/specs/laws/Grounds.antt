@@ -1,11 +1,12 @@
 -- What a search goes over, and where it stands. Only clauses of private functions cite it.
-use Rattle.std.specs.Prelude.{◌≡◌, ◌≢◌, ℕ, ◌+◌, ◌≤◌, ◌<◌, false, List, [], ◌∷◌, length, map, Option, None, IfSome, ◌≤ℤ◌}
+use Rattle.std.specs.Prelude.{◌≡◌, ◌≢◌, ℕ, ◌+◌, ◌≤◌, ◌<◌, true, false, List, [], ◌∷◌, length, map, Option, Some, None, IfSome, ℤ, ◌≤ℤ◌}
 use Rattle.std.specs.Option.{IsSomeAnd}
 use Rattle.row_kit.specs.declared.domain.Domain.{Domain}
 use Rattle.row_kit.specs.declared.found.Found.{Found}
 use Rattle.row_kit.specs.declared.program.Program.{Program}
 use Rattle.row_relax.specs.Settle.{only_point}
 use Rattle.dual_bound.specs.declared.cert.Cert.{Cert}
+use Rattle.dual_bound.specs.Total.{is_fit}
 use Rattle.proof_tree.specs.declared.capped.Capped.TheVariants.{Bad}
 use Rattle.row_relax.specs.declared.pick.RowPick.{RowPick}
 use Rattle.row_relax.specs.Steps.{row_steps}
@@ -15,7 +16,7 @@ use Rattle.proof_tree.specs.Views.{View, present}
 use Rattle.row_relax.specs.View.{Fits, IsIn, domains_of, view_of}
 use Rattle.branch_tree.specs.declared.reached.Ground.{Ground}
 use Rattle.branch_tree.specs.declared.reached.Reached.{Reached}
-use Rattle.branch_tree.specs.Justified.{IsGroup, IsPolished, IsParted}
+use Rattle.branch_tree.specs.Justified.{IsGroup, IsParted}
 use Rattle.branch_tree.specs.Searched.{IsSearchable, IsWorth}
 use Rattle.branch_tree.specs.laws.Ends.{view_splits}
 
@@ -63,10 +64,16 @@ pub record IsStart (program : Program) (start : List ℕ) (reached : Reached) : 
 abbrev pub IsOwnBest : Option Found → Option Found → Type 0
 IsOwnBest own best = IfSome own (λ f. IsSomeAnd best (λ b. f.value ≤ℤ b.value))
 
--- a view is split here, with such a certificate
+-- a view is divided here, with a certificate of scale 1 or more
 pub record IsSplitAt (program : Program) (given : ℕ) (view : View) (pick : RowPick) (cert : Cert) : Type 0 where
-  pub polished : IsPolished program (domains_of view) cert
+  pub fit : is_fit (length program.rows) cert ≡ true
+  pub scale : 1 ≤ cert.scale
   pub parted : IsParted given (domains_of view) pick
+
+-- the slot of a split, where it has no floor
+abbrev pub slot_alone : Option ℤ → ℕ → Option ℕ
+slot_alone None slot = Some slot
+slot_alone (Some floor) slot = None
 
 -- a part of a split with this certificate has points, and the certificate has a cap over it
 pub record IsSplitPart (program : Program) (view : View) (cert : Cert) : Type 0 where

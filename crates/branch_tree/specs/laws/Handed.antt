@@ -8,7 +8,7 @@ use Rattle.range_prop.specs.declared.row_cut.RowCut.{RowCut}
 use Rattle.dual_bound.specs.declared.cert.Cert.{Cert}
 use Rattle.proof_tree.specs.declared.capped.Capped.{Capped}
 use Rattle.proof_tree.specs.declared.item.Item.TheVariants.{Node, Cut, Found as FoundItem, Split}
-use Rattle.proof_tree.specs.Cap.{greater}
+use Rattle.proof_tree.specs.Cap.{floor_cap, greater}
 use Rattle.proof_tree.specs.Items.{tree_items, leaf_item}
 use Rattle.proof_tree.specs.Nodes.{EachNode, closed, parted, counted, found_points}
 use Rattle.proof_tree.specs.Tree.{Leaf, no_point, dual, one_point, pending, leaf, split, tree_cap, cap_if, after_cuts}
@@ -67,8 +67,8 @@ abbrev pub TailDone : Program → ℕ → View → List Found → Tail → Type 
 TailDone program given view found (closing end) = EndDone program given view found (closed end)
 TailDone program given view found (parting pick cert a b) =
     EndDone program given view found (parted pick cert)
-    × IsSomeAnd ((row_steps program).left view pick) (λ x. EachNode (NodeDone program given) (row_steps program) (Some cert) found x a)
-    × IsSomeAnd ((row_steps program).right view pick) (λ y. EachNode (NodeDone program given) (row_steps program) (Some cert) (found ++ found_points a) y b)
+    × IsSomeAnd ((row_steps program).left ((row_steps program).trim view pick cert) pick) (λ x. EachNode (NodeDone program given) (row_steps program) (Some cert) found x a)
+    × IsSomeAnd ((row_steps program).right ((row_steps program).trim view pick cert) pick) (λ y. EachNode (NodeDone program given) (row_steps program) (Some cert) (found ++ found_points a) y b)
 
 -- the boxes that were counted of a tree, and whether one was left open before the budget was spent
 pub record CountsTo (budget : ℕ) (may_leave : Bool) (boxes left : ℕ) (spent spent_after : ℕ) : Type 0 where
@@ -76,33 +76,33 @@ pub record CountsTo (budget : ℕ) (may_leave : Bool) (boxes left : ℕ) (spent 
   pub full : may_leave ≡ false → 0 < left → spent_after ≡ budget
 
 -- the node and its cuts were put
-pub record HeadHanded {T O : Type 0} (took : T → O → List RowItem → T → O → Type 0) (program : Program) (view : View) (t : T) (o : O) (view_after : View) (t2 : T) (o2 : O) : Type 0 where
+pub record HeadHanded {T O : Type 0} (took : T → O → List RowItem → T → O → Type 0) (program : Program) (floors : Bool) (view : View) (t : T) (o : O) (view_after : View) (t2 : T) (o2 : O) : Type 0 where
   pub cuts : List RowCut
   pub moved : after_cuts (row_steps program) view cuts ≡ Some view_after
-  pub fit : All (IsFitItem program) (head_items cuts)
+  pub fit : All (IsFitItem program floors) (head_items cuts)
   pub handed : Grows took took t o (head_items cuts) t2 o2
 
 -- the found point of a box was put, if there is one, and this is the end of the box
-pub record LookHanded {T O : Type 0} (took : T → O → List RowItem → T → O → Type 0) (program : Program) (given : ℕ) (view : View) (item : RowItem) (old : Reached) (t : T) (o : O) (new : Reached) (t2 : T) (o2 : O) : Type 0 where
+pub record LookHanded {T O : Type 0} (took : T → O → List RowItem → T → O → Type 0) (program : Program) (floors : Bool) (given : ℕ) (view : View) (item : RowItem) (old : Reached) (t : T) (o : O) (new : Reached) (t2 : T) (o2 : O) : Type 0 where
   pub found : Option Found
   pub group : IfSome found (IsGroup program)
   pub best : (before : List Found) → IsBest old.best before → IsBest new.best (before ++ option_to_list found)
   pub ends : (before : List Found) → IsBest old.best before → ItemEnds program given view (before ++ option_to_list found) item
-  pub fit : IsFitItem program item
+  pub fit : IsFitItem program floors item
   pub handed : Grows took took t o (found_items found) t2 o2
 
 -- the end of a box was put, with what stands below it
-pub record TailHanded {T O : Type 0} (took : T → O → List RowItem → T → O → Type 0) (program : Program) (given budget : ℕ) (may_leave : Bool) (view : View) (cap : Capped) (old : Reached) (t : T) (o : O) (new : Reached) (t2 : T) (o2 : O) : Type 0 where
+pub record TailHanded {T O : Type 0} (took : T → O → List RowItem → T → O → Type 0) (program : Program) (floors : Bool) (given budget : ℕ) (may_leave : Bool) (view : View) (cap : Capped) (old : Reached) (t : T) (o : O) (new : Reached) (t2 : T) (o2 : O) : Type 0 where
   pub tail : Tail
   pub done : (found : List Found) → IsBest old.best found → TailDone program given view found tail
   pub best : (found : List Found) → IsBest old.best found → IsBest new.best (found ++ tail_found tail)
   pub capped : (cuts : List RowCut) (found : Option Found) (first : View) → after_cuts (row_steps program) first cuts ≡ Some view → cap ≡ tree_cap (row_steps program) first (node_of cuts found tail)
   pub counts : (cuts : List RowCut) (found : Option Found) (spent : ℕ) → old.spent ≡ spent + 1 → CountsTo budget may_leave (counted (node_of cuts found tail)) (opens (node_of cuts found tail)) spent new.spent
-  pub fit : All (IsFitItem program) (tail_items tail)
+  pub fit : All (IsFitItem program floors) (tail_items tail)
   pub handed : Grows took took t o (tail_items tail) t2 o2
 
 -- both parts of a split were put
-pub record PartsHanded {T O : Type 0} (took : T → O → List RowItem → T → O → Type 0) (program : Program) (given budget : ℕ) (may_leave : Bool) (view : View) (pick : RowPick) (cert : Cert) (cap : Capped) (old : Reached) (t : T) (o : O) (new : Reached) (t2 : T) (o2 : O) : Type 0 where
+pub record PartsHanded {T O : Type 0} (took : T → O → List RowItem → T → O → Type 0) (program : Program) (floors : Bool) (given budget : ℕ) (may_leave : Bool) (view : View) (pick : RowPick) (cert : Cert) (cap : Capped) (old : Reached) (t : T) (o : O) (new : Reached) (t2 : T) (o2 : O) : Type 0 where
   pub first : RowTree
   pub second : RowTree
   pub first_done : (found : List Found) → IsBest old.best found → IsSomeAnd ((row_steps program).left view pick) (λ x. EachNode (NodeDone program given) (row_steps program) (Some cert) found x first)
@@ -110,15 +110,21 @@ pub record PartsHanded {T O : Type 0} (took : T → O → List RowItem → T →
   pub best : (found : List Found) → IsBest old.best found → IsBest new.best (found ++ (found_points first ++ found_points second))
   pub capped : cap ≡ greater (cap_if ((row_steps program).left view pick) (λ x. tree_cap (row_steps program) x first)) (cap_if ((row_steps program).right view pick) (λ y. tree_cap (row_steps program) y second))
   pub counts : CountsTo budget may_leave (counted first + counted second) (opens first + opens second) old.spent new.spent
-  pub fit : All (IsFitItem program) (tree_items first ++ tree_items second)
+  pub fit : All (IsFitItem program floors) (tree_items first ++ tree_items second)
   pub handed : Grows took took t o (tree_items first ++ tree_items second) t2 o2
 
+-- both parts of what a split leaves were put; its cap is the greater of its floor's and of theirs
+pub record SplitHanded {T O : Type 0} (took : T → O → List RowItem → T → O → Type 0) (program : Program) (floors : Bool) (given budget : ℕ) (may_leave : Bool) (view : View) (pick : RowPick) (cert : Cert) (cap : Capped) (old : Reached) (t : T) (o : O) (new : Reached) (t2 : T) (o2 : O) : Type 0 where
+  pub parts_cap : Capped
+  pub capped : cap ≡ greater (floor_cap ((row_steps program).floor view pick cert)) parts_cap
+  pub parts : PartsHanded took program floors given budget may_leave ((row_steps program).trim view pick cert) pick cert parts_cap old t o new t2 o2
+
 -- a box was put that hangs below such a parent
-pub record BoxHanded {T O : Type 0} (took : T → O → List RowItem → T → O → Type 0) (IsParent : Option Cert → Type 0) (program : Program) (given budget : ℕ) (may_leave : Bool) (view : View) (cap : Capped) (old : Reached) (t : T) (o : O) (new : Reached) (t2 : T) (o2 : O) : Type 0 where
+pub record BoxHanded {T O : Type 0} (took : T → O → List RowItem → T → O → Type 0) (IsParent : Option Cert → Type 0) (program : Program) (floors : Bool) (given budget : ℕ) (may_leave : Bool) (view : View) (cap : Capped) (old : Reached) (t : T) (o : O) (new : Reached) (t2 : T) (o2 : O) : Type 0 where
   pub tree : RowTree
   pub done : (parent : Option Cert) (before : List Found) → IsParent parent → IsBest old.best before → EachNode (NodeDone program given) (row_steps program) parent before view tree
   pub best : (before : List Found) → IsBest old.best before → IsBest new.best (before ++ found_points tree)
   pub capped : cap ≡ tree_cap (row_steps program) view tree
   pub counts : CountsTo budget may_leave (counted tree) (opens tree) old.spent new.spent
-  pub fit : All (IsFitItem program) (tree_items tree)
+  pub fit : All (IsFitItem program floors) (tree_items tree)
   pub handed : Grows took took t o (tree_items tree) t2 o2

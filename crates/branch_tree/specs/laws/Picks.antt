@@ -1,5 +1,5 @@
 -- Where a box is split. Only clauses of private functions cite it.
-use Rattle.std.specs.Prelude.{◌≡◌, ℕ, ◌<◌, ◌≤◌, List, length, Option, IfSome}
+use Rattle.std.specs.Prelude.{◌≡◌, ℕ, ◌<◌, ◌≤◌, List, length, Option, ℤ, IfSome}
 use Rattle.row_kit.specs.declared.domain.Domain.{Domain}
 use Rattle.row_kit.specs.Domain.{IsOpen, count_of, domain_at, over, shared, up_to}
 use Rattle.row_relax.specs.declared.pick.RowPick.{RowPick}
@@ -15,7 +15,7 @@ pub record IsAllowed (domain : Domain) (value : ℕ) : Type 0 where
   pub right : IsOpen (shared domain (over value))
   pub fewer : PartsLess domain value
 
--- a pick is as it is advised, where the slot is a sum's with two values or more and its domain may be split at the value
-abbrev pub IsAsAdvised : ℕ → List Domain → Option ℕ → Option ℕ → RowPick → Type 0
-IsAsAdvised given domains slot max pick =
-    IfSome slot (λ place. IfSome max (λ value. given ≤ place → HasTwo domains place → IsAllowed (domain_at domains place) value → pick ≡ record { slot = place; max = value }))
+-- a pick with this floor is as it is advised, where the slot is a sum's with two values or more and its domain may be split at the value
+abbrev pub IsAsAdvised : ℕ → List Domain → Option ℕ → Option ℕ → Option ℤ → RowPick → Type 0
+IsAsAdvised given domains slot max floor pick =
+    IfSome slot (λ place. IfSome max (λ value. given ≤ place → HasTwo domains place → IsAllowed (domain_at domains place) value → pick ≡ record { slot = place; max = value; floor = floor }))

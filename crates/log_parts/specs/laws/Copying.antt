@@ -81,25 +81,25 @@ pub record IsLogOf (limits : Limits) (bytes : List ℕ) (tree : RowTree) : Type 
 abbrev pub AreLogsOf : Limits → ℕ → (ℕ → List ℕ) → List RowTree → Type 0
 AreLogsOf limits count logs trees = (part : ℕ) → part < count → IsLogOf limits (logs part) (slice_index_or trees part no_tree)
 
--- the logs of a stem behind their heads, of so many bytes each
+-- the logs of a stem behind their heads, of so many bytes each, as logs of version 4, which have the lines of all others
 abbrev pub bodies_of : FileMap → List ℕ → List ℕ → ℕ → List ℕ
-bodies_of files stem heads part = behind (slice_index_or heads part 0) (logs_of files stem part)
+bodies_of files stem heads part = behind 4 (slice_index_or heads part 0) (logs_of files stem part)
 
 -- where the file is told and behind its head is a log of a tree, nothing was found in it, and a writer that had some items has those of the tree too
 abbrev pub HasCopied : Limits → ℕ → List ℕ → Option FileMap → LogWriter → Option FileMap → LogWriter → {D : Type 0} → Option D → Type 0
 HasCopied limits head name old writer new later found =
-    IfSome old (λ m. (tree : RowTree) → IsLogOf limits (behind head (file_of m name)) tree → (front : List ℕ) (items : List RowItem) → HasItems front writer old items
+    IfSome old (λ m. (tree : RowTree) → IsLogOf limits (behind 4 head (file_of m name)) tree → (front : List ℕ) (items : List RowItem) → HasItems front writer old items
     → (found ≡ None) × HasItems front later new (items ++ tree_items tree))
 
 -- where the file is told and behind its head is a log of a tree, a first part of the items that a writer had and of those of the tree was written
 abbrev pub HasBrokenOff : Limits → ℕ → List ℕ → Option FileMap → LogWriter → Option FileMap → Type 0
 HasBrokenOff limits head name old writer new =
-    IfSome old (λ m. (tree : RowTree) → IsLogOf limits (behind head (file_of m name)) tree → (front : List ℕ) (items : List RowItem) → HasItems front writer old items
+    IfSome old (λ m. (tree : RowTree) → IsLogOf limits (behind 4 head (file_of m name)) tree → (front : List ℕ) (items : List RowItem) → HasItems front writer old items
     → IsBegun front (name_of writer) new (items ++ tree_items tree))
 
 -- the node of a split of a slot at 0
 abbrev pub opening_split : ℕ → RowItem
-opening_split slot = Split (record { slot = slot; max = 0 }) no_mults
+opening_split slot = Split (record { slot = slot; max = 0; floor = None }) no_mults
 
 -- the items of such a node
 abbrev pub split_items : ℕ → List RowItem

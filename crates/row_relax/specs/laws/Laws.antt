@@ -1,6 +1,6 @@
 -- Stands in specs/ since the relaxation that `Rows` is names it as its law; it is a proof, and no definition.
 -- The rows of a program keep the laws of a relaxation.
-use Rattle.std.proofs.Common.{◌≡◌, ℕ, ◌<◌, ◌≤◌, Bool, true, false, ◌&&◌, cond, ltb, List, length, get_or, set, refl, sym, ap, ◌∙◌, subst, inl, inr, ⊎_elim, arith, Some, None, ℤ, pos, ◌-ℤ◌, ◌≤ℤ◌}
+use Rattle.std.proofs.Common.{◌≡◌, ℕ, ◌<◌, ◌≤◌, Bool, true, false, ◌&&◌, cond, ltb, List, length, get_or, set, refl, sym, ap, ◌∙◌, subst, inl, inr, ◌⊎◌, ⊎_elim, arith, Option, Some, None, ℤ, pos, ◌-ℤ◌, ◌≤ℤ◌}
 use Rattle.std.specs.List.{All}
 use Rattle.std.proofs.lemmas.Bool.{and_parts, cases_lt, eqb-true, ltb-true}
 use Rattle.std.proofs.lemmas.Int.{ints}
@@ -20,17 +20,21 @@ use Rattle.range_prop.proofs.Least.{held_open}
 use Rattle.dual_bound.specs.Cap.{CapHolds, cert_cap}
 use Rattle.proof_tree.specs.declared.capped.Capped.{Capped}
 use Rattle.proof_tree.specs.declared.capped.Capped.TheVariants.{AtMost, NoPoint, Bad}
-use Rattle.proof_tree.specs.Cap.{Bounds, Settles}
+use Rattle.proof_tree.specs.Cap.{Bounds, IsWithinFloor, Settles}
 use Rattle.proof_tree.specs.Relaxation.{IsSound}
 use Rattle.proof_tree.specs.Views.{View, Point}
 use Rattle.row_relax.specs.Settle.{are_single, is_lawful, only_point, settled}
 use Rattle.row_kit.specs.Points.{kept_at}
-use Rattle.row_relax.specs.Steps.{row_steps, shown_if}
-use Rattle.row_relax.specs.View.{Fits, IsIn, domains_of}
+use Rattle.row_relax.specs.Steps.{floor_by, row_steps, shown_if, view_by}
+use Rattle.row_relax.specs.View.{Fits, IsIn, domains_of, view_of}
 use Rattle.row_relax.specs.laws.Lawful.{lawful_true, true_lawful}
 use Rattle.row_kit.proofs.Parts.{held_byte, over_holds, shared_holds, shared_normal, up_to_holds}
+use Rattle.dual_bound.specs.declared.cert.Cert.{Cert}
+use Rattle.dual_bound.specs.Total.{has_total}
+use Rattle.dual_bound.specs.Trimmed.{trimmed}
+use Rattle.dual_bound.proofs.Floors.{trimmed_keeps, trimmed_length, trimmed_normal, trimmed_without}
 use Rattle.dual_bound.proofs.Quotients.{cert_cap-holds}
-use Rattle.row_relax.specs.laws.Shown.{domains_there, fits_of, shown_there}
+use Rattle.row_relax.specs.laws.Shown.{domains_of-view_of, domains_there, fits_of, shown_there}
 use Rattle.row_relax.specs.laws.Singles.{no_only_point, single_point}
 
 -- a step that gives one slot a normal domain leads to a view that fits
@@ -73,6 +77,29 @@ settles_ds program ds normal' = by_single (are_single ds) refl
     by_single : (s : Bool) → are_single ds ≡ s → Settles (LiesIn ds) (IsLawful program) (worth_of program) (cond s (cond (is_lawful program (only_point ds)) (AtMost (worth_of program (only_point ds))) NoPoint) Bad)
     by_single true e = by_lawful (is_lawful program (only_point ds)) refl e
     by_single false e = λ q only. no_only_point ds normal' e q only
+
+-- what a floor leaves fits
+left_fits_by : (program : Program) (v : View) (cert : Cert) (floor : Option ℤ) → Fits program v → Fits program (view_by program v cert floor)
+left_fits_by program v cert None fit = fit
+left_fits_by program v cert (Some floor) fit =
+    let ds = domains_of v in
+    fits_of program (trimmed program ds cert floor) (trimmed_length program ds cert floor ∙ fit.slots) (trimmed_normal program ds cert floor fit.normal)
+
+-- a lawful point is left, or is worth at most the floor that counts
+left_keeps_by : (program : Program) (v : View) (cert : Cert) (floor : Option ℤ) (p : Point) → IsIn v p → IsLawful program p → IsIn (view_by program v cert floor) p ⊎ IsWithinFloor (floor_by program (domains_of v) cert floor) (worth_of program p)
+left_keeps_by program v cert None p lies lawful = inl lies
+left_keeps_by program v cert (Some floor) p lies lawful = by_total (has_total program (domains_of v) cert) refl
+  where
+    shown : LiesIn (trimmed program (domains_of v) cert floor) p → IsIn (view_of (trimmed program (domains_of v) cert floor)) p
+    shown = subst (λ (xs : List Domain). LiesIn xs p) (sym (domains_of-view_of (trimmed program (domains_of v) cert floor)))
+
+    by_total : (b : Bool) → has_total program (domains_of v) cert ≡ b → IsIn (view_of (trimmed program (domains_of v) cert floor)) p ⊎ IsWithinFloor (cond b (Some floor) None) (worth_of program p)
+    by_total true e =
+        ⊎_elim
+        (λ (left : LiesIn (trimmed program (domains_of v) cert floor) p). inl (shown left))
+        (λ (most : value_of program p ≤ℤ floor). inr (at_most_value (value_of program p) (changeovers program.changes program.tags p) floor most))
+        (trimmed_keeps program (domains_of v) cert floor p e lies lawful.keeps)
+    by_total false e = inl (shown (subst (λ (xs : List Domain). LiesIn xs p) (sym (trimmed_without program (domains_of v) cert floor e)) lies))
 
 -- the laws hold of the rows of a program
 pub rows_sound : (program : Program) → IsSound (row_steps program) (Fits program) IsIn (IsLawful program) (worth_of program)
@@ -124,4 +151,6 @@ rows_sound program = record {
       omega (arith, held_open (domain_at ds bare.0) (get_or p bare.0 0) (lies.held bare.0 bare.2), none, ap count_of (sym at ∙ bare.3));
   cap_bounds = λ v c fit. caps_worth program (domains_of v) (cert_cap program (domains_of v) c) (cert_cap-holds program (domains_of v) c);
   settles = λ v fit. settles_ds program (domains_of v) fit.normal;
+  trim_fits = λ v k c fit. left_fits_by program v c k.floor fit;
+  trim_keeps = λ v k c fit p lies lawful. left_keeps_by program v c k.floor p lies lawful;
 }

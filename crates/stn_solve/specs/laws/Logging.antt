@@ -11,27 +11,29 @@ use Rattle.proof_log.specs.Log.{claim_lines, item_lines, lines_text}
 use Rattle.proof_log.specs.Writer.{Writing, IsWhole, Took}
 use Rattle.plan_told.specs.Proofs.{bytes_in}
 
--- a writer for the file of this name took a head, and then the items of a proof that may be written and of which this is so
-pub record IsLogged (Is : RowTree → Type 0) (program : Program) (head name : List ℕ) (at : Writing) : Type 0 where
+-- a writer for the file of this name took a head, and then the items of a proof that may be written, with floors only where splits may have
+-- them, and of which this is so
+pub record IsLogged (Is : RowTree → Type 0) (program : Program) (floors : Bool) (head name : List ℕ) (at : Writing) : Type 0 where
   pub tree : RowTree
   pub is : Is tree
-  pub writable : IsWritable program tree
+  pub writable : IsWritable program floors tree
   pub named : at.name ≡ name
   pub first : Writing
   pub header : IsWhole first head
   pub took : Took first at (lines_text (flat_map item_lines (tree_items tree)))
 
--- bytes are a first part of a head and the lines of a proof that may be written, of a claim and of the end
-pub record IsBegun (program : Program) (head bytes : List ℕ) : Type 0 where
+-- bytes are a first part of a head and the lines of a proof that may be written, with floors only where splits may have them, of a claim
+-- and of the end
+pub record IsBegun (program : Program) (floors : Bool) (head bytes : List ℕ) : Type 0 where
   pub tree : RowTree
   pub claim : Claim
-  pub writable : IsWritable program tree
+  pub writable : IsWritable program floors tree
   pub rest : List ℕ
   pub text : bytes ++ rest ≡ head ++ lines_text (flat_map item_lines (tree_items tree) ++ (claim_lines claim ++ End ∷ []))
 
 -- what an attempt leaves that did not end: the files are as they were, or the file of this name is a log with this head that was begun
-abbrev pub LeavesBegun : Program → List ℕ → List ℕ → Option FileMap → Option FileMap → Type 0
-LeavesBegun program head name old new = (new ≡ old) ⊎ IfSome (bytes_in name new) (IsBegun program head)
+abbrev pub LeavesBegun : Program → Bool → List ℕ → List ℕ → Option FileMap → Option FileMap → Type 0
+LeavesBegun program floors head name old new = (new ≡ old) ⊎ IfSome (bytes_in name new) (IsBegun program floors head)
 
 -- a store as a writer for the file of this name finds it, of which these calls tell
 abbrev pub stored : {S : Type 0} → (S → Option FileMap) → (S → ℕ) → (S → List ℕ → Bool) → (S → List ℕ → Bool) → List ℕ → S → Writing

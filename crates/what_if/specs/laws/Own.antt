@@ -2,15 +2,14 @@
 use Rattle.std.specs.Prelude.{Bool}
 use Rattle.row_kit.specs.declared.program.Program.{Program}
 use Rattle.proof_tree.specs.declared.capped.Capped.{Capped}
-use Rattle.proof_tree.specs.Cap.{greater}
-use Rattle.proof_tree.specs.Tree.{leaf, split, cap_if, leaf_cap}
+use Rattle.proof_tree.specs.Tree.{leaf, split, leaf_cap, split_cap}
 use Rattle.proof_tree.specs.Views.{View}
 use Rattle.row_relax.specs.RowProofs.{RowTree}
 use Rattle.row_relax.specs.Steps.{row_steps}
 use Rattle.what_if.specs.Loose.{loose_cap, within}
 
--- the own cap of a node's end over its view after its cuts: that of a leaf, or what its two parts' loose caps and its certificate give of a split
+-- the own cap of a node's end over its view after its cuts: that of a leaf, or what its floor, its two parts' loose caps and its certificate give of a split
 abbrev pub own_cap : Bool → Program → View → RowTree → Capped
 own_cap capped program v (leaf cuts found end) = leaf_cap (row_steps program) v end
 own_cap capped program v (split cuts found pick cert a b) =
-    within capped program v cert (greater (cap_if ((row_steps program).left v pick) (λ x. loose_cap capped program x a)) (cap_if ((row_steps program).right v pick) (λ x. loose_cap capped program x b)))
+    within capped program v cert (split_cap (row_steps program) v pick cert (λ x. loose_cap capped program x a) (λ x. loose_cap capped program x b))

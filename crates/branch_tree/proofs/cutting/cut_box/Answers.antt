@@ -26,4 +26,4 @@ returns-clause-moved c = (has_cut-leads (program_of c.args.ground.now) c.args.ar
 pub returns-clause-fit : goal.returns-clause-fit
 returns-clause-fit c =
     let lead = has_cut-leads (program_of c.args.ground.now) c.args.area.now c.cut_changed.new.area _ _ c.requires.fits c.new-cuts.ensures.items c.in_ok-cut_changed.ensures.cut in
-    All-cons (IsFitItem (program_of c.args.ground.now)) NodeItem (map CutItem c.cut_changed.new.cuts.items) tt lead.fit
+    All-cons (IsFitItem (program_of c.args.ground.now) c.args.ground.now.floors) NodeItem (map CutItem c.cut_changed.new.cuts.items) tt (lead.fit c.args.ground.now.floors)

@@ -25,5 +25,5 @@ returns-clause-parted c =
 
 pub returns-clause-own : goal.returns-clause-own
 returns-clause-own c =
-    as_advised c.args.given (present c.args.area.now) c.args.slot c.args.max c.slot_of-slot.result c.domain.result c.value_of.result
+    as_advised c.args.given (present c.args.area.now) c.args.slot c.args.max c.args.floor c.slot_of-slot.result c.domain.result c.value_of.result
     c.slot_of-slot.ensures.own c.domain.ensures.value c.value_of.ensures.own

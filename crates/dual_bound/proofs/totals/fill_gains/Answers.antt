@@ -1,12 +1,11 @@
 -- The lines count what slots gain: scale times profit, less the rows.
-use Rattle.std.proofs.Common.{◌≡◌, ◌∙◌, ◌+◌, ◌*◌, ◌^◌, ◌<◌, ◌≤◌, ℕ, ℤ, List, length, get_or, ap, sym, subst, pos, ◌+ℤ◌, ◌*ℤ◌, arith}
-use Rattle.std.specs.List.{All}
+use Rattle.std.proofs.Common.{◌≡◌, ◌∙◌, ◌^◌, ◌<◌, ℕ, ℤ, List, length, ap, pos, ◌+ℤ◌, ◌*ℤ◌, arith}
 use Rattle.row_kit.specs.Row.{entry_at}
 use Rattle.row_kit.specs.declared.row.Entry.{Entry}
 use Rattle.row_kit.specs.declared.row.Row.{Row}
 use Rattle.dual_bound.specs.declared.cert.Mult.{Mult}
 use Rattle.dual_bound.specs.Line.{line_at, slot_line}
-use Rattle.dual_bound.specs.Total.{gain, rows_at}
+use Rattle.dual_bound.specs.Total.{rows_at}
 use Rattle.dual_bound.proofs.Fit.{few_entries}
 use Rattle.dual_bound.proofs.LineSums.{all_within_le, combined, no_line, nothing_at}
 use Rattle.dual_bound.proofs.Small.{lines_small}

@@ -1,9 +1,7 @@
 -- What was added up is the total, and weak duality holds of it.
-use Rattle.std.proofs.Common.{ℤ, List, ◌≡◌, ◌∙◌, ◌+ℤ◌, ◌*ℤ◌, pos, ◌<◌, ◌^◌, unsigned_abs, to_z, of_z, ap, sym, subst, arith}
+use Rattle.std.proofs.Common.{ℤ, ◌≡◌, ◌∙◌, ◌+ℤ◌, ◌*ℤ◌, pos, ◌<◌, ◌^◌, unsigned_abs, to_z, of_z, ap, sym, subst, arith}
 use Rattle.std.proofs.lemmas.Int.{ints}
-use Rattle.row_kit.specs.declared.row.Row.{Row}
 use Rattle.row_kit.specs.Area.{present}
-use Rattle.dual_bound.specs.declared.cert.Mult.{Mult}
 use Rattle.dual_bound.specs.Total.{limits_sum, BoundsScaled}
 use Rattle.dual_bound.proofs.Exchange.{duality}
 use Rattle.dual_bound.proofs.Small.{total_small}
@@ -14,16 +12,12 @@ pub returns-clause-value : goal.returns-clause-value
 returns-clause-value c =
     let program = c.args.program.now in
     let cert = c.args.cert.now in
-    let base = c.scaled_base.result in
-    let limits = c.limits_sum-limits.result in
+    let fixed = c.fixed_total.result in
     let gains = c.gains.result in
-    let exact : to_z w128 (of_z w128 (to_z w128 (of_z w128 (to_z w128 (of_z w128 base) +ℤ to_z w128 (of_z w128 limits))) +ℤ to_z w128 (of_z w128 gains))) ≡ (base +ℤ limits) +ℤ gains =
-    omega (arith, ints, c.scaled_base.ensures.small, c.limits_sum-limits.ensures.small, c.gains.ensures.small) in
-    let limited : limits ≡ limits_sum program.rows cert.mults =
-    c.limits_sum-limits.ensures.value ∙ ap (λ (rs : List Row). limits_sum rs c.as_slice-2.result.now) c.as_slice.ensures ∙ ap (λ (ms : List Mult). limits_sum program.rows ms) c.as_slice-2.ensures in
+    let exact : to_z w128 (of_z w128 (to_z w128 (of_z w128 fixed) +ℤ to_z w128 (of_z w128 gains))) ≡ fixed +ℤ gains =
+    omega (arith, ints, c.fixed_total.ensures.small, c.gains.ensures.small) in
     exact
-    ∙ ap (λ (x : ℤ). (x +ℤ limits) +ℤ gains) c.scaled_base.ensures.value
-    ∙ ap (λ (x : ℤ). ((pos cert.scale *ℤ program.base) +ℤ x) +ℤ gains) limited
+    ∙ ap (λ (x : ℤ). x +ℤ gains) c.fixed_total.ensures.value
     ∙ ap (λ (x : ℤ). ((pos cert.scale *ℤ program.base) +ℤ limits_sum program.rows cert.mults) +ℤ x) c.gains.ensures.value
 
 pub returns-clause-below : goal.returns-clause-below

@@ -19,8 +19,8 @@ parts-init g c = record {
   writable = refl;
   no_write = refl;
   later = omega arith;
-  taken = begun c.args.rows.now.program c.args.depth (g.F.Shelf.files c.args.files.now) c.args.name.now c.args.head c.in_ok-reader.reader c.in_ok-checker.checker 0
-      (subst (λ l. HasRead (g.F.Shelf.files c.args.files.now) c.args.name.now c.args.head l [] None c.in_ok-reader.reader) c.limits_of.ensures (c.in_ok-reader.ensures (g.F.Shelf.files c.args.files.now) c.args.name.now))
+  taken = begun c.args.rows.now.program c.args.depth (g.F.Shelf.files c.args.files.now) c.args.name.now c.args.version c.args.head c.in_ok-reader.reader c.in_ok-checker.checker 0
+      (subst (λ l. HasRead (g.F.Shelf.files c.args.files.now) c.args.name.now c.args.version c.args.head l [] None c.in_ok-reader.reader) c.limits_of.ensures (c.in_ok-reader.ensures (g.F.Shelf.files c.args.files.now) c.args.name.now))
       c.in_ok-checker.ensures.fits c.in_ok-checker.ensures.area c.in_ok-checker.ensures.course c.in_ok-checker.ensures.first c.in_ok-checker.ensures.splits c.in_ok-checker.ensures.expected c.in_ok-checker.ensures.rooms;
 }
 
@@ -28,28 +28,28 @@ pub take-requires-clause-may : goal.take-requires-clause-may
 take-requires-clause-may g c =
     let taken = c.parts.invariant.taken in
     let limits = limits_of c.args.rows.now.program c.args.depth in
-    item_may taken c.next.new.self c.in_ok-line.field-0 (c.in_ok-line.ensures.part c.args.head limits taken.items c.parts.claimed taken.read) c.in-Item.line c.in-Item.item c.in-Item.is
+    item_may taken c.next.new.self c.in_ok-line.field-0 (c.in_ok-line.ensures.part c.args.version c.args.head limits taken.items c.parts.claimed taken.read) c.in-Item.line c.in-Item.item c.in-Item.is
 
 pub verdict-requires-clause-ended : goal.verdict-requires-clause-ended
 verdict-requires-clause-ended g c =
     let taken = c.parts.invariant.taken in
     let limits = limits_of c.args.rows.now.program c.args.depth in
     rw c.course.ensures
-    (end_over taken c.next.new.self c.in_ok-line.field-0 (c.in_ok-line.ensures.part c.args.head limits taken.items c.parts.claimed taken.read) c.in-End.version c.in-End.is)
+    (end_over taken c.next.new.self c.in_ok-line.field-0 (c.in_ok-line.ensures.part c.args.version c.args.head limits taken.items c.parts.claimed taken.read) c.in-End.version c.in-End.is)
 
 pub verdict-requires-clause-claimed : goal.verdict-requires-clause-claimed
 verdict-requires-clause-claimed g c =
     let taken = c.parts.invariant.taken in
     let limits = limits_of c.args.rows.now.program c.args.depth in
-    end_claimed taken c.next.new.self c.in_ok-line.field-0 (c.in_ok-line.ensures.part c.args.head limits taken.items c.parts.claimed taken.read) c.in-End.version c.in-End.is
+    end_claimed taken c.next.new.self c.in_ok-line.field-0 (c.in_ok-line.ensures.part c.args.version c.args.head limits taken.items c.parts.claimed taken.read) c.in-End.version c.in-End.is
 
 pub returns-in-End-clause-verdict : goal.returns-in-End-clause-verdict
 returns-in-End-clause-verdict g c =
     let taken = c.parts.invariant.taken in
     let program = c.args.rows.now.program in
     let limits = limits_of program c.args.depth in
-    subst (λ t. IfSome t (λ m. IsVerdict program c.args.depth (behind c.args.head (file_of m c.args.name.now)) c.verdict.result)) c.parts.invariant.same
-    (taken_verdict taken c.next.new.self c.in_ok-line.field-0 (c.in_ok-line.ensures.part c.args.head limits taken.items c.parts.claimed taken.read) c.in-End.version c.in-End.is c.verdict.result
+    subst (λ t. IfSome t (λ m. IsVerdict program c.args.depth (behind c.args.version c.args.head (file_of m c.args.name.now)) c.verdict.result)) c.parts.invariant.same
+    (taken_verdict taken c.next.new.self c.in_ok-line.field-0 (c.in_ok-line.ensures.part c.args.version c.args.head limits taken.items c.parts.claimed taken.read) c.in-End.version c.in-End.is c.verdict.result
     (subst (λ o. IfSome c.parts.claimed (λ claim. IsEndVerdict program o c.parts.began claim c.verdict.result)) c.course.ensures c.verdict.ensures))
 
 pub returns-in-End-clause-holds : goal.returns-in-End-clause-holds
@@ -57,7 +57,7 @@ returns-in-End-clause-holds g c =
     let taken = c.parts.invariant.taken in
     let program = c.args.rows.now.program in
     let limits = limits_of program c.args.depth in
-    taken_holds taken c.next.new.self c.in_ok-line.field-0 (c.in_ok-line.ensures.part c.args.head limits taken.items c.parts.claimed taken.read) c.in-End.version c.in-End.is c.verdict.result
+    taken_holds taken c.next.new.self c.in_ok-line.field-0 (c.in_ok-line.ensures.part c.args.version c.args.head limits taken.items c.parts.claimed taken.read) c.in-End.version c.in-End.is c.verdict.result
     (subst (λ o. IfSome c.parts.claimed (λ claim. IsEndVerdict program o c.parts.began claim c.verdict.result)) c.course.ensures c.verdict.ensures)
 
 pub returns-in-Bad-clause-verdict : goal.returns-in-Bad-clause-verdict
@@ -67,9 +67,9 @@ returns-in-Bad-clause-verdict g c =
     let program = c.args.rows.now.program in
     let limits = limits_of program c.args.depth in
     let told = g.F.Shelf.files c.parts.files in
-    subst (λ t. IfSome t (λ m. IsVerdict program c.args.depth (behind c.args.head (file_of m c.args.name.now)) (No c.in-Bad.defect))) inv.same
-    (bad_verdict told c.args.name.now c.args.head program c.args.depth c.in-Bad.defect
-    (subst (IsPartAfter told c.args.name.now c.args.head limits taken.items c.parts.claimed c.next.new.self) c.in-Bad.is (c.in_ok-line.ensures.part c.args.head limits taken.items c.parts.claimed taken.read)))
+    subst (λ t. IfSome t (λ m. IsVerdict program c.args.depth (behind c.args.version c.args.head (file_of m c.args.name.now)) (No c.in-Bad.defect))) inv.same
+    (bad_verdict told c.args.name.now c.args.version c.args.head program c.args.depth c.in-Bad.defect
+    (subst (IsPartAfter told c.args.name.now c.args.version c.args.head limits taken.items c.parts.claimed c.next.new.self) c.in-Bad.is (c.in_ok-line.ensures.part c.args.version c.args.head limits taken.items c.parts.claimed taken.read)))
 
 pub parts-preserved : goal.parts-preserved
 parts-preserved g c =
@@ -80,7 +80,7 @@ parts-preserved g c =
     let limits = limits_of program c.args.depth in
     let told = g.F.Shelf.files c.parts.files in
     let name = c.args.name.now in
-    let part = c.in_ok-line.ensures.part c.args.head limits taken.items c.parts.claimed taken.read in
+    let part = c.in_ok-line.ensures.part c.args.version c.args.head limits taken.items c.parts.claimed taken.read in
     record {
       same = still ∙ inv.same;
       readable = c.in_ok-line.ensures.readable ∙ inv.readable;

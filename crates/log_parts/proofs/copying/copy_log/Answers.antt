@@ -21,6 +21,11 @@ parts-init g c = record {
   writes = omega arith;
 }
 
+pub next-requires-clause-open : goal.next-requires-clause-open
+next-requires-clause-open g c =
+    let on = c.parts.invariant.on in
+    (4, c.args.head, c.args.limits, on.items, on.claim, on.read)
+
 pub returns-in_err-reader-clause-err : goal.returns-in_err-reader-clause-err
 returns-in_err-reader-clause-err g c =
     err_of c.from_residual.result (none_broken c.args.limits c.args.head c.args.name.now (g.F.Shelf.files c.args.files.now) c.args.writer.now)
@@ -38,7 +43,7 @@ returns-in_err-put_item-in-Item-clause-err g c =
     let still = c.in_ok-item.ensures.same in
     err_of c.from_residual-in_err-put_item-in-Item.result
     (item_broken c.args.limits c.args.head c.args.name.now (g.F.Shelf.files c.args.files.now) (g.F.Shelf.files c.parts.files) (g.F.Shelf.files c.next.new.files) (g.F.Shelf.files c.put_item.new.files) c.args.writer.now c.parts.writer c.parts.reader c.next.new.self c.in-Item.line c.in-Item.item on inv.named still
-    (subst (IsPartAfter (g.F.Shelf.files c.parts.files) c.args.name.now c.args.head c.args.limits on.items on.claim c.next.new.self) c.in-Item.is (c.in_ok-item.ensures.part c.args.head c.args.limits on.items on.claim on.read))
+    (subst (IsPartAfter (g.F.Shelf.files c.parts.files) c.args.name.now 4 c.args.head c.args.limits on.items on.claim c.next.new.self) c.in-Item.is (c.in_ok-item.ensures.part 4 c.args.head c.args.limits on.items on.claim on.read))
     c.in_err-put_item-in-Item.ensures.err)
 
 pub returns-in-End-clause-copied : goal.returns-in-End-clause-copied
@@ -46,14 +51,14 @@ returns-in-End-clause-copied g c =
     let on = c.parts.invariant.on in
     subst (λ (told : Option FileMap). HasCopied c.args.limits c.args.head c.args.name.now (g.F.Shelf.files c.args.files.now) c.args.writer.now told c.parts.writer {D = Defect} None) (sym c.in_ok-item.ensures.same)
     (copied_end c.args.limits c.args.head c.args.name.now (g.F.Shelf.files c.args.files.now) (g.F.Shelf.files c.parts.files) c.args.writer.now c.parts.writer c.parts.reader c.next.new.self c.in-End.version on
-    (subst (IsPartAfter (g.F.Shelf.files c.parts.files) c.args.name.now c.args.head c.args.limits on.items on.claim c.next.new.self) c.in-End.is (c.in_ok-item.ensures.part c.args.head c.args.limits on.items on.claim on.read)))
+    (subst (IsPartAfter (g.F.Shelf.files c.parts.files) c.args.name.now 4 c.args.head c.args.limits on.items on.claim c.next.new.self) c.in-End.is (c.in_ok-item.ensures.part 4 c.args.head c.args.limits on.items on.claim on.read)))
 
 pub returns-in-Bad-clause-copied : goal.returns-in-Bad-clause-copied
 returns-in-Bad-clause-copied g c =
     let on = c.parts.invariant.on in
     subst (λ (told : Option FileMap). HasCopied c.args.limits c.args.head c.args.name.now (g.F.Shelf.files c.args.files.now) c.args.writer.now told c.parts.writer (Some c.in-Bad.defect)) (sym c.in_ok-item.ensures.same)
     (copied_bad c.args.limits c.args.head c.args.name.now (g.F.Shelf.files c.args.files.now) (g.F.Shelf.files c.parts.files) c.args.writer.now c.parts.writer c.parts.reader c.next.new.self c.in-Bad.defect on
-    (subst (IsPartAfter (g.F.Shelf.files c.parts.files) c.args.name.now c.args.head c.args.limits on.items on.claim c.next.new.self) c.in-Bad.is (c.in_ok-item.ensures.part c.args.head c.args.limits on.items on.claim on.read)))
+    (subst (IsPartAfter (g.F.Shelf.files c.parts.files) c.args.name.now 4 c.args.head c.args.limits on.items on.claim c.next.new.self) c.in-Bad.is (c.in_ok-item.ensures.part 4 c.args.head c.args.limits on.items on.claim on.read)))
 
 pub parts-preserved : goal.parts-preserved
 parts-preserved g c =
@@ -62,7 +67,7 @@ parts-preserved g c =
     let still = c.in_ok-item.ensures.same in
     let old = g.F.Shelf.files c.args.files.now in
     let now = g.F.Shelf.files c.parts.files in
-    let part = c.in_ok-item.ensures.part c.args.head c.args.limits on.items on.claim on.read in
+    let part = c.in_ok-item.ensures.part 4 c.args.head c.args.limits on.items on.claim on.read in
     elim c.match-branch-3.branch [
       | in-Item+in_ok-put_item-in-Item w ↦
           let took = w.in_ok-put_item-in-Item.ensures in
@@ -70,7 +75,7 @@ parts-preserved g c =
           let stays : OthersStay (name_of c.args.writer.now) now next = λ other apart. took.others other (λ is. apart (is ∙ inv.named)) ∙ ap (option_map (λ (m : FileMap). get m other)) still in
           rw (w.writer-is, w.files-is) (record {
             on = item_copied c.args.limits c.args.head c.args.name.now old now next c.args.writer.now c.parts.writer w.put_item.new.writer c.parts.reader c.next.new.self w.in-Item.line w.in-Item.item on
-                (subst (IsPartAfter now c.args.name.now c.args.head c.args.limits on.items on.claim c.next.new.self) w.in-Item.is part)
+                (subst (IsPartAfter now c.args.name.now 4 c.args.head c.args.limits on.items on.claim c.next.new.self) w.in-Item.is part)
                 (same_file c.args.name.now now next (stays c.args.name.now (λ is. c.requires.apart (sym is))))
                 (λ front items has. took.ok front items (subst (λ (told : Option FileMap). HasItems front c.parts.writer told items) (sym still) has));
             named = took.named ∙ inv.named;
@@ -84,7 +89,7 @@ parts-preserved g c =
           rw (w.writer-is, w.files-is) (record {
             on = subst (λ (told : Option FileMap). HasReadOn c.args.limits c.args.head c.args.name.now old c.args.writer.now told c.parts.writer c.next.new.self) (sym still)
                 (claim_read c.args.limits c.args.head c.args.name.now old now c.args.writer.now c.parts.writer c.parts.reader c.next.new.self w.in-Claim.line w.in-Claim.claim on
-                (subst (IsPartAfter now c.args.name.now c.args.head c.args.limits on.items on.claim c.next.new.self) w.in-Claim.is part));
+                (subst (IsPartAfter now c.args.name.now 4 c.args.head c.args.limits on.items on.claim c.next.new.self) w.in-Claim.is part));
             named = inv.named;
             others = λ other apart. ap (option_map (λ (m : FileMap). get m other)) still ∙ inv.others other apart;
             readable = c.in_ok-item.ensures.readable ∙ inv.readable;

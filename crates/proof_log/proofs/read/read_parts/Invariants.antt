@@ -8,5 +8,5 @@ use Rattle.proof_log.proofs.read.read_parts.Given as goal
 abbrev pub invariant-parts : goal.invariant-parts
 invariant-parts l = record {
   same : l.shelf.files ≡ l.initial.shelf.files;
-  read : (items : List RowItem) × HasRead (Some l.shelf.files) (codes "log") 0 l.fn.limits items l.claim l.reader × IsBuilt items l.built;
+  read : (items : List RowItem) × HasRead (Some l.shelf.files) (codes "log") 2 0 l.fn.limits items l.claim l.reader × IsBuilt items l.built;
 }

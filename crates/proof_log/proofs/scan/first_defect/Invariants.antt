@@ -12,5 +12,5 @@ invariant-parts g l = record {
   writable : g.F.Shelf.may_write l.files ≡ g.F.Shelf.may_write l.initial.files;
   no_write : g.F.Shelf.write_faults l.files ≡ g.F.Shelf.write_faults l.initial.files;
   later : g.F.Shelf.read_faults l.initial.files ≤ g.F.Shelf.read_faults l.files;
-  read : (items : List RowItem) × (claim : Option Claim) × HasRead (g.F.Shelf.files l.files) l.name l.fn.head l.fn.limits items claim l.reader;
+  read : (items : List RowItem) × (claim : Option Claim) × HasRead (g.F.Shelf.files l.files) l.name l.fn.version l.fn.head l.fn.limits items claim l.reader;
 }

@@ -1,7 +1,6 @@
 -- One more item comes after those that were built, or is out of place.
-use Rattle.std.proofs.Common.{◌≡◌, ◌++◌, ◌∷◌, [], sym, subst}
+use Rattle.std.proofs.Common.{subst}
 use Rattle.proof_tree.specs.Built.{IsBuilt, HasBuilt}
-use Rattle.proof_tree.specs.Form.{MayComeAfter}
 use Rattle.proof_tree.proofs.Building.{whole-wrong}
 use Rattle.proof_tree.proofs.tree_taker.one_more.Goals as goal
 

@@ -1,8 +1,7 @@
 -- The point of the area is its only one, and it is tested.
-use Rattle.std.proofs.Common.{◌≡◌, ◌∙◌, Bool, true, false, sym}
+use Rattle.std.proofs.Common.{◌∙◌, sym}
 use Rattle.row_kit.specs.Area.{present}
 use Rattle.row_relax.proofs.OnlyPoints.{single_decides, settled_at, settled_bad}
-use Rattle.row_relax.specs.Settle.{are_single}
 use Rattle.row_relax.proofs.settling.settle.Goals as goal
 
 pub returns-then-not-is_point : goal.returns-then-not-is_point

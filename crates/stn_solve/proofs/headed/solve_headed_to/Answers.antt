@@ -1,5 +1,5 @@
 -- What is told of a search over the program with what a head declares is right, and its log is the text of the proof with the claim.
-use Rattle.std.proofs.Common.{ℕ, List, [], ◌∷◌, ◌++◌, ap, sym, ap₂, ◌∙◌, subst, inr, flat_map}
+use Rattle.std.proofs.Common.{ℕ, true, List, [], ◌∷◌, ◌++◌, ap, sym, ap₂, ◌∙◌, subst, inr, flat_map}
 use Rattle.branch_tree.proofs.Stopping.{at_err}
 use Rattle.proof_tree.specs.Items.{tree_items}
 use Rattle.log_lines.specs.declared.line.Line.TheVariants.{End}
@@ -46,23 +46,23 @@ returns-in_err-ended-clause-err g c =
 pub returns-in_err-own-clause-err : goal.returns-in_err-own-clause-err
 returns-in_err-own-clause-err g c =
     let headed = c.in_ok-rows.field-0 in
-    at_err _ _ (inr (headed-told c.args.part headed.rows.program c.args.judged headed.sums c.in_ok-rows.ensures.derivations _ c.args.name.now c.in_ok-rows.ensures.can (c.as_slice-3.ensures.value ∙ c.in_ok-rows.ensures.head) _ (logged-begun headed.rows.program _ c.args.name.now _ c.in_ok-ended.ensures.logged)))
+    at_err _ _ (inr (headed-told c.args.part headed.rows.program c.args.judged headed.sums c.in_ok-rows.ensures.derivations _ c.args.name.now c.in_ok-rows.ensures.can (c.as_slice-3.ensures.value ∙ c.in_ok-rows.ensures.head) _ (logged-begun headed.rows.program true _ c.args.name.now _ c.in_ok-ended.ensures.logged)))
 
 pub returns-in_err-outcome-clause-err : goal.returns-in_err-outcome-clause-err
 returns-in_err-outcome-clause-err g c =
     let headed = c.in_ok-rows.field-0 in
-    at_err _ _ (inr (headed-told c.args.part headed.rows.program c.args.judged headed.sums c.in_ok-rows.ensures.derivations _ c.args.name.now c.in_ok-rows.ensures.can (c.as_slice-3.ensures.value ∙ c.in_ok-rows.ensures.head) _ (logged-begun headed.rows.program _ c.args.name.now _ c.in_ok-ended.ensures.logged)))
+    at_err _ _ (inr (headed-told c.args.part headed.rows.program c.args.judged headed.sums c.in_ok-rows.ensures.derivations _ c.args.name.now c.in_ok-rows.ensures.can (c.as_slice-3.ensures.value ∙ c.in_ok-rows.ensures.head) _ (logged-begun headed.rows.program true _ c.args.name.now _ c.in_ok-ended.ensures.logged)))
 
 pub returns-in_err-whole-clause-err : goal.returns-in_err-whole-clause-err
 returns-in_err-whole-clause-err g c =
     let headed = c.in_ok-rows.field-0 in
-    at_err _ _ (inr (headed-told c.args.part headed.rows.program c.args.judged headed.sums c.in_ok-rows.ensures.derivations _ c.args.name.now c.in_ok-rows.ensures.can (c.as_slice-3.ensures.value ∙ c.in_ok-rows.ensures.head) _ (logged-begun headed.rows.program _ c.args.name.now _ c.in_ok-ended.ensures.logged)))
+    at_err _ _ (inr (headed-told c.args.part headed.rows.program c.args.judged headed.sums c.in_ok-rows.ensures.derivations _ c.args.name.now c.in_ok-rows.ensures.can (c.as_slice-3.ensures.value ∙ c.in_ok-rows.ensures.head) _ (logged-begun headed.rows.program true _ c.args.name.now _ c.in_ok-ended.ensures.logged)))
 
 pub returns-in_err-finish-clause-err : goal.returns-in_err-finish-clause-err
 returns-in_err-finish-clause-err g c =
     let headed = c.in_ok-rows.field-0 in
     at_err _ _ (inr (headed-told c.args.part headed.rows.program c.args.judged headed.sums c.in_ok-rows.ensures.derivations _ c.args.name.now c.in_ok-rows.ensures.can (c.as_slice-3.ensures.value ∙ c.in_ok-rows.ensures.head) _
-    (logged-broke headed.rows.program _ c.args.name.now _ _ c.in_ok-whole.whole c.in_ok-ended.ensures.logged c.in_err-finish.ensures.broke)))
+    (logged-broke headed.rows.program true _ c.args.name.now _ _ c.in_ok-whole.whole c.in_ok-ended.ensures.logged c.in_err-finish.ensures.broke)))
 
 pub returns-clause-outcome : goal.returns-clause-outcome
 returns-clause-outcome g c =
@@ -80,7 +80,7 @@ returns-clause-proof g c =
     let at = writing g.F.Shelf.files g.F.Shelf.read_faults g.F.Shelf.may_read g.F.Shelf.may_write c.in_ok-ended.field-0.writer c.search_logged.new.files in
     let right = headed-right c.args.plant.now c.args.part c.args.judged headed c.args.budget logged.tree c.in_ok-ended.field-0.ended c.in_ok-own.own c.requires.sound c.requires.part c.requires.ranges c.in_ok-rows.ensures c.requires.budget.0 logged.is
     c.in_ok-own.ensures c.requires.many c.requires.budget.1 told c.in_ok-outcome.ensures in
-    let whole = logged-whole headed.rows.program _ c.args.name.now at logged in
+    let whole = logged-whole headed.rows.program true _ c.args.name.now at logged in
     let text = ap₂ (λ (head : List ℕ) (claim : Claim). head ++ lines_text (flat_map item_lines items ++ (claim_lines claim ++ End ∷ []))) (c.as_slice-3.ensures.value ∙ c.in_ok-rows.ensures.head) (c.in_ok-whole.ensures ∙ ap₂ (λ (sums : List Sum) (claim : Claim). larger_claim sums claim) c.as_slice-4.ensures right.claim) in
     headed-has c.args.plant.now c.args.part c.args.judged headed.sums c.in_ok-rows.ensures.derivations _ told.outcome logged.tree right.proof
     (told-bytes c.args.name.now at.name (g.F.Shelf.files c.finish.new.files) _ _ logged.named text (c.in_ok-finish.ensures.file _ items whole))

@@ -1,5 +1,5 @@
 -- What is told of a search is right, and its log is the text of the proof with the claim.
-use Rattle.std.proofs.Common.{ℕ, List, [], ◌∷◌, ◌++◌, ap, ◌∙◌, inr, flat_map}
+use Rattle.std.proofs.Common.{ℕ, false, List, [], ◌∷◌, ◌++◌, ap, ◌∙◌, inr, flat_map}
 use Rattle.branch_tree.proofs.Stopping.{at_err}
 use Rattle.proof_tree.specs.Items.{tree_items}
 use Rattle.log_lines.specs.declared.line.Line.TheVariants.{End}
@@ -29,12 +29,12 @@ returns-in_err-ended-clause-err g c = λ judged. at_err _ _ (plain-left c.args.r
 
 pub returns-in_err-told-clause-err : goal.returns-in_err-told-clause-err
 returns-in_err-told-clause-err g c = λ judged.
-    at_err _ _ (inr (plain-told c.args.rows.now.program judged _ c.args.name.now _ (c.as_slice.ensures.value ∙ c.in_ok-head.ensures) (logged-begun c.args.rows.now.program _ c.args.name.now _ c.in_ok-ended.ensures.logged)))
+    at_err _ _ (inr (plain-told c.args.rows.now.program judged _ c.args.name.now _ (c.as_slice.ensures.value ∙ c.in_ok-head.ensures) (logged-begun c.args.rows.now.program false _ c.args.name.now _ c.in_ok-ended.ensures.logged)))
 
 pub returns-in_err-finish-clause-err : goal.returns-in_err-finish-clause-err
 returns-in_err-finish-clause-err g c = λ judged.
     at_err _ _ (inr (plain-told c.args.rows.now.program judged _ c.args.name.now _ (c.as_slice.ensures.value ∙ c.in_ok-head.ensures)
-    (logged-broke c.args.rows.now.program _ c.args.name.now _ _ c.in_ok-told.told.claim c.in_ok-ended.ensures.logged c.in_err-finish.ensures.broke)))
+    (logged-broke c.args.rows.now.program false _ c.args.name.now _ _ c.in_ok-told.told.claim c.in_ok-ended.ensures.logged c.in_err-finish.ensures.broke)))
 
 pub returns-clause-outcome : goal.returns-clause-outcome
 returns-clause-outcome g c =
@@ -51,7 +51,7 @@ returns-clause-proof g c = λ judged.
     let at = writing g.F.Shelf.files g.F.Shelf.read_faults g.F.Shelf.may_read g.F.Shelf.may_write c.in_ok-ended.field-0.writer c.search_logged.new.files in
     let right = plain-right c.args.plant.now part c.slot_count-given.result c.args.budget logged.tree c.in_ok-ended.field-0.ended c.requires.sound c.requires.part c.slot_count-given.ensures
     (plain-search c.args.plant.now c.args.rows.now.program c.slot_count-given.result c.args.budget c.in_ok-ended.field-0.ended logged.tree c.requires.part logged.is) told c.in_ok-told.ensures in
-    let whole = logged-whole part _ c.args.name.now at logged in
+    let whole = logged-whole part false _ c.args.name.now at logged in
     plain-has c.args.plant.now part judged _ told.outcome logged.tree right.proof
     (told-bytes c.args.name.now at.name (g.F.Shelf.files c.finish.new.files) _ _ logged.named (ap (λ (head : List ℕ). head ++ lines_text (flat_map item_lines items ++ (claim_lines told.claim ++ End ∷ []))) (c.as_slice.ensures.value ∙ c.in_ok-head.ensures) ∙ plain-text items told.claim ∙ ap (log_text 2 items) right.claim) (c.in_ok-finish.ensures.file _ items whole))
 

@@ -6,4 +6,4 @@ use Rattle.what_if.proofs.headed.behind.Goals as goal
 
 pub returns : goal.returns
 returns c =
-    behind_is c.args.head c.args.bytes.now c.in_ok-rest.rest.items c.extend_from_slice.new.self.items c.requires.some (grind (arith, common_steps)) (grind (arith, common_steps))
+    behind_is c.args.version c.args.head c.args.bytes.now c.in_ok-rest.rest.items c.extend_from_slice.new.self.items c.requires.some (grind (arith, common_steps)) (grind (arith, common_steps))

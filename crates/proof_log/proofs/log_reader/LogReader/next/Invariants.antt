@@ -13,5 +13,5 @@ invariant-lines g l = record {
   writable : g.F.Shelf.may_write l.files ≡ g.F.Shelf.may_write l.initial.files;
   no_write : g.F.Shelf.write_faults l.files ≡ g.F.Shelf.write_faults l.initial.files;
   later : g.F.Shelf.read_faults l.initial.files ≤ g.F.Shelf.read_faults l.files;
-  reads : (head : ℕ) (limits : Limits) (items : List RowItem) (claim : Option Claim) → HasRead (g.F.Shelf.files l.initial.files) l.name head limits items claim l.initial.self → HasRead (g.F.Shelf.files l.files) l.name head limits items claim l.self;
+  reads : (version head : ℕ) (limits : Limits) (items : List RowItem) (claim : Option Claim) → HasRead (g.F.Shelf.files l.initial.files) l.name version head limits items claim l.initial.self → HasRead (g.F.Shelf.files l.files) l.name version head limits items claim l.self;
 }

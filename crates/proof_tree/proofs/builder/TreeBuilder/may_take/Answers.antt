@@ -1,5 +1,5 @@
 -- The items that may come next are told by the node that has begun.
-use Rattle.std.proofs.Common.{◌≡◌, Bool, true, false, Some, None, refl, ap, sym, ◌∙◌}
+use Rattle.std.proofs.Common.{◌≡◌, Bool, true, false, refl, ap, sym, ◌∙◌}
 use Rattle.std.specs.Prelude.{MatchBool}
 use Rattle.proof_tree.specs.Walk.{may_come}
 use Rattle.proof_tree.proofs.Building.{built-form, held_stage, next_of, inside-some, inside-none}

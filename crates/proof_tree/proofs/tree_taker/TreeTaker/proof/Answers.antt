@@ -1,5 +1,5 @@
 -- Whole items that are held are those of the proof that was built.
-use Rattle.std.proofs.Common.{◌≡◌, Some, None, ap, ◌∙◌, subst}
+use Rattle.std.proofs.Common.{◌≡◌, Some, ap, ◌∙◌, subst}
 use Rattle.std.specs.Option.{IsSomeAnd}
 use Rattle.proof_tree.specs.Tree.{tree_of}
 use Rattle.proof_tree.proofs.Building.{holds-whole, proof_if}

@@ -1,6 +1,6 @@
 -- What the taker holds has grown by the item.
-use Rattle.std.proofs.Common.{◌≡◌, ◌++◌, ◌∷◌, [], Some, None, refl, ap, sym, ◌∙◌, subst}
-use Rattle.proof_tree.specs.Built.{HoldsBuilt, HoldsItems}
+use Rattle.std.proofs.Common.{◌≡◌, ◌++◌, ◌∷◌, [], Some, None, sym, ◌∙◌, subst}
+use Rattle.proof_tree.specs.Built.{HoldsBuilt}
 use Rattle.proof_tree.proofs.Building.{holding-next, wrong-wrong}
 use Rattle.proof_tree.proofs.tree_taker.TreeTakerNodeTaker.put.Goals as goal
 
