@@ -1,0 +1,12 @@
+pub mod Exchange
+pub mod Once
+pub mod Steps
+pub mod Costs
+pub mod Starts
+pub mod Ends
+pub mod Points
+pub mod Events
+pub mod Images
+pub mod Bounds
+pub mod Plans
+pub mod Growing

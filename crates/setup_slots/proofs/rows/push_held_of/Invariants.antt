@@ -1,0 +1,7 @@
+-- The rows, and those of the periods so far.
+use Rattle.std.proofs.Common.{◌≡◌, ◌++◌}
+use Rattle.setup_slots.specs.Rows.{held_rows}
+use Rattle.setup_slots.proofs.rows.push_held_of.Given as goal
+
+abbrev pub invariant-loop-period : goal.invariant-loop-period
+invariant-loop-period l = l.rows.items ≡ l.initial.rows.items ++ held_rows l.period l.task

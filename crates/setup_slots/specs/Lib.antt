@@ -1,0 +1,5 @@
+pub mod Slots
+pub mod Rows
+pub mod Larger
+pub mod Image
+pub mod Law
