@@ -13,6 +13,9 @@ and without proofs, and the table says so. Times are processor time, the least o
 of a bound from the root's basis, of both parts of a split of each slot that the root starts in part, and 'share' is it over the
 root's pivots; 'again' are the pivots of the root itself from there. 'part ms' is the mean time of such a bound, 'trial ms' that of
 a trial bound of one side. The trial is built with whole numbers from a copy in which it bounds the cut root ten times and ends.
+'KiB' is the most memory that the program had, plant and rows with it (GNU time). Where Debian's python3-scipy is installed, HiGHS
+bounds the same
+program beside (bench/highs.py --root): its cap is without the cuts of the root.
 """
 import argparse, datetime, os, platform, re, shutil, subprocess, tempfile
 
@@ -52,10 +55,21 @@ def build(crate, plant):
 
 
 def run_built(program, plants):
-    """The figures of each plant by the built program."""
+    """The figures of each plant by the built program, and the KiB that it took at most, where GNU time is installed."""
+    words = ["/usr/bin/time", "-f", "peak %M"] if os.path.exists("/usr/bin/time") else []
     for plant in plants:
         with open(plant) as file:
-            yield figures(subprocess.run([os.path.abspath(program)], stdin=file, capture_output=True, text=True).stdout)
+            run = subprocess.run([*words, os.path.abspath(program)], stdin=file, capture_output=True, text=True)
+        yield figures(run.stdout + run.stderr)
+
+
+def highs(plant):
+    """The cap of HiGHS without whole numbers, and its processor seconds; nothing where it is not installed."""
+    words = ["/usr/bin/python3", os.path.join(top, "bench", "highs.py"), "--root", plant]
+    try:
+        return subprocess.run(words, capture_output=True, text=True).stdout.split()
+    except OSError:
+        return []
 
 
 def run_tried(crate, plants):
@@ -104,14 +118,16 @@ def each(got, time, count):
     return f"{got.get(time, 0) / 1e3 / got[count]:.3f}" if got.get(count) else "-"
 
 
-def line(name, got, other):
+def line(name, got, other, peer):
     """A row of the table."""
     mean = got["part-pivots"] / got["parts"] if got.get("parts") else 0.0
     share = mean / got["root-pivots"] if got.get("root-pivots") else 0.0
     cells = [name, got.get("slots", "-"), got.get("rows", "-"), got.get("root-cap", "-"), f"{got.get('root-time', 0) / 1e6:.4f}"]
     cells += [got.get("root-pivots", "-"), got.get("again-pivots", "-"), got.get("parts", "-"), f"{mean:.1f}", f"{share:.2f}"]
     cells += [each(got, "part-time", "parts"), each(got, "trial-time", "trials"), f"{got.get('polish-time', 0) / 1e3:.2f}"]
+    cells += [got.get("peak", "-")]
     cells += [f"{other[0]:.2f}", f"{other[1]:.4f}", other[2]] if other else []
+    cells += peer
     return "| " + " | ".join(str(it) for it in cells) + " |"
 
 
@@ -128,13 +144,15 @@ def main():
     room = tempfile.mkdtemp(prefix="bounds-")
     crate = repository(room)
     program = given.built or (None if given.unproved else build(crate, plants[0]))
-    how = f"built by LLVM after its proof: {program}" if program else "built with checks, without proofs"
+    how = "built with checks, without proofs" if not program else "given as built" if given.built else f"built by LLVM after its proof: {program}"
     print(f"{datetime.date.today()}, {platform.machine()}, {os.cpu_count()} processors, load {os.getloadavg()[0]:.0f}; {how}\n", flush=True)
-    head = ["plant", "slots", "rows", "root cap", "seconds", "pivots", "again", "parts", "from the root", "share", "part ms", "trial ms", "polish ms"]
+    head = ["plant", "slots", "rows", "root cap", "seconds", "pivots", "again", "parts", "from the root", "share", "part ms", "trial ms", "polish ms", "KiB"]
     head += ["trial's cap", "seconds", "pivots"] if others else []
+    peers = [highs(it) for it in plants]
+    head += ["HiGHS's cap", "seconds"] if any(peers) else []
     print("| " + " | ".join(head) + " |\n" + "|---" * len(head) + "|", flush=True)
-    for name, got in zip(names, run_built(program, plants) if program else run_tried(crate, plants)):
-        print(line(name, got, others.get(name)), flush=True)
+    for name, got, peer in zip(names, run_built(program, plants) if program else run_tried(crate, plants), peers):
+        print(line(name, got, others.get(name), peer if any(peers) else []), flush=True)
     shutil.rmtree(room)
 
 

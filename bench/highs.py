@@ -3,11 +3,13 @@
 
     /usr/bin/python3 bench/highs.py PLANT SECONDS        # prints `PROFIT BOUND optimal`, or `open` in place of `optimal`
     /usr/bin/python3 bench/highs.py PLANT SECONDS PLAN   # and writes its plan to the file PLAN
+    /usr/bin/python3 bench/highs.py PLANT SECONDS PLAN MOST   # the same among plans that earn at most MOST
+    /usr/bin/python3 bench/highs.py --root PLANT         # `VALUE SECONDS`: the bound of the program without whole numbers
 
 It needs Debian's python3-scipy. The plan is looked at again by tools/plant_program.py, without rounding: where it breaks a row or
 earns something else, that is an error.
 """
-import sys
+import sys, time
 
 import numpy as np
 from scipy.optimize import Bounds, LinearConstraint, milp
@@ -17,9 +19,8 @@ import lp
 from lp import plain
 
 
-def solved(program, gap, seconds):
-    """What HiGHS finds for a program: whether each slot starts, then its quanta, then flows."""
-    made = lp.mixed(program)
+def solved(made, options, is_whole=True):
+    """What HiGHS finds for a mixed-integer program, or without whole numbers."""
     held = [(number, j, it) for number, (entries, _, _) in enumerate(made.rows) for j, it in entries.items()]
     places, values = ([it[0] for it in held], [it[1] for it in held]), [it[2] for it in held]
     rows = csr_matrix((values, places), shape=(len(made.rows), len(made.names)), dtype=float)
@@ -30,9 +31,20 @@ def solved(program, gap, seconds):
         np.array(made.costs, dtype=float),
         constraints=LinearConstraint(rows, low, high),
         bounds=Bounds(np.zeros(len(most)), most),
-        integrality=np.array(made.whole, dtype=int),
-        options={"mip_rel_gap": gap, "time_limit": seconds},
+        integrality=np.array(made.whole, dtype=int) if is_whole else None,
+        options=options,
     )
+
+
+def root(path, times=5):
+    """The value of the program without whole numbers, and the least processor seconds in which it is found."""
+    program = lp.read(path)
+    made, took = lp.mixed(program), []
+    for _ in range(times):
+        begun = time.process_time()
+        found = solved(made, {}, is_whole=False)
+        took.append(time.process_time() - begun)
+    print(f"{program.base - found.fun:.2f} {min(took):.4f}" if found.x is not None else "- -")
 
 
 def read(path):
@@ -62,9 +74,13 @@ def plan_text(program, point):
     return "".join(f"{period} {plant.units[run.unit]} {plant.tasks[run.task].name} {quanta}\n" for period, run, quanta in runs)
 
 
-def main(path, seconds, plan=None):
+def main(path, seconds, plan=None, most=None):
     _, program = read(path)
-    found = solved(program, 0.0, float(seconds))
+    made = lp.mixed(program)
+    if most is not None:
+        made.rows.append(({j: -it for j, it in enumerate(made.costs) if it}, None, int(most) - program.base))
+    # Of each slot whether it starts, then its quanta, then flows.
+    found = solved(made, {"mip_rel_gap": 0.0, "time_limit": float(seconds)})
     point = None if found.x is None else point_of(program, found)
     profit = "-" if point is None else profit_of(program, point)
     if point is not None and profit != program.base - round(found.fun):
@@ -77,4 +93,4 @@ def main(path, seconds, plan=None):
 
 
 if __name__ == "__main__":
-    main(*sys.argv[1:])
+    root(sys.argv[2]) if sys.argv[1:2] == ["--root"] else main(*sys.argv[1:])

@@ -41,7 +41,7 @@ pub fn search_advised<A: Advisers, O, T: NodeTaker<Rows, O>>(
     ensures later { T.faults out.old ≤ T.faults out.new }
     ensures failed { IsErrOf result TakeStop.Failed → Rose (T.faults out.old) (T.faults out.new) }
 {
-    let (mut guide, mut hinter) = A::advised(alloc, &rows.program, given, budget)?;
+    let (mut guide, mut hinter) = A::advised(alloc, &rows.program, given, budget, start)?;
     search_guided_to(
         alloc,
         rows,
@@ -81,7 +81,7 @@ pub fn search_hinted<A: Advisers, O, T: NodeTaker<Rows, O>>(
     ensures later { T.faults out.old ≤ T.faults out.new }
     ensures failed { IsErrOf result TakeStop.Failed → Rose (T.faults out.old) (T.faults out.new) }
 {
-    let (mut guide, mut hinter) = A::hinted(alloc, &rows.program, given)?;
+    let (mut guide, mut hinter) = A::hinted(alloc, &rows.program, given, start)?;
     search_to(
         alloc,
         rows,
@@ -115,7 +115,7 @@ pub fn build_advised<A: Advisers>(
     ensures inexact { IfOk result
         (λ found. found.1 ≡ false → (found.0.left_open ≡ true) × (found.0.spent ≢ budget)) }
 {
-    let (mut guide, mut hinter) = A::advised(alloc, &rows.program, given, budget)?;
+    let (mut guide, mut hinter) = A::advised(alloc, &rows.program, given, budget, start)?;
     search_guided(
         alloc,
         rows,
@@ -145,7 +145,7 @@ pub fn build_hinted<A: Advisers>(
         (λ searched. IsWorth rows.now.program start.now searched.best) }
     ensures exact { IfOk result (λ searched. IsExact rows.now.program budget (ended_of searched)) }
 {
-    let (mut guide, mut hinter) = A::hinted(alloc, &rows.program, given)?;
+    let (mut guide, mut hinter) = A::hinted(alloc, &rows.program, given, start)?;
     search(
         alloc,
         rows,

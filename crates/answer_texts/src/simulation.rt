@@ -103,7 +103,8 @@ fn broken_text(
     requires sound { Sound plant.now }
     requires short { length plan.now < 2 ^ 32 }
     requires named { IsOfPlant plant.now violation.now }
-    ensures { IfOk result (λ text. text.items ≡ broken_text usage plant.now plan.now violation.now) }
+    ensures { IfOk result
+        (λ text. text.items ≡ broken_text usage plant.now plan.now violation.now) }
 {
     match usage {
         PlanUse::Violations => violations_text(alloc, plant, plan),

@@ -30,7 +30,8 @@ pub fn violations_text(alloc: Global, plant: &Plant, plan: &[Start]) -> Result<V
 }
 
 fn head(alloc: Global, count: usize) -> Result<Vec<u8>, AllocError>
-    ensures { IfOk result (λ text. text.items ≡ codes "violations " ++ (decimal count ++ codes "\n")) }
+    ensures { IfOk result
+        (λ text. text.items ≡ codes "violations " ++ (decimal count ++ codes "\n")) }
 {
     let line = format!(in alloc; "violations {count}\n")?;
     Vec::from_slice(alloc, line.as_bytes())
@@ -66,42 +67,50 @@ fn breach_line(alloc: Global, plant: &Plant, breach: &Breach) -> Result<Vec<u8>,
             early,
         } => gap_line(alloc, *first, *second, *early),
         Breach::StockLow { state, time, short } => {
-            named_by(
-                alloc,
-                "stock-low ",
-                state_name(plant, *state),
-                *time,
-                *short,
-            )
+            stock_line(alloc, plant, "stock-low ", *state, *time, *short)
         }
         Breach::StockHigh { state, time, over } => {
-            named_by(
-                alloc,
-                "stock-high ",
-                state_name(plant, *state),
-                *time,
-                *over,
-            )
+            stock_line(alloc, plant, "stock-high ", *state, *time, *over)
         }
         Breach::Load {
             utility,
             period,
             over,
-        } => {
-            named_by(
-                alloc,
-                "load ",
-                utility_name(plant, *utility),
-                *period,
-                *over,
-            )
-        }
+        } => load_line(alloc, plant, *utility, *period, *over),
     }
+}
+
+fn stock_line(
+    alloc: Global,
+    plant: &Plant,
+    what: &str,
+    state: u32,
+    time: u32,
+    amount: u128,
+) -> Result<Vec<u8>, AllocError>
+    ensures { IfOk result (λ text. text.items
+        ≡ named_by what.now (state_at plant.now state).name time amount) }
+{
+    named_by(alloc, what, state_name(plant, state), time, amount)
+}
+
+fn load_line(
+    alloc: Global,
+    plant: &Plant,
+    utility: u32,
+    period: u32,
+    over: u128,
+) -> Result<Vec<u8>, AllocError>
+    ensures { IfOk result (λ text. text.items
+        ≡ named_by (codes "load ") (utility_at plant.now utility).name period over) }
+{
+    named_by(alloc, "load ", utility_name(plant, utility), period, over)
 }
 
 fn unfit_line(alloc: Global, place: u32, cause: Misfit) -> Result<Vec<u8>, AllocError>
     ensures { IfOk result (λ text. text.items
-        ≡ codes "unfit " ++ (decimal (place + 1) ++ (codes " " ++ (misfit_word cause ++ codes "\n")))) }
+        ≡ codes "unfit "
+        ++ (decimal (place + 1) ++ (codes " " ++ (misfit_word cause ++ codes "\n")))) }
 {
     let number = place as u64 + 1;
     let word = misfit_word(cause);

@@ -63,12 +63,13 @@ impl Advisers for BestFirst {
         program: &Program,
         given: u32,
         budget: u32,
+        start: &[u8],
     ) -> Result<(SearchGuide, SearchHinter), AllocError> {
         if point_count(program) > MOST_POINTS {
-            return explored(alloc, program, given, budget);
+            return explored(alloc, program, given, budget, start);
         }
         let guide = PlanGuide::new(alloc, program, given)?;
-        let hinter = PlanHinter::new(alloc, program, given)?;
+        let hinter = PlanHinter::new(alloc, program, given, start)?;
         Ok((SearchGuide::Depth(guide), SearchHinter::Depth(hinter)))
     }
 
@@ -76,8 +77,9 @@ impl Advisers for BestFirst {
         alloc: Global,
         program: &Program,
         given: u32,
+        start: &[u8],
     ) -> Result<(SearchGuide, SearchHinter), AllocError> {
-        let hinter = PlanHinter::new(alloc, program, given)?;
+        let hinter = PlanHinter::new(alloc, program, given, start)?;
         Ok((SearchGuide::Plain(PlainGuide), SearchHinter::Depth(hinter)))
     }
 }
@@ -88,8 +90,9 @@ fn explored(
     program: &Program,
     given: u32,
     budget: u32,
+    start: &[u8],
 ) -> Result<(SearchGuide, SearchHinter), AllocError> {
-    let Explored { tree, best } = explore(alloc, program, given, budget)?;
+    let Explored { tree, best } = explore(alloc, program, given, budget, start)?;
     let lead = Lead::new(alloc, program, tree.nodes, best.worth, budget)?;
     let guide = KeptGuide::new(alloc, program, given, lead)?;
     let hinter = KeptHinter::new(best);

@@ -36,15 +36,16 @@ struct Explorer {
 // How many boxes are explored at most for each that may be counted.
 const MOST_LOOKS: u32 = 4;
 
-/// Searches a program best first, until the tree that is left counts so many boxes, or is closed. Four times as many are explored at
-/// most, and none once what is held comes to some 2 GiB.
+/// Searches a program best first, until the tree that is left counts so many boxes, or is closed. Plans are looked for from the point
+/// `start` on. Four times as many boxes are explored at most, and none once what is held comes to some 2 GiB.
 pub fn explore(
     alloc: Global,
     program: &Program,
     given: u32,
     budget: u32,
+    start: &[u8],
 ) -> Result<Explored, AllocError> {
-    let mut explorer = Explorer::new(alloc, program, given)?;
+    let mut explorer = Explorer::new(alloc, program, given, start)?;
     match explorer.look_on(program, budget) {
         Ok(()) => Ok(explorer.ended()),
         Err(error) => {
@@ -59,11 +60,16 @@ fn let_go<T: Drop>(_value: T) {}
 
 impl Explorer {
     // A search in memory before its first box. What is large is made last, so that little is let go where memory is wanting.
-    fn new(alloc: Global, program: &Program, given: u32) -> Result<Explorer, AllocError> {
+    fn new(
+        alloc: Global,
+        program: &Program,
+        given: u32,
+        start: &[u8],
+    ) -> Result<Explorer, AllocError> {
         let tree = Tree::new(alloc, program)?;
         let best = Kept::new(alloc, program)?;
         let guide = PlanGuide::new(alloc, program, given)?;
-        let hinter = PlanHinter::new(alloc, program, given)?;
+        let hinter = PlanHinter::new(alloc, program, given, start)?;
         Ok(Explorer {
             alloc,
             tree,

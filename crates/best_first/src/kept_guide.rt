@@ -5,13 +5,14 @@ ghost use Rattle.row_kit.specs.Area.{present};
 ghost use Rattle.row_kit.specs.Domain.{IsOpen};
 
 use box_advice::{Advice, Guide};
-use explored_tree::Lead;
+use explored_tree::{Lead, cap_of, exceeds};
 use row_kit::{Area, Program};
 use split_advice::PlanGuide;
 use std::alloc::{AllocError, Global};
 
 /// Leads the loop through explored boxes, and leaves open what was not explored. Where the loop closes a box that was split, as
-/// many others as that saves are searched with the advice of a `PlanGuide`.
+/// many others as that saves are searched with the advice of a `PlanGuide`; so is what the loop has left of a box where exploring
+/// had less, since it knew the best plan later or trimmed by another certificate.
 #[derive(Drop)]
 pub struct KeptGuide {
     lead: Lead,
@@ -45,9 +46,19 @@ impl Guide for KeptGuide {
         best: Option<i128>,
         point: &mut [u8],
     ) -> Result<Advice, AllocError> {
-        match self.lead.advice(area, depth) {
-            Some(advice) => Ok(advice),
-            None => self.plain.advise(alloc, program, area, depth, best, point),
+        if let Some(advice) = self.lead.advice(area, depth) {
+            if ends(program, area, &advice, best) {
+                return Ok(advice);
+            }
         }
+        self.plain.advise(alloc, program, area, depth, best, point)
     }
+}
+
+// Whether advice says how a box ends: where to split it, or by a certificate that leaves nothing above the best plan. Else the box
+// has values that the explored one had not.
+fn ends(program: &Program, area: &Area, advice: &Advice, best: Option<i128>) -> bool
+    requires { length (present area.now) ≡ length program.now.root }
+{
+    advice.slot.is_some() || !exceeds(cap_of(program, area, &advice.cert), best)
 }

@@ -24,18 +24,21 @@ pub trait Advisers {
         domains: &[Domain],
     ) -> Result<List<Derivation>, AllocError>;
 
-    /// The guide and the hinter of a search of at most so many boxes; the guide may leave boxes open though budget is left.
+    /// The guide and the hinter of a search of at most so many boxes, which begins with a point, or with none where `start` is empty;
+    /// the guide may leave boxes open though budget is left.
     fn advised(
         alloc: Global,
         program: &Program,
         given: u32,
         budget: u32,
+        start: &[u8],
     ) -> Result<(Self::Guide, Self::Hinter), AllocError>;
 
-    /// The guide and the hinter of a search that leaves boxes open only where its budget is spent.
+    /// The guide and the hinter of a search that leaves boxes open only where its budget is spent. It begins as that of `advised`.
     fn hinted(
         alloc: Global,
         program: &Program,
         given: u32,
+        start: &[u8],
     ) -> Result<(Self::Guide, Self::Hinter), AllocError>;
 }

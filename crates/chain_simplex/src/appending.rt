@@ -1,10 +1,8 @@
 //! Rows that join the kernel.
-use crate::columns::Columns;
 use crate::kernel::Kernel;
-use crate::work::Work;
 use fixed_point::{NONE, ONE};
 use row_chains::Chains;
-use simplex_state::{Extra, Features, State, Variables};
+use simplex_state::{Columns, Extra, Features, State, Variables, Work};
 
 /// Brings a row into the kernel, whose variable is basic; its place.
 pub fn append(

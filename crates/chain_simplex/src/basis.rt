@@ -1,10 +1,9 @@
 //! Where a bound begins.
-use crate::columns::Columns;
 use crate::kernel::Kernel;
 use fixed_point::{NONE, ONE, numbered, put, put_last};
 use row_chains::Chains;
 use row_kit::Program;
-use simplex_state::{State, Variables};
+use simplex_state::{Columns, State, Variables};
 use std::alloc::{AllocError, Global};
 
 /// Where a bound stands: the rows that bind it, the variables of slots that lie between their ends, those that stand at their

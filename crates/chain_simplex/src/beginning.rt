@@ -1,11 +1,10 @@
 //! How a bound begins.
 use crate::basis::{Basis, note, take};
-use crate::progress::BEGUN;
 use crate::simplex::Simplex;
 use fixed_point::{ONE, TOP, of_whole, put};
 use row_chains::{Chains, row_limit};
 use row_kit::{Domain, Program};
-use simplex_state::State;
+use simplex_state::{BEGUN, State};
 
 impl Simplex {
     /// Puts an area, and brings the variables to where a bound stood.

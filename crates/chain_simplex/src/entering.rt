@@ -1,11 +1,7 @@
 //! Which variable enters.
 use crate::leaving::Leaving;
-use crate::work::Work;
 use fixed_point::{FEASIBLE, LEAST_PART, LEAST_PIVOT, magnitude, put_last, quotient, times};
-use simplex_state::{State, Variables};
-
-/// By how much the profit of the leaving variable changes until that of a variable comes to 0, and the variable.
-pub type Candidate = (i64, u32);
+use simplex_state::{Candidate, State, Variables, Work};
 
 /// How a basic variable is mended: the first candidates go to their other ends, then the variable enters.
 #[derive(Clone, Copy)]

@@ -1,15 +1,13 @@
 //! The kernel is factored anew.
-use crate::columns::Columns;
 use crate::kernel::Kernel;
 use crate::parts::scatter;
 use crate::simplex::Simplex;
-use crate::work::blank;
 use fixed_point::{
     GROWTH, LEAST_PIVOT, NOISE, NONE, ONE, Part, at, magnitude, numbered, place_at, put, put_last,
     put_place, scaled,
 };
 use row_chains::Chains;
-use simplex_state::{State, Variables};
+use simplex_state::{Columns, State, Variables, blank};
 
 // How often rows that are not told apart by columns may leave the kernel.
 const MOST_ROUNDS: u32 = 20;

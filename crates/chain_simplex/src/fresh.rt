@@ -1,11 +1,9 @@
 //! Profits and values of where the basis stands.
 use crate::parts::write_sums;
-use crate::rows_left::spread_rows;
 use crate::simplex::Simplex;
-use crate::work::blank;
 use fixed_point::{NO_PROFIT, ONE, at, numbered, put, refill, scaled, times};
 use row_chains::Chains;
-use simplex_state::State;
+use simplex_state::{State, blank, spread_rows};
 
 impl Simplex {
     /// Writes the profits of all variables.

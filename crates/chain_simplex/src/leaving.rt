@@ -1,9 +1,8 @@
 //! Which basic variable is mended.
 use crate::kernel::Kernel;
-use crate::work::Work;
 use fixed_point::{FEASIBLE, ONE};
 use row_chains::Chains;
-use simplex_state::{State, Variables};
+use simplex_state::{State, Variables, Work};
 
 /// A basic variable that is beyond one of its ends, which one, and by how much.
 #[derive(Clone, Copy)]

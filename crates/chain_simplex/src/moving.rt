@@ -3,11 +3,10 @@ use crate::entering::Entering;
 use crate::factoring::put_eta;
 use crate::leaving::Leaving;
 use crate::parts::scatter;
-use crate::rows_left::{Weighing, spread_rows, weight_of};
 use crate::simplex::Simplex;
 use fixed_point::{FEASIBLE, ONE, at, magnitude, put, put_place, quotient, times};
 use row_chains::Chains;
-use simplex_state::State;
+use simplex_state::{State, Weighing, spread_rows, weight_of};
 
 /// An exchange: the place in the kernel, the part of the variable that enters there, by how much that one changes, and what is done
 /// to weights.

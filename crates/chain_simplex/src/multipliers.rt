@@ -1,10 +1,8 @@
 //! The multipliers of a program's rows.
-use crate::progress::Stuck;
 use crate::simplex::Simplex;
-use crate::work::blank;
 use fixed_point::{NONE, ONE, at, put, whole_of};
 use row_chains::Chains;
-use simplex_state::State;
+use simplex_state::{State, Stuck, blank};
 
 impl Simplex {
     /// What one unit of a row of the program is worth, times 2 to a power; nothing where it does not bind.

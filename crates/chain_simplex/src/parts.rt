@@ -1,10 +1,8 @@
 //! The parts of a row of the kernel.
-use crate::columns::Columns;
 use crate::kernel::Kernel;
-use crate::work::{Work, blank};
 use fixed_point::{NOISE, ONE, at, magnitude, put};
 use row_chains::Chains;
-use simplex_state::{Extra, Features, State, Variables};
+use simplex_state::{Columns, Extra, Features, State, Variables, Work, blank};
 
 /// Writes what the multipliers of the rows of the kernel come to for each feature. Those up to `noise` count as 0.
 pub fn write_sums(

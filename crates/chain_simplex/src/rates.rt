@@ -1,11 +1,10 @@
 //! What a sum costs by one dual step.
 use crate::parts::{list_parts, write_sums};
 use crate::simplex::Simplex;
-use crate::work::blank;
 use fixed_point::{LEAST_PART, NOISE, magnitude, of_whole, quotient};
 use row_chains::Chains;
 use row_kit::Entry;
-use simplex_state::State;
+use simplex_state::{State, blank};
 
 /// What one unit of a fall of a sum costs by one dual step, and what one of a rise does; None where no step leads there.
 #[derive(Clone, Copy, PartialEq, Eq, Debug)]

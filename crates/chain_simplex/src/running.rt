@@ -1,7 +1,7 @@
 //! The steps of a bound.
-use crate::progress::End;
 use crate::simplex::Simplex;
 use row_chains::Chains;
+use simplex_state::End;
 
 // Changes after which the kernel is factored anew.
 const MOST_ETAS: usize = 48;

@@ -1,12 +1,9 @@
 //! Where a bound is computed.
-use crate::columns::Columns;
 use crate::kept::Kept;
 use crate::kernel::Kernel;
-use crate::progress::{BEGUN, Progress};
-use crate::work::Work;
 use fixed_point::TOP;
 use row_chains::Chains;
-use simplex_state::{Extra, Variables};
+use simplex_state::{BEGUN, Columns, Extra, Progress, Variables, Work};
 use std::alloc::{AllocError, Global};
 
 /// Where a bound is computed. No call but `new` takes memory. It always comes with the chains that it was made for.

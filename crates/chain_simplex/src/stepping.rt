@@ -3,12 +3,10 @@ use crate::appending::append;
 use crate::entering::choose;
 use crate::leaving::{Leaving, most_broken};
 use crate::parts::write_row;
-use crate::progress::{End, Stuck};
 use crate::simplex::Simplex;
-use crate::work::blank;
 use fixed_point::{FEASIBLE, NONE, put_last};
 use row_chains::Chains;
-use simplex_state::State;
+use simplex_state::{End, State, Stuck, blank};
 
 // A breach by less than this, which can't be mended, counts as kept: 4,096 times what is tiny.
 const SMALL: i64 = 4_194_304;

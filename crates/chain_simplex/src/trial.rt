@@ -1,11 +1,9 @@
 //! Trial bounds.
-use crate::progress::End;
-use crate::rows_left::spread_rows;
 use crate::simplex::Simplex;
 use fixed_point::{FEASIBLE, NONE, ONE, TOP, of_whole, put, put_last};
 use row_chains::Chains;
 use row_kit::Entry;
-use simplex_state::State;
+use simplex_state::{End, State, spread_rows};
 
 // How often a trial looks at all rows, and how many it takes up then.
 const MOST_LOOKS: u32 = 1;

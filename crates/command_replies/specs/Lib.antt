@@ -1,3 +1,4 @@
 pub mod Lines
 pub mod Sources
 pub mod Answers
+pub mod Frames

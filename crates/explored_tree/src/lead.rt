@@ -47,15 +47,31 @@ impl Lead {
     }
 
     /// Comes to the next part of a split, which stands below so many; whether to leave it open. Else it is counted. A part that
-    /// does not lie in the one that was explored is one that was not.
+    /// does not lie in the one that was explored, or has values that this had not, is one that was not.
     pub fn leaves(&mut self, area: &Area, depth: u32) -> bool {
         let part = self.part_at(depth);
         let explored = self.side(area, self.at(depth.saturating_sub(1)));
-        if explored == part {
+        if explored == part && self.is_within(area, part) {
             self.come_to(depth, part)
         } else {
             self.come_to(depth, NONE)
         }
+    }
+
+    // Whether an area has no values that a box had not: only then does the cap of one that was not explored count for it. Of one that
+    // was explored nothing is asked.
+    fn is_within(&self, area: &Area, number: u32) -> bool {
+        let Some(node) = self.nodes.get(number as usize) else {
+            return true;
+        };
+        for slot in 0..area.slot_count() {
+            if let Some(domain) = node.domains.get(slot as usize) {
+                if !holds_all(domain, &area.domain(slot)) {
+                    return false;
+                }
+            }
+        }
+        true
     }
 
     // The part of a box's split in which the values of an area lie at the slot of that split; none where they lie in both.
@@ -244,6 +260,13 @@ impl Lead {
     fn is_spent(&self) -> bool {
         self.counted.saturating_add(self.ahead) >= self.budget
     }
+}
+
+// Whether a domain has all values of another.
+fn holds_all(domain: &Domain, other: &Domain) -> bool {
+    let has_zero = domain.zero || !other.zero;
+    let has_more = other.lo > other.hi || (domain.lo <= other.lo && other.hi <= domain.hi);
+    has_zero && has_more
 }
 
 // Of the parts of a split after a value, of which the first is told, the one in which a domain lies; none where it lies in both.

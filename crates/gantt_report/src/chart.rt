@@ -6,17 +6,13 @@ ghost use Rattle.stn_model.specs.Plant.{end_of};
 ghost use Rattle.gantt_report.specs.Report.{begins, goes_on, batch_cell, cell, unit_line, chart};
 
 use crate::layout::{push_left, push_two_digits};
-use std::alloc::{AllocError, Global};
+use crate::written::Written;
+use std::alloc::Global;
 use stn_model::{Plant, Start, end};
 
 /// Appends the lines of all units.
 #[tactic(auto, using(crate::proofs::Ranges::pieces_next))]
-pub fn push_chart(
-    alloc: Global,
-    text: &mut Vec<u8>,
-    plant: &Plant,
-    plan: &[Start],
-) -> Result<(), AllocError>
+pub fn push_chart(alloc: Global, text: &mut Vec<u8>, plant: &Plant, plan: &[Start]) -> Written
     requires { length plant.now.units < 2 ^ 32 }
     ensures { OnOk result (text.new.items ≡ text.old.items ++ chart plant.now plan.now) }
 {
@@ -28,13 +24,7 @@ pub fn push_chart(
 
 // Appends the line of a unit.
 #[tactic(auto, unfolding(crate::specs::Report::unit_line))]
-fn push_unit(
-    alloc: Global,
-    text: &mut Vec<u8>,
-    plant: &Plant,
-    plan: &[Start],
-    unit: u32,
-) -> Result<(), AllocError>
+fn push_unit(alloc: Global, text: &mut Vec<u8>, plant: &Plant, plan: &[Start], unit: u32) -> Written
     requires { unit < length plant.now.units }
     ensures { OnOk result (text.new.items ≡ text.old.items ++ unit_line plant.now plan.now unit) }
 {
@@ -52,7 +42,7 @@ fn push_cells(
     plant: &Plant,
     plan: &[Start],
     unit: u32,
-) -> Result<(), AllocError>
+) -> Written
     ensures { OnOk result (text.new.items
         ≡ text.old.items ++ flat_map (cell plant.now plan.now unit)
         (range_with_len 0 plant.now.periods)) }
@@ -72,7 +62,7 @@ fn push_cell(
     plan: &[Start],
     unit: u32,
     period: u32,
-) -> Result<(), AllocError>
+) -> Written
     ensures { OnOk result (text.new.items ≡ text.old.items ++ cell plant.now plan.now unit period) }
 {
     if let Some(start) = first_begun(plan, unit, period) {
@@ -86,7 +76,7 @@ fn push_cell(
 
 // Appends a cell of a batch.
 #[tactic(auto, unfolding(crate::specs::Report::batch_cell))]
-fn push_batch(alloc: Global, text: &mut Vec<u8>, byte: u8, start: &Start) -> Result<(), AllocError>
+fn push_batch(alloc: Global, text: &mut Vec<u8>, byte: u8, start: &Start) -> Written
     ensures { OnOk result (text.new.items ≡ text.old.items ++ batch_cell byte start.now) }
 {
     text.push(byte)?;

@@ -7,18 +7,14 @@ ghost use Rattle.gantt_report.specs.Layout.{columns, figures_line, figures_lines
 ghost use Rattle.gantt_report.specs.Report.{stocks_at, loads_in};
 
 use crate::layout::push_right;
+use crate::written::Written;
 use plain_plan::{load_in, stock_at};
 use std::alloc::{AllocError, Global};
 use stn_model::{Plant, Start};
 
 /// Appends the line of each time from 0 to the horizon: the stocks of all states.
 #[tactic(auto, using(crate::proofs::Ranges::pieces_next), unfolding(crate::specs::Layout::figures_line))]
-pub fn push_stocks(
-    alloc: Global,
-    text: &mut Vec<u8>,
-    plant: &Plant,
-    plan: &[Start],
-) -> Result<(), AllocError>
+pub fn push_stocks(alloc: Global, text: &mut Vec<u8>, plant: &Plant, plan: &[Start]) -> Written
     requires sound { Sound plant.now }
     requires few { length plan.now < 2 ^ 32 }
     ensures { OnOk result (text.new.items
@@ -33,12 +29,7 @@ pub fn push_stocks(
 
 /// Appends the line of each period: the loads of all utilities.
 #[tactic(auto, using(crate::proofs::Ranges::pieces_next), unfolding(crate::specs::Layout::figures_line))]
-pub fn push_loads(
-    alloc: Global,
-    text: &mut Vec<u8>,
-    plant: &Plant,
-    plan: &[Start],
-) -> Result<(), AllocError>
+pub fn push_loads(alloc: Global, text: &mut Vec<u8>, plant: &Plant, plan: &[Start]) -> Written
     requires sound { Sound plant.now }
     requires few { length plan.now < 2 ^ 32 }
     ensures { OnOk result (text.new.items
@@ -90,12 +81,7 @@ fn loads_in(
 }
 
 // Appends a line of figures: the number of the time or period, then the figures.
-fn push_figures(
-    alloc: Global,
-    text: &mut Vec<u8>,
-    time: u32,
-    figures: &[i128],
-) -> Result<(), AllocError>
+fn push_figures(alloc: Global, text: &mut Vec<u8>, time: u32, figures: &[i128]) -> Written
     ensures { OnOk result (text.new.items
         ≡ text.old.items ++ (right_in 32 4 (decimal time) ++ (columns figures.now ++ 10 ∷ []))) }
 {
@@ -107,7 +93,7 @@ fn push_figures(
 }
 
 // Appends each figure right in its column.
-fn push_columns(alloc: Global, text: &mut Vec<u8>, figures: &[i128]) -> Result<(), AllocError>
+fn push_columns(alloc: Global, text: &mut Vec<u8>, figures: &[i128]) -> Written
     ensures { OnOk result (text.new.items ≡ text.old.items ++ columns figures.now) }
 {
     for figure in figures {
@@ -117,7 +103,7 @@ fn push_columns(alloc: Global, text: &mut Vec<u8>, figures: &[i128]) -> Result<(
 }
 
 // Appends a figure right in its column.
-fn push_column(alloc: Global, text: &mut Vec<u8>, figure: &i128) -> Result<(), AllocError>
+fn push_column(alloc: Global, text: &mut Vec<u8>, figure: &i128) -> Written
     ensures { OnOk result (text.new.items
         ≡ text.old.items ++ right_in 32 16 (signed_decimal figure.now)) }
 {

@@ -10,5 +10,6 @@ mod figures;
 mod layout;
 mod named;
 mod text;
+mod written;
 
 pub use text::report;

@@ -4,7 +4,8 @@ ghost use Rattle.std.specs.Prelude.{◌≡◌, ◌+◌, ◌<◌, ◌^◌, ◌++�
 ghost use Rattle.gantt_report.specs.Layout.{name_line, name_lines};
 
 use crate::layout::push_two_digits;
-use std::alloc::{AllocError, Global};
+use crate::written::Written;
+use std::alloc::Global;
 use stn_model::{State, Task, Utility};
 
 /// What has a name of the plant file.
@@ -41,12 +42,7 @@ impl Named for Utility {
 
 /// Appends a line for each item: what it is, its number counted from 1, and its name.
 #[tactic(auto, using(crate::proofs::Ranges::pieces_next))]
-pub fn push_names<T: Named>(
-    alloc: Global,
-    text: &mut Vec<u8>,
-    what: &str,
-    items: &[T],
-) -> Result<(), AllocError>
+pub fn push_names<T: Named>(alloc: Global, text: &mut Vec<u8>, what: &str, items: &[T]) -> Written
     requires { length items.now < 2 ^ 32 }
     ensures { OnOk result (text.new.items
         ≡ text.old.items ++ name_lines what.now (map T.name items.now)) }
@@ -65,7 +61,7 @@ fn push_name<T: Named>(
     what: &str,
     items: &[T],
     item: usize,
-) -> Result<(), AllocError>
+) -> Written
     requires few { length items.now < 2 ^ 32 }
     requires there { item < length items.now }
     ensures { OnOk result (text.new.items

@@ -11,6 +11,7 @@ ghost use Rattle.gantt_report.specs.Report.{report_text, chart, state_names, uti
 use crate::chart::push_chart;
 use crate::figures::{push_loads, push_stocks};
 use crate::named::push_names;
+use crate::written::Written;
 use plain_plan::profit_of;
 use std::alloc::{AllocError, Global};
 use stn_model::{Plant, Start};
@@ -39,12 +40,7 @@ pub fn report(
 }
 
 // Appends the chart and the names of the tasks.
-fn push_gantt(
-    alloc: Global,
-    text: &mut Vec<u8>,
-    plant: &Plant,
-    plan: &[Start],
-) -> Result<(), AllocError>
+fn push_gantt(alloc: Global, text: &mut Vec<u8>, plant: &Plant, plan: &[Start]) -> Written
     requires { Sound plant.now }
     ensures { OnOk result (text.new.items
         ≡ text.old.items ++ (codes "gantt\n"
@@ -56,12 +52,7 @@ fn push_gantt(
 }
 
 // Appends the names of the states and their stocks.
-fn push_stock(
-    alloc: Global,
-    text: &mut Vec<u8>,
-    plant: &Plant,
-    plan: &[Start],
-) -> Result<(), AllocError>
+fn push_stock(alloc: Global, text: &mut Vec<u8>, plant: &Plant, plan: &[Start]) -> Written
     requires sound { Sound plant.now }
     requires few { length plan.now < 2 ^ 32 }
     ensures { OnOk result (text.new.items
@@ -75,12 +66,7 @@ fn push_stock(
 }
 
 // Appends the names of the utilities and their loads.
-fn push_load(
-    alloc: Global,
-    text: &mut Vec<u8>,
-    plant: &Plant,
-    plan: &[Start],
-) -> Result<(), AllocError>
+fn push_load(alloc: Global, text: &mut Vec<u8>, plant: &Plant, plan: &[Start]) -> Written
     requires sound { Sound plant.now }
     requires few { length plan.now < 2 ^ 32 }
     ensures { OnOk result (text.new.items
@@ -94,12 +80,7 @@ fn push_load(
 }
 
 // Appends the line of the profit.
-fn push_profit(
-    alloc: Global,
-    text: &mut Vec<u8>,
-    plant: &Plant,
-    plan: &[Start],
-) -> Result<(), AllocError>
+fn push_profit(alloc: Global, text: &mut Vec<u8>, plant: &Plant, plan: &[Start]) -> Written
     requires sound { Sound plant.now }
     requires few { length plan.now < 2 ^ 32 }
     ensures { OnOk result (text.new.items

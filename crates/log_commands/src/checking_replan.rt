@@ -1,7 +1,6 @@
 //! `check-replan PLANT PLAN PERIOD LOG`: checking the proof log of a planning on from the starts of a plan before a period.
 ghost use Rattle.std.specs.Prelude.{◌≡◌, ◌≢◌, ◌≤◌, ◌<◌, ◌^◌, ◌∷◌, [], ⊤, ℕ, List, length, Ok, Err, IsTrue, IfOk};
 ghost use Rattle.std.specs.Option.{option_map};
-ghost use Rattle.stn_edge.specs.Count.{Rose};
 ghost use Rattle.stn_edge.specs.Files.{file_of};
 ghost use Rattle.stn_model.specs.Sound.{Sound};
 ghost use Rattle.plant_text.specs.Reading.{reading};
@@ -9,6 +8,7 @@ ghost use Rattle.row_set.specs.Parts.{IsPartOf};
 ghost use Rattle.frozen_plan.specs.Frozen.{kept_starts};
 ghost use Rattle.valid_log.specs.PlantLogs.{IsAnyKeptChecked};
 ghost use Rattle.valid_log.specs.Claims.{YesSaysOf};
+ghost use Rattle.command_replies.specs.Frames.{HadReadFault, OnlyReads};
 ghost use Rattle.command_replies.specs.Answers.{IsPlanAnswer};
 ghost use Rattle.command_replies.specs.Sources.{IfReplied, IfRefused, IsReadOf};
 ghost use Rattle.answer_texts.specs.Checking.{Judged};
@@ -40,17 +40,13 @@ pub fn check_replan_file<F: Shelf>(
     requires log_readable { IsTrue (F.may_read files.old log.now) }
     ensures answer { IfReplied result (λ reply. IsPlanAnswer (F.files files.old) (F.files files.new)
         plant.now plan.now (log.now ∷ [])
-        (λ plant starts. ReplanChecked (option_map (λ m. file_of m log.now) (F.files files.old)) plant period.number
+        (λ plant starts. ReplanChecked
+        (option_map (λ m. file_of m log.now) (F.files files.old)) plant period.number
         (kept_starts period.number starts) (F.files files.new ≡ F.files files.old))
         reply.status reply.text.items) }
-    ensures fault { result ≡ Err Stopped.ReadFault
-        → Rose (F.read_faults files.old) (F.read_faults files.new) }
+    ensures fault { HadReadFault F.Shelf files.old files.new result }
     ensures unwritten { result ≢ Err Stopped.WriteFault }
-    ensures same { F.files files.new ≡ F.files files.old }
-    ensures readable { F.may_read files.new ≡ F.may_read files.old }
-    ensures writable { F.may_write files.new ≡ F.may_write files.old }
-    ensures later { F.read_faults files.old ≤ F.read_faults files.new }
-    ensures no_write { F.write_faults files.new ≡ F.write_faults files.old }
+    ensures kept { OnlyReads F.Shelf files.old files.new }
 {
     let plant = plant_in(alloc, files, plant)?;
     check_replan_on(alloc, files, &plant, plan, period, log)
@@ -74,14 +70,9 @@ fn check_replan_on<F: Shelf>(
         (λ plant starts. ReplanChecked (option_map (λ m. file_of m log.now) (F.files files.old))
         plant period.number (kept_starts period.number starts)
         (F.files files.new ≡ F.files files.old)) reply.status reply.text.items) }
-    ensures fault { result ≡ Err Stopped.ReadFault
-        → Rose (F.read_faults files.old) (F.read_faults files.new) }
+    ensures fault { HadReadFault F.Shelf files.old files.new result }
     ensures unwritten { result ≢ Err Stopped.WriteFault }
-    ensures same { F.files files.new ≡ F.files files.old }
-    ensures readable { F.may_read files.new ≡ F.may_read files.old }
-    ensures writable { F.may_write files.new ≡ F.may_write files.old }
-    ensures later { F.read_faults files.old ≤ F.read_faults files.new }
-    ensures no_write { F.write_faults files.new ≡ F.write_faults files.old }
+    ensures kept { OnlyReads F.Shelf files.old files.new }
 {
     let plan = plan_in(alloc, files, plant, plan)?;
     check_replan(alloc, files, plant, plan.as_slice(), period, log)
@@ -103,14 +94,9 @@ fn check_replan<F: Shelf>(
         (λ reply. ReplanChecked (option_map (λ m. file_of m log.now) (F.files files.old)) plant.now
         period.number (kept_starts period.number plan.now) ⊤ reply.status reply.text.items) }
     ensures none { IfRefused result (λ _. ⊥) }
-    ensures fault { result ≡ Err Stopped.ReadFault
-        → Rose (F.read_faults files.old) (F.read_faults files.new) }
+    ensures fault { HadReadFault F.Shelf files.old files.new result }
     ensures unwritten { result ≢ Err Stopped.WriteFault }
-    ensures same { F.files files.new ≡ F.files files.old }
-    ensures readable { F.may_read files.new ≡ F.may_read files.old }
-    ensures writable { F.may_write files.new ≡ F.may_write files.old }
-    ensures later { F.read_faults files.old ≤ F.read_faults files.new }
-    ensures no_write { F.write_faults files.new ≡ F.write_faults files.old }
+    ensures kept { OnlyReads F.Shelf files.old files.new }
 {
     match keep(alloc, plant, plan, period.number)? {
         Keeping::Open(rows) => check_log_of(alloc, files, plant, rows.program, log),
@@ -134,14 +120,9 @@ fn check_log_of<F: Shelf>(
         (YesSaysOf plant.now part)
         (option_map (λ m. file_of m name.now) (F.files files.old)) reply.status reply.text.items) }
     ensures none { IfRefused result (λ _. ⊥) }
-    ensures fault { result ≡ Err Stopped.ReadFault
-        → Rose (F.read_faults files.old) (F.read_faults files.new) }
+    ensures fault { HadReadFault F.Shelf files.old files.new result }
     ensures unwritten { result ≢ Err Stopped.WriteFault }
-    ensures same { F.files files.new ≡ F.files files.old }
-    ensures readable { F.may_read files.new ≡ F.may_read files.old }
-    ensures writable { F.may_write files.new ≡ F.may_write files.old }
-    ensures later { F.read_faults files.old ≤ F.read_faults files.new }
-    ensures no_write { F.write_faults files.new ≡ F.write_faults files.old }
+    ensures kept { OnlyReads F.Shelf files.old files.new }
 {
     match check_kept(alloc, plant, part, MOST_DEPTH, files, name) {
         Ok(verdict) => Ok(checked(alloc, &verdict)?),

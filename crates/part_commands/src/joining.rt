@@ -1,6 +1,5 @@
 //! `join PLANT LEVELS STEM LOG`: joining the logs of the parts of a plant.
 ghost use Rattle.std.specs.Prelude.{◌≡◌, ◌≢◌, ◌≤◌, ◌<◌, ◌^◌, ◌⊎◌, ℕ, length, Ok, Err, IsTrue, IfOk};
-ghost use Rattle.stn_edge.specs.Count.{Rose};
 ghost use Rattle.stn_edge.specs.Files.{OthersStay};
 ghost use Rattle.stn_model.specs.Sound.{Sound};
 ghost use Rattle.stn_model.specs.declared.plant.Plant.{Plant};
@@ -9,6 +8,7 @@ ghost use Rattle.time_grid.specs.Slots.{slots};
 ghost use Rattle.proof_log.specs.LogNames.{log_name};
 ghost use Rattle.log_parts.specs.PartLogs.{AllAreValid};
 ghost use Rattle.command_words.specs.Words.{IsNoPartLog};
+ghost use Rattle.command_replies.specs.Frames.{HadReadFault, HadWriteFault, ReadsAndWrites};
 ghost use Rattle.command_replies.specs.Answers.{IsPlantAnswer, IsUnwritten};
 ghost use Rattle.command_replies.specs.Sources.{IfReplied, IfRefused, IsReadOf};
 ghost use Rattle.answer_texts.specs.Levels.{OnLevels};
@@ -45,16 +45,15 @@ pub fn join_file<F: Shelf>(
         → IsTrue (F.may_read files.old (log_name stem.now part)) }
     requires log_writable { IsTrue (F.may_write files.old log.now) }
     requires apart { IsNoPartLog log.now stem.now levels.number }
-    ensures answer { IfReplied result (λ reply. IsPlantAnswer (F.files files.old) (F.files files.new)
+    ensures answer { IfReplied result (λ reply. IsPlantAnswer (F.files files.old)
+        (F.files files.new)
         name.now (part_names stem.now levels.number) (λ _ plant. OnLevels plant levels.number
         (JoinAnswered (F.files files.old) (F.files files.new) levels.number stem.now log.now plant))
         reply.status reply.text.items) }
     ensures refused { IfReplied result (λ reply. IsUnwritten reply.status
         → F.files files.new ≡ F.files files.old) }
-    ensures fault { result ≡ Err Stopped.ReadFault
-        → Rose (F.read_faults files.old) (F.read_faults files.new) }
-    ensures write_fault { result ≡ Err Stopped.WriteFault
-        → Rose (F.write_faults files.old) (F.write_faults files.new) }
+    ensures fault { HadReadFault F.Shelf files.old files.new result }
+    ensures write_fault { HadWriteFault F.Shelf files.old files.new result }
     ensures begun { result ≡ Err Stopped.WriteFault
         → (plant : Plant) × (IsReadOf reading (F.files files.old) name.now (Ok plant)
         × (levels.number ≤ length (slots plant))
@@ -62,10 +61,7 @@ pub fn join_file<F: Shelf>(
     ensures left { (F.files files.new ≡ F.files files.old) ⊎ HoldsJoined (F.files files.old)
         (F.files files.new) name.now levels.number stem.now log.now }
     ensures others { OthersStay log.now (F.files files.old) (F.files files.new) }
-    ensures readable { F.may_read files.new ≡ F.may_read files.old }
-    ensures writable { F.may_write files.new ≡ F.may_write files.old }
-    ensures later { F.read_faults files.old ≤ F.read_faults files.new }
-    ensures writes { F.write_faults files.old ≤ F.write_faults files.new }
+    ensures kept { ReadsAndWrites F.Shelf files.old files.new }
 {
     let plant = plant_in(alloc, files, name)?;
     join_parts(alloc, files, &plant, levels, stem, log)
@@ -92,19 +88,14 @@ fn join_parts<F: Shelf>(
     ensures refused { IfOk result (λ reply. IsUnwritten reply.status
         → F.files files.new ≡ F.files files.old) }
     ensures none { IfRefused result (λ _. ⊥) }
-    ensures fault { result ≡ Err Stopped.ReadFault
-        → Rose (F.read_faults files.old) (F.read_faults files.new) }
-    ensures write_fault { result ≡ Err Stopped.WriteFault
-        → Rose (F.write_faults files.old) (F.write_faults files.new) }
+    ensures fault { HadReadFault F.Shelf files.old files.new result }
+    ensures write_fault { HadWriteFault F.Shelf files.old files.new result }
     ensures begun { result ≡ Err Stopped.WriteFault → (levels.number ≤ length (slots plant.now))
         × AllAreValid plant.now levels.number stem.now (F.files files.old) }
     ensures left { LeavesJoined plant.now levels.number stem.now log.now
         (F.files files.old) (F.files files.new) }
     ensures others { OthersStay log.now (F.files files.old) (F.files files.new) }
-    ensures readable { F.may_read files.new ≡ F.may_read files.old }
-    ensures writable { F.may_write files.new ≡ F.may_write files.old }
-    ensures later { F.read_faults files.old ≤ F.read_faults files.new }
-    ensures writes { F.write_faults files.old ≤ F.write_faults files.new }
+    ensures kept { ReadsAndWrites F.Shelf files.old files.new }
 {
     if has_slots(alloc, plant, levels)? {
         join_logs(alloc, files, plant, levels, stem, log)
@@ -131,19 +122,14 @@ fn join_logs<F: Shelf>(
     ensures answer { IfOk result (λ reply. JoinAnswered (F.files files.old) (F.files files.new)
         levels.number stem.now log.now plant.now reply.status reply.text.items) }
     ensures none { IfRefused result (λ _. ⊥) }
-    ensures fault { result ≡ Err Stopped.ReadFault
-        → Rose (F.read_faults files.old) (F.read_faults files.new) }
-    ensures write_fault { result ≡ Err Stopped.WriteFault
-        → Rose (F.write_faults files.old) (F.write_faults files.new) }
+    ensures fault { HadReadFault F.Shelf files.old files.new result }
+    ensures write_fault { HadWriteFault F.Shelf files.old files.new result }
     ensures begun { result ≡ Err Stopped.WriteFault
         → AllAreValid plant.now levels.number stem.now (F.files files.old) }
     ensures left { LeavesJoined plant.now levels.number stem.now log.now
         (F.files files.old) (F.files files.new) }
     ensures others { OthersStay log.now (F.files files.old) (F.files files.new) }
-    ensures readable { F.may_read files.new ≡ F.may_read files.old }
-    ensures writable { F.may_write files.new ≡ F.may_write files.old }
-    ensures later { F.read_faults files.old ≤ F.read_faults files.new }
-    ensures writes { F.write_faults files.old ≤ F.write_faults files.new }
+    ensures kept { ReadsAndWrites F.Shelf files.old files.new }
 {
     match join(alloc, plant, levels.number, files, stem, log) {
         Ok(said) => Ok(joined(alloc, said)?),

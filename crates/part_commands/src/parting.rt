@@ -1,8 +1,8 @@
 //! `parts PLANT LEVELS`: the parts of a plant, and the slots that tell them apart.
 ghost use Rattle.std.specs.Prelude.{◌≡◌, ◌≢◌, ◌≤◌, ◌<◌, ◌^◌, [], length, Err, IsTrue, IfOk};
-ghost use Rattle.stn_edge.specs.Count.{Rose};
 ghost use Rattle.stn_model.specs.Sound.{Sound};
 ghost use Rattle.time_grid.specs.Slots.{slots};
+ghost use Rattle.command_replies.specs.Frames.{HadReadFault, OnlyReads};
 ghost use Rattle.command_replies.specs.Answers.{IsPlantAnswer};
 ghost use Rattle.command_replies.specs.Sources.{IfReplied};
 ghost use Rattle.part_commands.specs.Parting.{
@@ -33,16 +33,12 @@ pub fn parts_file<F: Shelf>(
     levels: Levels,
 ) -> Result<Reply, Stopped>
     requires { IsTrue (F.may_read files.old name.now) }
-    ensures answer { IfReplied result (λ reply. IsPlantAnswer (F.files files.old) (F.files files.new)
+    ensures answer { IfReplied result (λ reply. IsPlantAnswer (F.files files.old)
+        (F.files files.new)
         name.now [] (λ _. Parted levels.number) reply.status reply.text.items) }
-    ensures fault { result ≡ Err Stopped.ReadFault
-        → Rose (F.read_faults files.old) (F.read_faults files.new) }
+    ensures fault { HadReadFault F.Shelf files.old files.new result }
     ensures unwritten { result ≢ Err Stopped.WriteFault }
-    ensures same { F.files files.new ≡ F.files files.old }
-    ensures readable { F.may_read files.new ≡ F.may_read files.old }
-    ensures writable { F.may_write files.new ≡ F.may_write files.old }
-    ensures later { F.read_faults files.old ≤ F.read_faults files.new }
-    ensures no_write { F.write_faults files.new ≡ F.write_faults files.old }
+    ensures kept { OnlyReads F.Shelf files.old files.new }
 {
     let plant = plant_in(alloc, files, name)?;
     Ok(parts_of_plant(alloc, &plant, levels)?)

@@ -1,9 +1,9 @@
 //! `simulate`, `report`, `picture`, `table` and `violations PLANT PLAN`: what a plan earns or breaks first, its report, picture and
 //! tables, and everything that it breaks.
 ghost use Rattle.std.specs.Prelude.{◌≡◌, ◌≢◌, ◌≤◌, [], ℕ, List, Ok, Err, IsTrue};
-ghost use Rattle.stn_edge.specs.Count.{Rose};
 ghost use Rattle.stn_model.specs.Sound.{Sound};
 ghost use Rattle.plant_text.specs.Reading.{reading};
+ghost use Rattle.command_replies.specs.Frames.{HadReadFault, OnlyReads};
 ghost use Rattle.command_replies.specs.Answers.{IsPlanAnswer};
 ghost use Rattle.command_replies.specs.Sources.{IfReplied, IsReadOf};
 ghost use Rattle.answer_texts.specs.Simulation.{Simulated};
@@ -28,14 +28,9 @@ pub fn simulate_file<F: Shelf>(
     requires plan_readable { IsTrue (F.may_read files.old plan.now) }
     ensures answer { IfReplied result (λ reply. IsPlanAnswer (F.files files.old) (F.files files.new)
         plant.now plan.now [] (Simulated usage) reply.status reply.text.items) }
-    ensures fault { result ≡ Err Stopped.ReadFault
-        → Rose (F.read_faults files.old) (F.read_faults files.new) }
+    ensures fault { HadReadFault F.Shelf files.old files.new result }
     ensures unwritten { result ≢ Err Stopped.WriteFault }
-    ensures same { F.files files.new ≡ F.files files.old }
-    ensures readable { F.may_read files.new ≡ F.may_read files.old }
-    ensures writable { F.may_write files.new ≡ F.may_write files.old }
-    ensures later { F.read_faults files.old ≤ F.read_faults files.new }
-    ensures no_write { F.write_faults files.new ≡ F.write_faults files.old }
+    ensures kept { OnlyReads F.Shelf files.old files.new }
 {
     let plant = plant_in(alloc, files, plant)?;
     simulate_on(alloc, files, usage, &plant, plan)
@@ -54,14 +49,9 @@ fn simulate_on<F: Shelf>(
     ensures answer { (name : List ℕ) → IsReadOf reading (F.files files.old) name (Ok plant.now)
         → IfReplied result (λ reply. IsPlanAnswer (F.files files.old) (F.files files.new)
         name plan.now [] (Simulated usage) reply.status reply.text.items) }
-    ensures fault { result ≡ Err Stopped.ReadFault
-        → Rose (F.read_faults files.old) (F.read_faults files.new) }
+    ensures fault { HadReadFault F.Shelf files.old files.new result }
     ensures unwritten { result ≢ Err Stopped.WriteFault }
-    ensures same { F.files files.new ≡ F.files files.old }
-    ensures readable { F.may_read files.new ≡ F.may_read files.old }
-    ensures writable { F.may_write files.new ≡ F.may_write files.old }
-    ensures later { F.read_faults files.old ≤ F.read_faults files.new }
-    ensures no_write { F.write_faults files.new ≡ F.write_faults files.old }
+    ensures kept { OnlyReads F.Shelf files.old files.new }
 {
     let plan = plan_in(alloc, files, plant, plan)?;
     Ok(simulate_plan(alloc, usage, plant, plan.as_slice())?)

@@ -50,6 +50,7 @@ impl Lists {
 /// plan that is worked on and the best one.
 #[derive(Drop)]
 pub struct Finder {
+    pub alloc: Global,
     pub tables: Tables,
     pub field: Field,
     pub plans: Plans,
@@ -61,6 +62,11 @@ pub struct Finder {
 // The work of a look at an entry of a row.
 const CUT_WORK: u64 = 4;
 
+// The work of a step beside what the free slots cost, and about the steps of the trials that follow a bound.
+const STEP_WORK: u64 = 3_000;
+
+const TRIAL_STEPS: u64 = 32;
+
 impl Finder {
     /// A finder for a program. No plan is known.
     pub fn new(alloc: Global, program: &Program) -> Result<Finder, AllocError> {
@@ -70,6 +76,7 @@ impl Finder {
         let lists = Lists::new(alloc, program)?;
         let bounds = Bounds::new(alloc, program)?;
         Ok(Finder {
+            alloc,
             tables,
             field,
             plans,
@@ -114,8 +121,8 @@ impl Finder {
         may_gain
     }
 
-    // Counts the work of the last bound: for each pivot about the lines times the columns, by the slots that are free, and two looks
-    // at all rows.
+    // Counts the work of the last bound and of what follows it: for each step, and the trials' steps, about the square of the slots that
+    // are free, and 16 looks at all rows, in which the point that is rounded and improved is counted.
     fn count_bound(&mut self) {
         let mut free = 0u64;
         for slot in 0..self.field.slot_count() {
@@ -123,9 +130,10 @@ impl Finder {
                 free = free.wrapping_add(1);
             }
         }
-        let pivots = u64::from(self.bounds.workspace.pivots()).wrapping_add(free / 4);
-        let cells = free.wrapping_mul(free).wrapping_mul(2);
-        let looks = (self.tables.part_count() as u64).wrapping_mul(2);
+        let steps = u64::from(self.bounds.workspace.pivots()).wrapping_add(free / 4);
+        let pivots = steps.wrapping_add(TRIAL_STEPS);
+        let cells = free.wrapping_mul(free).wrapping_add(STEP_WORK);
+        let looks = (self.tables.part_count() as u64).wrapping_mul(16);
         let done = pivots.wrapping_mul(cells).wrapping_add(looks);
         self.work = self.work.wrapping_add(done);
     }

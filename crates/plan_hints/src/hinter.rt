@@ -1,18 +1,19 @@
 //! The hinter: what is looked for in a box, and what is offered.
+use crate::accounts::Accounts;
 use crate::bounds::NONE;
 use crate::diving::{Dive, ONE};
 use crate::finder::Finder;
-use crate::small_search::Picking;
+use crate::small_search::{Effort, Picking};
 use box_advice::Hinter;
 use dual_simplex::Amount;
-use plan_repair::{Hood, Kept, LEVELS, Leveled, list_hoods, put_sums, without_sums};
+use plan_repair::{Walk, put_sums, without_sums};
 use row_activity::{copy, domain_of, least_value, numbered};
 use row_kit::{Area, Program};
 use std::alloc::{AllocError, Global};
 
 /// Offers plans, each once and only where it is worth more than those before: what the guide left, repaired; greatest batches;
-/// dives by the bound; and what searches in the neighbourhoods of the best plan find. `offer` takes no memory, and its work is
-/// counted in steps.
+/// dives by the bound; and what searches in the neighbourhoods of the best plan find. Its work is counted in steps. `offer` takes memory
+/// for one neighbourhood after the other, and leaves those out for which there is none.
 ///
 /// Values are chosen for the given slots alone, in the program without its sums; an offered point has the values that the sums have
 /// there.
@@ -27,59 +28,44 @@ pub struct PlanHinter {
 #[derive(Drop)]
 struct Looker {
     finder: Finder,
-    best: Kept,
-    hoods: Vec<Leveled>,
+    walk: Walk,
     seen: Vec<Amount>,
-    earned: u64,
+    accounts: Accounts,
     boxes: u32,
-    begun: u32,
-    searched: Option<i128>,
     offered: Option<i128>,
 }
 
-// How often the search for plans begins, the boxes in which a better plan has its neighbourhoods searched, and those in which each
-// box is dived in.
-const MOST_BEGUN: u32 = 12;
-
-const MOST_BOXES: u32 = 400;
-
+// The boxes in which each one is dived in; after them each 16th is.
 const FIRST_BOXES: u32 = 20;
 
-// The boxes and the work of a small search, in programs of at most so many slots and in larger ones.
-const FEW_SLOTS: usize = 256;
+// The boxes and the work of a search for a first plan.
+const MOST_FIRST: u32 = 200;
 
-const MOST_SMALL: u32 = 20;
+const FIRST_WORK: u64 = 400_000_000;
 
-const MOST_LARGE: u32 = 100;
+// The boxes of a search in a neighbourhood before searches grow, the times that they grow at most, and the work of one.
+const MOST_SMALL: u32 = 40;
 
-const MOST_WORK: u64 = 40_000_000;
+const MOST_LEVEL: u32 = 6;
 
-const LARGE_WORK: u64 = 200_000_000;
+const MOST_WORK: u64 = 1_000_000_000;
 
-// The stages that are searched in a box, those without gain, without chance and with it, and the work, in the first box and in others.
-const MOST_TURNS: u32 = 100;
-
-const FIRST_STAGES: u32 = 8;
-
-const MOST_STAGES: u32 = 14;
-
-const FIRST_TOTAL: u64 = 1_200_000_000;
-
-const LARGE_TOTAL: u64 = 16_000_000_000;
-
-const MOST_TOTAL: u64 = 300_000_000;
-
-// The neighbourhoods of chance at a time.
-const CHANCES: u32 = 24;
+// The most neighbourhoods that are searched in a box.
+const MOST_STEPS: u32 = 100_000;
 
 impl PlanHinter {
-    /// A hinter for a program, of which the slots from `given` on are those of sums. It has room
-    /// for all that can come.
-    pub fn new(alloc: Global, program: &Program, given: u32) -> Result<PlanHinter, AllocError> {
+    /// A hinter for a program, of which the slots from `given` on are those of sums. It begins with a point at hand, a value for each
+    /// slot, which is repaired where it is not lawful; or with none, where `start` is empty. It has room for all that can come.
+    pub fn new(
+        alloc: Global,
+        program: &Program,
+        given: u32,
+        start: &[u8],
+    ) -> Result<PlanHinter, AllocError> {
         let own = without_sums(alloc, program, given)?;
         let looker = match &own {
-            None => Looker::new(alloc, program)?,
-            Some(own) => Looker::new(alloc, own)?,
+            None => Looker::begun(alloc, program, start)?,
+            Some(own) => Looker::begun(alloc, own, start)?,
         };
         Ok(PlanHinter { own, given, looker })
     }
@@ -90,18 +76,24 @@ impl Looker {
     fn new(alloc: Global, program: &Program) -> Result<Looker, AllocError> {
         Ok(Looker {
             finder: Finder::new(alloc, program)?,
-            best: Kept::new(alloc, program)?,
-            hoods: list_hoods(alloc, program)?,
+            walk: Walk::new(program),
             seen: vec![in alloc; NONE; program.root.len()]?,
-            earned: earned_by(program),
+            accounts: Accounts::new(program),
             boxes: 0,
-            begun: 0,
-            searched: None,
             offered: None,
         })
     }
 
-    // Takes what the guide left.
+    // What looks for plans of a program from a point on, if one is at hand.
+    fn begun(alloc: Global, program: &Program, start: &[u8]) -> Result<Looker, AllocError> {
+        let mut looker = Looker::new(alloc, program)?;
+        if start.len() >= program.root.len() {
+            looker.take_left(program, start);
+        }
+        Ok(looker)
+    }
+
+    // Takes a point that was left, repaired and improved.
     fn take_left(&mut self, program: &Program, point: &[u8]) {
         copy(self.finder.plans.point.as_mut_slice(), point);
         self.finder.take_point(program);
@@ -124,7 +116,11 @@ impl Looker {
             self.finder.dive(program, Dive::Greatest);
             self.finder.dive(program, Dive::GreatestBack);
         }
-        if self.finder.bound(program, None) {
+        let may_gain = self.finder.bound(program, None);
+        if self.boxes == 1 {
+            self.note_cap(may_gain);
+        }
+        if may_gain {
             self.finder.bounds.save_start();
             copy(
                 self.seen.as_mut_slice(),
@@ -137,174 +133,106 @@ impl Looker {
         }
     }
 
+    // Notes how much the first bound leaves to plans: nothing where it may gain nothing.
+    fn note_cap(&mut self, may_gain: bool) {
+        match self.finder.plans.kept.worth {
+            Some(best) if !may_gain => self.accounts.note_cap(best),
+            _ => self.accounts.note_cap(self.finder.bounds.workspace.worth()),
+        }
+    }
+
     // Searches the box for a first plan, where none is known.
     fn find_first(&mut self, program: &Program) {
         for picking in [Picking::Furthest, Picking::Tried] {
             if self.finder.plans.kept.worth.is_none() {
-                let limit = self.finder.work.saturating_add(10 * MOST_WORK);
                 let mark = self.finder.field.mark();
-                self.finder.search(program, picking, 10 * MOST_SMALL, limit);
+                let effort = Effort {
+                    picking,
+                    boxes: MOST_FIRST,
+                    work: FIRST_WORK,
+                };
+                self.finder.search(program, effort);
                 self.finder.field.back(&self.finder.tables, mark);
             }
         }
     }
 
-    // Searches the neighbourhoods of the best plan, level by level, the cheapest first, each with both ways of picking, and from the
-    // cheapest again after each gain, until so many stages bring none.
-    fn search_hoods(&mut self, program: &Program, most: u32) {
+    // Searches neighbourhoods of the best plan, as long as there is work left for them.
+    fn search_hoods(&mut self, program: &Program) {
+        if !self.may_search() {
+            return;
+        }
         self.finder.enter_root(program);
-        let end = self.finder.work.saturating_add(self.most_total());
-        let mut stage = 0u32;
-        for turn in 0..MOST_TURNS {
-            let ended = stage >= most || self.finder.work >= end;
-            if ended || self.finder.plans.kept.worth.is_none() {
+        for _ in 0..MOST_STEPS {
+            self.search_next(program);
+            if !self.may_search() {
                 return;
             }
-            stage = if self.search_stage(program, stage, turn) {
-                0
-            } else {
-                stage.saturating_add(1)
-            };
         }
     }
 
-    // Whether its program has many slots.
-    fn is_large(&self) -> bool {
-        self.seen.len() > FEW_SLOTS
-    }
-
-    // The work of the searches of a box.
-    fn most_total(&self) -> u64 {
-        if self.boxes != 1 {
-            MOST_TOTAL
-        } else if self.is_large() {
-            LARGE_TOTAL
-        } else {
-            FIRST_TOTAL
+    // Whether there is work left for the neighbourhoods of a plan.
+    fn may_search(&self) -> bool {
+        match self.finder.plans.kept.worth {
+            None => false,
+            Some(best) => self.walk.level <= MOST_LEVEL
+                && self.accounts.allow(self.finder.work, best),
         }
     }
 
-    // How many stages without gain end a search: those of chance count each fourth time that it begins anew.
-    fn stages(&self, anew: bool) -> u32 {
-        if anew && self.begun % 4 == 0 {
-            MOST_STAGES
-        } else {
-            FIRST_STAGES
-        }
-    }
-
-    // Searches the neighbourhoods of a level; whether a better plan is found.
-    fn search_stage(&mut self, program: &Program, stage: u32, turn: u32) -> bool {
+    // Searches the next neighbourhood.
+    fn search_next(&mut self, program: &Program) {
         let before = self.finder.plans.kept.worth;
-        let picking = self.picking(stage);
-        if stage / 2 >= LEVELS {
-            self.search_chances(program, turn, picking);
-        } else {
-            self.search_level(program, stage / 2, picking);
+        self.search_hood(program);
+        let gained = self.finder.plans.kept.worth != before;
+        self.walk.go_on(gained);
+        if gained {
+            self.accounts.note_gain(self.finder.work);
         }
-        self.finder.plans.kept.worth != before
     }
 
-    // How a stage picks: by trials first, each second time that it begins by amounts first.
-    fn picking(&self, stage: u32) -> Picking {
-        let swapped = self.begun % 2 == 0;
-        if (stage % 2 == 1) == swapped {
+    // Searches the neighbourhood that the walk has come to.
+    fn search_hood(&mut self, program: &Program) {
+        let picking = if self.walk.tries {
             Picking::Tried
         } else {
             Picking::Furthest
-        }
-    }
-
-    // Searches the listed neighbourhoods of a level.
-    fn search_level(&mut self, program: &Program, level: u32, picking: Picking) {
-        for place in 0..self.hoods.len() {
-            if place < self.hoods.len() {
-                let leveled = self.hoods[place];
-                if leveled.level == level {
-                    self.search_hood(program, leveled.hood, picking);
-                }
-            }
-        }
-    }
-
-    // Searches neighbourhoods of chance.
-    fn search_chances(&mut self, program: &Program, turn: u32, picking: Picking) {
-        for number in 0..CHANCES {
-            let seed = turn.wrapping_mul(32).wrapping_add(number);
-            self.search_hood(program, Hood::Chance(seed), picking);
-        }
-    }
-
-    // Searches a neighbourhood.
-    fn search_hood(&mut self, program: &Program, hood: Hood, picking: Picking) {
-        let (most, work) = if self.is_large() {
-            (MOST_LARGE, LARGE_WORK)
-        } else {
-            (MOST_SMALL, MOST_WORK)
         };
-        let limit = self.finder.work.saturating_add(work);
+        let effort = Effort {
+            picking,
+            boxes: MOST_SMALL.saturating_mul(3u32.saturating_pow(self.walk.level.min(MOST_LEVEL))),
+            work: MOST_WORK,
+        };
         let seen = self.seen.as_slice();
-        self.finder
-            .search_hood(program, hood, seen, picking, most, limit);
-    }
-
-    // Whether the search for plans begins anew, with another first plan: at first, and where the boxes have earned all its work so far.
-    fn begins_anew(&self) -> bool {
-        if self.begun == 0 {
-            return true;
-        }
-        let earned = self.earned.saturating_mul(u64::from(self.boxes));
-        self.begun < MOST_BEGUN && self.finder.work <= earned
+        let hood = self.walk.hood();
+        self.finder.search_hood(program, hood, seen, effort);
     }
 
     // Looks for plans in a box that has more than one point.
     fn look(&mut self, program: &Program, area: &Area, point: &[u8]) {
-        let anew = self.begins_anew();
-        if anew {
-            self.begun = self.begun.saturating_add(1);
-            self.finder.plans.kept.worth = None;
-        }
+        let before = self.finder.plans.kept.worth;
         self.take_left(program, point);
-        if anew || self.boxes <= FIRST_BOXES || self.boxes % 16 == 0 {
+        if self.boxes <= FIRST_BOXES || self.boxes % 16 == 0 {
             self.dive(program, area);
-        }
-        let gained = self.boxes < MOST_BOXES && self.finder.plans.kept.worth != self.searched;
-        if anew || gained {
             self.find_first(program);
-            self.search_hoods(program, self.stages(anew));
-            self.recall(program);
-            self.searched = self.finder.plans.kept.worth;
         }
-    }
-
-    // Goes on from the best of all plans.
-    fn recall(&mut self, program: &Program) {
-        let _ = self
-            .best
-            .take(program, self.finder.plans.kept.values.as_slice());
-        let _ = self
-            .finder
-            .plans
-            .kept
-            .take(program, self.best.values.as_slice());
+        if self.finder.plans.kept.worth != before {
+            self.walk.begin_anew();
+            self.accounts.note_gain(self.finder.work);
+        }
+        self.search_hoods(program);
     }
 
     // Whether the best plan has not been offered; then it is.
-    fn hand_out(&mut self, program: &Program, point: &mut [u8]) -> bool {
-        self.recall(program);
-        if self.best.worth == self.offered {
+    fn hand_out(&mut self, point: &mut [u8]) -> bool {
+        let worth = self.finder.plans.kept.worth;
+        if worth == self.offered {
             return false;
         }
-        self.offered = self.best.worth;
-        copy(point, self.best.values.as_slice());
+        self.offered = worth;
+        copy(point, self.finder.plans.kept.values.as_slice());
         true
     }
-}
-
-// The work that each box earns: 24 times the square of the slots, about as much as a box costs beside.
-fn earned_by(program: &Program) -> u64 {
-    let slots = program.root.len() as u64;
-    slots.saturating_mul(slots).saturating_mul(24)
 }
 
 // Writes the least value of each slot of an area.
@@ -331,11 +259,12 @@ impl Looker {
     // Offers a plan: whether its values are in the first places of the point.
     fn offer(&mut self, program: &Program, area: &Area, point: &mut [u8]) -> bool {
         self.boxes = self.boxes.saturating_add(1);
+        self.accounts.note_box();
         if area.is_point() {
             self.take_only(program, area);
         } else {
             self.look(program, area, point);
         }
-        self.hand_out(program, point)
+        self.hand_out(point)
     }
 }

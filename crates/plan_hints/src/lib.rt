@@ -3,6 +3,7 @@
 //! It promises to be safe and to end, and nothing else: `branch_tree` tests each offered point before it is used.
 #![tactic(auto)]
 
+mod accounts;
 mod bounds;
 mod diving;
 mod finder;

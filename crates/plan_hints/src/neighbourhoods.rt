@@ -1,31 +1,42 @@
 //! Small searches around the best plan.
 use crate::diving::ONE;
 use crate::finder::Finder;
-use crate::small_search::Picking;
+use crate::small_search::Effort;
 use dual_simplex::Amount;
-use plan_repair::Hood;
+use plan_repair::{Hood, narrowed};
 use row_activity::numbered;
 use row_kit::Program;
+use std::alloc::AllocError;
 
 // What is that near to a whole number counts as whole: 2 to the power -10.
 const NEAR: i64 = 1_048_576;
 
 impl Finder {
-    /// Searches its area, where the best plan is left free by a neighbourhood. `seen` is what the slots came to in the bound with
-    /// which the plan is compared.
-    pub fn search_hood(
-        &mut self,
-        program: &Program,
-        hood: Hood,
-        seen: &[Amount],
-        picking: Picking,
-        most: u32,
-        limit: u64,
-    ) {
+    /// Searches its area, where the best plan is left free by a neighbourhood, and the quanta of all that it starts. `seen` is what the
+    /// slots came to in the bound with which the plan is compared. Where memory is wanting, nothing is searched.
+    pub fn search_hood(&mut self, program: &Program, hood: Hood, seen: &[Amount], effort: Effort) {
         let mark = self.field.mark();
         self.agree(program, hood, seen);
-        self.search(program, picking, most, limit);
+        if self.cut(program) {
+            let _ = self.search_left(program, effort);
+        }
         self.field.back(&self.tables, mark);
+    }
+
+    // Searches what is left of a program over its area, with a finder of its own.
+    fn search_left(&mut self, program: &Program, effort: Effort) -> Result<(), AllocError> {
+        let Some(left) = narrowed(self.alloc, program, &self.field)? else {
+            return Ok(());
+        };
+        let mut finder = Finder::new(self.alloc, &left)?;
+        let plans = &mut self.plans;
+        let _ = finder.plans.kept.take(&left, plans.kept.values.as_slice());
+        finder.search(&left, effort);
+        let _ = plans
+            .kept
+            .take(program, finder.plans.kept.values.as_slice());
+        self.work = self.work.saturating_add(finder.work);
+        Ok(())
     }
 
     // About the place up to before which a slot holds its lane.
@@ -36,7 +47,7 @@ impl Finder {
         }
     }
 
-    // Keeps the values of the best plan outside a neighbourhood.
+    // Keeps outside a neighbourhood which slots the best plan starts.
     fn agree(&mut self, program: &Program, hood: Hood, seen: &[Amount]) {
         for slot in 0..program.tags.len() {
             let value = value_at(self.plans.kept.values.as_slice(), slot);
@@ -46,17 +57,17 @@ impl Finder {
                 !hood.frees(program.tags.get(slot), self.end_of(slot))
             };
             if held {
-                self.hold(numbered(slot), value, hood == Hood::Bound);
+                self.hold(numbered(slot), value);
             }
         }
     }
 
-    // Keeps a value of a slot, or all that start it alike.
-    fn hold(&mut self, slot: u32, value: u8, alike: bool) {
-        if alike && value != 0 {
-            self.field.keep_above(&self.tables, slot, 0);
+    // Keeps that a slot is not started, or that it is, with its quanta free.
+    fn hold(&mut self, slot: u32, value: u8) {
+        if value == 0 {
+            self.field.keep_value(&self.tables, slot, 0);
         } else {
-            self.field.keep_value(&self.tables, slot, value);
+            self.field.keep_above(&self.tables, slot, 0);
         }
     }
 }

@@ -14,27 +14,33 @@ pub enum Picking {
     Tried,
 }
 
+/// How a small search goes: how it picks, and how many boxes and how much work it takes at most.
+#[derive(Clone, Copy)]
+pub struct Effort {
+    pub picking: Picking,
+    pub boxes: u32,
+    pub work: u64,
+}
+
 // What is that near to a whole number counts as whole: 2 to the power -14.
 const NEAR: i64 = 65_536;
 
 // The slots that are tried, and the steps of each trial.
-const MOST_TRIED: usize = 8;
+const MOST_TRIED: usize = 4;
 
-const MOST_STEPS: u32 = 15;
+const MOST_STEPS: u32 = 8;
 
 impl Finder {
-    /// Searches its area depth first, from the start's basis, for a plan that is worth more than the best: at most so many boxes,
-    /// and up to so much work in all.
-    pub fn search(&mut self, program: &Program, picking: Picking, most: u32, limit: u64) {
+    /// Searches its area depth first, from the start's basis, for a plan that is worth more than the best.
+    pub fn search(&mut self, program: &Program, effort: Effort) {
         self.lists.frames.clear();
-        let mut boxes = 0u32;
+        let limit = self.work.saturating_add(effort.work);
         let mut from = None;
-        for _ in 0..most {
-            if boxes >= most || self.work >= limit {
+        for boxes in 0..effort.boxes {
+            if self.work >= limit {
                 break;
             }
-            boxes = boxes.saturating_add(1);
-            from = if self.look(program, picking, from, boxes) {
+            from = if self.look(program, effort.picking, from, boxes) {
                 self.lists.frames.len().checked_sub(1)
             } else if self.turn() {
                 Some(self.lists.frames.len())
@@ -82,11 +88,11 @@ impl Finder {
         }
     }
 
-    // Dives in each second box.
+    // Dives in each eighth box.
     fn dive_at(&mut self, program: &Program, boxes: u32) {
-        if boxes % 4 == 1 {
+        if boxes % 16 == 0 {
             self.dive(program, Dive::Amounts(ONE / 20));
-        } else if boxes % 4 == 3 {
+        } else if boxes % 16 == 8 {
             self.dive(program, Dive::Amounts(ONE / 2));
         }
     }

@@ -5,3 +5,4 @@ pub mod Laws
 pub mod Marks
 pub mod Picture
 pub mod Scale
+pub mod Shown

@@ -4,23 +4,21 @@ ghost use Rattle.std.specs.String.{string_bytes};
 ghost use Rattle.stn_model.specs.Plant.{task_at, unit_at, end_of};
 ghost use Rattle.stn_model.specs.Sound.{Sound};
 ghost use Rattle.plan_picture.specs.Marks.{words_at, shortened, title, frame_at};
+ghost use Rattle.plan_picture.specs.Shown.{IsShown};
 ghost use Rattle.plan_picture.specs.Bars.{is_seen, unit_row, unit_rows, outage_box, outage_boxes, color_begin, edge_class, size_words, when_words, bar_title, bar_frame, frame_words, whole_bar, bar, bars};
 
 use crate::marks::{Frame, push_frame, push_title, push_words, shortened};
 use crate::rows::push_row_name;
 use crate::scale::{letters_in, period_width, periods_in, unit_top};
+use crate::shown::Shown;
 use crate::spans::{is_seen, span};
+use crate::written::Written;
 use std::alloc::{AllocError, Global};
 use stn_model::{Outage, Plant, Start, end};
 
 /// Appends the rows of all units: their names, and the ground of their idle time.
 #[tactic(auto, using(crate::proofs::Ranges::pieces_next))]
-pub fn push_unit_rows(
-    alloc: Global,
-    text: &mut Vec<u8>,
-    plant: &Plant,
-    band: u32,
-) -> Result<(), AllocError>
+pub fn push_unit_rows(alloc: Global, text: &mut Vec<u8>, plant: &Plant, band: u32) -> Written
     requires sound { Sound plant.now }
     requires there { band ≤ 7 }
     ensures { OnOk result (text.new.items ≡ text.old.items ++ unit_rows plant.now band) }
@@ -32,13 +30,7 @@ pub fn push_unit_rows(
 }
 
 #[tactic(auto, unfolding(crate::specs::Bars::unit_row))]
-fn push_unit_row(
-    alloc: Global,
-    text: &mut Vec<u8>,
-    plant: &Plant,
-    band: u32,
-    unit: u32,
-) -> Result<(), AllocError>
+fn push_unit_row(alloc: Global, text: &mut Vec<u8>, plant: &Plant, band: u32, unit: u32) -> Written
     requires sound { Sound plant.now }
     requires there { band ≤ 7 }
     requires unit { unit < length plant.now.units }
@@ -63,12 +55,7 @@ fn unit_name(plant: &Plant, unit: u32) -> &[u8]
 }
 
 /// Appends the outages that the band shows.
-pub fn push_outages(
-    alloc: Global,
-    text: &mut Vec<u8>,
-    plant: &Plant,
-    band: u32,
-) -> Result<(), AllocError>
+pub fn push_outages(alloc: Global, text: &mut Vec<u8>, plant: &Plant, band: u32) -> Written
     requires sound { Sound plant.now }
     requires there { band ≤ 7 }
     ensures { OnOk result (text.new.items ≡ text.old.items ++ outage_boxes plant.now band) }
@@ -86,7 +73,7 @@ fn push_outage(
     plant: &Plant,
     band: u32,
     outage: &Outage,
-) -> Result<(), AllocError>
+) -> Written
     requires sound { Sound plant.now }
     requires there { band ≤ 7 }
     ensures { OnOk result (text.new.items
@@ -104,7 +91,7 @@ fn push_outage(
 
 /// Appends where a group in the colour of a task begins.
 #[tactic(auto, unfolding(crate::specs::Bars::color_begin))]
-pub fn push_color_begin(alloc: Global, text: &mut Vec<u8>, task: u32) -> Result<(), AllocError>
+pub fn push_color_begin(alloc: Global, text: &mut Vec<u8>, task: u32) -> Written
     ensures { OnOk result (text.new.items ≡ text.old.items ++ color_begin task) }
 {
     let color = task % 8;
@@ -175,31 +162,21 @@ fn bar_title(alloc: Global, plant: &Plant, start: &Start, size: &str) -> Result<
 }
 
 /// Appends the bars of all batches of which the band shows something.
-pub fn push_bars(
-    alloc: Global,
-    text: &mut Vec<u8>,
-    plant: &Plant,
-    plan: &[Start],
-    band: u32,
-) -> Result<(), AllocError>
-    requires sound { Sound plant.now }
+pub fn push_bars(alloc: Global, text: &mut Vec<u8>, shown: &Shown, band: u32) -> Written
+    requires shown { IsShown shown.now }
     requires there { band ≤ 7 }
-    ensures { OnOk result (text.new.items ≡ text.old.items ++ bars plant.now plan.now band) }
+    ensures { OnOk result (text.new.items
+        ≡ text.old.items ++ bars shown.now.plant.now shown.now.plan.now band) }
 {
+    let plan = shown.plan;
     for start in plan {
-        push_bar(alloc, text, plant, band, start)?;
+        push_bar(alloc, text, shown.plant, band, start)?;
     }
     Ok(())
 }
 
 #[tactic(auto, unfolding(crate::specs::Bars::bar))]
-fn push_bar(
-    alloc: Global,
-    text: &mut Vec<u8>,
-    plant: &Plant,
-    band: u32,
-    start: &Start,
-) -> Result<(), AllocError>
+fn push_bar(alloc: Global, text: &mut Vec<u8>, plant: &Plant, band: u32, start: &Start) -> Written
     requires sound { Sound plant.now }
     requires there { band ≤ 7 }
     ensures { OnOk result (text.new.items ≡ text.old.items ++ bar plant.now band start.now) }
@@ -222,7 +199,7 @@ fn push_whole_bar(
     band: u32,
     start: &Start,
     frame: Frame,
-) -> Result<(), AllocError>
+) -> Written
     requires place { frame ≡ bar_frame plant.now band start.now }
     requires x { frame.x ≤ 2 ^ 51 }
     requires y { frame.y ≤ 2 ^ 41 }
@@ -244,7 +221,7 @@ fn push_bar_title(
     plant: &Plant,
     start: &Start,
     size: &str,
-) -> Result<(), AllocError>
+) -> Written
     requires { size.now ≡ size_words plant.now start.now }
     ensures { OnOk result (text.new.items
         ≡ text.old.items ++ title (bar_title plant.now start.now)) }
@@ -254,12 +231,7 @@ fn push_bar_title(
 }
 
 /// Appends a rectangle with the edge of a task.
-pub fn push_edge(
-    alloc: Global,
-    text: &mut Vec<u8>,
-    task: u32,
-    frame: Frame,
-) -> Result<(), AllocError>
+pub fn push_edge(alloc: Global, text: &mut Vec<u8>, task: u32, frame: Frame) -> Written
     ensures { OnOk result (text.new.items ≡ text.old.items ++ frame_at (edge_class task) frame) }
 {
     let class = edge_class(alloc, task)?;
@@ -274,7 +246,7 @@ fn push_frame_words(
     frame: Frame,
     name: &[u8],
     size: &[u8],
-) -> Result<(), AllocError>
+) -> Written
     requires x { frame.x ≤ 2 ^ 51 }
     requires y { frame.y ≤ 2 ^ 41 }
     ensures { OnOk result (text.new.items
@@ -294,7 +266,7 @@ fn push_cut(
     y: u64,
     room: u64,
     words: &[u8],
-) -> Result<(), AllocError>
+) -> Written
     ensures { OnOk result (text.new.items
         ≡ text.old.items ++ words_at class.now x y (shortened room words.now)) }
 {

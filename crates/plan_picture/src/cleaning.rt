@@ -2,29 +2,27 @@
 ghost use Rattle.std.specs.Prelude.{◌≡◌, ◌≤◌, ◌+◌, ◌++◌, ◌^◌, OnOk};
 ghost use Rattle.stn_model.specs.Sound.{Sound};
 ghost use Rattle.plan_picture.specs.Marks.{frame_at};
+ghost use Rattle.plan_picture.specs.Shown.{IsShown};
 ghost use Rattle.plan_picture.specs.Bars.{stripes, cleaning, cleaning_between, cleaning_after, cleanings};
 
 use crate::marks::Frame;
+use crate::shown::Shown;
 use crate::spans::{is_seen, span};
+use crate::written::Written;
 use plain_plan::profit::is_next;
-use std::alloc::{AllocError, Global};
+use std::alloc::Global;
 use stn_model::{Plant, Start, end, gap_of};
 
 /// Appends the cleaning that the band shows.
-pub fn push_cleanings(
-    alloc: Global,
-    text: &mut Vec<u8>,
-    plant: &Plant,
-    plan: &[Start],
-    band: u32,
-) -> Result<(), AllocError>
-    requires sound { Sound plant.now }
+pub fn push_cleanings(alloc: Global, text: &mut Vec<u8>, shown: &Shown, band: u32) -> Written
+    requires shown { IsShown shown.now }
     requires there { band ≤ 7 }
     ensures { OnOk result (text.new.items
-        ≡ text.old.items ++ cleanings plant.now plan.now band) }
+        ≡ text.old.items ++ cleanings shown.now.plant.now shown.now.plan.now band) }
 {
+    let plan = shown.plan;
     for start in plan {
-        push_cleaning_after(alloc, text, plant, plan, band, start)?;
+        push_cleaning_after(alloc, text, shown, band, start)?;
     }
     Ok(())
 }
@@ -33,18 +31,18 @@ pub fn push_cleanings(
 fn push_cleaning_after(
     alloc: Global,
     text: &mut Vec<u8>,
-    plant: &Plant,
-    plan: &[Start],
+    shown: &Shown,
     band: u32,
     a: &Start,
-) -> Result<(), AllocError>
-    requires sound { Sound plant.now }
+) -> Written
+    requires shown { IsShown shown.now }
     requires there { band ≤ 7 }
     ensures { OnOk result (text.new.items
-        ≡ text.old.items ++ cleaning_after plant.now plan.now band a.now) }
+        ≡ text.old.items ++ cleaning_after shown.now.plant.now shown.now.plan.now band a.now) }
 {
+    let plan = shown.plan;
     for b in plan {
-        push_cleaning_between(alloc, text, plant, plan, band, a, b)?;
+        push_cleaning_between(alloc, text, shown, band, a, b)?;
     }
     Ok(())
 }
@@ -53,21 +51,21 @@ fn push_cleaning_after(
 fn push_cleaning_between(
     alloc: Global,
     text: &mut Vec<u8>,
-    plant: &Plant,
-    plan: &[Start],
+    shown: &Shown,
     band: u32,
     a: &Start,
     b: &Start,
-) -> Result<(), AllocError>
-    requires sound { Sound plant.now }
+) -> Written
+    requires shown { IsShown shown.now }
     requires there { band ≤ 7 }
-    ensures { OnOk result (text.new.items
-        ≡ text.old.items ++ cleaning_between plant.now plan.now band a.now b.now) }
+    ensures { OnOk result (text.new.items ≡ text.old.items
+        ++ cleaning_between shown.now.plant.now shown.now.plan.now band a.now b.now) }
 {
-    if is_next(plan, a, b) {
-        let from = end(plant, a);
-        let to = from as u128 + gap_of(plant, a.unit, a.task, b.task) as u128;
-        push_cleaning(alloc, text, plant, band, a.unit, from, to)
+    if is_next(shown.plan, a, b) {
+        let from = end(shown.plant, a);
+        let gap = gap_of(shown.plant, a.unit, a.task, b.task);
+        let to = from as u128 + gap as u128;
+        push_cleaning(alloc, text, shown.plant, band, a.unit, from, to)
     } else {
         Ok(())
     }
@@ -82,7 +80,7 @@ fn push_cleaning(
     unit: u32,
     from: u64,
     to: u128,
-) -> Result<(), AllocError>
+) -> Written
     requires sound { Sound plant.now }
     requires there { band ≤ 7 }
     ensures { OnOk result (text.new.items
@@ -96,7 +94,7 @@ fn push_cleaning(
 }
 
 #[tactic(auto, unfolding(crate::specs::Bars::stripes))]
-fn push_stripes(alloc: Global, text: &mut Vec<u8>, frame: Frame) -> Result<(), AllocError>
+fn push_stripes(alloc: Global, text: &mut Vec<u8>, frame: Frame) -> Written
     requires { frame.y ≤ 2 ^ 41 }
     ensures { OnOk result (text.new.items ≡ text.old.items ++ stripes frame) }
 {

@@ -6,6 +6,7 @@ ghost use Rattle.plan_picture.specs.Graphs.{cloth, whole_flag, flag, spaced, sig
 use crate::marks::{Frame, push_fitted, push_frame};
 use crate::scale::{band_part, letters_in, period_width, x_at};
 use crate::steps::limit_words;
+use crate::written::Written;
 use std::alloc::{AllocError, Global};
 use stn_model::{Plant, delivered_by, received_by};
 
@@ -19,7 +20,7 @@ pub fn push_stock_flags(
     state: u32,
     y: u64,
     places: usize,
-) -> Result<(), AllocError>
+) -> Written
     requires sound { Sound plant.now }
     requires there { band ≤ 7 }
     requires state { state < length plant.now.states }
@@ -43,7 +44,7 @@ fn push_stock_flag(
     state: u32,
     y: u64,
     place: u32,
-) -> Result<(), AllocError>
+) -> Written
     requires sound { Sound plant.now }
     requires there { band ≤ 7 }
     requires state { state < length plant.now.states }
@@ -67,7 +68,7 @@ pub fn push_load_flags(
     plant: &Plant,
     limits: &[u64],
     y: u64,
-) -> Result<(), AllocError>
+) -> Written
     requires sound { Sound plant.now }
     requires low { y ≤ 2 ^ 42 }
     requires short { length limits.now < 2 ^ 32 }
@@ -87,7 +88,7 @@ fn push_load_flag(
     limits: &[u64],
     y: u64,
     place: u32,
-) -> Result<(), AllocError>
+) -> Written
     requires sound { Sound plant.now }
     requires low { y ≤ 2 ^ 42 }
     ensures { OnOk result (text.new.items
@@ -106,7 +107,7 @@ fn push_flag(
     y: u64,
     place: u32,
     words: &[u8],
-) -> Result<(), AllocError>
+) -> Written
     requires sound { Sound plant.now }
     requires low { y ≤ 2 ^ 42 }
     ensures { OnOk result (text.new.items ≡ text.old.items ++ flag plant.now y place words.now) }
@@ -126,7 +127,7 @@ fn push_whole_flag(
     x: u64,
     y: u64,
     words: &[u8],
-) -> Result<(), AllocError>
+) -> Written
     requires sound { Sound plant.now }
     requires left { x ≤ 2 ^ 51 }
     requires low { y ≤ 2 ^ 42 }
@@ -152,7 +153,7 @@ fn push_cloth(
     x: u64,
     y: u64,
     letters: u64,
-) -> Result<(), AllocError>
+) -> Written
     requires sound { Sound plant.now }
     requires low { y ≤ 2 ^ 42 }
     ensures { OnOk result (text.new.items ≡ text.old.items ++ cloth plant.now x y letters) }

@@ -3,55 +3,45 @@ ghost use Rattle.std.specs.Prelude.{◌≡◌, ◌≤◌, ◌<◌, ◌^◌, ◌+
 ghost use Rattle.stn_model.specs.Plant.{utility_at};
 ghost use Rattle.stn_model.specs.Sound.{Sound};
 ghost use Rattle.plan_picture.specs.Graphs.{is_touched, touched_before, band_steps, stock_graph, stock_row, stock_rows, stocks, load_graph, load_row, load_rows, loads};
+ghost use Rattle.plan_picture.specs.Shown.{IsShown};
 
 use crate::flags::{push_load_flags, push_stock_flags};
 use crate::levels::{graph_top, is_touched, loads_of, stocks_of};
 use crate::rows::{push_part_head, push_row_name};
 use crate::scale::{band_part, loads_top, stocks_top};
-use crate::steps::push_steps;
+use crate::shown::Shown;
+use crate::steps::{StepRow, push_steps};
+use crate::written::Written;
 use std::alloc::{AllocError, Global};
-use stn_model::{Plant, Start};
+use stn_model::Plant;
 
 /// Appends the head of the stocks in a band, and a row for each state that is moved, of so many.
 #[tactic(auto, unfolding(crate::specs::Graphs::stocks))]
-pub fn push_stocks(
-    alloc: Global,
-    text: &mut Vec<u8>,
-    plant: &Plant,
-    plan: &[Start],
-    states: u64,
-    band: u32,
-) -> Result<(), AllocError>
-    requires sound { Sound plant.now }
-    requires few { length plan.now < 2 ^ 32 }
+pub fn push_stocks(alloc: Global, text: &mut Vec<u8>, shown: &Shown, band: u32) -> Written
+    requires shown { IsShown shown.now }
     requires there { band ≤ 7 }
-    ensures { OnOk result (text.new.items
-        ≡ text.old.items ++ stocks plant.now plan.now states band) }
+    ensures { OnOk result (text.new.items ≡ text.old.items
+        ++ stocks shown.now.plant.now shown.now.plan.now shown.now.states band) }
 {
-    if 0 < states {
-        push_part_head(alloc, text, plant, band, stocks_top(plant), "stock")?;
-        push_stock_rows(alloc, text, plant, plan, band)
+    if 0 < shown.states {
+        let top = stocks_top(shown.plant);
+        push_part_head(alloc, text, shown.plant, band, top, "stock")?;
+        push_stock_rows(alloc, text, shown, band)
     } else {
         Ok(())
     }
 }
 
 #[tactic(auto, using(crate::proofs::Ranges::pieces_next, crate::proofs::Counting::count_below_more))]
-fn push_stock_rows(
-    alloc: Global,
-    text: &mut Vec<u8>,
-    plant: &Plant,
-    plan: &[Start],
-    band: u32,
-) -> Result<(), AllocError>
-    requires sound { Sound plant.now }
-    requires few { length plan.now < 2 ^ 32 }
+fn push_stock_rows(alloc: Global, text: &mut Vec<u8>, shown: &Shown, band: u32) -> Written
+    requires shown { IsShown shown.now }
     requires there { band ≤ 7 }
-    ensures { OnOk result (text.new.items ≡ text.old.items ++ stock_rows plant.now plan.now band) }
+    ensures { OnOk result (text.new.items
+        ≡ text.old.items ++ stock_rows shown.now.plant.now shown.now.plan.now band) }
 {
     let mut rows: u64 = 0;
-    for state in 0..plant.states.len() {
-        rows += push_stock_row(alloc, text, plant, plan, band, state as u32, rows)?;
+    for state in 0..shown.plant.states.len() {
+        rows += push_stock_row(alloc, text, shown, band, state as u32, rows)?;
     }
     Ok(())
 }
@@ -62,27 +52,25 @@ fn push_stock_rows(
 fn push_stock_row(
     alloc: Global,
     text: &mut Vec<u8>,
-    plant: &Plant,
-    plan: &[Start],
+    shown: &Shown,
     band: u32,
     state: u32,
     before: u64,
 ) -> Result<u64, AllocError>
-    requires sound { Sound plant.now }
-    requires few { length plan.now < 2 ^ 32 }
+    requires shown { IsShown shown.now }
     requires there { band ≤ 7 }
-    requires state { state < length plant.now.states }
-    requires place { before ≡ touched_before plant.now plan.now state }
+    requires state { state < length shown.now.plant.now.states }
+    requires place { before ≡ touched_before shown.now.plant.now shown.now.plan.now state }
     requires small { before < 2 ^ 32 }
-    ensures rows { IfOk result
-        (λ rows. rows ≡ (if is_touched plant.now plan.now state then 1 else 0)) }
+    ensures rows { IfOk result (λ rows. rows
+        ≡ (if is_touched shown.now.plant.now shown.now.plan.now state then 1 else 0)) }
     ensures text { OnOk result (text.new.items
-        ≡ text.old.items ++ stock_row plant.now plan.now band state) }
+        ≡ text.old.items ++ stock_row shown.now.plant.now shown.now.plan.now band state) }
 {
-    if is_touched(plant, plan, state) {
-        let stocks = stocks_of(alloc, plant, plan, state)?;
-        let y = stocks_top(plant) + 22 + 22 * before;
-        push_stock_graph(alloc, text, plant, stocks.as_slice(), band, state, y)?;
+    if is_touched(shown.plant, shown.plan, state) {
+        let stocks = stocks_of(alloc, shown.plant, shown.plan, state)?;
+        let y = stocks_top(shown.plant) + 22 + 22 * before;
+        push_stock_graph(alloc, text, shown.plant, stocks.as_slice(), band, state, y)?;
         Ok(1)
     } else {
         Ok(0)
@@ -98,7 +86,7 @@ fn push_stock_graph(
     band: u32,
     state: u32,
     y: u64,
-) -> Result<(), AllocError>
+) -> Written
     requires sound { Sound plant.now }
     requires there { band ≤ 7 }
     requires state { state < length plant.now.states }
@@ -125,7 +113,7 @@ fn push_band_steps(
     y: u64,
     levels: &[i128],
     limits: &[u64],
-) -> Result<(), AllocError>
+) -> Written
     requires sound { Sound plant.now }
     requires there { band ≤ 7 }
     requires low { y ≤ 2 ^ 42 }
@@ -136,61 +124,37 @@ fn push_band_steps(
 {
     let top = graph_top(levels, limits);
     let shown = band_part(plant, band, levels);
-    push_steps(
-        alloc,
-        text,
-        plant,
-        y,
-        top,
-        shown,
-        band_part(plant, band, limits),
-    )
+    let row = StepRow { plant, y, top };
+    push_steps(alloc, text, &row, shown, band_part(plant, band, limits))
 }
 
 /// Appends the head of the loads in a band, below the rows of so many states, and a row for each
 /// utility.
 #[tactic(auto, unfolding(crate::specs::Graphs::loads))]
-pub fn push_loads(
-    alloc: Global,
-    text: &mut Vec<u8>,
-    plant: &Plant,
-    plan: &[Start],
-    states: u64,
-    band: u32,
-) -> Result<(), AllocError>
-    requires sound { Sound plant.now }
-    requires few { length plan.now < 2 ^ 32 }
+pub fn push_loads(alloc: Global, text: &mut Vec<u8>, shown: &Shown, band: u32) -> Written
+    requires shown { IsShown shown.now }
     requires there { band ≤ 7 }
-    requires small { states < 2 ^ 32 }
-    ensures { OnOk result (text.new.items
-        ≡ text.old.items ++ loads plant.now plan.now states band) }
+    ensures { OnOk result (text.new.items ≡ text.old.items
+        ++ loads shown.now.plant.now shown.now.plan.now shown.now.states band) }
 {
-    if 0 < plant.utilities.len() {
-        push_part_head(alloc, text, plant, band, loads_top(plant, states), "load")?;
-        push_load_rows(alloc, text, plant, plan, states, band)
+    if 0 < shown.plant.utilities.len() {
+        let top = loads_top(shown.plant, shown.states);
+        push_part_head(alloc, text, shown.plant, band, top, "load")?;
+        push_load_rows(alloc, text, shown, band)
     } else {
         Ok(())
     }
 }
 
 #[tactic(auto, using(crate::proofs::Ranges::pieces_next))]
-fn push_load_rows(
-    alloc: Global,
-    text: &mut Vec<u8>,
-    plant: &Plant,
-    plan: &[Start],
-    states: u64,
-    band: u32,
-) -> Result<(), AllocError>
-    requires sound { Sound plant.now }
-    requires few { length plan.now < 2 ^ 32 }
+fn push_load_rows(alloc: Global, text: &mut Vec<u8>, shown: &Shown, band: u32) -> Written
+    requires shown { IsShown shown.now }
     requires there { band ≤ 7 }
-    requires small { states < 2 ^ 32 }
-    ensures { OnOk result (text.new.items
-        ≡ text.old.items ++ load_rows plant.now plan.now states band) }
+    ensures { OnOk result (text.new.items ≡ text.old.items
+        ++ load_rows shown.now.plant.now shown.now.plan.now shown.now.states band) }
 {
-    for utility in 0..plant.utilities.len() {
-        push_load_row(alloc, text, plant, plan, states, band, utility as u32)?;
+    for utility in 0..shown.plant.utilities.len() {
+        push_load_row(alloc, text, shown, band, utility as u32)?;
     }
     Ok(())
 }
@@ -199,23 +163,19 @@ fn push_load_rows(
 fn push_load_row(
     alloc: Global,
     text: &mut Vec<u8>,
-    plant: &Plant,
-    plan: &[Start],
-    states: u64,
+    shown: &Shown,
     band: u32,
     utility: u32,
-) -> Result<(), AllocError>
-    requires sound { Sound plant.now }
-    requires few { length plan.now < 2 ^ 32 }
+) -> Written
+    requires shown { IsShown shown.now }
     requires there { band ≤ 7 }
-    requires small { states < 2 ^ 32 }
-    requires utility { utility < length plant.now.utilities }
-    ensures { OnOk result (text.new.items
-        ≡ text.old.items ++ load_row plant.now plan.now states band utility) }
+    requires utility { utility < length shown.now.plant.now.utilities }
+    ensures { OnOk result (text.new.items ≡ text.old.items
+        ++ load_row shown.now.plant.now shown.now.plan.now shown.now.states band utility) }
 {
-    let loads = loads_of(alloc, plant, plan, utility)?;
-    let y = loads_top(plant, states) + 22 + 22 * utility as u64;
-    push_load_graph(alloc, text, plant, loads.as_slice(), band, utility, y)
+    let loads = loads_of(alloc, shown.plant, shown.plan, utility)?;
+    let y = loads_top(shown.plant, shown.states) + 22 + 22 * utility as u64;
+    push_load_graph(alloc, text, shown.plant, loads.as_slice(), band, utility, y)
 }
 
 #[tactic(auto, unfolding(crate::specs::Graphs::load_graph))]
@@ -227,7 +187,7 @@ fn push_load_graph(
     band: u32,
     utility: u32,
     y: u64,
-) -> Result<(), AllocError>
+) -> Written
     requires sound { Sound plant.now }
     requires there { band ≤ 7 }
     requires utility { utility < length plant.now.utilities }

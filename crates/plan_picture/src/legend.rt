@@ -6,18 +6,14 @@ ghost use Rattle.plan_picture.specs.Picture.{size_line, word_style, row_style, t
 use crate::bars::{push_color_begin, push_edge, task_name};
 use crate::marks::{Frame, push_frame, push_words};
 use crate::scale::tasks_in_line;
+use crate::written::Written;
 use plain_plan::profit_of;
-use std::alloc::{AllocError, Global};
+use std::alloc::Global;
 use stn_model::{Plant, Start};
 
 /// Appends the size of the document, how it looks, and its white ground.
 #[tactic(auto, unfolding(crate::specs::Picture::page))]
-pub fn push_page(
-    alloc: Global,
-    text: &mut Vec<u8>,
-    width: u64,
-    height: u64,
-) -> Result<(), AllocError>
+pub fn push_page(alloc: Global, text: &mut Vec<u8>, width: u64, height: u64) -> Written
     ensures { OnOk result (text.new.items ≡ text.old.items ++ page width height) }
 {
     push_size(alloc, text, width, height)?;
@@ -32,7 +28,7 @@ pub fn push_page(
 }
 
 #[tactic(auto, unfolding(crate::specs::Picture::size_line))]
-fn push_size(alloc: Global, text: &mut Vec<u8>, width: u64, height: u64) -> Result<(), AllocError>
+fn push_size(alloc: Global, text: &mut Vec<u8>, width: u64, height: u64) -> Written
     ensures { OnOk result (text.new.items ≡ text.old.items ++ size_line width height) }
 {
     let line = format!(in alloc;
@@ -43,7 +39,7 @@ fn push_size(alloc: Global, text: &mut Vec<u8>, width: u64, height: u64) -> Resu
 
 // Appends how all classes look.
 #[tactic(auto, unfolding(crate::specs::Picture::style))]
-fn push_style(text: &mut Vec<u8>) -> Result<(), AllocError>
+fn push_style(text: &mut Vec<u8>) -> Written
     ensures { OnOk result (text.new.items ≡ text.old.items ++ style) }
 {
     push_word_style(text)?;
@@ -53,7 +49,7 @@ fn push_style(text: &mut Vec<u8>) -> Result<(), AllocError>
 }
 
 #[tactic(auto, unfolding(crate::specs::Picture::word_style))]
-fn push_word_style(text: &mut Vec<u8>) -> Result<(), AllocError>
+fn push_word_style(text: &mut Vec<u8>) -> Written
     ensures { OnOk result (text.new.items ≡ text.old.items ++ word_style) }
 {
     text.extend_from_slice(
@@ -62,7 +58,7 @@ fn push_word_style(text: &mut Vec<u8>) -> Result<(), AllocError>
 }
 
 #[tactic(auto, unfolding(crate::specs::Picture::row_style))]
-fn push_row_style(text: &mut Vec<u8>) -> Result<(), AllocError>
+fn push_row_style(text: &mut Vec<u8>) -> Written
     ensures { OnOk result (text.new.items ≡ text.old.items ++ row_style) }
 {
     text.extend_from_slice(
@@ -71,7 +67,7 @@ fn push_row_style(text: &mut Vec<u8>) -> Result<(), AllocError>
 }
 
 #[tactic(auto, unfolding(crate::specs::Picture::task_style))]
-fn push_task_style(text: &mut Vec<u8>) -> Result<(), AllocError>
+fn push_task_style(text: &mut Vec<u8>) -> Written
     ensures { OnOk result (text.new.items ≡ text.old.items ++ task_style) }
 {
     text.extend_from_slice(
@@ -80,7 +76,7 @@ fn push_task_style(text: &mut Vec<u8>) -> Result<(), AllocError>
 }
 
 #[tactic(auto, unfolding(crate::specs::Picture::page_style))]
-fn push_page_style(text: &mut Vec<u8>) -> Result<(), AllocError>
+fn push_page_style(text: &mut Vec<u8>) -> Written
     ensures { OnOk result (text.new.items ≡ text.old.items ++ page_style) }
 {
     text.extend_from_slice(
@@ -90,12 +86,7 @@ fn push_page_style(text: &mut Vec<u8>) -> Result<(), AllocError>
 
 /// Appends the margins, the profit, what marks look like, and the legend.
 #[tactic(auto, unfolding(crate::specs::Picture::head))]
-pub fn push_head(
-    alloc: Global,
-    text: &mut Vec<u8>,
-    plant: &Plant,
-    plan: &[Start],
-) -> Result<(), AllocError>
+pub fn push_head(alloc: Global, text: &mut Vec<u8>, plant: &Plant, plan: &[Start]) -> Written
     requires sound { Sound plant.now }
     requires few { length plan.now < 2 ^ 32 }
     ensures { OnOk result (text.new.items ≡ text.old.items ++ head plant.now plan.now) }
@@ -107,7 +98,7 @@ pub fn push_head(
 }
 
 #[tactic(auto, unfolding(crate::specs::Picture::ground_begin))]
-fn push_ground_begin(text: &mut Vec<u8>) -> Result<(), AllocError>
+fn push_ground_begin(text: &mut Vec<u8>) -> Written
     ensures { OnOk result (text.new.items ≡ text.old.items ++ ground_begin) }
 {
     text.extend_from_slice(
@@ -116,7 +107,7 @@ fn push_ground_begin(text: &mut Vec<u8>) -> Result<(), AllocError>
 }
 
 #[tactic(auto, unfolding(crate::specs::Picture::profit_words))]
-fn push_profit(alloc: Global, text: &mut Vec<u8>, profit: i128) -> Result<(), AllocError>
+fn push_profit(alloc: Global, text: &mut Vec<u8>, profit: i128) -> Written
     ensures { OnOk result (text.new.items ≡ text.old.items ++ profit_words profit) }
 {
     let title = format!(in alloc; "profit {profit}")?;
@@ -124,7 +115,7 @@ fn push_profit(alloc: Global, text: &mut Vec<u8>, profit: i128) -> Result<(), Al
 }
 
 #[tactic(auto, unfolding(crate::specs::Picture::keys))]
-fn push_keys(text: &mut Vec<u8>) -> Result<(), AllocError>
+fn push_keys(text: &mut Vec<u8>) -> Written
     ensures { OnOk result (text.new.items ≡ text.old.items ++ keys) }
 {
     text.extend_from_slice(
@@ -134,7 +125,7 @@ fn push_keys(text: &mut Vec<u8>) -> Result<(), AllocError>
 
 // Appends the legend: an entry for each task.
 #[tactic(auto, using(crate::proofs::Ranges::pieces_next))]
-fn push_legend(alloc: Global, text: &mut Vec<u8>, plant: &Plant) -> Result<(), AllocError>
+fn push_legend(alloc: Global, text: &mut Vec<u8>, plant: &Plant) -> Written
     requires { Sound plant.now }
     ensures { OnOk result (text.new.items ≡ text.old.items ++ legend plant.now) }
 {
@@ -146,7 +137,7 @@ fn push_legend(alloc: Global, text: &mut Vec<u8>, plant: &Plant) -> Result<(), A
 
 // Appends the entry of a task.
 #[tactic(auto, unfolding(crate::specs::Picture::legend_entry))]
-fn push_entry(alloc: Global, text: &mut Vec<u8>, plant: &Plant, task: u32) -> Result<(), AllocError>
+fn push_entry(alloc: Global, text: &mut Vec<u8>, plant: &Plant, task: u32) -> Written
     requires { Sound plant.now }
     ensures { OnOk result (text.new.items ≡ text.old.items ++ legend_entry plant.now task) }
 {

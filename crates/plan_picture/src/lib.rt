@@ -15,8 +15,10 @@ mod levels;
 mod marks;
 mod rows;
 mod scale;
+pub mod shown;
 mod spans;
 mod steps;
 mod whole;
+mod written;
 
 pub use whole::picture;

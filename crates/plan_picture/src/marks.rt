@@ -2,6 +2,7 @@
 ghost use Rattle.std.specs.Prelude.{◌≡◌, ◌++◌, OnOk, IfOk};
 ghost use Rattle.plan_picture.specs.Marks.{escaped_byte, escaped, words_begin, words_at, shortened, title, fitted, frame_at};
 
+use crate::written::Written;
 use std::alloc::{AllocError, Global};
 
 /// A rectangle on the picture, in pixels: where it begins, and how large it is.
@@ -14,7 +15,7 @@ pub struct Frame {
 }
 
 // Appends a text as XML writes it.
-fn push_escaped(text: &mut Vec<u8>, words: &[u8]) -> Result<(), AllocError>
+fn push_escaped(text: &mut Vec<u8>, words: &[u8]) -> Written
     ensures { OnOk result (text.new.items ≡ text.old.items ++ escaped words.now) }
 {
     for byte in words {
@@ -24,7 +25,7 @@ fn push_escaped(text: &mut Vec<u8>, words: &[u8]) -> Result<(), AllocError>
 }
 
 #[tactic(auto, unfolding(crate::specs::Marks::escaped_byte))]
-fn push_byte(text: &mut Vec<u8>, byte: u8) -> Result<(), AllocError>
+fn push_byte(text: &mut Vec<u8>, byte: u8) -> Written
     ensures { OnOk result (text.new.items ≡ text.old.items ++ escaped_byte byte) }
 {
     if byte == b'&' {
@@ -49,7 +50,7 @@ pub fn push_words(
     x: u64,
     y: u64,
     words: &[u8],
-) -> Result<(), AllocError>
+) -> Written
     ensures { OnOk result (text.new.items ≡ text.old.items ++ words_at class.now x y words.now) }
 {
     push_words_begin(alloc, text, class, x, y)?;
@@ -58,13 +59,7 @@ pub fn push_words(
 }
 
 #[tactic(auto, unfolding(crate::specs::Marks::words_begin))]
-fn push_words_begin(
-    alloc: Global,
-    text: &mut Vec<u8>,
-    class: &str,
-    x: u64,
-    y: u64,
-) -> Result<(), AllocError>
+fn push_words_begin(alloc: Global, text: &mut Vec<u8>, class: &str, x: u64, y: u64) -> Written
     ensures { OnOk result (text.new.items ≡ text.old.items ++ words_begin class.now x y) }
 {
     let begin = format!(in alloc; "<text class=\"{class}\" x=\"{x}\" y=\"{y}\">")?;
@@ -88,7 +83,7 @@ pub fn shortened(alloc: Global, room: u64, text: &[u8]) -> Result<Vec<u8>, Alloc
 
 /// Appends a title, which a pointer on its group shows.
 #[tactic(auto, unfolding(crate::specs::Marks::title))]
-pub fn push_title(text: &mut Vec<u8>, words: &[u8]) -> Result<(), AllocError>
+pub fn push_title(text: &mut Vec<u8>, words: &[u8]) -> Written
     ensures { OnOk result (text.new.items ≡ text.old.items ++ title words.now) }
 {
     text.extend_from_slice("<title>".as_bytes())?;
@@ -106,7 +101,7 @@ pub fn push_fitted(
     y: u64,
     room: u64,
     words: &[u8],
-) -> Result<(), AllocError>
+) -> Written
     ensures { OnOk result (text.new.items
         ≡ text.old.items ++ fitted class.now x y room words.now) }
 {
@@ -122,12 +117,7 @@ pub fn push_fitted(
 
 /// Appends a rectangle of a class.
 #[tactic(auto, unfolding(crate::specs::Marks::frame_at))]
-pub fn push_frame(
-    alloc: Global,
-    text: &mut Vec<u8>,
-    class: &str,
-    frame: Frame,
-) -> Result<(), AllocError>
+pub fn push_frame(alloc: Global, text: &mut Vec<u8>, class: &str, frame: Frame) -> Written
     ensures { OnOk result (text.new.items ≡ text.old.items ++ frame_at class.now frame) }
 {
     let x = frame.x;

@@ -5,7 +5,8 @@ ghost use Rattle.plan_picture.specs.Chart.{time_mark, time_marks, part_head, tim
 
 use crate::marks::{push_fitted, push_words};
 use crate::scale::{periods_in, x_at};
-use std::alloc::{AllocError, Global};
+use crate::written::Written;
+use std::alloc::Global;
 use stn_model::Plant;
 
 /// Appends the head of a part of a band.
@@ -17,7 +18,7 @@ pub fn push_part_head(
     band: u32,
     y: u64,
     title: &str,
-) -> Result<(), AllocError>
+) -> Written
     requires sound { Sound plant.now }
     requires there { band ≤ 7 }
     requires small { y ≤ 2 ^ 42 }
@@ -30,13 +31,7 @@ pub fn push_part_head(
 
 // Appends the numbers of all times of a band.
 #[tactic(auto, using(crate::proofs::Ranges::pieces_next))]
-fn push_time_marks(
-    alloc: Global,
-    text: &mut Vec<u8>,
-    plant: &Plant,
-    band: u32,
-    y: u64,
-) -> Result<(), AllocError>
+fn push_time_marks(alloc: Global, text: &mut Vec<u8>, plant: &Plant, band: u32, y: u64) -> Written
     requires sound { Sound plant.now }
     requires there { band ≤ 7 }
     ensures { OnOk result (text.new.items ≡ text.old.items ++ time_marks plant.now band y) }
@@ -55,7 +50,7 @@ fn push_time_mark(
     band: u32,
     y: u64,
     place: u32,
-) -> Result<(), AllocError>
+) -> Written
     requires sound { Sound plant.now }
     requires there { band ≤ 7 }
     requires small { place ≤ 48 }
@@ -76,7 +71,7 @@ pub fn push_grid(
     plant: &Plant,
     band: u32,
     height: u64,
-) -> Result<(), AllocError>
+) -> Written
     requires sound { Sound plant.now }
     requires there { band ≤ 7 }
     ensures { OnOk result (text.new.items ≡ text.old.items ++ grid plant.now band height) }
@@ -93,7 +88,7 @@ fn push_time_lines(
     plant: &Plant,
     band: u32,
     height: u64,
-) -> Result<(), AllocError>
+) -> Written
     requires sound { Sound plant.now }
     requires there { band ≤ 7 }
     ensures { OnOk result (text.new.items
@@ -112,7 +107,7 @@ fn push_time_line(
     plant: &Plant,
     height: u64,
     place: u32,
-) -> Result<(), AllocError>
+) -> Written
     requires { Sound plant.now }
     ensures { OnOk result (text.new.items ≡ text.old.items ++ time_line plant.now height place) }
 {
@@ -122,12 +117,7 @@ fn push_time_line(
 }
 
 /// Appends the name of a row.
-pub fn push_row_name(
-    alloc: Global,
-    text: &mut Vec<u8>,
-    y: u64,
-    name: &[u8],
-) -> Result<(), AllocError>
+pub fn push_row_name(alloc: Global, text: &mut Vec<u8>, y: u64, name: &[u8]) -> Written
     ensures { OnOk result (text.new.items ≡ text.old.items ++ row_name y name.now) }
 {
     push_fitted(alloc, text, "name", 0, y, 20, name)

@@ -2,6 +2,7 @@
 ghost use Rattle.std.specs.Prelude.{◌≡◌, ◌≤◌, ◌<◌, ◌^◌, ◌++◌, OnOk, IfOk, length};
 ghost use Rattle.stn_model.specs.Sound.{Sound};
 ghost use Rattle.plan_picture.specs.Picture.{band_begin, gantt, units, band_text, bands, whole_page, picture_end, picture_with, picture_text};
+ghost use Rattle.plan_picture.specs.Shown.{IsShown};
 ghost use Rattle.plan_picture.specs.Laws.{BarsAreBatches, StepsAreStocks, StepsAreLoads};
 
 use crate::bars::{push_bars, push_outages, push_unit_rows};
@@ -11,6 +12,8 @@ use crate::legend::{push_head, push_page};
 use crate::levels::touched_count;
 use crate::rows::{push_grid, push_part_head};
 use crate::scale::{band_count, band_height, band_top, chart_width};
+use crate::shown::Shown;
+use crate::written::Written;
 use std::alloc::{AllocError, Global};
 use stn_model::{Plant, Start};
 
@@ -30,34 +33,31 @@ pub fn picture(alloc: Global, plant: &Plant, plan: &[Start]) -> Result<Vec<u8>, 
     ensures loads { StepsAreLoads plant.now plan.now }
 {
     let states = touched_count(plant, plan);
+    let shown = Shown {
+        plant,
+        plan,
+        states,
+    };
     let mut text = Vec::new(alloc);
-    push_picture(alloc, &mut text, plant, plan, states)?;
+    push_picture(alloc, &mut text, &shown)?;
     Ok(text)
 }
 
 // Appends the picture with rows for so many states.
 #[tactic(auto, unfolding(crate::specs::Picture::picture_with))]
-fn push_picture(
-    alloc: Global,
-    text: &mut Vec<u8>,
-    plant: &Plant,
-    plan: &[Start],
-    states: u64,
-) -> Result<(), AllocError>
-    requires sound { Sound plant.now }
-    requires few { length plan.now < 2 ^ 32 }
-    requires small { states < 2 ^ 32 }
-    ensures { OnOk result (text.new.items
-        ≡ text.old.items ++ picture_with plant.now plan.now states) }
+fn push_picture(alloc: Global, text: &mut Vec<u8>, shown: &Shown) -> Written
+    requires { IsShown shown.now }
+    ensures { OnOk result (text.new.items ≡ text.old.items
+        ++ picture_with shown.now.plant.now shown.now.plan.now shown.now.states) }
 {
-    push_whole_page(alloc, text, plant, states)?;
-    push_head(alloc, text, plant, plan)?;
-    push_bands(alloc, text, plant, plan, states)?;
+    push_whole_page(alloc, text, shown.plant, shown.states)?;
+    push_head(alloc, text, shown.plant, shown.plan)?;
+    push_bands(alloc, text, shown)?;
     push_end(text)
 }
 
 #[tactic(auto, unfolding(crate::specs::Picture::picture_end))]
-fn push_end(text: &mut Vec<u8>) -> Result<(), AllocError>
+fn push_end(text: &mut Vec<u8>) -> Written
     ensures { OnOk result (text.new.items ≡ text.old.items ++ picture_end) }
 {
     text.extend_from_slice("</g>\n</svg>\n".as_bytes())
@@ -65,12 +65,7 @@ fn push_end(text: &mut Vec<u8>) -> Result<(), AllocError>
 
 // Appends the page of the picture.
 #[tactic(auto, unfolding(crate::specs::Picture::whole_page))]
-fn push_whole_page(
-    alloc: Global,
-    text: &mut Vec<u8>,
-    plant: &Plant,
-    states: u64,
-) -> Result<(), AllocError>
+fn push_whole_page(alloc: Global, text: &mut Vec<u8>, plant: &Plant, states: u64) -> Written
     requires sound { Sound plant.now }
     requires small { states < 2 ^ 32 }
     ensures { OnOk result (text.new.items ≡ text.old.items ++ whole_page plant.now states) }
@@ -81,49 +76,33 @@ fn push_whole_page(
 }
 
 #[tactic(auto, using(crate::proofs::Ranges::pieces_next), unfolding(crate::specs::Picture::bands))]
-fn push_bands(
-    alloc: Global,
-    text: &mut Vec<u8>,
-    plant: &Plant,
-    plan: &[Start],
-    states: u64,
-) -> Result<(), AllocError>
-    requires sound { Sound plant.now }
-    requires few { length plan.now < 2 ^ 32 }
-    requires small { states < 2 ^ 32 }
-    ensures { OnOk result (text.new.items ≡ text.old.items ++ bands plant.now plan.now states) }
+fn push_bands(alloc: Global, text: &mut Vec<u8>, shown: &Shown) -> Written
+    requires { IsShown shown.now }
+    ensures { OnOk result (text.new.items ≡ text.old.items
+        ++ bands shown.now.plant.now shown.now.plan.now shown.now.states) }
 {
-    for band in 0..band_count(plant) {
-        push_band(alloc, text, plant, plan, states, band)?;
+    for band in 0..band_count(shown.plant) {
+        push_band(alloc, text, shown, band)?;
     }
     Ok(())
 }
 
 #[tactic(auto, unfolding(crate::specs::Picture::band_text))]
-fn push_band(
-    alloc: Global,
-    text: &mut Vec<u8>,
-    plant: &Plant,
-    plan: &[Start],
-    states: u64,
-    band: u32,
-) -> Result<(), AllocError>
-    requires sound { Sound plant.now }
-    requires few { length plan.now < 2 ^ 32 }
-    requires small { states < 2 ^ 32 }
+fn push_band(alloc: Global, text: &mut Vec<u8>, shown: &Shown, band: u32) -> Written
+    requires shown { IsShown shown.now }
     requires there { band ≤ 7 }
-    ensures { OnOk result (text.new.items
-        ≡ text.old.items ++ band_text plant.now plan.now states band) }
+    ensures { OnOk result (text.new.items ≡ text.old.items
+        ++ band_text shown.now.plant.now shown.now.plan.now shown.now.states band) }
 {
-    push_band_begin(alloc, text, band_top(plant, states, band))?;
-    push_units(alloc, text, plant, plan, states, band)?;
-    push_stocks(alloc, text, plant, plan, states, band)?;
-    push_loads(alloc, text, plant, plan, states, band)?;
+    push_band_begin(alloc, text, band_top(shown.plant, shown.states, band))?;
+    push_units(alloc, text, shown, band)?;
+    push_stocks(alloc, text, shown, band)?;
+    push_loads(alloc, text, shown, band)?;
     text.extend_from_slice("</g>\n".as_bytes())
 }
 
 #[tactic(auto, unfolding(crate::specs::Picture::band_begin))]
-fn push_band_begin(alloc: Global, text: &mut Vec<u8>, y: u64) -> Result<(), AllocError>
+fn push_band_begin(alloc: Global, text: &mut Vec<u8>, y: u64) -> Written
     ensures { OnOk result (text.new.items ≡ text.old.items ++ band_begin y) }
 {
     let begin = format!(in alloc; "<g transform=\"translate(0 {y})\">\n")?;
@@ -132,40 +111,28 @@ fn push_band_begin(alloc: Global, text: &mut Vec<u8>, y: u64) -> Result<(), Allo
 
 // Appends the units of a band, with the lines of all times through all its rows.
 #[tactic(auto, unfolding(crate::specs::Picture::units))]
-fn push_units(
-    alloc: Global,
-    text: &mut Vec<u8>,
-    plant: &Plant,
-    plan: &[Start],
-    states: u64,
-    band: u32,
-) -> Result<(), AllocError>
-    requires sound { Sound plant.now }
-    requires small { states < 2 ^ 32 }
+fn push_units(alloc: Global, text: &mut Vec<u8>, shown: &Shown, band: u32) -> Written
+    requires shown { IsShown shown.now }
     requires there { band ≤ 7 }
-    ensures { OnOk result (text.new.items
-        ≡ text.old.items ++ units plant.now plan.now states band) }
+    ensures { OnOk result (text.new.items ≡ text.old.items
+        ++ units shown.now.plant.now shown.now.plan.now shown.now.states band) }
 {
-    push_part_head(alloc, text, plant, band, 0, "units")?;
-    push_unit_rows(alloc, text, plant, band)?;
-    push_grid(alloc, text, plant, band, band_height(plant, states))?;
-    push_gantt(alloc, text, plant, plan, band)
+    push_part_head(alloc, text, shown.plant, band, 0, "units")?;
+    push_unit_rows(alloc, text, shown.plant, band)?;
+    let height = band_height(shown.plant, shown.states);
+    push_grid(alloc, text, shown.plant, band, height)?;
+    push_gantt(alloc, text, shown, band)
 }
 
 // Appends what stands in the rows of the units.
 #[tactic(auto, unfolding(crate::specs::Picture::gantt))]
-fn push_gantt(
-    alloc: Global,
-    text: &mut Vec<u8>,
-    plant: &Plant,
-    plan: &[Start],
-    band: u32,
-) -> Result<(), AllocError>
-    requires sound { Sound plant.now }
+fn push_gantt(alloc: Global, text: &mut Vec<u8>, shown: &Shown, band: u32) -> Written
+    requires shown { IsShown shown.now }
     requires there { band ≤ 7 }
-    ensures { OnOk result (text.new.items ≡ text.old.items ++ gantt plant.now plan.now band) }
+    ensures { OnOk result (text.new.items
+        ≡ text.old.items ++ gantt shown.now.plant.now shown.now.plan.now band) }
 {
-    push_outages(alloc, text, plant, band)?;
-    push_cleanings(alloc, text, plant, plan, band)?;
-    push_bars(alloc, text, plant, plan, band)
+    push_outages(alloc, text, shown.plant, band)?;
+    push_cleanings(alloc, text, shown, band)?;
+    push_bars(alloc, text, shown, band)
 }

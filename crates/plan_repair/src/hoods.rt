@@ -17,105 +17,70 @@ pub enum Hood {
     Chance(u32),
 }
 
-/// A neighbourhood with the level at which it is searched, the cheapest first.
-#[derive(Clone, Copy, PartialEq, Eq, Debug)]
-pub struct Leveled {
-    pub level: u32,
-    pub hood: Hood,
+/// The numbers of places, lanes and kinds of a program's slots.
+#[derive(Clone, Copy)]
+pub struct Extents {
+    pub places: u32,
+    lanes: u32,
+    kinds: u32,
 }
 
-/// The number of levels, without that of chance.
-pub const LEVELS: u32 = 5;
+// Up to so many lanes all pairs are searched, and else neighbours.
+const FEW_LANES: u32 = 5;
 
-// From so many places on, windows of an eighth are searched too.
-const MANY_PLACES: u32 = 24;
-
-// The most neighbourhoods of a sort.
-const MOST_KINDS: u32 = 64;
-
-const MOST_PLACES: u32 = 64;
-
-const MOST_LANES: u32 = 32;
-
-/// The neighbourhoods of a program's plans.
-pub fn list_hoods(alloc: Global, program: &Program) -> Result<Vec<Leveled>, AllocError> {
-    let (places, lanes, kinds) = extents(program.tags.as_slice());
-    let mut hoods = Vec::new(alloc);
-    hoods.push(Leveled {
-        level: 0,
-        hood: Hood::Bound,
-    })?;
-    if places >= MANY_PLACES {
-        list_places(&mut hoods, 0, places, places / 8)?;
+impl Extents {
+    /// The numbers of the places, lanes and kinds that tags name.
+    pub fn new(tags: &[Tag]) -> Extents {
+        let mut extents = Extents {
+            places: 0,
+            lanes: 0,
+            kinds: 0,
+        };
+        for tag in tags {
+            extents.places = extents.places.max(tag.place.saturating_add(1));
+            extents.lanes = extents.lanes.max(tag.lane.saturating_add(1));
+            extents.kinds = extents.kinds.max(tag.kind.saturating_add(1));
+        }
+        extents
     }
-    list_places(&mut hoods, 1, places, places.saturating_add(3) / 4)?;
-    list_places(&mut hoods, 2, places, places.saturating_add(1) / 2)?;
-    list_lanes(&mut hoods, lanes)?;
-    list_kinds(&mut hoods, kinds)?;
-    Ok(hoods)
-}
 
-// The numbers of places, lanes and kinds.
-fn extents(tags: &[Tag]) -> (u32, u32, u32) {
-    let mut places = 0u32;
-    let mut lanes = 0u32;
-    let mut kinds = 0u32;
-    for tag in tags {
-        places = places.max(tag.place.saturating_add(1));
-        lanes = lanes.max(tag.lane.saturating_add(1));
-        kinds = kinds.max(tag.kind.saturating_add(1));
-    }
-    (places, lanes, kinds)
-}
-
-// Puts the kinds, three at a time, where there are more.
-fn list_kinds(hoods: &mut Vec<Leveled>, kinds: u32) -> Result<(), AllocError> {
-    if kinds > 2 {
-        for kind in 0..kinds.min(MOST_KINDS) {
-            hoods.push(Leveled {
-                level: 3,
-                hood: Hood::Kinds(kind, kinds),
-            })?;
+    /// How many pairs of lanes are searched.
+    pub fn lane_pairs(&self) -> u32 {
+        let others = self.lanes.saturating_sub(1);
+        if self.lanes <= FEW_LANES {
+            self.lanes.saturating_mul(others) / 2
+        } else {
+            others
         }
     }
-    Ok(())
-}
 
-// Puts the windows of a width, each half a width after the one before.
-fn list_places(
-    hoods: &mut Vec<Leveled>,
-    level: u32,
-    places: u32,
-    width: u32,
-) -> Result<(), AllocError> {
-    let step = (width.saturating_add(1) / 2).max(1);
-    for number in 0..MOST_PLACES {
-        let from = number.saturating_mul(step);
-        let to = from.saturating_add(width);
-        hoods.push(Leveled {
-            level,
-            hood: Hood::Places(from, to),
-        })?;
-        if to >= places {
-            return Ok(());
+    /// The pair of lanes of a number.
+    pub fn lanes_at(&self, number: u32) -> Hood {
+        if self.lanes > FEW_LANES {
+            return Hood::Lanes(number, number.saturating_add(1));
         }
-    }
-    Ok(())
-}
-
-// Puts the pairs of lanes: all where they are few, else neighbours.
-fn list_lanes(hoods: &mut Vec<Leveled>, lanes: u32) -> Result<(), AllocError> {
-    for one in 0..lanes.min(MOST_LANES) {
-        for other in one.saturating_add(1)..lanes.min(MOST_LANES) {
-            if lanes <= 5 || other == one.saturating_add(1) {
-                hoods.push(Leveled {
-                    level: 3,
-                    hood: Hood::Lanes(one, other),
-                })?;
+        let mut one = 0u32;
+        let mut place = number;
+        for lane in 1..self.lanes {
+            let pairs = self.lanes.saturating_sub(lane);
+            if place < pairs {
+                break;
             }
+            place = place.saturating_sub(pairs);
+            one = lane;
         }
+        Hood::Lanes(one, one.saturating_add(1).saturating_add(place))
     }
-    Ok(())
+
+    /// How many groups of three kinds are searched.
+    pub fn kind_groups(&self) -> u32 {
+        self.kinds
+    }
+
+    /// The three kinds from one on.
+    pub fn kinds_at(&self, number: u32) -> Hood {
+        Hood::Kinds(number, self.kinds)
+    }
 }
 
 impl Hood {

@@ -4,12 +4,16 @@
 
 mod hoods;
 mod kept;
+mod narrowing;
 mod plan;
 mod plans;
 mod sums;
+mod walk;
 
-pub use hoods::{Hood, LEVELS, Leveled, list_ends, list_hoods};
+pub use hoods::{Extents, Hood, list_ends};
 pub use kept::Kept;
+pub use narrowing::narrowed;
 pub use plan::Plan;
 pub use plans::Plans;
 pub use sums::{put_sums, without_sums};
+pub use walk::Walk;

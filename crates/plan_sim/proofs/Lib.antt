@@ -3,3 +3,4 @@ pub mod Firsts
 pub mod Following
 pub mod Tables
 pub mod Placed
+pub mod Rows

@@ -102,7 +102,7 @@ levels_push old new opening width state times arrived departed x before e =
     }
 
 -- a running sum with its next summand is small
-pub running_small : (cells : List ℕ) (w r c opening total : ℕ) → r * w + w ≤ length cells → c < w → sum cells ≤ 2 ^ 64 → opening ≤ 2 ^ 30 → total ≡ opening + sum (take c (drop (r * w) cells)) → total + get_or cells (r * w + c) 0 ≤ 2 ^ 65
+pub running_small : (cells : List ℕ) (w r c opening total : ℕ) → r * w + w ≤ length cells → c < w → sum cells ≤ 2 ^ 88 → opening ≤ 2 ^ 30 → total ≡ opening + sum (take c (drop (r * w) cells)) → total + get_or cells (r * w + c) 0 ≤ 2 ^ 89
 running_small cells w r c opening total row within small first e =
     let h : r * w + c < length cells = omega arith in
     omega (arith, row_step cells w r c h, summed_le cells w r c)

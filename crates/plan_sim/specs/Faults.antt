@@ -30,6 +30,10 @@ LevelsKept plant stocks n time = (state : ℕ) → state < n → LevelKept plant
 abbrev pub UsesKept : Plant → List ℕ → ℕ → ℕ → Type 0
 UsesKept plant loads n period = (utility : ℕ) → utility < n → UseKept plant loads utility period
 
+-- the loads of all utilities are kept in every period
+abbrev pub AreUsesKept : Plant → List ℕ → Type 0
+AreUsesKept plant loads = (period : ℕ) → period < plant.periods → UsesKept plant loads (length plant.utilities) period
+
 -- stocks and loads are kept at all times before this one
 pub record KeptBefore (plant : Plant) (stocks : List ℤ) (loads : List ℕ) (time : ℕ) : Type 0 where
   pub levels : (t : ℕ) → t < time → LevelsKept plant stocks (length plant.states) t

@@ -1,28 +1,7 @@
 //! The first stock or load that is not kept, time by time.
-ghost use Rattle.std.specs.Prelude.{
-  ◌≡◌,
-  ◌≤◌,
-  ◌<◌,
-  ◌+◌,
-  ◌*◌,
-  ◌↔◌,
-  ◌≤ℤ◌,
-  pos,
-  length,
-  IsTrue,
-  IfSome,
-  MatchOption,
-  slice_get,
-};
+ghost use Rattle.std.specs.Prelude.{◌≡◌, ◌≤◌, ◌<◌, ◌+◌, ◌*◌, ◌↔◌, ◌≤ℤ◌, pos, length, IsTrue, IfSome, MatchOption, slice_get};
 ghost use Rattle.stn_model.specs.Sound.{Sound};
-ghost use Rattle.plan_sim.specs.Faults.{
-  LevelKept,
-  UseKept,
-  LevelsKept,
-  UsesKept,
-  KeptBefore,
-  IsFirstFault,
-};
+ghost use Rattle.plan_sim.specs.Faults.{LevelKept, UseKept, LevelsKept, UsesKept, KeptBefore, IsFirstFault};
 
 use stn_model::Plant;
 

@@ -3,11 +3,12 @@
 #![tactic(auto)]
 
 mod faults;
-mod loads;
+pub mod loads;
 mod moves;
+pub mod nearest;
 mod profit;
 mod simulation;
-mod stocks;
+pub mod stocks;
 mod units;
 pub mod verdict;
 

@@ -1,22 +1,7 @@
 //! The loads of all utilities in all periods, stepped through the periods of each batch. The table has
 //! a row for each utility and a column for each period.
-ghost use Rattle.std.specs.Prelude.{
-  ◌≡◌,
-  ◌≤◌,
-  ◌<◌,
-  ◌^◌,
-  ◌+◌,
-  ◌*◌,
-  ℕ,
-  length,
-  sum,
-  sum_by,
-  All,
-  IfOk,
-  slice_index,
-};
+ghost use Rattle.std.specs.Prelude.{◌≡◌, ◌≤◌, ◌<◌, ◌^◌, ◌+◌, ◌*◌, ℕ, length, min, sum, sum_by, All, IfOk, slice_index};
 ghost use Rattle.stn_model.specs.Plant.{task_at, end_of};
-ghost use Rattle.stn_model.specs.Fits.{Fits};
 ghost use Rattle.stn_model.specs.Load.{drawn, load};
 ghost use Rattle.stn_model.specs.Sound.{Sound};
 ghost use Rattle.plan_sim.specs.Moves.{cell, drawn_at, draws_in, drawn_until, HasRow};
@@ -29,10 +14,9 @@ use stn_model::{Draw, Plant, Start, end};
 /// The loads of all utilities in all periods.
 pub fn loads(alloc: Global, plant: &Plant, plan: &[Start]) -> Result<Vec<u128>, AllocError>
     requires sound { Sound plant.now }
-    requires fit { All (Fits plant.now) plan.now }
     requires few { length plan.now < 2 ^ 32 }
     ensures table { IfOk result (λ loads. IsLoadTable plant.now plan.now loads.items) }
-    ensures small { IfOk result (λ loads. sum loads.items ≤ 2 ^ 76) }
+    ensures small { IfOk result (λ loads. sum loads.items ≤ 2 ^ 98) }
 {
     let mut cells = vec![in alloc; 0u128; plant.utilities.len() * plant.periods as usize]?;
     add_loads(plant, plan, &mut cells);
@@ -41,13 +25,12 @@ pub fn loads(alloc: Global, plant: &Plant, plan: &[Start]) -> Result<Vec<u128>, 
 
 fn add_loads(plant: &Plant, plan: &[Start], cells: &mut [u128])
     requires sound { Sound plant.now }
-    requires fit { All (Fits plant.now) plan.now }
     requires few { length plan.now < 2 ^ 32 }
     requires size { length cells.old ≡ length plant.now.utilities * plant.now.periods }
     requires empty { sum cells.old ≡ 0 }
     ensures loads { (utility period : ℕ) → period < plant.now.periods →
         cell cells.new plant.now.periods utility period ≡ load plant.now plan.now utility period }
-    ensures small { sum cells.new ≤ 2 ^ 76 }
+    ensures small { sum cells.new ≤ 2 ^ 98 }
 {
     for start in plan {
         draw_batch(plant, start, cells);
@@ -57,24 +40,36 @@ fn add_loads(plant: &Plant, plan: &[Start], cells: &mut [u128])
 /// Adds what the batch draws, period by period.
 fn draw_batch(plant: &Plant, start: &Start, cells: &mut [u128])
     requires sound { Sound plant.now }
-    requires fits { Fits plant.now start.now }
     requires size { length cells.old ≡ length plant.now.utilities * plant.now.periods }
     requires room { sum cells.old < 2 ^ 99 }
     ensures drawn { (utility period : ℕ) → period < plant.now.periods →
         cell cells.new plant.now.periods utility period
         ≡ cell cells.old plant.now.periods utility period
         + drawn plant.now utility period start.now }
-    ensures total { sum cells.new ≤ sum cells.old + 2 ^ 42 }
+    ensures total { sum cells.new ≤ sum cells.old + 2 ^ 66 }
 {
+    if plant.tasks.len() <= start.task as usize {
+        return;
+    }
+    if plant.periods <= start.period {
+        return;
+    }
     let task = task_of(plant, start);
-    let ending = end(plant, start) as usize;
+    let last = last_end(plant, start);
     draw_task(
         plant.periods as usize,
         task.draws.as_slice(),
         start,
-        ending,
+        last,
         cells,
     );
+}
+
+/// The time at which the batch ends, or the horizon, whichever comes first.
+fn last_end(plant: &Plant, start: &Start) -> usize
+    ensures { result ≡ min (end_of plant.now start.now) plant.now.periods }
+{
+    end(plant, start).min(plant.periods as u64) as usize
 }
 
 fn draw_task(width: usize, draws: &[Draw], start: &Start, ending: usize, cells: &mut [u128])
@@ -82,7 +77,6 @@ fn draw_task(width: usize, draws: &[Draw], start: &Start, ending: usize, cells: 
     requires rows { All (λ draw. HasRow cells.old width draw.utility) draws.now }
     requires fixed { All (λ draw. All (λ amount. amount ≤ 2 ^ 20) draw.fixed) draws.now }
     requires each { All (λ draw. All (λ amount. amount ≤ 2 ^ 20) draw.each) draws.now }
-    requires quanta { start.now.quanta ≤ 255 }
     requires begun { start.now.period ≤ ending }
     requires within { ending ≤ width }
     requires short { width ≤ 336 }
@@ -91,7 +85,7 @@ fn draw_task(width: usize, draws: &[Draw], start: &Start, ending: usize, cells: 
         cell cells.new width utility period
         ≡ cell cells.old width utility period
         + drawn_until draws.now start.now ending utility period }
-    ensures total { sum cells.new ≤ sum cells.old + 2 ^ 42 }
+    ensures total { sum cells.new ≤ sum cells.old + 2 ^ 66 }
 {
     for period in start.period as usize..ending {
         add_draws(width, draws, start, period, cells);
@@ -104,14 +98,13 @@ fn add_draws(width: usize, draws: &[Draw], start: &Start, period: usize, cells: 
     requires rows { All (λ draw. HasRow cells.old width draw.utility) draws.now }
     requires fixed { All (λ draw. All (λ amount. amount ≤ 2 ^ 20) draw.fixed) draws.now }
     requires each { All (λ draw. All (λ amount. amount ≤ 2 ^ 20) draw.each) draws.now }
-    requires quanta { start.now.quanta ≤ 255 }
     requires begun { start.now.period ≤ period }
     requires within { period < width }
     requires room { sum cells.old < 2 ^ 100 }
     ensures drawn { (r c : ℕ) → c < width →
         cell cells.new width r c ≡ cell cells.old width r c
         + sum_by (draws_in start.now period r c) draws.now }
-    ensures total { sum cells.new ≤ sum cells.old + 2 ^ 32 }
+    ensures total { sum cells.new ≤ sum cells.old + 2 ^ 56 }
 {
     for draw in draws {
         let amount = amount_of(draw, start.quanta, period - start.period as usize);
@@ -122,9 +115,8 @@ fn add_draws(width: usize, draws: &[Draw], start: &Start, period: usize, cells: 
 fn amount_of(draw: &Draw, quanta: u32, k: usize) -> u128
     requires fixed { All (λ amount. amount ≤ 2 ^ 20) draw.now.fixed }
     requires each { All (λ amount. amount ≤ 2 ^ 20) draw.now.each }
-    requires quanta { quanta ≤ 255 }
     ensures value { result ≡ slice_index draw.now.fixed k + quanta * slice_index draw.now.each k }
-    ensures small { result ≤ 2 ^ 28 }
+    ensures small { result ≤ 2 ^ 53 }
 {
     number_at(draw.fixed.as_slice(), k) + quanta as u128 * number_at(draw.each.as_slice(), k)
 }

@@ -1,29 +1,15 @@
 //! What a feasible plan earns, in money, from the tables of its stocks and loads.
-ghost use Rattle.std.specs.Prelude.{
-  ◌≡◌,
-  ◌≤◌,
-  ◌<◌,
-  ◌^◌,
-  ◌+◌,
-  ◌*◌,
-  pos,
-  ◌*ℤ◌,
-  ◌+ℤ◌,
-  ◌-ℤ◌,
-  length,
-  sum,
-  All,
-  unsigned_abs,
-};
+ghost use Rattle.std.specs.Prelude.{◌≡◌, ◌≤◌, ◌<◌, ◌^◌, ◌+◌, ◌*◌, pos, ◌*ℤ◌, ◌+ℤ◌, ◌-ℤ◌, length, All, unsigned_abs};
 ghost use Rattle.stn_model.specs.Plant.{state_at, utility_at, run_on};
 ghost use Rattle.stn_model.specs.Sums.{total, total_below};
 ghost use Rattle.stn_model.specs.Profit.{payments, cost_of, start_cost, change_costs, profit};
 ghost use Rattle.stn_model.specs.Sound.{Sound};
-ghost use Rattle.plan_sim.specs.Faults.{level, used};
+ghost use Rattle.plan_sim.specs.Faults.{level, used, AreUsesKept};
 ghost use Rattle.plan_sim.specs.Money.{levels_worth, levels_held, level_cost, uses_cost, use_cost};
 ghost use Rattle.plan_sim.specs.Tables.{IsStockTable, IsLoadTable};
 ghost use Rattle.plan_sim.specs.Units.{NoTwins};
 
+use crate::stocks::level_at;
 use crate::units::change_costs;
 use stn_model::{Plant, Start, all_payments, run_for};
 
@@ -34,9 +20,9 @@ pub fn profit_of(plant: &Plant, plan: &[Start], stocks: &[i128], loads: &[u128])
     requires few { length plan.now < 2 ^ 32 }
     requires twins { NoTwins plan.now }
     requires stocks { IsStockTable plant.now plan.now stocks.now }
-    requires small { All (λ level. unsigned_abs level ≤ 2 ^ 66) stocks.now }
+    requires small { All (λ level. unsigned_abs level ≤ 2 ^ 90) stocks.now }
     requires loads { IsLoadTable plant.now plan.now loads.now }
-    requires light { sum loads.now ≤ 2 ^ 76 }
+    requires kept { AreUsesKept plant.now loads.now }
     ensures { result ≡ profit plant.now plan.now }
 {
     less_starts(plant, plan, stocks, loads) - change_costs(plant, plan) as i128
@@ -46,9 +32,9 @@ pub fn profit_of(plant: &Plant, plan: &[Start], stocks: &[i128], loads: &[u128])
 fn income(plant: &Plant, stocks: &[i128]) -> i128
     requires sound { Sound plant.now }
     requires stocks { length stocks.now ≡ length plant.now.states * (plant.now.periods + 1) }
-    requires small { All (λ level. unsigned_abs level ≤ 2 ^ 66) stocks.now }
+    requires small { All (λ level. unsigned_abs level ≤ 2 ^ 90) stocks.now }
     ensures value { result ≡ levels_worth plant.now stocks.now +ℤ payments plant.now }
-    ensures small { unsigned_abs result ≤ 2 ^ 103 }
+    ensures small { unsigned_abs result ≤ 2 ^ 117 }
 {
     worth_of_levels(plant, stocks) + all_payments(plant)
 }
@@ -57,10 +43,10 @@ fn income(plant: &Plant, stocks: &[i128]) -> i128
 fn less_holding(plant: &Plant, stocks: &[i128]) -> i128
     requires sound { Sound plant.now }
     requires stocks { length stocks.now ≡ length plant.now.states * (plant.now.periods + 1) }
-    requires small { All (λ level. unsigned_abs level ≤ 2 ^ 66) stocks.now }
+    requires small { All (λ level. unsigned_abs level ≤ 2 ^ 90) stocks.now }
     ensures value { result ≡ (levels_worth plant.now stocks.now +ℤ payments plant.now)
         -ℤ levels_held plant.now stocks.now }
-    ensures small { unsigned_abs result ≤ 2 ^ 112 }
+    ensures small { unsigned_abs result ≤ 2 ^ 125 + 2 ^ 117 }
 {
     income(plant, stocks) - cost_of_levels(plant, stocks)
 }
@@ -69,12 +55,12 @@ fn less_holding(plant: &Plant, stocks: &[i128]) -> i128
 fn less_utilities(plant: &Plant, stocks: &[i128], loads: &[u128]) -> i128
     requires sound { Sound plant.now }
     requires stocks { length stocks.now ≡ length plant.now.states * (plant.now.periods + 1) }
-    requires small { All (λ level. unsigned_abs level ≤ 2 ^ 66) stocks.now }
+    requires small { All (λ level. unsigned_abs level ≤ 2 ^ 90) stocks.now }
     requires loads { length loads.now ≡ length plant.now.utilities * plant.now.periods }
-    requires light { sum loads.now ≤ 2 ^ 76 }
+    requires kept { AreUsesKept plant.now loads.now }
     ensures value { result ≡ ((levels_worth plant.now stocks.now +ℤ payments plant.now)
         -ℤ levels_held plant.now stocks.now) -ℤ uses_cost plant.now loads.now }
-    ensures small { unsigned_abs result ≤ 2 ^ 113 }
+    ensures small { unsigned_abs result ≤ 2 ^ 125 + 2 ^ 123 }
 {
     less_holding(plant, stocks) - cost_of_uses(plant, loads)
 }
@@ -83,23 +69,23 @@ fn less_utilities(plant: &Plant, stocks: &[i128], loads: &[u128]) -> i128
 fn less_starts(plant: &Plant, plan: &[Start], stocks: &[i128], loads: &[u128]) -> i128
     requires sound { Sound plant.now }
     requires stocks { length stocks.now ≡ length plant.now.states * (plant.now.periods + 1) }
-    requires small { All (λ level. unsigned_abs level ≤ 2 ^ 66) stocks.now }
+    requires small { All (λ level. unsigned_abs level ≤ 2 ^ 90) stocks.now }
     requires loads { length loads.now ≡ length plant.now.utilities * plant.now.periods }
-    requires light { sum loads.now ≤ 2 ^ 76 }
+    requires kept { AreUsesKept plant.now loads.now }
     requires few { length plan.now < 2 ^ 32 }
     ensures value { result ≡ (((levels_worth plant.now stocks.now +ℤ payments plant.now)
         -ℤ levels_held plant.now stocks.now) -ℤ uses_cost plant.now loads.now)
         -ℤ start_cost plant.now plan.now }
-    ensures small { unsigned_abs result ≤ 2 ^ 114 }
+    ensures small { unsigned_abs result ≤ 2 ^ 126 }
 {
     less_utilities(plant, stocks, loads) - start_cost(plant, plan)
 }
 
 fn scaled(rate: i64, amount: i128) -> i128
     requires rate { unsigned_abs rate ≤ 2 ^ 20 }
-    requires amount { unsigned_abs amount ≤ 2 ^ 76 }
+    requires amount { unsigned_abs amount ≤ 2 ^ 90 }
     ensures value { result ≡ rate *ℤ amount }
-    ensures small { unsigned_abs result ≤ 2 ^ 96 }
+    ensures small { unsigned_abs result ≤ 2 ^ 110 }
 {
     rate as i128 * amount
 }
@@ -108,9 +94,9 @@ fn scaled(rate: i64, amount: i128) -> i128
 fn worth_of_levels(plant: &Plant, stocks: &[i128]) -> i128
     requires sound { Sound plant.now }
     requires stocks { length stocks.now ≡ length plant.now.states * (plant.now.periods + 1) }
-    requires small { All (λ level. unsigned_abs level ≤ 2 ^ 66) stocks.now }
+    requires small { All (λ level. unsigned_abs level ≤ 2 ^ 90) stocks.now }
     ensures value { result ≡ levels_worth plant.now stocks.now }
-    ensures small { unsigned_abs result ≤ 2 ^ 102 }
+    ensures small { unsigned_abs result ≤ 2 ^ 116 }
 {
     let mut sum: i128 = 0;
     for state in 0..plant.states.len() {
@@ -122,10 +108,11 @@ fn worth_of_levels(plant: &Plant, stocks: &[i128]) -> i128
 fn worth_of(plant: &Plant, stocks: &[i128], state: usize) -> i128
     requires sound { Sound plant.now }
     requires stocks { length stocks.now ≡ length plant.now.states * (plant.now.periods + 1) }
-    requires small { All (λ level. unsigned_abs level ≤ 2 ^ 66) stocks.now }
+    requires small { All (λ level. unsigned_abs level ≤ 2 ^ 90) stocks.now }
     requires there { state < length plant.now.states }
-    ensures value { result ≡ (state_at plant.now state).price *ℤ level plant.now stocks.now state plant.now.periods }
-    ensures small { unsigned_abs result ≤ 2 ^ 96 }
+    ensures value { result ≡ (state_at plant.now state).price
+        *ℤ level plant.now stocks.now state plant.now.periods }
+    ensures small { unsigned_abs result ≤ 2 ^ 110 }
 {
     let price = plant.states.get(state).price;
     scaled(
@@ -134,24 +121,13 @@ fn worth_of(plant: &Plant, stocks: &[i128], state: usize) -> i128
     )
 }
 
-fn level_at(plant: &Plant, stocks: &[i128], state: usize, time: usize) -> i128
-    requires stocks { length stocks.now ≡ length plant.now.states * (plant.now.periods + 1) }
-    requires small { All (λ level. unsigned_abs level ≤ 2 ^ 66) stocks.now }
-    requires there { state < length plant.now.states }
-    requires within { time ≤ plant.now.periods }
-    ensures value { result ≡ level plant.now stocks.now state time }
-    ensures small { unsigned_abs result ≤ 2 ^ 66 }
-{
-    stocks[state * (plant.periods as usize + 1) + time]
-}
-
 #[tactic(auto, using(stn_model::proofs::Totals::total_below_more))]
 fn cost_of_levels(plant: &Plant, stocks: &[i128]) -> i128
     requires sound { Sound plant.now }
     requires stocks { length stocks.now ≡ length plant.now.states * (plant.now.periods + 1) }
-    requires small { All (λ level. unsigned_abs level ≤ 2 ^ 66) stocks.now }
+    requires small { All (λ level. unsigned_abs level ≤ 2 ^ 90) stocks.now }
     ensures value { result ≡ levels_held plant.now stocks.now }
-    ensures small { unsigned_abs result ≤ 2 ^ 111 }
+    ensures small { unsigned_abs result ≤ 2 ^ 125 }
 {
     let mut sum: i128 = 0;
     for state in 0..plant.states.len() {
@@ -164,10 +140,10 @@ fn cost_of_levels(plant: &Plant, stocks: &[i128]) -> i128
 fn cost_of_level(plant: &Plant, stocks: &[i128], state: usize) -> i128
     requires sound { Sound plant.now }
     requires stocks { length stocks.now ≡ length plant.now.states * (plant.now.periods + 1) }
-    requires small { All (λ level. unsigned_abs level ≤ 2 ^ 66) stocks.now }
+    requires small { All (λ level. unsigned_abs level ≤ 2 ^ 90) stocks.now }
     requires there { state < length plant.now.states }
     ensures value { result ≡ level_cost plant.now stocks.now state }
-    ensures small { unsigned_abs result ≤ 2 ^ 105 }
+    ensures small { unsigned_abs result ≤ 2 ^ 119 }
 {
     let mut sum: i128 = 0;
     for time in 0..plant.periods as usize {
@@ -179,11 +155,12 @@ fn cost_of_level(plant: &Plant, stocks: &[i128], state: usize) -> i128
 fn cost_at(plant: &Plant, stocks: &[i128], state: usize, time: usize) -> i128
     requires sound { Sound plant.now }
     requires stocks { length stocks.now ≡ length plant.now.states * (plant.now.periods + 1) }
-    requires small { All (λ level. unsigned_abs level ≤ 2 ^ 66) stocks.now }
+    requires small { All (λ level. unsigned_abs level ≤ 2 ^ 90) stocks.now }
     requires there { state < length plant.now.states }
     requires within { time ≤ plant.now.periods }
-    ensures value { result ≡ (state_at plant.now state).holding *ℤ level plant.now stocks.now state time }
-    ensures small { unsigned_abs result ≤ 2 ^ 96 }
+    ensures value { result ≡ (state_at plant.now state).holding
+        *ℤ level plant.now stocks.now state time }
+    ensures small { unsigned_abs result ≤ 2 ^ 110 }
 {
     let holding = plant.states.get(state).holding;
     scaled(holding, level_at(plant, stocks, state, time))
@@ -193,9 +170,9 @@ fn cost_at(plant: &Plant, stocks: &[i128], state: usize, time: usize) -> i128
 fn cost_of_uses(plant: &Plant, loads: &[u128]) -> i128
     requires sound { Sound plant.now }
     requires loads { length loads.now ≡ length plant.now.utilities * plant.now.periods }
-    requires light { sum loads.now ≤ 2 ^ 76 }
+    requires kept { AreUsesKept plant.now loads.now }
     ensures value { result ≡ uses_cost plant.now loads.now }
-    ensures small { unsigned_abs result ≤ 2 ^ 109 }
+    ensures small { unsigned_abs result ≤ 2 ^ 122 }
 {
     let mut sum: i128 = 0;
     for utility in 0..plant.utilities.len() {
@@ -208,10 +185,10 @@ fn cost_of_uses(plant: &Plant, loads: &[u128]) -> i128
 fn cost_of_use(plant: &Plant, loads: &[u128], utility: usize) -> i128
     requires sound { Sound plant.now }
     requires loads { length loads.now ≡ length plant.now.utilities * plant.now.periods }
-    requires light { sum loads.now ≤ 2 ^ 76 }
+    requires kept { AreUsesKept plant.now loads.now }
     requires there { utility < length plant.now.utilities }
     ensures value { result ≡ use_cost plant.now loads.now utility }
-    ensures small { unsigned_abs result ≤ 2 ^ 105 }
+    ensures small { unsigned_abs result ≤ 2 ^ 119 }
 {
     let mut sum: i128 = 0;
     for period in 0..plant.periods as usize {
@@ -223,24 +200,25 @@ fn cost_of_use(plant: &Plant, loads: &[u128], utility: usize) -> i128
 fn cost_in(plant: &Plant, loads: &[u128], utility: usize, period: usize) -> i128
     requires sound { Sound plant.now }
     requires loads { length loads.now ≡ length plant.now.utilities * plant.now.periods }
-    requires light { sum loads.now ≤ 2 ^ 76 }
+    requires kept { AreUsesKept plant.now loads.now }
     requires there { utility < length plant.now.utilities }
     requires within { period < plant.now.periods }
     ensures value { result ≡ (utility_at plant.now utility).rate *ℤ pos
         (used plant.now loads.now utility period) }
-    ensures small { unsigned_abs result ≤ 2 ^ 96 }
+    ensures small { unsigned_abs result ≤ 2 ^ 110 }
 {
     let rate = plant.utilities.get(utility).rate;
     scaled(rate, used_in(plant, loads, utility, period) as i128)
 }
 
 fn used_in(plant: &Plant, loads: &[u128], utility: usize, period: usize) -> u128
+    requires sound { Sound plant.now }
     requires loads { length loads.now ≡ length plant.now.utilities * plant.now.periods }
-    requires light { sum loads.now ≤ 2 ^ 76 }
+    requires kept { AreUsesKept plant.now loads.now }
     requires there { utility < length plant.now.utilities }
     requires within { period < plant.now.periods }
     ensures value { result ≡ used plant.now loads.now utility period }
-    ensures small { result ≤ 2 ^ 76 }
+    ensures small { result ≤ 2 ^ 30 }
 {
     loads[utility * plant.periods as usize + period]
 }

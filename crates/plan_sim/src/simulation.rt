@@ -1,25 +1,5 @@
 //! The simulation of a plan.
-ghost use Rattle.std.specs.Prelude.{
-  ◌≡◌,
-  ◌≤◌,
-  ◌<◌,
-  ◌^◌,
-  ◌↔◌,
-  ◌+◌,
-  ◌*◌,
-  ◌⊎◌,
-  ◌<ℤ◌,
-  pos,
-  length,
-  sum,
-  All,
-  IsTrue,
-  IfOk,
-  IsSomeAnd,
-  MatchOption,
-  slice_get,
-  unsigned_abs,
-};
+ghost use Rattle.std.specs.Prelude.{◌≡◌, ◌≤◌, ◌<◌, ◌^◌, ◌↔◌, ◌+◌, ◌*◌, ◌⊎◌, ◌<ℤ◌, pos, length, All, IsTrue, IfOk, IsSomeAnd, MatchOption, slice_get, unsigned_abs};
 ghost use Rattle.stn_model.specs.Plant.{state_at};
 ghost use Rattle.stn_model.specs.Feasible.{Feasible};
 ghost use Rattle.stn_model.specs.Violations.{BreaksFirst};
@@ -106,9 +86,8 @@ fn verdict_of(plant: &Plant, plan: &[Start], stocks: &[i128], loads: &[u128]) ->
     requires few { length plan.now < 2 ^ 32 }
     requires units { UnitsKept plant.now plan.now }
     requires stocks { IsStockTable plant.now plan.now stocks.now }
-    requires small { All (λ level. unsigned_abs level ≤ 2 ^ 66) stocks.now }
+    requires small { All (λ level. unsigned_abs level ≤ 2 ^ 90) stocks.now }
     requires loads { IsLoadTable plant.now plan.now loads.now }
-    requires light { sum loads.now ≤ 2 ^ 76 }
     ensures verdict { IsPlanVerdict plant.now plan.now result }
     ensures feasible { IsTrue (says_feasible result) ↔ Feasible plant.now plan.now }
 {

@@ -1,29 +1,9 @@
 //! The stocks of all states at all times, stepped through the periods.
-ghost use Rattle.std.specs.Prelude.{
-  ◌≡◌,
-  ◌≤◌,
-  ◌<◌,
-  ◌^◌,
-  ◌+◌,
-  ◌*◌,
-  ◌-ℤ◌,
-  ℕ,
-  pos,
-  length,
-  sum,
-  sum_by,
-  take,
-  drop,
-  All,
-  IfOk,
-  OnOk,
-  slice_index_or,
-  unsigned_abs,
-};
+ghost use Rattle.std.specs.Prelude.{◌≡◌, ◌≤◌, ◌<◌, ◌^◌, ◌+◌, ◌*◌, ◌-ℤ◌, ℕ, pos, length, sum, sum_by, take, drop, All, IfOk, OnOk, slice_index_or, unsigned_abs};
 ghost use Rattle.stn_model.specs.Plant.{task_at};
-ghost use Rattle.stn_model.specs.Fits.{Fits};
 ghost use Rattle.stn_model.specs.Stock.{given, taken, received, delivered};
 ghost use Rattle.stn_model.specs.Sound.{Sound};
+ghost use Rattle.plan_sim.specs.Faults.{level};
 ghost use Rattle.plan_sim.specs.Moves.{summed, HasRow};
 ghost use Rattle.plan_sim.specs.Tables.{IsStockTable, AddsLevels};
 
@@ -34,11 +14,10 @@ use stn_model::{Plant, Start, Task};
 /// The stocks of all states at all times: a row for each state, a column for each time.
 pub fn stocks(alloc: Global, plant: &Plant, plan: &[Start]) -> Result<Vec<i128>, AllocError>
     requires sound { Sound plant.now }
-    requires fit { All (Fits plant.now) plan.now }
     requires few { length plan.now < 2 ^ 32 }
     ensures table { IfOk result (λ stocks. IsStockTable plant.now plan.now stocks.items) }
     ensures small { IfOk result
-        (λ stocks. All (λ level. unsigned_abs level ≤ 2 ^ 66) stocks.items) }
+        (λ stocks. All (λ level. unsigned_abs level ≤ 2 ^ 90) stocks.items) }
 {
     let width = plant.periods as usize + 1;
     let arrived = arrivals(alloc, plant, plan)?;
@@ -63,12 +42,13 @@ fn push_levels(
     requires arrived { HasRow arrived.now width state }
     requires departed { HasRow departed.now width state }
     requires opening { opening ≤ 2 ^ 30 }
-    requires in_small { sum arrived.now ≤ 2 ^ 64 }
-    requires out_small { sum departed.now ≤ 2 ^ 64 }
-    requires small { All (λ level. unsigned_abs level ≤ 2 ^ 66) stocks.old.items }
+    requires in_small { sum arrived.now ≤ 2 ^ 88 }
+    requires out_small { sum departed.now ≤ 2 ^ 88 }
+    requires small { All (λ level. unsigned_abs level ≤ 2 ^ 90) stocks.old.items }
     ensures levels { OnOk result
-        (AddsLevels stocks.old.items stocks.new.items opening width state width arrived.now departed.now) }
-    ensures small { OnOk result (All (λ level. unsigned_abs level ≤ 2 ^ 66) stocks.new.items) }
+        (AddsLevels stocks.old.items stocks.new.items opening width state width
+        arrived.now departed.now) }
+    ensures small { OnOk result (All (λ level. unsigned_abs level ≤ 2 ^ 90) stocks.new.items) }
 {
     let mut inflow = opening;
     let mut outflow: u128 = 0;
@@ -83,7 +63,6 @@ fn push_levels(
 /// What comes into each state at each time, from outside and from the batches.
 fn arrivals(alloc: Global, plant: &Plant, plan: &[Start]) -> Result<Vec<u128>, AllocError>
     requires sound { Sound plant.now }
-    requires fit { All (Fits plant.now) plan.now }
     requires few { length plan.now < 2 ^ 32 }
     ensures size { IfOk result
         (λ cells. length cells.items ≡ length plant.now.states * (plant.now.periods + 1)) }
@@ -91,7 +70,7 @@ fn arrivals(alloc: Global, plant: &Plant, plan: &[Start]) -> Result<Vec<u128>, A
         (λ cells. (state time : ℕ) → time < plant.now.periods + 1 →
         summed cells.items (plant.now.periods + 1) state time
         ≡ received plant.now state time + sum_by (given plant.now state time) plan.now) }
-    ensures total { IfOk result (λ cells. sum cells.items ≤ 2 ^ 64) }
+    ensures total { IfOk result (λ cells. sum cells.items ≤ 2 ^ 88) }
 {
     let width = plant.periods as usize + 1;
     let mut cells = vec![in alloc; 0u128; plant.states.len() * width]?;
@@ -101,14 +80,13 @@ fn arrivals(alloc: Global, plant: &Plant, plan: &[Start]) -> Result<Vec<u128>, A
 
 fn add_arrivals(plant: &Plant, plan: &[Start], cells: &mut [u128])
     requires sound { Sound plant.now }
-    requires fit { All (Fits plant.now) plan.now }
     requires few { length plan.now < 2 ^ 32 }
     requires size { length cells.old ≡ length plant.now.states * (plant.now.periods + 1) }
     requires empty { sum cells.old ≡ 0 }
     ensures moved { (state time : ℕ) → time < plant.now.periods + 1 →
         summed cells.new (plant.now.periods + 1) state time
         ≡ received plant.now state time + sum_by (given plant.now state time) plan.now }
-    ensures total { sum cells.new ≤ 2 ^ 64 }
+    ensures total { sum cells.new ≤ 2 ^ 88 }
 {
     receive(plant, cells);
     for start in plan {
@@ -131,15 +109,17 @@ fn receive(plant: &Plant, cells: &mut [u128])
 #[tactic(auto, unfolding(stn_model::specs::Stock::given))]
 fn give(plant: &Plant, start: &Start, cells: &mut [u128])
     requires sound { Sound plant.now }
-    requires fits { Fits plant.now start.now }
     requires size { length cells.old ≡ length plant.now.states * (plant.now.periods + 1) }
     requires room { sum cells.old < 2 ^ 99 }
     ensures moved { (state time : ℕ) → time < plant.now.periods + 1 →
         summed cells.new (plant.now.periods + 1) state time
         ≡ summed cells.old (plant.now.periods + 1) state time
         + given plant.now state time start.now }
-    ensures total { sum cells.new ≤ sum cells.old + 2 ^ 31 }
+    ensures total { sum cells.new ≤ sum cells.old + 2 ^ 55 }
 {
+    if plant.tasks.len() <= start.task as usize {
+        return;
+    }
     let task = task_of(plant, start);
     add_outputs(
         cells,
@@ -152,7 +132,6 @@ fn give(plant: &Plant, start: &Start, cells: &mut [u128])
 /// What goes out of each state at each time, to customers and into the batches.
 fn departures(alloc: Global, plant: &Plant, plan: &[Start]) -> Result<Vec<u128>, AllocError>
     requires sound { Sound plant.now }
-    requires fit { All (Fits plant.now) plan.now }
     requires few { length plan.now < 2 ^ 32 }
     ensures size { IfOk result
         (λ cells. length cells.items ≡ length plant.now.states * (plant.now.periods + 1)) }
@@ -160,7 +139,7 @@ fn departures(alloc: Global, plant: &Plant, plan: &[Start]) -> Result<Vec<u128>,
         (λ cells. (state time : ℕ) → time < plant.now.periods + 1 →
         summed cells.items (plant.now.periods + 1) state time
         ≡ delivered plant.now state time + sum_by (taken plant.now state time) plan.now) }
-    ensures total { IfOk result (λ cells. sum cells.items ≤ 2 ^ 64) }
+    ensures total { IfOk result (λ cells. sum cells.items ≤ 2 ^ 88) }
 {
     let width = plant.periods as usize + 1;
     let mut cells = vec![in alloc; 0u128; plant.states.len() * width]?;
@@ -170,14 +149,13 @@ fn departures(alloc: Global, plant: &Plant, plan: &[Start]) -> Result<Vec<u128>,
 
 fn add_departures(plant: &Plant, plan: &[Start], cells: &mut [u128])
     requires sound { Sound plant.now }
-    requires fit { All (Fits plant.now) plan.now }
     requires few { length plan.now < 2 ^ 32 }
     requires size { length cells.old ≡ length plant.now.states * (plant.now.periods + 1) }
     requires empty { sum cells.old ≡ 0 }
     ensures moved { (state time : ℕ) → time < plant.now.periods + 1 →
         summed cells.new (plant.now.periods + 1) state time
         ≡ delivered plant.now state time + sum_by (taken plant.now state time) plan.now }
-    ensures total { sum cells.new ≤ 2 ^ 64 }
+    ensures total { sum cells.new ≤ 2 ^ 88 }
 {
     deliver(plant, cells);
     for start in plan {
@@ -204,15 +182,17 @@ fn deliver(plant: &Plant, cells: &mut [u128])
 #[tactic(auto, unfolding(stn_model::specs::Stock::taken))]
 fn take_from(plant: &Plant, start: &Start, cells: &mut [u128])
     requires sound { Sound plant.now }
-    requires fits { Fits plant.now start.now }
     requires size { length cells.old ≡ length plant.now.states * (plant.now.periods + 1) }
     requires room { sum cells.old < 2 ^ 99 }
     ensures moved { (state time : ℕ) → time < plant.now.periods + 1 →
         summed cells.new (plant.now.periods + 1) state time
         ≡ summed cells.old (plant.now.periods + 1) state time
         + taken plant.now state time start.now }
-    ensures total { sum cells.new ≤ sum cells.old + 2 ^ 31 }
+    ensures total { sum cells.new ≤ sum cells.old + 2 ^ 55 }
 {
+    if plant.tasks.len() <= start.task as usize {
+        return;
+    }
     let task = task_of(plant, start);
     add_inputs(
         cells,
@@ -222,11 +202,22 @@ fn take_from(plant: &Plant, start: &Start, cells: &mut [u128])
     );
 }
 
-/// The task of a start that fits.
+/// The task of a start, where it is there.
 pub fn task_of<'a>(plant: &'a Plant, start: &Start) -> &'a Task
-    requires sound { Sound plant.now }
-    requires fits { Fits plant.now start.now }
+    requires { start.now.task < length plant.now.tasks }
     ensures { result.now ≡ task_at plant.now start.now.task }
 {
     plant.tasks.get(start.task as usize)
+}
+
+/// The stock of a state at a time, in a table of stocks.
+pub fn level_at(plant: &Plant, stocks: &[i128], state: usize, time: usize) -> i128
+    requires stocks { length stocks.now ≡ length plant.now.states * (plant.now.periods + 1) }
+    requires small { All (λ level. unsigned_abs level ≤ 2 ^ 90) stocks.now }
+    requires there { state < length plant.now.states }
+    requires within { time ≤ plant.now.periods }
+    ensures value { result ≡ level plant.now stocks.now state time }
+    ensures small { unsigned_abs result ≤ 2 ^ 90 }
+{
+    stocks[state * (plant.periods as usize + 1) + time]
 }

@@ -1,20 +1,5 @@
 //! The starts of a plan: whether each fits, and how those on one unit follow each other.
-ghost use Rattle.std.specs.Prelude.{
-  ◌≡◌,
-  ◌≤◌,
-  ◌<◌,
-  ◌^◌,
-  ◌↔◌,
-  ◌+◌,
-  sum_by,
-  ℕ,
-  length,
-  take,
-  All,
-  IsTrue,
-  IfSome,
-  MatchOption,
-};
+ghost use Rattle.std.specs.Prelude.{◌≡◌, ◌≤◌, ◌<◌, ◌^◌, ◌↔◌, ◌+◌, sum_by, ℕ, length, take, All, IsTrue, IfSome, MatchOption};
 ghost use Rattle.stn_model.specs.Plant.{end_of, gap_between};
 ghost use Rattle.stn_model.specs.Profit.{changeover, change_costs};
 ghost use Rattle.stn_model.specs.Fits.{Fits};
@@ -22,6 +7,7 @@ ghost use Rattle.stn_model.specs.Batches.{Apart};
 ghost use Rattle.stn_model.specs.Violations.{start_at};
 ghost use Rattle.plan_sim.specs.Units.{NoTwins, ApartThroughout, IsFirstBusy, NoneTooSoon, FollowsTooSoon, CleanedUntil, IsFirstGap, FitUntil, IsFirstUnfit, ApartUntil, NoneLater, IsFirstMeeting, IsLater, IsNearest};
 
+use crate::nearest::next_on_unit;
 use stn_model::{Plant, Start, change_cost, end, fits, gap_of};
 
 /// Two places of a plan.
@@ -77,38 +63,6 @@ fn are_apart(plant: &Plant, a: &Start, b: &Start) -> bool
     ensures { IsTrue result ↔ Apart plant.now a.now b.now }
 {
     a.unit != b.unit || end(plant, a) <= b.period as u64 || end(plant, b) <= a.period as u64
-}
-
-/// The place of the nearest later start on the unit of a.
-pub fn next_on_unit(plan: &[Start], a: &Start) -> Option<usize>
-    ensures { MatchOption result (NoneLater plan.now (length plan.now) a.now)
-        (IsNearest plan.now (length plan.now) a.now) }
-{
-    let mut nearest: Option<usize> = None;
-    for place in 0..plan.len() {
-        if is_nearer(plan, a, nearest, place) {
-            nearest = Some(place);
-        }
-    }
-    nearest
-}
-
-fn is_nearer(plan: &[Start], a: &Start, nearest: Option<usize>, place: usize) -> bool
-    requires there { place < length plan.now }
-    requires known { IfSome nearest (λ k. k < length plan.now) }
-    ensures { IsTrue result ↔
-        (IsLater a.now (start_at plan.now place)
-        × MatchOption nearest (Unit {0})
-        (λ k. (start_at plan.now place).period < (start_at plan.now k).period)) }
-{
-    let c = plan[place];
-    if c.unit != a.unit || c.period <= a.period {
-        return false;
-    }
-    match nearest {
-        Some(k) => c.period < plan[k].period,
-        None => true,
-    }
 }
 
 /// The first pair of places whose batches follow each other before the unit is cleaned.

@@ -23,16 +23,12 @@ ghost use Rattle.plan_tables.specs.Batches.{
 };
 
 use crate::changes::{charge, on_unit};
+use crate::written::Written;
 use std::alloc::{AllocError, Global};
 use stn_model::{Plant, Start, end, run_for};
 
 /// Appends the table of the batches.
-pub fn push_batches(
-    alloc: Global,
-    text: &mut Vec<u8>,
-    plant: &Plant,
-    plan: &[Start],
-) -> Result<(), AllocError>
+pub fn push_batches(alloc: Global, text: &mut Vec<u8>, plant: &Plant, plan: &[Start]) -> Written
     requires sound { Sound plant.now }
     requires few { length plan.now < 2 ^ 32 }
     ensures { OnOk result (text.new.items ≡ text.old.items ++ batches_text plant.now plan.now) }
@@ -42,19 +38,14 @@ pub fn push_batches(
 }
 
 #[tactic(auto, unfolding(crate::specs::Batches::batches_head))]
-fn push_head(text: &mut Vec<u8>) -> Result<(), AllocError>
+fn push_head(text: &mut Vec<u8>) -> Written
     ensures { OnOk result (text.new.items ≡ text.old.items ++ batches_head) }
 {
     text.extend_from_slice("unit,task,start,end,quanta,mass,cost,changeover\n".as_bytes())
 }
 
 #[tactic(auto, using(crate::proofs::Orders::lines_next))]
-fn push_units(
-    alloc: Global,
-    text: &mut Vec<u8>,
-    plant: &Plant,
-    plan: &[Start],
-) -> Result<(), AllocError>
+fn push_units(alloc: Global, text: &mut Vec<u8>, plant: &Plant, plan: &[Start]) -> Written
     requires sound { Sound plant.now }
     requires few { length plan.now < 2 ^ 32 }
     ensures { OnOk result (text.new.items ≡ text.old.items ++ batch_lines plant.now plan.now) }
@@ -67,13 +58,7 @@ fn push_units(
 
 // Appends the lines of a unit's batches.
 #[tactic(auto, using(crate::proofs::Orders::unit_lines))]
-fn push_unit(
-    alloc: Global,
-    text: &mut Vec<u8>,
-    plant: &Plant,
-    plan: &[Start],
-    unit: u32,
-) -> Result<(), AllocError>
+fn push_unit(alloc: Global, text: &mut Vec<u8>, plant: &Plant, plan: &[Start], unit: u32) -> Written
     requires { length plan.now < 2 ^ 32 }
     ensures { OnOk result (text.new.items ≡ text.old.items
         ++ flat_map (batch_line plant.now plan.now) (unit_order plant.now plan.now unit)) }
@@ -95,7 +80,7 @@ fn by_period(alloc: Global, periods: u32, batches: &[Start]) -> Result<Vec<Start
     Ok(ordered)
 }
 
-fn push_starting(ordered: &mut Vec<Start>, batches: &[Start], period: u32) -> Result<(), AllocError>
+fn push_starting(ordered: &mut Vec<Start>, batches: &[Start], period: u32) -> Written
     ensures { OnOk result (ordered.new.items ≡ ordered.old.items ++ starting batches.now period) }
 {
     for start in batches {
@@ -113,7 +98,7 @@ fn push_lines(
     plant: &Plant,
     batches: &[Start],
     ordered: &[Start],
-) -> Result<(), AllocError>
+) -> Written
     requires { length batches.now < 2 ^ 32 }
     ensures { OnOk result (text.new.items
         ≡ text.old.items ++ flat_map (line_among plant.now batches.now) ordered.now) }
@@ -131,7 +116,7 @@ fn push_line(
     plant: &Plant,
     batches: &[Start],
     b: &Start,
-) -> Result<(), AllocError>
+) -> Written
     requires { length batches.now < 2 ^ 32 }
     ensures { OnOk result (text.new.items
         ≡ text.old.items ++ line_among plant.now batches.now b.now) }
@@ -151,7 +136,7 @@ fn push_numbers(
     plant: &Plant,
     b: &Start,
     charged: u128,
-) -> Result<(), AllocError>
+) -> Written
     ensures { OnOk result (text.new.items
         ≡ text.old.items ++ batch_numbers plant.now b.now charged) }
 {
@@ -162,13 +147,7 @@ fn push_numbers(
 }
 
 #[tactic(auto, unfolding(crate::specs::Batches::size_cells))]
-fn push_size(
-    alloc: Global,
-    text: &mut Vec<u8>,
-    b: &Start,
-    ending: u64,
-    mass: u64,
-) -> Result<(), AllocError>
+fn push_size(alloc: Global, text: &mut Vec<u8>, b: &Start, ending: u64, mass: u64) -> Written
     ensures { OnOk result (text.new.items
         ≡ text.old.items ++ size_cells b.now.period ending b.now.quanta mass) }
 {
@@ -179,12 +158,7 @@ fn push_size(
 }
 
 #[tactic(auto, unfolding(crate::specs::Batches::cost_cells))]
-fn push_costs(
-    alloc: Global,
-    text: &mut Vec<u8>,
-    cost: &i64,
-    charged: u128,
-) -> Result<(), AllocError>
+fn push_costs(alloc: Global, text: &mut Vec<u8>, cost: &i64, charged: u128) -> Written
     ensures { OnOk result (text.new.items ≡ text.old.items ++ cost_cells cost.now charged) }
 {
     let cells = format!(in alloc; ",{cost},{charged}\n")?;

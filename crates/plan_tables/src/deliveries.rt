@@ -6,17 +6,13 @@ ghost use Rattle.stn_model.specs.Stock.{stock};
 ghost use Rattle.stn_model.specs.Sound.{Sound};
 ghost use Rattle.plan_tables.specs.Deliveries.{delivery_cells, number_cell, line_of, delivery_line, deliveries_head, deliveries_text};
 
+use crate::written::Written;
 use plain_plan::stock_at;
-use std::alloc::{AllocError, Global};
+use std::alloc::Global;
 use stn_model::{Delivery, Plant, Start};
 
 /// Appends the table of the deliveries.
-pub fn push_deliveries(
-    alloc: Global,
-    text: &mut Vec<u8>,
-    plant: &Plant,
-    plan: &[Start],
-) -> Result<(), AllocError>
+pub fn push_deliveries(alloc: Global, text: &mut Vec<u8>, plant: &Plant, plan: &[Start]) -> Written
     requires sound { Sound plant.now }
     requires few { length plan.now < 2 ^ 32 }
     ensures { OnOk result (text.new.items ≡ text.old.items ++ deliveries_text plant.now plan.now) }
@@ -26,19 +22,14 @@ pub fn push_deliveries(
 }
 
 #[tactic(auto, unfolding(crate::specs::Deliveries::deliveries_head))]
-fn push_head(text: &mut Vec<u8>) -> Result<(), AllocError>
+fn push_head(text: &mut Vec<u8>) -> Written
     ensures { OnOk result (text.new.items ≡ text.old.items ++ deliveries_head) }
 {
     text.extend_from_slice("delivery,state,time,amount,payment,stock\n".as_bytes())
 }
 
 #[tactic(auto, using(crate::proofs::Ranges::pieces_next))]
-fn push_lines(
-    alloc: Global,
-    text: &mut Vec<u8>,
-    plant: &Plant,
-    plan: &[Start],
-) -> Result<(), AllocError>
+fn push_lines(alloc: Global, text: &mut Vec<u8>, plant: &Plant, plan: &[Start]) -> Written
     requires sound { Sound plant.now }
     requires few { length plan.now < 2 ^ 32 }
     ensures { OnOk result (text.new.items ≡ text.old.items
@@ -61,7 +52,7 @@ fn push_line(
     plan: &[Start],
     number: u64,
     delivery: &Delivery,
-) -> Result<(), AllocError>
+) -> Written
     requires sound { Sound plant.now }
     requires few { length plan.now < 2 ^ 32 }
     ensures { OnOk result (text.new.items
@@ -83,7 +74,7 @@ fn state_name(plant: &Plant, state: u32) -> &[u8]
 }
 
 #[tactic(auto, unfolding(crate::specs::Deliveries::number_cell))]
-fn push_number(alloc: Global, text: &mut Vec<u8>, number: u64) -> Result<(), AllocError>
+fn push_number(alloc: Global, text: &mut Vec<u8>, number: u64) -> Written
     ensures { OnOk result (text.new.items ≡ text.old.items ++ number_cell number) }
 {
     let cell = format!(in alloc; "{number},")?;
@@ -91,12 +82,7 @@ fn push_number(alloc: Global, text: &mut Vec<u8>, number: u64) -> Result<(), All
 }
 
 #[tactic(auto, unfolding(crate::specs::Deliveries::delivery_cells))]
-fn push_cells(
-    alloc: Global,
-    text: &mut Vec<u8>,
-    delivery: &Delivery,
-    level: &i128,
-) -> Result<(), AllocError>
+fn push_cells(alloc: Global, text: &mut Vec<u8>, delivery: &Delivery, level: &i128) -> Written
     ensures { OnOk result (text.new.items ≡ text.old.items
         ++ delivery_cells delivery.now.time delivery.now.amount delivery.now.payment level.now) }
 {

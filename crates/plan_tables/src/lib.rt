@@ -11,6 +11,7 @@ mod loads;
 mod stocks;
 mod units;
 mod whole;
+mod written;
 
 pub use kind::TableKind;
 pub use whole::table;

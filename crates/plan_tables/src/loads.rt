@@ -6,17 +6,13 @@ ghost use Rattle.stn_model.specs.Load.{load};
 ghost use Rattle.stn_model.specs.Sound.{Sound};
 ghost use Rattle.plan_tables.specs.Loads.{load_cells, load_line, utility_lines, loads_head, loads_text};
 
+use crate::written::Written;
 use plain_plan::load_in;
-use std::alloc::{AllocError, Global};
+use std::alloc::Global;
 use stn_model::{Plant, Start};
 
 /// Appends the table of the loads.
-pub fn push_loads(
-    alloc: Global,
-    text: &mut Vec<u8>,
-    plant: &Plant,
-    plan: &[Start],
-) -> Result<(), AllocError>
+pub fn push_loads(alloc: Global, text: &mut Vec<u8>, plant: &Plant, plan: &[Start]) -> Written
     requires sound { Sound plant.now }
     requires few { length plan.now < 2 ^ 32 }
     ensures { OnOk result (text.new.items ≡ text.old.items ++ loads_text plant.now plan.now) }
@@ -26,19 +22,14 @@ pub fn push_loads(
 }
 
 #[tactic(auto, unfolding(crate::specs::Loads::loads_head))]
-fn push_head(text: &mut Vec<u8>) -> Result<(), AllocError>
+fn push_head(text: &mut Vec<u8>) -> Written
     ensures { OnOk result (text.new.items ≡ text.old.items ++ loads_head) }
 {
     text.extend_from_slice("utility,period,load,limit\n".as_bytes())
 }
 
 #[tactic(auto, using(crate::proofs::Ranges::pieces_next))]
-fn push_utilities(
-    alloc: Global,
-    text: &mut Vec<u8>,
-    plant: &Plant,
-    plan: &[Start],
-) -> Result<(), AllocError>
+fn push_utilities(alloc: Global, text: &mut Vec<u8>, plant: &Plant, plan: &[Start]) -> Written
     requires sound { Sound plant.now }
     requires few { length plan.now < 2 ^ 32 }
     ensures { OnOk result (text.new.items ≡ text.old.items
@@ -59,7 +50,7 @@ fn push_utility(
     plant: &Plant,
     plan: &[Start],
     utility: u32,
-) -> Result<(), AllocError>
+) -> Written
     requires sound { Sound plant.now }
     requires few { length plan.now < 2 ^ 32 }
     requires there { utility < length plant.now.utilities }
@@ -81,7 +72,7 @@ fn push_load(
     plan: &[Start],
     utility: u32,
     period: u32,
-) -> Result<(), AllocError>
+) -> Written
     requires sound { Sound plant.now }
     requires few { length plan.now < 2 ^ 32 }
     requires there { utility < length plant.now.utilities }
@@ -106,13 +97,7 @@ fn limit_in(limits: &[u64], period: u32) -> u64
 }
 
 #[tactic(auto, unfolding(crate::specs::Loads::load_cells))]
-fn push_cells(
-    alloc: Global,
-    text: &mut Vec<u8>,
-    period: u32,
-    drawn: u128,
-    limit: u64,
-) -> Result<(), AllocError>
+fn push_cells(alloc: Global, text: &mut Vec<u8>, period: u32, drawn: u128, limit: u64) -> Written
     ensures { OnOk result (text.new.items ≡ text.old.items ++ load_cells period drawn limit) }
 {
     let cells = format!(in alloc; ",{period},{drawn},{limit}\n")?;

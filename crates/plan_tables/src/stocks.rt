@@ -19,17 +19,13 @@ ghost use Rattle.plan_tables.specs.Stocks.{
   stocks_text,
 };
 
+use crate::written::Written;
 use plain_plan::stock_at;
-use std::alloc::{AllocError, Global};
+use std::alloc::Global;
 use stn_model::{Delivery, Plant, Receipt, Start};
 
 /// Appends the table of the stocks.
-pub fn push_stocks(
-    alloc: Global,
-    text: &mut Vec<u8>,
-    plant: &Plant,
-    plan: &[Start],
-) -> Result<(), AllocError>
+pub fn push_stocks(alloc: Global, text: &mut Vec<u8>, plant: &Plant, plan: &[Start]) -> Written
     requires sound { Sound plant.now }
     requires few { length plan.now < 2 ^ 32 }
     ensures { OnOk result (text.new.items ≡ text.old.items ++ stocks_text plant.now plan.now) }
@@ -39,19 +35,14 @@ pub fn push_stocks(
 }
 
 #[tactic(auto, unfolding(crate::specs::Stocks::stocks_head))]
-fn push_head(text: &mut Vec<u8>) -> Result<(), AllocError>
+fn push_head(text: &mut Vec<u8>) -> Written
     ensures { OnOk result (text.new.items ≡ text.old.items ++ stocks_head) }
 {
     text.extend_from_slice("state,time,stock,limit,receipt,delivery\n".as_bytes())
 }
 
 #[tactic(auto, using(crate::proofs::Ranges::pieces_next))]
-fn push_states(
-    alloc: Global,
-    text: &mut Vec<u8>,
-    plant: &Plant,
-    plan: &[Start],
-) -> Result<(), AllocError>
+fn push_states(alloc: Global, text: &mut Vec<u8>, plant: &Plant, plan: &[Start]) -> Written
     requires sound { Sound plant.now }
     requires few { length plan.now < 2 ^ 32 }
     ensures { OnOk result (text.new.items ≡ text.old.items
@@ -71,7 +62,7 @@ fn push_state(
     plant: &Plant,
     plan: &[Start],
     state: u32,
-) -> Result<(), AllocError>
+) -> Written
     requires sound { Sound plant.now }
     requires few { length plan.now < 2 ^ 32 }
     requires there { state < length plant.now.states }
@@ -93,7 +84,7 @@ fn push_stock(
     plan: &[Start],
     state: u32,
     time: u32,
-) -> Result<(), AllocError>
+) -> Written
     requires sound { Sound plant.now }
     requires few { length plan.now < 2 ^ 32 }
     requires there { state < length plant.now.states }
@@ -114,7 +105,7 @@ fn push_limit_cells(
     plant: &Plant,
     state: u32,
     time: u32,
-) -> Result<(), AllocError>
+) -> Written
     requires sound { Sound plant.now }
     requires there { state < length plant.now.states }
     ensures { OnOk result (text.new.items ≡ text.old.items ++ limit_cells plant.now state time) }
@@ -126,14 +117,14 @@ fn push_limit_cells(
 }
 
 #[tactic(auto, unfolding(crate::specs::Stocks::level_cells))]
-fn push_level(alloc: Global, text: &mut Vec<u8>, time: u32, level: &i128) -> Result<(), AllocError>
+fn push_level(alloc: Global, text: &mut Vec<u8>, time: u32, level: &i128) -> Written
     ensures { OnOk result (text.new.items ≡ text.old.items ++ level_cells time level.now) }
 {
     let cells = format!(in alloc; ",{time},{level},")?;
     text.extend_from_slice(cells.as_bytes())
 }
 
-fn push_limit(alloc: Global, text: &mut Vec<u8>, limit: Option<u64>) -> Result<(), AllocError>
+fn push_limit(alloc: Global, text: &mut Vec<u8>, limit: Option<u64>) -> Written
     ensures { OnOk result (text.new.items ≡ text.old.items ++ limit_cell limit) }
 {
     match limit {
@@ -162,12 +153,7 @@ fn limit_at(plant: &Plant, state: u32, time: u32) -> Option<u64>
 }
 
 #[tactic(auto, unfolding(crate::specs::Stocks::moved_cells))]
-fn push_moved(
-    alloc: Global,
-    text: &mut Vec<u8>,
-    receipt: u64,
-    delivery: u64,
-) -> Result<(), AllocError>
+fn push_moved(alloc: Global, text: &mut Vec<u8>, receipt: u64, delivery: u64) -> Written
     ensures { OnOk result (text.new.items ≡ text.old.items ++ moved_cells receipt delivery) }
 {
     let cells = format!(in alloc; ",{receipt},{delivery}\n")?;

@@ -26,6 +26,7 @@ ghost use Rattle.plan_tables.specs.Units.{
 };
 
 use crate::changes::{charge, is_next, on_unit};
+use crate::written::Written;
 use std::alloc::{AllocError, Global};
 use stn_model::{Plant, Start, end, gap_of, in_use};
 
@@ -46,12 +47,7 @@ struct UnitTimes {
 }
 
 /// Appends the table of the units.
-pub fn push_units(
-    alloc: Global,
-    text: &mut Vec<u8>,
-    plant: &Plant,
-    plan: &[Start],
-) -> Result<(), AllocError>
+pub fn push_units(alloc: Global, text: &mut Vec<u8>, plant: &Plant, plan: &[Start]) -> Written
     requires sound { Sound plant.now }
     requires few { length plan.now < 2 ^ 32 }
     ensures { OnOk result (text.new.items ≡ text.old.items ++ units_text plant.now plan.now) }
@@ -61,19 +57,14 @@ pub fn push_units(
 }
 
 #[tactic(auto, unfolding(crate::specs::Units::units_head))]
-fn push_head(text: &mut Vec<u8>) -> Result<(), AllocError>
+fn push_head(text: &mut Vec<u8>) -> Written
     ensures { OnOk result (text.new.items ≡ text.old.items ++ units_head) }
 {
     text.extend_from_slice("unit,running,out,cleaning,idle,batches,changeover\n".as_bytes())
 }
 
 #[tactic(auto, using(crate::proofs::Ranges::pieces_next))]
-fn push_lines(
-    alloc: Global,
-    text: &mut Vec<u8>,
-    plant: &Plant,
-    plan: &[Start],
-) -> Result<(), AllocError>
+fn push_lines(alloc: Global, text: &mut Vec<u8>, plant: &Plant, plan: &[Start]) -> Written
     requires sound { Sound plant.now }
     requires few { length plan.now < 2 ^ 32 }
     ensures { OnOk result (text.new.items ≡ text.old.items
@@ -87,13 +78,7 @@ fn push_lines(
 
 // Appends the line of a unit.
 #[tactic(auto, unfolding(crate::specs::Units::unit_line))]
-fn push_line(
-    alloc: Global,
-    text: &mut Vec<u8>,
-    plant: &Plant,
-    plan: &[Start],
-    unit: u32,
-) -> Result<(), AllocError>
+fn push_line(alloc: Global, text: &mut Vec<u8>, plant: &Plant, plan: &[Start], unit: u32) -> Written
     requires few { length plan.now < 2 ^ 32 }
     requires there { unit < length plant.now.units }
     ensures { OnOk result (text.new.items ≡ text.old.items ++ unit_line plant.now plan.now unit) }
@@ -111,7 +96,7 @@ fn push_numbers(
     plant: &Plant,
     batches: &[Start],
     unit: u32,
-) -> Result<(), AllocError>
+) -> Written
     requires { length batches.now < 2 ^ 32 }
     ensures { OnOk result (text.new.items
         ≡ text.old.items ++ unit_numbers plant.now batches.now unit) }
@@ -123,7 +108,7 @@ fn push_numbers(
 }
 
 #[tactic(auto, unfolding(crate::specs::Units::times_cells))]
-fn push_times(alloc: Global, text: &mut Vec<u8>, times: &UnitTimes) -> Result<(), AllocError>
+fn push_times(alloc: Global, text: &mut Vec<u8>, times: &UnitTimes) -> Written
     ensures { OnOk result (text.new.items ≡ text.old.items
         ++ times_cells times.now.running times.now.out times.now.cleaning times.now.idle) }
 {
@@ -136,12 +121,7 @@ fn push_times(alloc: Global, text: &mut Vec<u8>, times: &UnitTimes) -> Result<()
 }
 
 #[tactic(auto, unfolding(crate::specs::Units::totals_cells))]
-fn push_totals(
-    alloc: Global,
-    text: &mut Vec<u8>,
-    batches: usize,
-    charged: u128,
-) -> Result<(), AllocError>
+fn push_totals(alloc: Global, text: &mut Vec<u8>, batches: usize, charged: u128) -> Written
     ensures { OnOk result (text.new.items ≡ text.old.items ++ totals_cells batches charged) }
 {
     let cells = format!(in alloc; ",{batches},{charged}\n")?;

@@ -12,6 +12,7 @@ use crate::kind::TableKind;
 use crate::loads::push_loads;
 use crate::stocks::push_stocks;
 use crate::units::push_units;
+use crate::written::Written;
 use std::alloc::{AllocError, Global};
 use stn_model::{Plant, Start};
 
@@ -46,7 +47,7 @@ fn push_table(
     kind: TableKind,
     plant: &Plant,
     plan: &[Start],
-) -> Result<(), AllocError>
+) -> Written
     requires sound { Sound plant.now }
     requires few { length plan.now < 2 ^ 32 }
     ensures { OnOk result (text.new.items ≡ text.old.items ++ table_text kind plant.now plan.now) }

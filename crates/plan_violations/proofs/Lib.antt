@@ -1,8 +1,6 @@
 pub mod Places
 pub mod Early
 pub mod Meeting
-pub mod Known
-pub mod Rows
 pub mod Leads
 pub mod Shown
 pub mod Firsts

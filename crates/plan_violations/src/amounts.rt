@@ -1,27 +1,13 @@
 //! The stocks and loads that are not kept, time by time, and by how much.
-ghost use Rattle.std.specs.Prelude.{
-  ◌≡◌,
-  ◌≤◌,
-  ◌<◌,
-  ◌^◌,
-  ◌+◌,
-  ◌*◌,
-  ◌++◌,
-  length,
-  All,
-  OnOk,
-  slice_get,
-  slice_index,
-  unsigned_abs,
-};
+ghost use Rattle.std.specs.Prelude.{◌≡◌, ◌≤◌, ◌<◌, ◌^◌, ◌+◌, ◌*◌, ◌++◌, length, All, OnOk, slice_get, slice_index, unsigned_abs};
 ghost use Rattle.stn_model.specs.Sound.{Sound};
-ghost use Rattle.plan_sim.specs.Faults.{level};
 ghost use Rattle.plan_violations.specs.Lists.{listed_below};
 ghost use Rattle.plan_violations.specs.Breaches.{excess, above, of_level};
 ghost use Rattle.plan_violations.specs.Shown.{level_shown, use_shown, amounts_shown};
 
 use crate::breach::Breach;
-use std::alloc::AllocError;
+use crate::written::Written;
+use plan_sim::stocks::level_at;
 use stn_model::Plant;
 
 /// Lists the stocks and loads that are not kept: time by time the states, then the utilities.
@@ -30,7 +16,7 @@ pub fn list_amounts(
     stocks: &[i128],
     loads: &[u128],
     found: &mut Vec<Breach>,
-) -> Result<(), AllocError>
+) -> Written
     requires sound { Sound plant.now }
     requires stocks { length stocks.now ≡ length plant.now.states * (plant.now.periods + 1) }
     requires small { All (λ level. unsigned_abs level ≤ 2 ^ 90) stocks.now }
@@ -51,7 +37,7 @@ fn push_amounts(
     loads: &[u128],
     time: usize,
     found: &mut Vec<Breach>,
-) -> Result<(), AllocError>
+) -> Written
     requires sound { Sound plant.now }
     requires stocks { length stocks.now ≡ length plant.now.states * (plant.now.periods + 1) }
     requires small { All (λ level. unsigned_abs level ≤ 2 ^ 90) stocks.now }
@@ -67,12 +53,7 @@ fn push_amounts(
     Ok(())
 }
 
-fn push_levels(
-    plant: &Plant,
-    stocks: &[i128],
-    time: usize,
-    found: &mut Vec<Breach>,
-) -> Result<(), AllocError>
+fn push_levels(plant: &Plant, stocks: &[i128], time: usize, found: &mut Vec<Breach>) -> Written
     requires sound { Sound plant.now }
     requires stocks { length stocks.now ≡ length plant.now.states * (plant.now.periods + 1) }
     requires small { All (λ level. unsigned_abs level ≤ 2 ^ 90) stocks.now }
@@ -93,7 +74,7 @@ fn push_level(
     state: usize,
     time: usize,
     found: &mut Vec<Breach>,
-) -> Result<(), AllocError>
+) -> Written
     requires sound { Sound plant.now }
     requires stocks { length stocks.now ≡ length plant.now.states * (plant.now.periods + 1) }
     requires small { All (λ level. unsigned_abs level ≤ 2 ^ 90) stocks.now }
@@ -106,24 +87,13 @@ fn push_level(
     push_amiss(plant, state, time, level, found)
 }
 
-fn level_at(plant: &Plant, stocks: &[i128], state: usize, time: usize) -> i128
-    requires stocks { length stocks.now ≡ length plant.now.states * (plant.now.periods + 1) }
-    requires small { All (λ level. unsigned_abs level ≤ 2 ^ 90) stocks.now }
-    requires there { state < length plant.now.states }
-    requires within { time ≤ plant.now.periods }
-    ensures value { result ≡ level plant.now stocks.now state time }
-    ensures small { unsigned_abs result ≤ 2 ^ 90 }
-{
-    stocks[state * (plant.periods as usize + 1) + time]
-}
-
 fn push_amiss(
     plant: &Plant,
     state: usize,
     time: usize,
     level: i128,
     found: &mut Vec<Breach>,
-) -> Result<(), AllocError>
+) -> Written
     requires sound { Sound plant.now }
     requires there { state < length plant.now.states }
     requires within { time ≤ plant.now.periods }
@@ -167,12 +137,7 @@ fn excess(one: i128, other: i128) -> u128
     }
 }
 
-fn push_uses(
-    plant: &Plant,
-    loads: &[u128],
-    period: usize,
-    found: &mut Vec<Breach>,
-) -> Result<(), AllocError>
+fn push_uses(plant: &Plant, loads: &[u128], period: usize, found: &mut Vec<Breach>) -> Written
     requires sound { Sound plant.now }
     requires loads { length loads.now ≡ length plant.now.utilities * plant.now.periods }
     requires within { period < plant.now.periods }
@@ -192,7 +157,7 @@ fn push_use(
     utility: usize,
     period: usize,
     found: &mut Vec<Breach>,
-) -> Result<(), AllocError>
+) -> Written
     requires sound { Sound plant.now }
     requires loads { length loads.now ≡ length plant.now.utilities * plant.now.periods }
     requires there { utility < length plant.now.utilities }

@@ -1,49 +1,22 @@
 //! The batches of one unit that meet. A table with a row for each unit and a column for each period, some past the
 //! horizon, is filled from the last start of the plan to the first with the least place so far.
-ghost use Rattle.std.specs.Prelude.{
-  ◌≡◌,
-  ◌≤◌,
-  ◌<◌,
-  ◌^◌,
-  ◌+◌,
-  ◌*◌,
-  ◌++◌,
-  ℕ,
-  drop,
-  length,
-  min,
-  position,
-  IfOk,
-  IfSome,
-  OnOk,
-  slice_index,
-};
+ghost use Rattle.std.specs.Prelude.{◌≡◌, ◌≤◌, ◌<◌, ◌^◌, ◌+◌, ◌*◌, ◌++◌, ℕ, drop, length, min, position, IfOk, IfSome, OnOk, slice_index};
 ghost use Rattle.stn_model.specs.Plant.{end_of};
 ghost use Rattle.stn_model.specs.Sound.{Sound};
 ghost use Rattle.stn_model.specs.Violations.{start_at};
 ghost use Rattle.plan_sim.specs.Moves.{cell, HasRow};
 ghost use Rattle.plan_violations.specs.Lists.{listed_below};
 ghost use Rattle.plan_violations.specs.Breaches.{meets, busy_at};
-ghost use Rattle.plan_violations.specs.Meeting.{
-  AreMeetings,
-  IsLeastIn,
-  IsMeeting,
-  IsRunTable,
-  put_in,
-};
+ghost use Rattle.plan_violations.specs.Meeting.{AreMeetings, IsLeastIn, IsMeeting, IsRunTable, put_in};
 
 use crate::breach::Breach;
+use crate::written::Written;
 use std::alloc::{AllocError, Global};
 use stn_model::limits::MAX_DELAY;
 use stn_model::{Plant, Start, end};
 
 /// Lists each batch that meets a later one of the plan, with the first that it meets.
-pub fn list_busy(
-    alloc: Global,
-    plant: &Plant,
-    plan: &[Start],
-    found: &mut Vec<Breach>,
-) -> Result<(), AllocError>
+pub fn list_busy(alloc: Global, plant: &Plant, plan: &[Start], found: &mut Vec<Breach>) -> Written
     requires sound { Sound plant.now }
     requires few { length plan.now < 2 ^ 32 }
     ensures { OnOk result (found.new.items
@@ -53,12 +26,7 @@ pub fn list_busy(
     list_meetings(plant, plan, &later, found)
 }
 
-fn list_meetings(
-    plant: &Plant,
-    plan: &[Start],
-    later: &[u32],
-    found: &mut Vec<Breach>,
-) -> Result<(), AllocError>
+fn list_meetings(plant: &Plant, plan: &[Start], later: &[u32], found: &mut Vec<Breach>) -> Written
     requires few { length plan.now < 2 ^ 32 }
     requires met { AreMeetings plant.now plan.now 0 later.now }
     ensures { OnOk result (found.new.items
@@ -76,7 +44,7 @@ fn push_met(
     place: usize,
     second: u32,
     found: &mut Vec<Breach>,
-) -> Result<(), AllocError>
+) -> Written
     requires few { length plan.now < 2 ^ 32 }
     requires there { place < length plan.now }
     requires met { IsMeeting plant.now plan.now place second }

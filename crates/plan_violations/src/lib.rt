@@ -6,10 +6,8 @@ mod amounts;
 pub mod breach;
 mod busy;
 mod listing;
-mod loads;
-mod moves;
-mod stocks;
 mod units;
+mod written;
 
 pub use breach::{Breach, Misfit};
 pub use listing::violations;

@@ -9,9 +9,10 @@ ghost use Rattle.plan_violations.specs.Laws.{BeginsWithFirst};
 use crate::amounts::list_amounts;
 use crate::breach::Breach;
 use crate::busy::list_busy;
-use crate::loads::loads;
-use crate::stocks::stocks;
 use crate::units::{list_gaps, list_unfit};
+use crate::written::Written;
+use plan_sim::loads::loads;
+use plan_sim::stocks::stocks;
 use std::alloc::{AllocError, Global};
 use stn_model::{Plant, Start};
 
@@ -45,12 +46,7 @@ fn listed(alloc: Global, plant: &Plant, plan: &[Start]) -> Result<Vec<Breach>, A
 }
 
 #[tactic(auto, unfolding(crate::specs::Breaches::of_units))]
-fn list_units(
-    alloc: Global,
-    plant: &Plant,
-    plan: &[Start],
-    found: &mut Vec<Breach>,
-) -> Result<(), AllocError>
+fn list_units(alloc: Global, plant: &Plant, plan: &[Start], found: &mut Vec<Breach>) -> Written
     requires sound { Sound plant.now }
     requires few { length plan.now < 2 ^ 32 }
     ensures { OnOk result (found.new.items ≡ found.old.items ++ of_units plant.now plan.now) }
@@ -61,12 +57,7 @@ fn list_units(
 }
 
 /// Lists the stocks and loads that are not kept.
-fn list_course(
-    alloc: Global,
-    plant: &Plant,
-    plan: &[Start],
-    found: &mut Vec<Breach>,
-) -> Result<(), AllocError>
+fn list_course(alloc: Global, plant: &Plant, plan: &[Start], found: &mut Vec<Breach>) -> Written
     requires sound { Sound plant.now }
     requires few { length plan.now < 2 ^ 32 }
     ensures { OnOk result (found.new.items ≡ found.old.items

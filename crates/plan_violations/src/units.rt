@@ -1,36 +1,19 @@
 //! What the starts of a plan break by themselves, and with others on their units.
-ghost use Rattle.std.specs.Prelude.{
-  ◌≡◌,
-  ◌<◌,
-  ◌^◌,
-  ◌↔◌,
-  ◌++◌,
-  length,
-  position,
-  IsTrue,
-  IfSome,
-  MatchOption,
-  OnOk,
-};
+ghost use Rattle.std.specs.Prelude.{◌≡◌, ◌<◌, ◌^◌, ◌↔◌, ◌++◌, length, position, IsTrue, IfSome, MatchOption, OnOk};
 ghost use Rattle.stn_model.specs.Violations.{start_at};
 ghost use Rattle.plan_sim.specs.Units.{NoneLater, IsNearest, IsLater};
 ghost use Rattle.plan_violations.specs.Lists.{listed_below};
-ghost use Rattle.plan_violations.specs.Breaches.{
-  misfit_of,
-  unfit_at,
-  early_by,
-  comes_early,
-  gap_at,
-};
+ghost use Rattle.plan_violations.specs.Breaches.{misfit_of, unfit_at, early_by, comes_early, gap_at};
 ghost use Rattle.plan_violations.specs.Next.{early_until};
 
 use crate::breach::{Breach, Misfit};
 use crate::busy::do_meet;
-use std::alloc::AllocError;
+use crate::written::Written;
+use plan_sim::nearest::next_on_unit;
 use stn_model::{Plant, Start, end, fits, gap_of, run_for};
 
 /// Lists the starts that do not fit.
-pub fn list_unfit(plant: &Plant, plan: &[Start], found: &mut Vec<Breach>) -> Result<(), AllocError>
+pub fn list_unfit(plant: &Plant, plan: &[Start], found: &mut Vec<Breach>) -> Written
     requires { length plan.now < 2 ^ 32 }
     ensures { OnOk result (found.new.items
         ≡ found.old.items ++ listed_below (unfit_at plant.now plan.now) (length plan.now)) }
@@ -42,12 +25,7 @@ pub fn list_unfit(plant: &Plant, plan: &[Start], found: &mut Vec<Breach>) -> Res
 }
 
 #[tactic(auto, unfolding(crate::specs::Breaches::unfit_at))]
-fn push_unfit(
-    plant: &Plant,
-    plan: &[Start],
-    place: usize,
-    found: &mut Vec<Breach>,
-) -> Result<(), AllocError>
+fn push_unfit(plant: &Plant, plan: &[Start], place: usize, found: &mut Vec<Breach>) -> Written
     requires few { length plan.now < 2 ^ 32 }
     requires there { place < length plan.now }
     ensures { OnOk result (found.new.items ≡ found.old.items ++ unfit_at plant.now plan.now place) }
@@ -82,7 +60,7 @@ fn misfit(plant: &Plant, start: &Start) -> Misfit
 }
 
 /// Lists each batch whose next one on the unit comes too early, with the first such one of the plan.
-pub fn list_gaps(plant: &Plant, plan: &[Start], found: &mut Vec<Breach>) -> Result<(), AllocError>
+pub fn list_gaps(plant: &Plant, plan: &[Start], found: &mut Vec<Breach>) -> Written
     requires { length plan.now < 2 ^ 32 }
     ensures { OnOk result (found.new.items
         ≡ found.old.items ++ listed_below (gap_at plant.now plan.now) (length plan.now)) }
@@ -94,12 +72,7 @@ pub fn list_gaps(plant: &Plant, plan: &[Start], found: &mut Vec<Breach>) -> Resu
 }
 
 #[tactic(auto, unfolding(crate::specs::Breaches::gap_at))]
-fn push_gap(
-    plant: &Plant,
-    plan: &[Start],
-    place: usize,
-    found: &mut Vec<Breach>,
-) -> Result<(), AllocError>
+fn push_gap(plant: &Plant, plan: &[Start], place: usize, found: &mut Vec<Breach>) -> Written
     requires few { length plan.now < 2 ^ 32 }
     requires there { place < length plan.now }
     ensures { OnOk result (found.new.items ≡ found.old.items ++ gap_at plant.now plan.now place) }
@@ -152,36 +125,4 @@ fn early_by(plant: &Plant, a: &Start, b: &Start) -> u128
 {
     let cleaned = end(plant, a) as u128 + gap_of(plant, a.unit, a.task, b.task) as u128;
     cleaned.saturating_sub(b.period as u128)
-}
-
-/// The place of the nearest later start on the unit of a.
-fn next_on_unit(plan: &[Start], a: &Start) -> Option<usize>
-    ensures { MatchOption result (NoneLater plan.now (length plan.now) a.now)
-        (IsNearest plan.now (length plan.now) a.now) }
-{
-    let mut nearest: Option<usize> = None;
-    for place in 0..plan.len() {
-        if is_nearer(plan, a, nearest, place) {
-            nearest = Some(place);
-        }
-    }
-    nearest
-}
-
-fn is_nearer(plan: &[Start], a: &Start, nearest: Option<usize>, place: usize) -> bool
-    requires there { place < length plan.now }
-    requires known { IfSome nearest (λ k. k < length plan.now) }
-    ensures { IsTrue result ↔
-        (IsLater a.now (start_at plan.now place)
-        × MatchOption nearest (Unit {0})
-        (λ k. (start_at plan.now place).period < (start_at plan.now k).period)) }
-{
-    let c = plan[place];
-    if c.unit != a.unit || c.period <= a.period {
-        return false;
-    }
-    match nearest {
-        Some(k) => c.period < plan[k].period,
-        None => true,
-    }
 }

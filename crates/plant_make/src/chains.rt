@@ -4,6 +4,7 @@ ghost use Rattle.stn_model.specs.Plant.{no_task};
 ghost use Rattle.plant_make.specs.Made.{of_chain, letter_name, states_of, first_task, second_task, tasks_of, runs_of};
 
 use crate::numbers::of_chain;
+use crate::written::Written;
 use std::alloc::{AllocError, Global};
 use stn_model::{Draw, Input, List, Name, Output, Run, State, Task};
 
@@ -99,12 +100,7 @@ fn product(alloc: Global, seed: u32, chain: u32) -> Result<State, AllocError>
 
 /// Puts the states of a chain.
 #[tactic(auto, unfolding(crate::specs::Made::states_of))]
-pub fn put_states(
-    alloc: Global,
-    seed: u32,
-    chain: u32,
-    states: &mut List<State>,
-) -> Result<(), AllocError>
+pub fn put_states(alloc: Global, seed: u32, chain: u32, states: &mut List<State>) -> Written
     requires { chain < 8 }
     ensures { OnOk result (states.new ≡ states.old ++ states_of seed chain) }
 {
@@ -142,7 +138,7 @@ fn draw(alloc: Global, long: u32) -> Result<Draw, AllocError>
 }
 
 /// Gives a bare task what the task has that makes the intermediate of the feed.
-fn fill_first_task(alloc: Global, seed: u32, chain: u32, task: &mut Task) -> Result<(), AllocError>
+fn fill_first_task(alloc: Global, seed: u32, chain: u32, task: &mut Task) -> Written
     requires chain { chain < 8 }
     requires bare { task.old ≡ record no_task { quantum = 5 } }
     ensures { OnOk result (task.new ≡ first_task seed chain) }
@@ -162,7 +158,7 @@ fn fill_first_task(alloc: Global, seed: u32, chain: u32, task: &mut Task) -> Res
 }
 
 /// Gives a bare task what the task has that makes the product of the intermediate.
-fn fill_second_task(alloc: Global, seed: u32, chain: u32, task: &mut Task) -> Result<(), AllocError>
+fn fill_second_task(alloc: Global, seed: u32, chain: u32, task: &mut Task) -> Written
     requires chain { chain < 8 }
     requires bare { task.old ≡ record no_task { quantum = 5 } }
     ensures { OnOk result (task.new ≡ second_task seed chain) }
@@ -206,12 +202,7 @@ fn second_task(alloc: Global, seed: u32, chain: u32) -> Result<Task, AllocError>
 
 /// Puts the tasks of a chain.
 #[tactic(auto, unfolding(crate::specs::Made::tasks_of))]
-pub fn put_tasks(
-    alloc: Global,
-    seed: u32,
-    chain: u32,
-    tasks: &mut List<Task>,
-) -> Result<(), AllocError>
+pub fn put_tasks(alloc: Global, seed: u32, chain: u32, tasks: &mut List<Task>) -> Written
     requires { chain < 8 }
     ensures { OnOk result (tasks.new ≡ tasks.old ++ tasks_of seed chain) }
 {
@@ -221,7 +212,7 @@ pub fn put_tasks(
 
 /// Puts the runs of a chain.
 #[tactic(auto, unfolding(crate::specs::Made::runs_of))]
-pub fn put_runs(seed: u32, chain: u32, runs: &mut List<Run>) -> Result<(), AllocError>
+pub fn put_runs(seed: u32, chain: u32, runs: &mut List<Run>) -> Written
     requires { chain < 8 }
     ensures { OnOk result (runs.new ≡ runs.old ++ runs_of seed chain) }
 {

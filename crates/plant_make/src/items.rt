@@ -7,8 +7,9 @@ use crate::naming::{put_name, put_state, put_task, put_unit};
 use crate::rows::Row;
 use crate::table::put;
 use crate::values::{number_value, put_limits, short_value};
+use crate::written::Written;
 use plant_text::KeyName;
-use std::alloc::{AllocError, Global};
+use std::alloc::Global;
 use stn_model::{Delivery, Gap, Outage, Plant, Receipt, Run, State, StnUnit, Utility};
 use toml::{Table, Value};
 
@@ -18,13 +19,7 @@ impl Row for State {
     ghost entries = { λ plant quantum state. state_entries state };
 
     #[tactic(auto, unfolding(crate::specs::Printed::state_entries))]
-    fn put_keys(
-        &self,
-        alloc: Global,
-        _plant: &Plant,
-        _quantum: u32,
-        table: &mut Table,
-    ) -> Result<(), AllocError> {
+    fn put_keys(&self, alloc: Global, _plant: &Plant, _quantum: u32, table: &mut Table) -> Written {
         put_name(alloc, table, KeyName::Name, self.name.as_slice())?;
         let initial = number_value(self.initial);
         put(alloc, table, KeyName::Initial, initial)?;
@@ -42,13 +37,7 @@ impl Row for Utility {
     ghost entries = { λ plant quantum utility. utility_entries utility };
 
     #[tactic(auto, unfolding(crate::specs::Printed::utility_entries))]
-    fn put_keys(
-        &self,
-        alloc: Global,
-        _plant: &Plant,
-        _quantum: u32,
-        table: &mut Table,
-    ) -> Result<(), AllocError> {
+    fn put_keys(&self, alloc: Global, _plant: &Plant, _quantum: u32, table: &mut Table) -> Written {
         put_name(alloc, table, KeyName::Name, self.name.as_slice())?;
         put_limits(alloc, table, self.limits.as_slice())?;
         put(alloc, table, KeyName::Rate, Value::Integer(self.rate))
@@ -61,13 +50,7 @@ impl Row for StnUnit {
     ghost entries = { λ plant quantum unit. unit_entries unit };
 
     #[tactic(auto, unfolding(crate::specs::Printed::unit_entries))]
-    fn put_keys(
-        &self,
-        alloc: Global,
-        _plant: &Plant,
-        _quantum: u32,
-        table: &mut Table,
-    ) -> Result<(), AllocError> {
+    fn put_keys(&self, alloc: Global, _plant: &Plant, _quantum: u32, table: &mut Table) -> Written {
         put_name(alloc, table, KeyName::Name, self.name.as_slice())
     }
 }
@@ -78,13 +61,7 @@ impl Row for Run {
     ghost entries = { λ plant quantum run. run_entries plant run };
 
     #[tactic(auto, unfolding(crate::specs::Printed::run_entries))]
-    fn put_keys(
-        &self,
-        alloc: Global,
-        plant: &Plant,
-        _quantum: u32,
-        table: &mut Table,
-    ) -> Result<(), AllocError> {
+    fn put_keys(&self, alloc: Global, plant: &Plant, _quantum: u32, table: &mut Table) -> Written {
         put_task(alloc, table, KeyName::Task, plant, self.task)?;
         put_unit(alloc, table, plant, self.unit)?;
         put(alloc, table, KeyName::Min, short_value(self.min))?;
@@ -99,13 +76,7 @@ impl Row for Gap {
     ghost entries = { λ plant quantum gap. gap_entries plant gap };
 
     #[tactic(auto, unfolding(crate::specs::Printed::gap_entries))]
-    fn put_keys(
-        &self,
-        alloc: Global,
-        plant: &Plant,
-        _quantum: u32,
-        table: &mut Table,
-    ) -> Result<(), AllocError> {
+    fn put_keys(&self, alloc: Global, plant: &Plant, _quantum: u32, table: &mut Table) -> Written {
         put_unit(alloc, table, plant, self.unit)?;
         put_task(alloc, table, KeyName::From, plant, self.from)?;
         put_task(alloc, table, KeyName::To, plant, self.to)?;
@@ -120,13 +91,7 @@ impl Row for Receipt {
     ghost entries = { λ plant quantum receipt. receipt_entries plant receipt };
 
     #[tactic(auto, unfolding(crate::specs::Printed::receipt_entries))]
-    fn put_keys(
-        &self,
-        alloc: Global,
-        plant: &Plant,
-        _quantum: u32,
-        table: &mut Table,
-    ) -> Result<(), AllocError> {
+    fn put_keys(&self, alloc: Global, plant: &Plant, _quantum: u32, table: &mut Table) -> Written {
         put_state(alloc, table, plant, self.state)?;
         put(alloc, table, KeyName::Time, short_value(self.time))?;
         put(alloc, table, KeyName::Amount, number_value(self.amount))
@@ -139,13 +104,7 @@ impl Row for Delivery {
     ghost entries = { λ plant quantum delivery. delivery_entries plant delivery };
 
     #[tactic(auto, unfolding(crate::specs::Printed::delivery_entries))]
-    fn put_keys(
-        &self,
-        alloc: Global,
-        plant: &Plant,
-        _quantum: u32,
-        table: &mut Table,
-    ) -> Result<(), AllocError> {
+    fn put_keys(&self, alloc: Global, plant: &Plant, _quantum: u32, table: &mut Table) -> Written {
         put_state(alloc, table, plant, self.state)?;
         put(alloc, table, KeyName::Time, short_value(self.time))?;
         put(alloc, table, KeyName::Amount, number_value(self.amount))?;
@@ -159,13 +118,7 @@ impl Row for Outage {
     ghost entries = { λ plant quantum outage. outage_entries plant outage };
 
     #[tactic(auto, unfolding(crate::specs::Printed::outage_entries))]
-    fn put_keys(
-        &self,
-        alloc: Global,
-        plant: &Plant,
-        _quantum: u32,
-        table: &mut Table,
-    ) -> Result<(), AllocError> {
+    fn put_keys(&self, alloc: Global, plant: &Plant, _quantum: u32, table: &mut Table) -> Written {
         put_unit(alloc, table, plant, self.unit)?;
         put(alloc, table, KeyName::From, short_value(self.from))?;
         put(alloc, table, KeyName::To, short_value(self.to))

@@ -13,6 +13,7 @@ mod rows;
 mod table;
 mod tasks;
 mod values;
+mod written;
 
 pub use made::make;
 pub use print::put_plant;

@@ -5,6 +5,7 @@ ghost use Rattle.plant_make.specs.Made.{chained, states_of, tasks_of, runs_of, u
 
 use crate::chains::{letter_name, put_runs, put_states, put_tasks, repeated};
 use crate::numbers::taken;
+use crate::written::Written;
 use std::alloc::{AllocError, Global};
 use stn_model::{Gap, List, Name, Plant, Run, State, StnUnit, Task, Utility};
 
@@ -12,7 +13,7 @@ use stn_model::{Gap, List, Name, Plant, Run, State, StnUnit, Task, Utility};
 const PERIODS: u32 = 12;
 
 /// Puts the states of so many chains.
-fn states(alloc: Global, seed: u32, chains: u32, states: &mut List<State>) -> Result<(), AllocError>
+fn states(alloc: Global, seed: u32, chains: u32, states: &mut List<State>) -> Written
     requires chains { chains ≤ 8 }
     requires empty { states.old ≡ [] }
     ensures { OnOk result (states.new ≡ chained (states_of seed) chains) }
@@ -24,7 +25,7 @@ fn states(alloc: Global, seed: u32, chains: u32, states: &mut List<State>) -> Re
 }
 
 /// Puts the tasks of so many chains.
-fn tasks(alloc: Global, seed: u32, chains: u32, tasks: &mut List<Task>) -> Result<(), AllocError>
+fn tasks(alloc: Global, seed: u32, chains: u32, tasks: &mut List<Task>) -> Written
     requires chains { chains ≤ 8 }
     requires empty { tasks.old ≡ [] }
     ensures { OnOk result (tasks.new ≡ chained (tasks_of seed) chains) }
@@ -36,7 +37,7 @@ fn tasks(alloc: Global, seed: u32, chains: u32, tasks: &mut List<Task>) -> Resul
 }
 
 /// Puts the runs of so many chains.
-fn runs(seed: u32, chains: u32, runs: &mut List<Run>) -> Result<(), AllocError>
+fn runs(seed: u32, chains: u32, runs: &mut List<Run>) -> Written
     requires chains { chains ≤ 8 }
     requires empty { runs.old ≡ [] }
     ensures { OnOk result (runs.new ≡ chained (runs_of seed) chains) }
@@ -49,7 +50,7 @@ fn runs(seed: u32, chains: u32, runs: &mut List<Run>) -> Result<(), AllocError>
 
 /// Puts the three units.
 #[tactic(auto, unfolding(crate::specs::Made::units_of))]
-fn units(alloc: Global, units: &mut List<StnUnit>) -> Result<(), AllocError>
+fn units(alloc: Global, units: &mut List<StnUnit>) -> Written
     requires { units.old ≡ [] }
     ensures { OnOk result (units.new ≡ chained units_of 3) }
 {
@@ -62,7 +63,7 @@ fn units(alloc: Global, units: &mut List<StnUnit>) -> Result<(), AllocError>
 
 /// Puts the gaps on the three units.
 #[tactic(auto, unfolding(crate::specs::Made::gaps_of))]
-fn gaps(gaps: &mut List<Gap>) -> Result<(), AllocError>
+fn gaps(gaps: &mut List<Gap>) -> Written
     requires { gaps.old ≡ [] }
     ensures { OnOk result (gaps.new ≡ chained gaps_of 3) }
 {
@@ -86,7 +87,7 @@ fn gaps(gaps: &mut List<Gap>) -> Result<(), AllocError>
 }
 
 /// Puts the gaps of so many chains: there are some where there is a second chain.
-fn gaps_between(chains: u32, list: &mut List<Gap>) -> Result<(), AllocError>
+fn gaps_between(chains: u32, list: &mut List<Gap>) -> Written
     requires { list.old ≡ [] }
     ensures { OnOk result (list.new ≡ (if nat_le 2 chains then chained gaps_of 3 else [])) }
 {
@@ -136,7 +137,7 @@ fn bare_plant(alloc: Global) -> Plant
 
 /// Gives a bare plant all that the plant of a seed has.
 #[tactic(auto, unfolding(crate::specs::Made::plant_made))]
-fn fill(alloc: Global, seed: u32, chains: u32, plant: &mut Plant) -> Result<(), AllocError>
+fn fill(alloc: Global, seed: u32, chains: u32, plant: &mut Plant) -> Written
     requires chains { chains ≤ 8 }
     requires bare { plant.old ≡ bare_plant }
     ensures { OnOk result (plant.new ≡ plant_made seed chains) }

@@ -7,6 +7,7 @@ ghost use Rattle.plant_make.specs.Entries.{with_entry};
 ghost use Rattle.plant_make.specs.Printed.{state_name, utility_name, unit_name, task_name};
 
 use crate::table::put;
+use crate::written::Written;
 use plant_text::KeyName;
 use std::alloc::{AllocError, Global};
 use stn_model::Plant;
@@ -24,12 +25,7 @@ fn name_value(alloc: Global, name: &[u8]) -> Result<Value, AllocError>
 }
 
 /// Puts a key with a name.
-pub fn put_name(
-    alloc: Global,
-    table: &mut Table,
-    key: KeyName,
-    name: &[u8],
-) -> Result<(), AllocError>
+pub fn put_name(alloc: Global, table: &mut Table, key: KeyName, name: &[u8]) -> Written
     requires { IsTrue (is_name name.now) }
     ensures { OnOk result (table_view table.new ≡ with_entry (table_view table.old)
         (key, Some (string name.now))) }
@@ -39,12 +35,7 @@ pub fn put_name(
 }
 
 /// Puts the name of a state of the plant.
-pub fn put_state(
-    alloc: Global,
-    table: &mut Table,
-    plant: &Plant,
-    state: u32,
-) -> Result<(), AllocError>
+pub fn put_state(alloc: Global, table: &mut Table, plant: &Plant, state: u32) -> Written
     requires sound { Sound plant.now }
     requires there { state < length plant.now.states }
     ensures { OnOk result (table_view table.new ≡ with_entry (table_view table.old)
@@ -55,12 +46,7 @@ pub fn put_state(
 }
 
 /// Puts the name of a utility of the plant.
-pub fn put_utility(
-    alloc: Global,
-    table: &mut Table,
-    plant: &Plant,
-    utility: u32,
-) -> Result<(), AllocError>
+pub fn put_utility(alloc: Global, table: &mut Table, plant: &Plant, utility: u32) -> Written
     requires sound { Sound plant.now }
     requires there { utility < length plant.now.utilities }
     ensures { OnOk result (table_view table.new ≡ with_entry (table_view table.old)
@@ -71,12 +57,7 @@ pub fn put_utility(
 }
 
 /// Puts the name of a unit of the plant.
-pub fn put_unit(
-    alloc: Global,
-    table: &mut Table,
-    plant: &Plant,
-    unit: u32,
-) -> Result<(), AllocError>
+pub fn put_unit(alloc: Global, table: &mut Table, plant: &Plant, unit: u32) -> Written
     requires sound { Sound plant.now }
     requires there { unit < length plant.now.units }
     ensures { OnOk result (table_view table.new ≡ with_entry (table_view table.old)
@@ -87,13 +68,7 @@ pub fn put_unit(
 }
 
 /// Puts a key with the name of a task of the plant.
-pub fn put_task(
-    alloc: Global,
-    table: &mut Table,
-    key: KeyName,
-    plant: &Plant,
-    task: u32,
-) -> Result<(), AllocError>
+pub fn put_task(alloc: Global, table: &mut Table, key: KeyName, plant: &Plant, task: u32) -> Written
     requires sound { Sound plant.now }
     requires there { task < length plant.now.tasks }
     ensures { OnOk result (table_view table.new ≡ with_entry (table_view table.old)

@@ -11,6 +11,7 @@ ghost use Rattle.plant_make.specs.Meaning.{Puts};
 use crate::rows::put_rows;
 use crate::table::put;
 use crate::values::short_value;
+use crate::written::Written;
 use plant_text::KeyName;
 use std::alloc::{AllocError, Global};
 use stn_model::Plant;
@@ -19,7 +20,7 @@ use toml::ser::Error;
 
 /// Puts the keys at the top, of version 2.
 #[tactic(auto, unfolding(crate::specs::Printed::plant_entries))]
-fn put_plant_keys(alloc: Global, plant: &Plant, table: &mut Table) -> Result<(), AllocError>
+fn put_plant_keys(alloc: Global, plant: &Plant, table: &mut Table) -> Written
     requires { Sound plant.now }
     ensures { OnOk result (table_view table.new ≡ fold with_entry (table_view table.old)
         (plant_entries plant.now)) }

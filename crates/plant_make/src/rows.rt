@@ -8,6 +8,7 @@ ghost use Rattle.plant_make.specs.Entries.{Entry, with_entry, some_items};
 ghost use Rattle.plant_make.specs.Printed.{made_of};
 
 use crate::table::put_items;
+use crate::written::Written;
 use plant_text::KeyName;
 use std::alloc::{AllocError, Global};
 use stn_model::{List, Plant};
@@ -21,13 +22,7 @@ pub trait Row {
     ghost entries: { Plant → ℕ → Self → Items Entry };
 
     /// Puts the keys of the record into a table, with what they hold.
-    fn put_keys(
-        &self,
-        alloc: Global,
-        plant: &Plant,
-        quantum: u32,
-        table: &mut Table,
-    ) -> Result<(), AllocError>
+    fn put_keys(&self, alloc: Global, plant: &Plant, quantum: u32, table: &mut Table) -> Written
         requires sound { Sound plant.now }
         requires fits { fits plant.now quantum self.now }
         ensures { OnOk result (table_view table.new ≡ fold with_entry (table_view table.old)
@@ -78,7 +73,7 @@ pub fn put_rows<R: Row>(
     plant: &Plant,
     quantum: u32,
     records: &List<R>,
-) -> Result<(), AllocError>
+) -> Written
     requires sound { Sound plant.now }
     requires fits { All (R.fits plant.now quantum) records.now }
     ensures { OnOk result (table_view table.new ≡ with_entry (table_view table.old)

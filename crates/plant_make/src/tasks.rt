@@ -8,8 +8,9 @@ use crate::naming::{put_name, put_state, put_utility};
 use crate::rows::{Row, put_rows};
 use crate::table::put;
 use crate::values::{part_value, short_value, shorts_value};
+use crate::written::Written;
 use plant_text::KeyName;
-use std::alloc::{AllocError, Global};
+use std::alloc::Global;
 use stn_model::{Draw, Input, Output, Plant, Task};
 use toml::Table;
 
@@ -19,13 +20,7 @@ impl Row for Input {
     ghost entries = { λ plant quantum input. input_entries plant quantum input };
 
     #[tactic(auto, unfolding(crate::specs::Printed::input_entries))]
-    fn put_keys(
-        &self,
-        alloc: Global,
-        plant: &Plant,
-        quantum: u32,
-        table: &mut Table,
-    ) -> Result<(), AllocError> {
+    fn put_keys(&self, alloc: Global, plant: &Plant, quantum: u32, table: &mut Table) -> Written {
         put_state(alloc, table, plant, self.state)?;
         let part = part_value(alloc, self.amount, quantum)?;
         put(alloc, table, KeyName::Part, part)
@@ -38,13 +33,7 @@ impl Row for Output {
     ghost entries = { λ plant quantum output. output_entries plant quantum output };
 
     #[tactic(auto, unfolding(crate::specs::Printed::output_entries))]
-    fn put_keys(
-        &self,
-        alloc: Global,
-        plant: &Plant,
-        quantum: u32,
-        table: &mut Table,
-    ) -> Result<(), AllocError> {
+    fn put_keys(&self, alloc: Global, plant: &Plant, quantum: u32, table: &mut Table) -> Written {
         put_state(alloc, table, plant, self.state)?;
         let part = part_value(alloc, self.amount, quantum)?;
         put(alloc, table, KeyName::Part, part)?;
@@ -58,13 +47,7 @@ impl Row for Draw {
     ghost entries = { λ plant quantum draw. draw_entries plant draw };
 
     #[tactic(auto, unfolding(crate::specs::Printed::draw_entries))]
-    fn put_keys(
-        &self,
-        alloc: Global,
-        plant: &Plant,
-        _quantum: u32,
-        table: &mut Table,
-    ) -> Result<(), AllocError> {
+    fn put_keys(&self, alloc: Global, plant: &Plant, _quantum: u32, table: &mut Table) -> Written {
         put_utility(alloc, table, plant, self.utility)?;
         let fixed = shorts_value(alloc, self.fixed.as_slice())?;
         put(alloc, table, KeyName::Fixed, fixed)?;
@@ -79,13 +62,7 @@ impl Row for Task {
     ghost entries = { λ plant quantum task. task_entries plant task };
 
     #[tactic(auto, unfolding(crate::specs::Printed::task_entries))]
-    fn put_keys(
-        &self,
-        alloc: Global,
-        plant: &Plant,
-        _quantum: u32,
-        table: &mut Table,
-    ) -> Result<(), AllocError> {
+    fn put_keys(&self, alloc: Global, plant: &Plant, _quantum: u32, table: &mut Table) -> Written {
         let quantum = self.quantum;
         put_name(alloc, table, KeyName::Name, self.name.as_slice())?;
         put(alloc, table, KeyName::Quantum, short_value(quantum))?;

@@ -8,6 +8,7 @@ ghost use Rattle.plant_make.specs.Numbers.{lone, several, part_of};
 ghost use Rattle.plant_make.specs.Printed.{part_text};
 
 use crate::table::put_some;
+use crate::written::Written;
 use fraction::Fraction;
 use plant_text::KeyName;
 use std::alloc::{AllocError, Global};
@@ -97,7 +98,7 @@ fn several_value(alloc: Global, limits: &[u64]) -> Result<Option<Value>, AllocEr
 }
 
 /// Puts limits: one number where they are all the same, else their list; nothing where there are none.
-pub fn put_limits(alloc: Global, table: &mut Table, limits: &[u64]) -> Result<(), AllocError>
+pub fn put_limits(alloc: Global, table: &mut Table, limits: &[u64]) -> Written
     requires { All (λ n. n ≤ 1000000000) limits.now }
     ensures { OnOk result
         (table_view table.new ≡ with_entry (with_entry (table_view table.old)

@@ -4,7 +4,7 @@ ghost use Rattle.std.specs.List.{All};
 ghost use Rattle.row_kit.specs.Area.{present};
 ghost use Rattle.row_kit.specs.Domain.{IsOpen};
 
-use crate::bounding::bound_box;
+use crate::bounding::{MOST_STEPS, bound_box};
 use crate::candidates::Candidate;
 use crate::path::Path;
 use crate::picking::Picker;
@@ -55,10 +55,25 @@ impl PlanGuide {
         let pick = if bounded.closes {
             None
         } else {
-            self.workspace.save(basis);
-            self.picker.pick(&mut self.workspace, program, area)
+            self.pick_from(program, area, basis, best)
         };
         Ok(advice_of(bounded.cert, pick))
+    }
+
+    // The slot to split in a box that stays open, whose bound has ended at what becomes a basis. Trials begin from there with a
+    // kernel that is factored anew: each step of one goes through all that has changed since.
+    fn pick_from(
+        &mut self,
+        program: &Program,
+        area: &Area,
+        basis: &mut Basis,
+        best: Option<i128>,
+    ) -> Option<Candidate> {
+        self.workspace.save(basis);
+        if self.workspace.pivots() > 0 {
+            self.workspace.bound(program, area, basis, best, MOST_STEPS);
+        }
+        self.picker.pick(&mut self.workspace, program, area)
     }
 
     // The slot to split in a box that stays open below so many splits.

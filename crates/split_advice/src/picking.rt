@@ -100,8 +100,12 @@ fn share_of(gap: i64, slots: usize) -> i64 {
     }
 }
 
-// The least that counts as a gain: a 10,000th of the square of the gap, and a 250th where there are sums.
+// The least that counts as a gain: a 10,000th of the square of the gap, and a 1,000th where there are sums.
 fn least_gain(gap: i64, sums: bool) -> i128 {
     let square = i128::from(gap).saturating_mul(i128::from(gap));
-    if sums { square / 250 } else { square / 10_000 }
+    if sums {
+        square / 1_000
+    } else {
+        square / 10_000
+    }
 }

@@ -1,7 +1,6 @@
 //! `whatif PLANT LOG STATE STEP COUNT`: what a larger or a smaller tank would be worth at most, by the proof of an old log.
 ghost use Rattle.std.specs.Prelude.{◌≡◌, ◌≢◌, ◌≤◌, ◌<◌, ◌+◌, ◌*◌, ◌++◌, ◌^◌, ◌∷◌, [], unsigned_abs, ℕ, List as Items, Some, None, Option, Err, IsTrue, IfOk, IfSome, OnOk, length, codes, decimal, position, pos, ◌*ℤ◌};
 ghost use Rattle.std.specs.Option.{option_map};
-ghost use Rattle.stn_edge.specs.Count.{Rose};
 ghost use Rattle.stn_edge.specs.Files.{file_of};
 ghost use Rattle.stn_model.specs.Plant.{state_at};
 ghost use Rattle.stn_model.specs.Sound.{Sound};
@@ -9,6 +8,7 @@ ghost use Rattle.time_grid.specs.Slots.{slots};
 ghost use Rattle.proof_tree.specs.Tree.{tree_of};
 ghost use Rattle.proof_log.specs.OneText.{IsClaimOver};
 ghost use Rattle.what_if.specs.Raised.{raised};
+ghost use Rattle.command_replies.specs.Frames.{HadReadFault, OnlyReads};
 ghost use Rattle.command_replies.specs.Answers.{IsPlantAnswer, content};
 ghost use Rattle.command_replies.specs.Sources.{IfRefused, IfReplied};
 ghost use Rattle.tank_commands.specs.Estimating.{
@@ -53,18 +53,14 @@ pub fn estimate_file<F: Shelf>(
 ) -> Result<Reply, Stopped>
     requires plant_readable { IsTrue (F.may_read files.old plant.now) }
     requires log_readable { IsTrue (F.may_read files.old log.now) }
-    ensures answer { IfReplied result (λ reply. IsPlantAnswer (F.files files.old) (F.files files.new)
+    ensures answer { IfReplied result (λ reply. IsPlantAnswer (F.files files.old)
+        (F.files files.new)
         plant.now (log.now ∷ [])
         (λ contents. Estimated state.now steps.step steps.count (content contents 1))
         reply.status reply.text.items) }
-    ensures fault { result ≡ Err Stopped.ReadFault
-        → Rose (F.read_faults files.old) (F.read_faults files.new) }
+    ensures fault { HadReadFault F.Shelf files.old files.new result }
     ensures unwritten { result ≢ Err Stopped.WriteFault }
-    ensures same { F.files files.new ≡ F.files files.old }
-    ensures readable { F.may_read files.new ≡ F.may_read files.old }
-    ensures writable { F.may_write files.new ≡ F.may_write files.old }
-    ensures later { F.read_faults files.old ≤ F.read_faults files.new }
-    ensures no_write { F.write_faults files.new ≡ F.write_faults files.old }
+    ensures kept { OnlyReads F.Shelf files.old files.new }
 {
     let plant = plant_in(alloc, files, plant)?;
     estimate_log(alloc, files, plant, log, state, steps)
@@ -86,14 +82,9 @@ fn estimate_log<F: Shelf>(
         (λ bytes. Estimated state.now steps.step steps.count bytes plant reply.status
         reply.text.items)) }
     ensures none { IfRefused result (λ _. ⊥) }
-    ensures fault { result ≡ Err Stopped.ReadFault
-        → Rose (F.read_faults files.old) (F.read_faults files.new) }
+    ensures fault { HadReadFault F.Shelf files.old files.new result }
     ensures unwritten { result ≢ Err Stopped.WriteFault }
-    ensures same { F.files files.new ≡ F.files files.old }
-    ensures readable { F.may_read files.new ≡ F.may_read files.old }
-    ensures writable { F.may_write files.new ≡ F.may_write files.old }
-    ensures later { F.read_faults files.old ≤ F.read_faults files.new }
-    ensures no_write { F.write_faults files.new ≡ F.write_faults files.old }
+    ensures kept { OnlyReads F.Shelf files.old files.new }
 {
     match tank_number(&plant, state.as_bytes()) {
         Some(number) => estimate_tank(alloc, files, plant, number, log, steps),
@@ -154,14 +145,9 @@ fn estimate_tank<F: Shelf>(
         (λ reply. OnBytes (option_map (λ m. file_of m log.now) (F.files files.old))
         (λ bytes. OnTank plant number steps.step steps.count bytes reply.status reply.text.items)) }
     ensures none { IfRefused result (λ _. ⊥) }
-    ensures fault { result ≡ Err Stopped.ReadFault
-        → Rose (F.read_faults files.old) (F.read_faults files.new) }
+    ensures fault { HadReadFault F.Shelf files.old files.new result }
     ensures unwritten { result ≢ Err Stopped.WriteFault }
-    ensures same { F.files files.new ≡ F.files files.old }
-    ensures readable { F.may_read files.new ≡ F.may_read files.old }
-    ensures writable { F.may_write files.new ≡ F.may_write files.old }
-    ensures later { F.read_faults files.old ≤ F.read_faults files.new }
-    ensures no_write { F.write_faults files.new ≡ F.write_faults files.old }
+    ensures kept { OnlyReads F.Shelf files.old files.new }
 {
     match read_all(alloc, files, log, MOST_BYTES) {
         Ok(bytes) => Ok(estimate_bytes(alloc, plant, number, bytes.as_slice(), steps)?),

@@ -31,7 +31,7 @@ returns-clause-answer g c = λ name read.
     let kept = kept_starts period c.in_ok-plan.plan in
     let slice = c.as_slice.ensures in
     let before = c.in_ok-plan.ensures.same in
-    let same : new ≡ old = c.check_replan.ensures.same ∙ before in
+    let same : new ≡ old = c.check_replan.ensures.kept.same ∙ before in
     let answers : Plant → List Start → ℕ → List ℕ → Type 0 = λ p starts. ReplanChecked told p period (kept_starts period starts) (new ≡ old) in
     replied_if c.check_replan.result (λ reply. ReplanChecked told plant period kept ⊤ reply.status reply.text.items)
     (λ reply. IsPlanAnswer old new name c.args.plan.now (c.args.log.now ∷ []) answers reply.status reply.text.items)

@@ -4,4 +4,4 @@ use Rattle.plan_picture.specs.Bars.{cleaning_after}
 use Rattle.plan_picture.proofs.cleaning.push_cleanings.Given as goal
 
 abbrev pub invariant-loop-start : goal.invariant-loop-start
-invariant-loop-start l = l.text.items ≡ l.initial.text.items ++ flat_map (cleaning_after l.plant l.plan l.band) (take l.start-index l.plan)
+invariant-loop-start l = l.text.items ≡ l.initial.text.items ++ flat_map (cleaning_after l.shown.plant.now l.shown.plan.now l.band) (take l.start-index l.plan)

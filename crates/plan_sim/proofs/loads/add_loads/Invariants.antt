@@ -7,5 +7,5 @@ abbrev pub invariant-loop-start : goal.invariant-loop-start
 invariant-loop-start l = record {
   size : length l.cells ≡ length l.plant.utilities * l.plant.periods;
   loads : (utility period : ℕ) → period < l.plant.periods → cell l.cells l.plant.periods utility period ≡ sum_by (drawn l.plant utility period) (take l.start-index l.plan);
-  total : sum l.cells ≤ l.start-index * 2 ^ 42;
+  total : sum l.cells ≤ l.start-index * 2 ^ 66;
 }

@@ -7,5 +7,5 @@ abbrev pub invariant-loop-input : goal.invariant-loop-input
 invariant-loop-input l = record {
   kept : length l.cells ≡ length l.initial.cells;
   moved : (r c : ℕ) → c < l.width → summed l.cells l.width r c ≡ summed l.initial.cells l.width r c + sum_by (taken_by r c l.start) (take l.input-index l.inputs);
-  total : sum l.cells ≤ sum l.initial.cells + l.input-index * 2 ^ 28;
+  total : sum l.cells ≤ sum l.initial.cells + l.input-index * 2 ^ 52;
 }

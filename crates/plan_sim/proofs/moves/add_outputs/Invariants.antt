@@ -7,5 +7,5 @@ abbrev pub invariant-loop-output : goal.invariant-loop-output
 invariant-loop-output l = record {
   kept : length l.cells ≡ length l.initial.cells;
   moved : (r c : ℕ) → c < l.width → summed l.cells l.width r c ≡ summed l.initial.cells l.width r c + sum_by (given_by r c l.start) (take l.output-index l.outputs);
-  total : sum l.cells ≤ sum l.initial.cells + l.output-index * 2 ^ 28;
+  total : sum l.cells ≤ sum l.initial.cells + l.output-index * 2 ^ 52;
 }

@@ -8,5 +8,5 @@ use Rattle.plan_sim.proofs.profit.cost_of_level.Given as goal
 abbrev pub invariant-loop-time : goal.invariant-loop-time
 invariant-loop-time l = record {
   value : l.sum ≡ total_below (λ time. (state_at l.plant l.state).holding *ℤ level l.plant l.stocks l.state time) l.time;
-  small : unsigned_abs l.sum ≤ l.time * 2 ^ 96;
+  small : unsigned_abs l.sum ≤ l.time * 2 ^ 110;
 }

@@ -8,5 +8,5 @@ use Rattle.plan_sim.proofs.profit.cost_of_use.Given as goal
 abbrev pub invariant-loop-period : goal.invariant-loop-period
 invariant-loop-period l = record {
   value : l.sum ≡ total_below (λ period. (utility_at l.plant l.utility).rate *ℤ pos (used l.plant l.loads l.utility period)) l.period;
-  small : unsigned_abs l.sum ≤ l.period * 2 ^ 96;
+  small : unsigned_abs l.sum ≤ l.period * 2 ^ 110;
 }

@@ -6,7 +6,7 @@ use Rattle.plan_sim.proofs.profit.worth_of_levels.Goals as goal
 
 pub loop-state-preserved : goal.loop-state-preserved
 loop-state-preserved c =
-    let s = sum_fits (to_z w128 c.loop-state.sum-bits) c.worth_of-sum.result (c.loop-state.state * 2 ^ 96) (2 ^ 96) c.loop-state.invariant.small c.worth_of-sum.ensures.small (omega arith) in
+    let s = sum_fits (to_z w128 c.loop-state.sum-bits) c.worth_of-sum.result (c.loop-state.state * 2 ^ 110) (2 ^ 110) c.loop-state.invariant.small c.worth_of-sum.ensures.small (omega arith) in
     record {
       value = total_below_step _ c.loop-state.state _ _ _ s.0 c.loop-state.invariant.value c.worth_of-sum.ensures.value;
       small = rw s.0 (omega (arith, s.1));

@@ -8,5 +8,5 @@ use Rattle.plan_sim.proofs.profit.worth_of_levels.Given as goal
 abbrev pub invariant-loop-state : goal.invariant-loop-state
 invariant-loop-state l = record {
   value : l.sum ≡ total_below (λ state. (state_at l.plant state).price *ℤ level l.plant l.stocks state l.plant.periods) l.state;
-  small : unsigned_abs l.sum ≤ l.state * 2 ^ 96;
+  small : unsigned_abs l.sum ≤ l.state * 2 ^ 110;
 }

@@ -8,6 +8,9 @@ use Rattle.plan_sim.proofs.simulation.verdict_of.Goals as goal
 pub profit_of-requires-clause-twins : goal.profit_of-requires-clause-twins
 profit_of-requires-clause-twins c = no_twins c.args.plant.now c.args.plan.now c.requires.sound c.requires.units.fit c.requires.units.apart
 
+pub profit_of-requires-clause-kept : goal.profit_of-requires-clause-kept
+profit_of-requires-clause-kept c = λ period within utility there. c.in-None.ensures.uses period (omega arith) within utility there
+
 pub returns-in-Some-Level-clause-verdict : goal.returns-in-Some-Level-clause-verdict
 returns-in-Some-Level-clause-verdict c = level_first c.args.plant.now c.args.plan.now c.args.stocks.now c.args.loads.now c.requires.stocks c.requires.loads c.in-Some-Level.state c.in-Some-Level.time c.level_violation.result c.requires.units (rw c.in-Some-Level.field-0-is at c.in-Some-Level.ensures) c.level_violation.ensures
 

@@ -1,30 +1,35 @@
-use Rattle.std.proofs.Common.{◌+◌, ◌<◌, ◌≤◌, ◌^◌, length, ◌∙◌, ap, arith}
+use Rattle.std.proofs.Common.{◌+◌, ◌<◌, ◌≤◌, ◌^◌, length, sum_by, ◌∙◌, ap, arith}
 use Rattle.std.proofs.lemmas.List.Elements.{All-same}
 use Rattle.stn_model.specs.declared.plant.Task.{Task}
 use Rattle.plan_sim.specs.Moves.{HasRow}
 use Rattle.stn_model.specs.Plant.{task_at}
-use Rattle.stn_model.proofs.Fitting.{placed-Fits, sound-task_at}
 use Rattle.stn_model.proofs.Small.{outputs_small}
-use Rattle.plan_sim.proofs.Placed.{outputs_few, outputs_rows, outputs_within}
+use Rattle.stn_model.specs.Stock.{given, given_by}
+use Rattle.plan_sim.proofs.Placed.{nothing_given, task_sound, outputs_few, outputs_rows}
 use Rattle.plan_sim.proofs.stocks.give.Goals as goal
 
 pub add_outputs-requires-clause-rows : goal.add_outputs-requires-clause-rows
 add_outputs-requires-clause-rows c =
+    let there : c.args.start.now.task < length c.args.plant.now.tasks = omega arith in
     All-same (λ move. HasRow c.args.cells.now (c.args.plant.now.periods + 1) move.state) _ _ (c.as_slice.ensures ∙ ap (λ (t : Task). t.outputs) c.task_of-task.ensures)
-    (outputs_rows c.args.plant.now c.args.start.now c.requires.sound c.requires.fits c.args.cells.now c.requires.size)
+    (outputs_rows c.args.plant.now c.args.start.now c.requires.sound there c.args.cells.now c.requires.size)
 
 pub add_outputs-requires-clause-small : goal.add_outputs-requires-clause-small
 add_outputs-requires-clause-small c =
+    let there : c.args.start.now.task < length c.args.plant.now.tasks = omega arith in
     All-same (λ move. move.amount ≤ 2 ^ 20) _ _ (c.as_slice.ensures ∙ ap (λ (t : Task). t.outputs) c.task_of-task.ensures)
-    (outputs_small c.args.plant.now (task_at c.args.plant.now c.args.start.now.task) (sound-task_at c.args.plant.now c.args.start.now c.requires.sound c.requires.fits))
-
-pub add_outputs-requires-clause-quanta : goal.add_outputs-requires-clause-quanta
-add_outputs-requires-clause-quanta c = (placed-Fits c.args.plant.now c.args.start.now c.requires.sound c.requires.fits).quanta
+    (outputs_small c.args.plant.now (task_at c.args.plant.now c.args.start.now.task) (task_sound c.args.plant.now c.args.start.now c.requires.sound there))
 
 pub add_outputs-requires-clause-few : goal.add_outputs-requires-clause-few
-add_outputs-requires-clause-few c = omega (arith, ap length (c.as_slice.ensures ∙ ap (λ (t : Task). t.outputs) c.task_of-task.ensures), outputs_few c.args.plant.now c.args.start.now c.requires.sound c.requires.fits)
+add_outputs-requires-clause-few c =
+    let there : c.args.start.now.task < length c.args.plant.now.tasks = omega arith in
+    omega (arith, ap length (c.as_slice.ensures ∙ ap (λ (t : Task). t.outputs) c.task_of-task.ensures), outputs_few c.args.plant.now c.args.start.now c.requires.sound there)
 
-pub add_outputs-requires-clause-within : goal.add_outputs-requires-clause-within
-add_outputs-requires-clause-within c =
-    All-same (λ output. c.args.start.now.period + output.delay < c.args.plant.now.periods + 1) _ _ (c.as_slice.ensures ∙ ap (λ (t : Task). t.outputs) c.task_of-task.ensures)
-    (outputs_within c.args.plant.now c.args.start.now c.requires.sound c.requires.fits)
+pub returns-then-len-start-clause-moved : goal.returns-then-len-start-clause-moved
+returns-then-len-start-clause-moved c = λ s t h. omega (arith, nothing_given c.args.plant.now c.args.start.now (omega arith) s t)
+
+pub returns-clause-moved : goal.returns-clause-moved
+unfolding given
+returns-clause-moved c = λ s t h.
+    let all = ap (sum_by (given_by s t c.args.start.now)) (c.as_slice.ensures ∙ ap (λ (k : Task). k.outputs) c.task_of-task.ensures) in
+    omega (arith, c.add_outputs.ensures.moved s t h, all)

@@ -38,6 +38,6 @@ loop-time-preserved c =
       levels = subst (λ (new : List ℤ). AddsLevels c.args.stocks.now.items new c.args.opening c.args.width c.args.state (c.loop-time.time + 1) c.args.arrived.now c.args.departed.now)
           (sym c.in_ok-push.ensures.items)
           (levels_push _ _ _ _ _ _ _ _ _ c.loop-time.invariant.levels (omega (arith, ints, in_step, out_step, in_small, out_small)));
-      small = subst (λ (new : List ℤ). All (λ level. unsigned_abs level ≤ 2 ^ 66) new) (sym c.in_ok-push.ensures.items)
-          (All-push (λ level. unsigned_abs level ≤ 2 ^ 66) _ _ c.loop-time.invariant.small (omega (arith, ints, in_small, out_small)));
+      small = subst (λ (new : List ℤ). All (λ level. unsigned_abs level ≤ 2 ^ 90) new) (sym c.in_ok-push.ensures.items)
+          (All-push (λ level. unsigned_abs level ≤ 2 ^ 90) _ _ c.loop-time.invariant.small (omega (arith, ints, in_small, out_small)));
     }

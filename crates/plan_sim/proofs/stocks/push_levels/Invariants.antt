@@ -8,5 +8,5 @@ invariant-loop-time l = record {
   inflow : l.inflow ≡ l.opening + sum (take l.time (drop (l.state * l.width) l.arrived));
   outflow : l.outflow ≡ sum (take l.time (drop (l.state * l.width) l.departed));
   levels : AddsLevels l.initial.stocks.items l.stocks.items l.opening l.width l.state l.time l.arrived l.departed;
-  small : All (λ level. unsigned_abs level ≤ 2 ^ 66) l.stocks.items;
+  small : All (λ level. unsigned_abs level ≤ 2 ^ 90) l.stocks.items;
 }

@@ -17,31 +17,31 @@ pub returns-in-Simulate-clause-done : goal.returns-in-Simulate-clause-done
 returns-in-Simulate-clause-done g c =
     rw c.in-Simulate.is (only_read (Simulating c.in-Simulate.usage c.in-Simulate.plant.now c.in-Simulate.plan.now) (g.F.Shelf.files c.args.files.now) (g.F.Shelf.files c.simulate_file.new.files) (g.F.Shelf.read_faults c.args.files.now) (g.F.Shelf.read_faults c.simulate_file.new.files)
     (g.F.Shelf.write_faults c.args.files.now) (g.F.Shelf.write_faults c.simulate_file.new.files) c.simulate_file.result
-    c.simulate_file.ensures.answer c.simulate_file.ensures.fault c.simulate_file.ensures.unwritten c.simulate_file.ensures.same c.simulate_file.ensures.later c.simulate_file.ensures.no_write)
+    c.simulate_file.ensures.answer c.simulate_file.ensures.fault c.simulate_file.ensures.unwritten c.simulate_file.ensures.kept.same c.simulate_file.ensures.kept.later c.simulate_file.ensures.kept.no_write)
 
 pub returns-in-Check-clause-done : goal.returns-in-Check-clause-done
 returns-in-Check-clause-done g c =
     rw c.in-Check.is (only_read (Checking c.in-Check.plant.now c.in-Check.log.now) (g.F.Shelf.files c.args.files.now) (g.F.Shelf.files c.check_file.new.files) (g.F.Shelf.read_faults c.args.files.now) (g.F.Shelf.read_faults c.check_file.new.files)
     (g.F.Shelf.write_faults c.args.files.now) (g.F.Shelf.write_faults c.check_file.new.files) c.check_file.result
-    c.check_file.ensures.answer c.check_file.ensures.fault c.check_file.ensures.unwritten c.check_file.ensures.same c.check_file.ensures.later c.check_file.ensures.no_write)
+    c.check_file.ensures.answer c.check_file.ensures.fault c.check_file.ensures.unwritten c.check_file.ensures.kept.same c.check_file.ensures.kept.later c.check_file.ensures.kept.no_write)
 
 pub returns-in-Plan-clause-done : goal.returns-in-Plan-clause-done
 returns-in-Plan-clause-done g c =
     rw c.in-Plan.is (only_read (Telling c.in-Plan.plant.now c.in-Plan.log.now) (g.F.Shelf.files c.args.files.now) (g.F.Shelf.files c.show_file.new.files) (g.F.Shelf.read_faults c.args.files.now) (g.F.Shelf.read_faults c.show_file.new.files)
     (g.F.Shelf.write_faults c.args.files.now) (g.F.Shelf.write_faults c.show_file.new.files) c.show_file.result
-    c.show_file.ensures.answer c.show_file.ensures.fault c.show_file.ensures.unwritten c.show_file.ensures.same c.show_file.ensures.later c.show_file.ensures.no_write)
+    c.show_file.ensures.answer c.show_file.ensures.fault c.show_file.ensures.unwritten c.show_file.ensures.kept.same c.show_file.ensures.kept.later c.show_file.ensures.kept.no_write)
 
 pub returns-in-Slots-clause-done : goal.returns-in-Slots-clause-done
 returns-in-Slots-clause-done g c =
     rw c.in-Slots.is (only_read (Numbering c.in-Slots.plant.now) (g.F.Shelf.files c.args.files.now) (g.F.Shelf.files c.list_file.new.files) (g.F.Shelf.read_faults c.args.files.now) (g.F.Shelf.read_faults c.list_file.new.files)
     (g.F.Shelf.write_faults c.args.files.now) (g.F.Shelf.write_faults c.list_file.new.files) c.list_file.result
-    c.list_file.ensures.answer c.list_file.ensures.fault c.list_file.ensures.unwritten c.list_file.ensures.same c.list_file.ensures.later c.list_file.ensures.no_write)
+    c.list_file.ensures.answer c.list_file.ensures.fault c.list_file.ensures.unwritten c.list_file.ensures.kept.same c.list_file.ensures.kept.later c.list_file.ensures.kept.no_write)
 
 pub returns-in-Upgrade-clause-done : goal.returns-in-Upgrade-clause-done
 returns-in-Upgrade-clause-done g c =
     rw c.in-Upgrade.is (only_read (Upgrading c.in-Upgrade.plant.now) (g.F.Shelf.files c.args.files.now) (g.F.Shelf.files c.upgrade_file.new.files) (g.F.Shelf.read_faults c.args.files.now) (g.F.Shelf.read_faults c.upgrade_file.new.files)
     (g.F.Shelf.write_faults c.args.files.now) (g.F.Shelf.write_faults c.upgrade_file.new.files) c.upgrade_file.result
-    c.upgrade_file.ensures.answer c.upgrade_file.ensures.fault c.upgrade_file.ensures.unwritten c.upgrade_file.ensures.same c.upgrade_file.ensures.later c.upgrade_file.ensures.no_write)
+    c.upgrade_file.ensures.answer c.upgrade_file.ensures.fault c.upgrade_file.ensures.unwritten c.upgrade_file.ensures.kept.same c.upgrade_file.ensures.kept.later c.upgrade_file.ensures.kept.no_write)
 
 pub returns-in-Replan-clause-done : goal.returns-in-Replan-clause-done
 returns-in-Replan-clause-done g c =
@@ -53,13 +53,13 @@ pub returns-in-CheckReplan-clause-done : goal.returns-in-CheckReplan-clause-done
 returns-in-CheckReplan-clause-done g c =
     rw c.in-CheckReplan.is (only_read (CheckingReplan c.in-CheckReplan.plant.now c.in-CheckReplan.plan.now c.in-CheckReplan.period.number c.in-CheckReplan.log.now) (g.F.Shelf.files c.args.files.now) (g.F.Shelf.files c.check_replan_file.new.files) (g.F.Shelf.read_faults c.args.files.now) (g.F.Shelf.read_faults c.check_replan_file.new.files)
     (g.F.Shelf.write_faults c.args.files.now) (g.F.Shelf.write_faults c.check_replan_file.new.files) c.check_replan_file.result
-    c.check_replan_file.ensures.answer c.check_replan_file.ensures.fault c.check_replan_file.ensures.unwritten c.check_replan_file.ensures.same c.check_replan_file.ensures.later c.check_replan_file.ensures.no_write)
+    c.check_replan_file.ensures.answer c.check_replan_file.ensures.fault c.check_replan_file.ensures.unwritten c.check_replan_file.ensures.kept.same c.check_replan_file.ensures.kept.later c.check_replan_file.ensures.kept.no_write)
 
 pub returns-in-Estimate-clause-done : goal.returns-in-Estimate-clause-done
 returns-in-Estimate-clause-done g c =
     rw c.in-Estimate.is (only_read (Estimating c.in-Estimate.plant.now c.in-Estimate.log.now c.in-Estimate.state.now c.in-Estimate.steps.step c.in-Estimate.steps.count) (g.F.Shelf.files c.args.files.now) (g.F.Shelf.files c.estimate_file.new.files) (g.F.Shelf.read_faults c.args.files.now) (g.F.Shelf.read_faults c.estimate_file.new.files)
     (g.F.Shelf.write_faults c.args.files.now) (g.F.Shelf.write_faults c.estimate_file.new.files) c.estimate_file.result
-    c.estimate_file.ensures.answer c.estimate_file.ensures.fault c.estimate_file.ensures.unwritten c.estimate_file.ensures.same c.estimate_file.ensures.later c.estimate_file.ensures.no_write)
+    c.estimate_file.ensures.answer c.estimate_file.ensures.fault c.estimate_file.ensures.unwritten c.estimate_file.ensures.kept.same c.estimate_file.ensures.kept.later c.estimate_file.ensures.kept.no_write)
 
 pub returns-in-Least-clause-done : goal.returns-in-Least-clause-done
 returns-in-Least-clause-done g c =
@@ -89,7 +89,7 @@ pub returns-in-Parts-clause-done : goal.returns-in-Parts-clause-done
 returns-in-Parts-clause-done g c =
     rw c.in-Parts.is (only_read (Parting c.in-Parts.plant.now c.in-Parts.levels.number) (g.F.Shelf.files c.args.files.now) (g.F.Shelf.files c.parts_file.new.files) (g.F.Shelf.read_faults c.args.files.now) (g.F.Shelf.read_faults c.parts_file.new.files)
     (g.F.Shelf.write_faults c.args.files.now) (g.F.Shelf.write_faults c.parts_file.new.files) c.parts_file.result
-    c.parts_file.ensures.answer c.parts_file.ensures.fault c.parts_file.ensures.unwritten c.parts_file.ensures.same c.parts_file.ensures.later c.parts_file.ensures.no_write)
+    c.parts_file.ensures.answer c.parts_file.ensures.fault c.parts_file.ensures.unwritten c.parts_file.ensures.kept.same c.parts_file.ensures.kept.later c.parts_file.ensures.kept.no_write)
 
 pub returns-in-Demo-clause-done : goal.returns-in-Demo-clause-done
 returns-in-Demo-clause-done g c =
@@ -143,7 +143,7 @@ returns-in-Join-clause-done g c =
     rw c.in-Join.is (wrote (Joining c.in-Join.plant.now c.in-Join.levels.number c.in-Join.stem.now c.in-Join.log.now) (g.F.Shelf.files c.args.files.now) (g.F.Shelf.files c.join_file.new.files) (g.F.Shelf.read_faults c.args.files.now) (g.F.Shelf.read_faults c.join_file.new.files)
     (g.F.Shelf.write_faults c.args.files.now) (g.F.Shelf.write_faults c.join_file.new.files) c.join_file.result
     c.join_file.ensures.answer c.join_file.ensures.refused c.join_file.ensures.fault (λ _ no. absurd (no c.in-Join.plant.now c.in-Join.levels.number c.in-Join.stem.now c.in-Join.log.now refl)) c.join_file.ensures.write_fault c.join_file.ensures.begun
-    (kept_joined c.in-Join.plant.now c.in-Join.levels.number c.in-Join.stem.now c.in-Join.log.now (g.F.Shelf.files c.args.files.now) (g.F.Shelf.files c.join_file.new.files) c.join_file.ensures.others) c.join_file.ensures.left c.join_file.ensures.later c.join_file.ensures.writes)
+    (kept_joined c.in-Join.plant.now c.in-Join.levels.number c.in-Join.stem.now c.in-Join.log.now (g.F.Shelf.files c.args.files.now) (g.F.Shelf.files c.join_file.new.files) c.join_file.ensures.others) c.join_file.ensures.left c.join_file.ensures.kept.later c.join_file.ensures.kept.writes)
 
 pub trace_file-requires-clause-logs_writable : goal.trace_file-requires-clause-logs_writable
 trace_file-requires-clause-logs_writable g c =
