@@ -13,9 +13,8 @@ and without proofs, and the table says so. Times are processor time, the least o
 of a bound from the root's basis, of both parts of a split of each slot that the root starts in part, and 'share' is it over the
 root's pivots; 'again' are the pivots of the root itself from there. 'part ms' is the mean time of such a bound, 'trial ms' that of
 a trial bound of one side. The trial is built with whole numbers from a copy in which it bounds the cut root ten times and ends.
-'KiB' is the most memory that the program had, plant and rows with it (GNU time). Where Debian's python3-scipy is installed, HiGHS
-bounds the same
-program beside (bench/highs.py --root): its cap is without the cuts of the root.
+'KiB' is the most memory that the program had, plant and rows with it (GNU time). Where Debian's python3-scipy is installed,
+HiGHS bounds the same program beside (bench/highs.py --root): its cap is without the cuts of the root.
 """
 import argparse, datetime, os, platform, re, shutil, subprocess, tempfile
 
