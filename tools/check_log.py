@@ -9,7 +9,7 @@
 
 Written from docs/model.md and docs/formats.md alone, apart from the proved program, so that an auditor can have both
 read a log. It needs Python 3.11 and nothing else, counts in whole numbers, and is no part of what is proved. With
-`--ahead` as the first word it also reads what the program does not read yet: setups.
+`--ahead` as the first word it also reads what the program does not read yet: nothing today.
 
 The text of a log is read in log_text.py, what its head declares is in declared.py, log_judge.py judges it, and log_uses.py has
 `whatif` and `join`; plant files are read in plant_program.py, which also makes the rows, and plan files in plan_file.py.

@@ -541,6 +541,7 @@ def of_logs():
     yield case("infeasible", [*ODD_LOG[:8], "claim infeasible", "end", ""], "no 9 16", "`claim infeasible`", "the tree leaves some")
     yield case("point with more values", other(5, "point"), "no 5 18", "`point`", "exactly one value")
     yield case("a sum not shown", other(2, "sum 1 255 - - 2", SUMS), "no 2 20", "`sum 1 255 - - 2`", "0 to 255")
+    yield case("a setup of no unit", ["stn-log 4", "setup 99", *ODD_LOG[1:]], "no 2 24", "line 2, `setup 99`", "a unit that is not there")
     many = ["stn-log 3", *["sum 1 0 - - 1", "term 0 1 0"] * 511, ""]
     yield case("too many sums", many, "no 1022 21", "line 1022", "512 slots")
     yield case("of a horizon", ["stn-log 2", "node", "dual 1 0", "claim below 99", "end", ""], "no 1 0 19", "`claim below 99`", "claims something else",

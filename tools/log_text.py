@@ -19,8 +19,8 @@ GREATEST_DERIVED = 4096
 # What may stand in the head of a version at first, and what after a line of the head.
 SORTS = {1: (), 2: (), 3: ("sum",), 4: ("sum", "setup", "cut", "row")}
 LATER = {"sum": SORTS, "setup": {4: ("setup", "cut", "row")}, "cut": {4: ("cut", "row")}, "row": {4: ("cut", "row")}}
-# What the program reads by now: logs up to a version, and none of these lines. Where `ahead` is asked for, all are read.
-NEWEST, COMING = 4, ("setup",)
+# What the program reads by now: logs up to a version, and none of these lines (none is to come). With `ahead` all are read.
+NEWEST, COMING = 4, ()
 
 
 class Defect(Exception):

@@ -7,5 +7,6 @@
 mod flow;
 mod rows;
 mod supply;
+pub mod written;
 
 pub use rows::add_rows;

@@ -8,6 +8,7 @@ ghost use Rattle.balance_rows.specs.StockRows.{supply, low_parts, high_parts, lo
 
 use crate::flow::net_taken;
 use crate::supply::supply;
+use crate::written::Written;
 use row_kit::{Row, entries_of};
 use std::alloc::{AllocError, Global};
 use stn_model::Plant;
@@ -17,12 +18,7 @@ use time_grid::Grid;
 /// state, then by the times at which the state has a limit. After want of memory `into` is as before. It takes memory for its rows,
 /// and time for each row in proportion to the slots.
 #[tactic(auto, unfolding(crate::specs::StockRows::stock_rows))]
-pub fn add_rows(
-    alloc: Global,
-    plant: &Plant,
-    grid: &Grid,
-    into: &mut Vec<Row>,
-) -> Result<(), AllocError>
+pub fn add_rows(alloc: Global, plant: &Plant, grid: &Grid, into: &mut Vec<Row>) -> Written
     requires sound { Sound plant.now }
     requires grid { IsGrid plant.now grid.now }
     ensures ok { OnOk result (into.new.items ≡ into.old.items ++ stock_rows plant.now) }
@@ -36,12 +32,7 @@ pub fn add_rows(
 }
 
 #[tactic(auto, unfolding(crate::specs::StockRows::low_rows))]
-fn push_low_rows(
-    alloc: Global,
-    plant: &Plant,
-    grid: &Grid,
-    rows: &mut Vec<Row>,
-) -> Result<(), AllocError>
+fn push_low_rows(alloc: Global, plant: &Plant, grid: &Grid, rows: &mut Vec<Row>) -> Written
     requires sound { Sound plant.now }
     requires grid { IsGrid plant.now grid.now }
     ensures { OnOk result (rows.new.items ≡ rows.old.items ++ low_rows plant.now) }
@@ -60,7 +51,7 @@ fn push_low(
     state: u32,
     parts: &mut [(i64, i64)],
     rows: &mut Vec<Row>,
-) -> Result<(), AllocError>
+) -> Written
     requires sound { Sound plant.now }
     requires grid { IsGrid plant.now grid.now }
     requires state { state < length plant.now.states }
@@ -109,12 +100,7 @@ fn fill_low(plant: &Plant, grid: &Grid, state: u32, time: u32, parts: &mut [(i64
 }
 
 #[tactic(auto, unfolding(crate::specs::StockRows::high_rows))]
-fn push_high_rows(
-    alloc: Global,
-    plant: &Plant,
-    grid: &Grid,
-    rows: &mut Vec<Row>,
-) -> Result<(), AllocError>
+fn push_high_rows(alloc: Global, plant: &Plant, grid: &Grid, rows: &mut Vec<Row>) -> Written
     requires sound { Sound plant.now }
     requires grid { IsGrid plant.now grid.now }
     ensures { OnOk result (rows.new.items ≡ rows.old.items ++ high_rows plant.now) }
@@ -134,7 +120,7 @@ fn push_high(
     state: u32,
     parts: &mut [(i64, i64)],
     rows: &mut Vec<Row>,
-) -> Result<(), AllocError>
+) -> Written
     requires sound { Sound plant.now }
     requires grid { IsGrid plant.now grid.now }
     requires state { state < length plant.now.states }

@@ -11,6 +11,7 @@ use box_advice::{Advice, Advisers, Guide, Hinter};
 use derivations::Derivation;
 use explored_tree::Lead;
 use plan_hints::PlanHinter;
+use row_activity::numbered;
 use row_kit::{Area, Domain, List, Program};
 use row_separation::{Effort, separate};
 use split_advice::{PlainGuide, PlanGuide};
@@ -61,25 +62,29 @@ impl Advisers for BestFirst {
     fn advised(
         alloc: Global,
         program: &Program,
+        choices: &Program,
         given: u32,
         budget: u32,
         start: &[u8],
     ) -> Result<(SearchGuide, SearchHinter), AllocError> {
         if point_count(program) > MOST_POINTS {
-            return explored(alloc, program, given, budget, start);
+            return explored(alloc, program, choices, given, budget, start);
         }
-        let guide = PlanGuide::new(alloc, program, given)?;
-        let hinter = PlanHinter::new(alloc, program, given, start)?;
+        let points = numbered(choices.root.len());
+        let guide = PlanGuide::new(alloc, program, given, points)?;
+        let hinter = PlanHinter::new(alloc, program, given, points, start)?;
         Ok((SearchGuide::Depth(guide), SearchHinter::Depth(hinter)))
     }
 
     fn hinted(
         alloc: Global,
         program: &Program,
+        choices: &Program,
         given: u32,
         start: &[u8],
     ) -> Result<(SearchGuide, SearchHinter), AllocError> {
-        let hinter = PlanHinter::new(alloc, program, given, start)?;
+        let points = numbered(choices.root.len());
+        let hinter = PlanHinter::new(alloc, program, given, points, start)?;
         Ok((SearchGuide::Plain(PlainGuide), SearchHinter::Depth(hinter)))
     }
 }
@@ -88,13 +93,15 @@ impl Advisers for BestFirst {
 fn explored(
     alloc: Global,
     program: &Program,
+    choices: &Program,
     given: u32,
     budget: u32,
     start: &[u8],
 ) -> Result<(SearchGuide, SearchHinter), AllocError> {
-    let Explored { tree, best } = explore(alloc, program, given, budget, start)?;
+    let Explored { tree, best } = explore(alloc, program, choices, given, budget, start)?;
     let lead = Lead::new(alloc, program, tree.nodes, best.worth, budget)?;
-    let guide = KeptGuide::new(alloc, program, given, lead)?;
+    let points = numbered(choices.root.len());
+    let guide = KeptGuide::new(alloc, program, given, points, lead)?;
     let hinter = KeptHinter::new(best);
     Ok((SearchGuide::Best(guide), SearchHinter::Best(hinter)))
 }

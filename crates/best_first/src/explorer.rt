@@ -5,12 +5,14 @@ ghost use Rattle.row_kit.specs.Area.{present};
 ghost use Rattle.row_kit.specs.Domain.{IsOpen};
 ghost use Rattle.range_prop.specs.Index.{IsIndex};
 
+use crate::aims::Aims;
 use box_advice::{Advice, Hinter};
 use dual_simplex::Basis;
 use explored_tree::{Tree, cap_of, exceeds};
 use plan_hints::PlanHinter;
 use plan_repair::Kept;
 use range_prop::{RowIndex, cut_by_index};
+use row_activity::{domain_of, is_single, numbered};
 use row_kit::{Area, Domain, Program};
 use split_advice::{PlanGuide, may_split, split_value};
 use std::alloc::{AllocError, Global};
@@ -22,30 +24,36 @@ pub struct Explored {
     pub best: Kept,
 }
 
-// A search in memory.
+// A search in memory. Points are judged by `choices`.
 #[derive(Drop)]
-struct Explorer {
+struct Explorer<'a> {
     alloc: Global,
+    choices: &'a Program,
     tree: Tree,
     guide: PlanGuide,
     hinter: PlanHinter,
     best: Kept,
     counted: u32,
+    // The cap of the last box, which was the greatest.
+    cap: i128,
+    aims: Aims,
 }
 
 // How many boxes are explored at most for each that may be counted.
 const MOST_LOOKS: u32 = 4;
 
-/// Searches a program best first, until the tree that is left counts so many boxes, or is closed. Plans are looked for from the point
-/// `start` on. Four times as many boxes are explored at most, and none once what is held comes to some 2 GiB.
+/// Searches a program best first, until the tree that is left counts so many boxes, or is closed. Points are judged by `choices`, and
+/// plans are looked for from the point `start` on. Four times as many boxes are explored at most, and none once what is held comes
+/// to some 2 GiB. Where that comes no further, trees of their own are explored towards worths that no plan has yet (`Aims`).
 pub fn explore(
     alloc: Global,
     program: &Program,
+    choices: &Program,
     given: u32,
     budget: u32,
     start: &[u8],
 ) -> Result<Explored, AllocError> {
-    let mut explorer = Explorer::new(alloc, program, given, start)?;
+    let mut explorer = Explorer::new(alloc, program, choices, given, start)?;
     match explorer.look_on(program, budget) {
         Ok(()) => Ok(explorer.ended()),
         Err(error) => {
@@ -58,25 +66,30 @@ pub fn explore(
 // Lets go of a value of whatever type: so no function is proved with all parts of what it lets go.
 fn let_go<T: Drop>(_value: T) {}
 
-impl Explorer {
+impl<'a> Explorer<'a> {
     // A search in memory before its first box. What is large is made last, so that little is let go where memory is wanting.
     fn new(
         alloc: Global,
         program: &Program,
+        choices: &'a Program,
         given: u32,
         start: &[u8],
-    ) -> Result<Explorer, AllocError> {
+    ) -> Result<Explorer<'a>, AllocError> {
         let tree = Tree::new(alloc, program)?;
-        let best = Kept::new(alloc, program)?;
-        let guide = PlanGuide::new(alloc, program, given)?;
-        let hinter = PlanHinter::new(alloc, program, given, start)?;
+        let points = numbered(choices.root.len());
+        let best = Kept::new(alloc, choices)?;
+        let guide = PlanGuide::new(alloc, program, given, points)?;
+        let hinter = PlanHinter::new(alloc, program, given, points, start)?;
         Ok(Explorer {
             alloc,
+            choices,
             tree,
             guide,
             hinter,
             best,
             counted: 0,
+            cap: i128::MAX,
+            aims: Aims::new(),
         })
     }
 
@@ -95,12 +108,83 @@ impl Explorer {
         requires index { IsIndex program.now.rows index.now }
         requires lists { length index.now ≡ length program.now.root }
     {
-        for _ in 0..budget.saturating_mul(MOST_LOOKS) {
+        for looks in 0..budget.saturating_mul(MOST_LOOKS) {
+            self.look_aside(program, index, looks)?;
             if self.counted >= budget || !self.step(program, index)? {
                 break;
             }
         }
         Ok(())
+    }
+
+    // Where an aim is due after so many boxes, explores as many at most in a tree of its own, for a better plan.
+    fn look_aside(
+        &mut self,
+        program: &Program,
+        index: &RowIndex,
+        looks: u32,
+    ) -> Result<(), AllocError>
+        requires index { IsIndex program.now.rows index.now }
+        requires lists { length index.now ≡ length program.now.root }
+    {
+        let cap = self.cap;
+        if !self.aims.is_due(looks, cap) {
+            return Ok(());
+        }
+        let Some(best) = self.best.worth else {
+            return Ok(());
+        };
+        if !self.aims.begin(best, cap) {
+            return Ok(());
+        }
+        let aside = Tree::new(self.alloc, program)?;
+        let tree = std::mem::replace(&mut self.tree, aside);
+        let ended = self.go_aside(program, index, best, looks);
+        let_go(std::mem::replace(&mut self.tree, tree));
+        let gained = self.is_better_than(best);
+        self.aims.end(gained);
+        self.counted = self.tree.count(self.best.worth);
+        ended
+    }
+
+    // Explores so many boxes at most, until a better plan is found, or none is left.
+    fn go_aside(
+        &mut self,
+        program: &Program,
+        index: &RowIndex,
+        best: i128,
+        boxes: u32,
+    ) -> Result<(), AllocError>
+        requires index { IsIndex program.now.rows index.now }
+        requires lists { length index.now ≡ length program.now.root }
+    {
+        for _ in 0..boxes {
+            if self.is_better_than(best) || !self.step(program, index)? {
+                break;
+            }
+        }
+        Ok(())
+    }
+
+    // Whether the best plan is worth more than so much.
+    fn is_better_than(&self, worth: i128) -> bool {
+        match self.best.worth {
+            None => false,
+            Some(best) => best > worth,
+        }
+    }
+
+    // What a box is to exceed.
+    fn floor(&self) -> Option<i128> {
+        self.aims.floor_over(self.best.worth)
+    }
+
+    // The cap of a box.
+    fn cap_at(&self, number: u32) -> i128 {
+        match self.tree.nodes.get(number as usize) {
+            None => i128::MAX,
+            Some(node) => node.cap,
+        }
     }
 
     // What the search has come to.
@@ -122,11 +206,22 @@ impl Explorer {
         requires index { IsIndex program.now.rows index.now }
         requires lists { length index.now ≡ length program.now.root }
     {
-        let Some(number) = self.tree.next(self.best.worth) else {
+        let floor = self.floor();
+        let Some(number) = self.tree.next(floor) else {
             return Ok(false);
         };
-        let domains = self.tree.begin(self.alloc, number);
+        self.cap = self.cap_at(number);
         self.counted = self.counted.saturating_add(1);
+        self.open(program, index, number)?;
+        Ok(true)
+    }
+
+    // Cuts a box, and looks at it where it has points left.
+    fn open(&mut self, program: &Program, index: &RowIndex, number: u32) -> Result<(), AllocError>
+        requires index { IsIndex program.now.rows index.now }
+        requires lists { length index.now ≡ length program.now.root }
+    {
+        let domains = self.tree.begin(self.alloc, number);
         let mut area = Area::new(self.alloc, program)?;
         put_domains(&mut area, domains.as_slice());
         let mut cuts = Vec::new(self.alloc);
@@ -134,7 +229,7 @@ impl Explorer {
         if !area.has_empty() {
             self.look(program, &mut area, number)?;
         }
-        Ok(true)
+        Ok(())
     }
 
     // Looks at a box that has points after its cuts. With the first plan it is advised anew, since sums are split only with a plan.
@@ -143,7 +238,7 @@ impl Explorer {
         requires each_open { All IsOpen (present area.old) }
     {
         let mut point = vec![in self.alloc; 0u8; program.root.len()]?;
-        if area.is_point() {
+        if is_chosen(self.choices, area) {
             self.hint(program, area, point.as_mut_slice());
             return Ok(());
         }
@@ -170,9 +265,9 @@ impl Explorer {
         requires places { length point.old ≡ length program.now.root }
         requires each_open { All IsOpen (present area.now) }
     {
-        let best = self.best.worth;
+        let floor = self.floor();
         self.guide
-            .advise_from(self.alloc, program, area, basis, best, point)
+            .advise_from(self.alloc, program, area, basis, floor, point)
     }
 
     // Asks the hinter at a box. Where the plan is better, the boxes are counted anew.
@@ -181,7 +276,9 @@ impl Explorer {
         requires places { length point.old ≡ length program.now.root }
         requires each_open { All IsOpen (present area.now) }
     {
-        if self.hinter.offer(program, area, point) && self.best.take(program, point) {
+        if self.hinter.offer(program, area, point)
+            && self.best.take(self.choices, chosen(self.choices, point))
+        {
             self.counted = self.tree.count(self.best.worth);
         }
     }
@@ -203,7 +300,7 @@ impl Explorer {
         if own < held {
             self.tree.put_cert(number, cert);
         }
-        if !exceeds(own.min(held), self.best.worth) {
+        if !exceeds(own.min(held), self.floor()) {
             return Ok(());
         }
         self.forget(program, area, number, slot, max);
@@ -229,7 +326,7 @@ impl Explorer {
         requires slots { length (present area.old) ≡ length program.now.root }
         ensures slots { length (present area.new) ≡ length (present area.old) }
     {
-        let Some(worth) = self.best.worth else {
+        let Some(worth) = self.floor() else {
             return;
         };
         let mark = area.mark();
@@ -260,6 +357,26 @@ impl Explorer {
         back_to(area, mark);
         area.above(slot, max);
         self.tree.put_part(self.alloc, program, area, number)
+    }
+}
+
+// Whether each slot that points have has one value in an area.
+fn is_chosen(choices: &Program, area: &Area) -> bool {
+    for slot in 0..choices.root.len() {
+        if !is_single(domain_of(area, numbered(slot))) {
+            return false;
+        }
+    }
+    true
+}
+
+// The values of the slots that points have: the first of all.
+fn chosen<'b>(choices: &Program, values: &'b [u8]) -> &'b [u8] {
+    let slots = choices.root.len();
+    if slots < values.len() {
+        &values[..slots]
+    } else {
+        values
     }
 }
 

@@ -20,14 +20,15 @@ pub struct KeptGuide {
 }
 
 impl KeptGuide {
-    /// The guide that leads through boxes, of a program of which the slots from `given` on are those of sums.
+    /// The guide that leads through boxes, of a program of which the slots from `given` on and before `points` are those of sums.
     pub fn new(
         alloc: Global,
         program: &Program,
         given: u32,
+        points: u32,
         lead: Lead,
     ) -> Result<KeptGuide, AllocError> {
-        let plain = PlanGuide::new(alloc, program, given)?;
+        let plain = PlanGuide::new(alloc, program, given, points)?;
         Ok(KeptGuide { lead, plain })
     }
 }

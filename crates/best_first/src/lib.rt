@@ -4,6 +4,7 @@
 #![tactic(auto)]
 
 mod advisers;
+mod aims;
 mod explorer;
 mod kept_guide;
 mod kept_hinter;

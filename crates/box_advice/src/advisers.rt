@@ -7,8 +7,10 @@ use std::alloc::{AllocError, Global};
 
 /// What makes the advisers of searches, so that a search is proved whoever advises it. It promises nothing of what they advise.
 ///
-/// The slots from the number `given` on are those of sums, each with two rows, from the first row on that counts such a slot; derived
-/// rows may stand behind them. Where there are no sums, `given` is the number of slots.
+/// The slots from the number `given` on are those of sums, each with two rows, from the first row on that counts such a slot. Points
+/// have the slots of `choices`, and are judged by it: where the program has more, these are of setups, 0 or 1, and their rows follow
+/// those of sums; derived rows may stand behind all. Where there are no sums, `given` is the number of slots of `choices`; where there
+/// are no setups, `choices` is the program.
 pub trait Advisers {
     /// The guide of a search.
     type Guide: Guide + Drop;
@@ -29,6 +31,7 @@ pub trait Advisers {
     fn advised(
         alloc: Global,
         program: &Program,
+        choices: &Program,
         given: u32,
         budget: u32,
         start: &[u8],
@@ -38,6 +41,7 @@ pub trait Advisers {
     fn hinted(
         alloc: Global,
         program: &Program,
+        choices: &Program,
         given: u32,
         start: &[u8],
     ) -> Result<(Self::Guide, Self::Hinter), AllocError>;

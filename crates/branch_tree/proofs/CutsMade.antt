@@ -20,50 +20,52 @@ use Rattle.row_relax.specs.Steps.{row_steps, shown_if}
 use Rattle.row_relax.specs.View.{Fits, domains_of, view_of}
 use Rattle.row_relax.specs.laws.Laws.{rows_sound}
 use Rattle.row_relax.proofs.Marks.{domains-views, fits_slots, moves_there}
+use Rattle.row_relax.specs.declared.rows.Rows.{Rows}
+use Rattle.row_relax.specs.Choices.{steps_of}
 use Rattle.branch_tree.specs.Searched.{IsFitItem}
 use Rattle.branch_tree.specs.laws.Grounds.{seen}
 
 -- what cuts lead to
-pub record CutsLead (program : Program) (old new : List (List Domain)) (cuts : List RowCut) : Type 0 where
-  pub moved : after_cuts (row_steps program) (seen old) cuts ≡ Some (seen new)
+pub record CutsLead (rows : Rows) (old new : List (List Domain)) (cuts : List RowCut) : Type 0 where
+  pub moved : after_cuts (steps_of rows) (seen old) cuts ≡ Some (seen new)
   pub keeps : KeepsViews (map view_of old) (map view_of new)
-  pub fits : Fits program (seen new)
-  pub fit : (floors : Bool) → All (IsFitItem program floors) (map CutItem cuts)
+  pub fits : Fits rows.program (seen new)
+  pub fit : (floors : Bool) → All (IsFitItem rows floors) (map CutItem cuts)
 
 both_true : (a b : Bool) → a ≡ true → b ≡ true → (a && b) ≡ true
 both_true a b e h = cc
 
 -- one cut
-one_moves : (program : Program) (cut : RowCut) (old : List (List Domain)) → cut.row < length program.rows → cut.slot < length (present old)
-    → MovesTo ((row_steps program).cut (seen old) cut) (map view_of old) (map view_of (after_cut program.rows cut old)) true
+one_moves : (rows : Rows) (cut : RowCut) (old : List (List Domain)) → cut.row < length rows.program.rows → cut.slot < length (present old)
+    → MovesTo ((steps_of rows).cut (seen old) cut) (map view_of old) (map view_of (after_cut rows.program.rows cut old)) true
 unfolding row_steps
-one_moves program cut old row slot =
-    let there = both_true (ltb cut.row (length program.rows)) (ltb cut.slot (length (present old))) (lt-ltb cut.row (length program.rows) row) (lt-ltb cut.slot (length (present old)) slot) in
-    subst (λ (ds : List Domain). MovesTo (shown_if (ltb cut.row (length program.rows) && ltb cut.slot (length ds)) (cut_domains (row_at program.rows cut.row) cut.slot ds)) (map view_of old) (map view_of (after_cut program.rows cut old)) true) (sym (domains-views old))
-    (moves_there old (after_cut program.rows cut old) cut.slot (cut_domain (row_at program.rows cut.row) cut.slot (present old)) (ltb cut.row (length program.rows) && ltb cut.slot (length (present old))) there slot refl)
+one_moves rows cut old row slot =
+    let there = both_true (ltb cut.row (length rows.program.rows)) (ltb cut.slot (length (present old))) (lt-ltb cut.row (length rows.program.rows) row) (lt-ltb cut.slot (length (present old)) slot) in
+    subst (λ (ds : List Domain). MovesTo (shown_if (ltb cut.row (length rows.program.rows) && ltb cut.slot (length ds)) (cut_domains (row_at rows.program.rows cut.row) cut.slot ds)) (map view_of old) (map view_of (after_cut rows.program.rows cut old)) true) (sym (domains-views old))
+    (moves_there old (after_cut rows.program.rows cut old) cut.slot (cut_domain (row_at rows.program.rows cut.row) cut.slot (present old)) (ltb cut.row (length rows.program.rows) && ltb cut.slot (length (present old))) there slot refl)
 
 -- cuts that were made, one after another
-pub cuts_lead : (program : Program) (cuts : List RowCut) (old : List (List Domain)) → Fits program (seen old) → AreMade program.rows cuts old → CutsLead program old (marks_after program.rows cuts old) cuts
-cuts_lead program [] old fit made = record { moved = refl; keeps = kept_itself (map view_of old); fits = fit; fit = λ floors. All-nil (IsFitItem program floors) }
+pub cuts_lead : (rows : Rows) (cuts : List RowCut) (old : List (List Domain)) → Fits rows.program (seen old) → AreMade rows.program.rows cuts old → CutsLead rows old (marks_after rows.program.rows cuts old) cuts
+cuts_lead rows [] old fit made = record { moved = refl; keeps = kept_itself (map view_of old); fits = fit; fit = λ floors. All-nil (IsFitItem rows floors) }
   where
     kept_itself : (views : List View) → KeepsViews views views
     kept_itself views = take-length views
-cuts_lead program (cut ∷ cuts) old fit made =
-    let first = one_moves program cut old made.0.row made.0.slot in
-    let fit' = (rows_sound program).cut_fits (seen old) (seen (after_cut program.rows cut old)) cut fit first.0 in
-    let rest = cuts_lead program cuts (after_cut program.rows cut old) fit' made.1 in
+cuts_lead rows (cut ∷ cuts) old fit made =
+    let first = one_moves rows cut old made.0.row made.0.slot in
+    let fit' = (rows_sound rows.program).cut_fits (seen old) (seen (after_cut rows.program.rows cut old)) cut fit first.0 in
+    let rest = cuts_lead rows cuts (after_cut rows.program.rows cut old) fit' made.1 in
     record {
-      moved = ap (λ next. option_and_then (λ w. after_cuts (row_steps program) w cuts) next) first.0 ∙ rest.moved;
-      keeps = KeepsViews-then (map view_of old) (map view_of (after_cut program.rows cut old)) (map view_of (marks_after program.rows cuts (after_cut program.rows cut old))) first.1 rest.keeps;
+      moved = ap (λ next. option_and_then (λ w. after_cuts (steps_of rows) w cuts) next) first.0 ∙ rest.moved;
+      keeps = KeepsViews-then (map view_of old) (map view_of (after_cut rows.program.rows cut old)) (map view_of (marks_after rows.program.rows cuts (after_cut rows.program.rows cut old))) first.1 rest.keeps;
       fits = rest.fits;
-      fit = λ floors. All-cons (IsFitItem program floors) (CutItem cut) (map CutItem cuts) (made.0.row, subst (λ n. cut.slot < n) (fits_slots program old fit) made.0.slot) (rest.fit floors);
+      fit = λ floors. All-cons (IsFitItem rows floors) (CutItem cut) (map CutItem cuts) (made.0.row, subst (λ n. cut.slot < n) (fits_slots rows.program old fit) made.0.slot) (rest.fit floors);
     }
 
 -- so a list that has grown by cuts from nothing leads there
-pub has_cut-leads : (program : Program) (old new : List (List Domain)) (before after : List RowCut) → Fits program (seen old) → before ≡ [] → HasCut program.rows old new before after → CutsLead program old new after
-has_cut-leads program old new before after fit none cut =
+pub has_cut-leads : (rows : Rows) (old new : List (List Domain)) (before after : List RowCut) → Fits rows.program (seen old) → before ≡ [] → HasCut rows.program.rows old new before after → CutsLead rows old new after
+has_cut-leads rows old new before after fit none cut =
     let same : cut.made ≡ after = sym (cut.listed ∙ ap (λ xs. xs ++ cut.made) none) in
-    subst (CutsLead program old new) same (subst (λ marks. CutsLead program old marks cut.made) (sym cut.led) (cuts_lead program cut.made old fit cut.each))
+    subst (CutsLead rows old new) same (subst (λ marks. CutsLead rows old marks cut.made) (sym cut.led) (cuts_lead rows cut.made old fit cut.each))
 
 -- room in the domains that a view shows
 pub room_shown : (program : Program) (marks : List (List Domain)) (changed : Option ℕ) → IfSome changed (λ slot. (slot < length program.root) × HaveRoomBut program.rows (slot ∷ []) (domains_of (seen marks)))

@@ -1,11 +1,11 @@
 -- How many splits can stand one below another: a cut adds none, and each part of a split has one less.
-use Rattle.std.proofs.Common.{◌≡◌, ℕ, ◌+◌, ◌-◌, ◌*◌, ◌<◌, ◌≤◌, Bool, true, false, ◌&&◌, cond, leb, ltb, List, [], ◌∷◌, length, set, refl, sym, ap, subst, arith, Option, Some, None}
+use Rattle.std.proofs.Common.{◌≡◌, ℕ, ◌+◌, ◌-◌, ◌*◌, ◌<◌, ◌≤◌, Bool, true, false, ◌&&◌, cond, leb, ltb, List, [], ◌∷◌, length, set, take, refl, sym, ap, subst, arith, Option, Some, None}
 use Rattle.std.specs.Prelude.{option_and_then}
 use Rattle.std.specs.List.{All, sum_by}
 use Rattle.std.proofs.lemmas.Bool.{and_parts, ltb-true}
 use Rattle.std.proofs.lemmas.Bool.Decides.{nat_tests}
 use Rattle.std.proofs.lemmas.List.Sums.{sum_by-cons, sum_by-set}
-use Rattle.std.proofs.lemmas.List.{get_or-set_same, length-set}
+use Rattle.std.proofs.lemmas.List.{get_or-set_same, length-set, length-take-le}
 use Rattle.row_kit.specs.declared.domain.Domain.{Domain}
 use Rattle.row_kit.specs.declared.program.Program.{Program}
 use Rattle.row_kit.specs.Domain.{Holds, IsNormal, IsOpen, count_of, domain_at, no_values, over, shared, up_to}
@@ -22,8 +22,10 @@ use Rattle.row_relax.specs.View.{Fits, IsIn, domains_of, points_in, view_of}
 use Rattle.row_relax.specs.laws.Laws.{rows_sound}
 use Rattle.row_relax.specs.laws.Shown.{domains_of-view_of, domains_there, shown_there}
 use Rattle.row_relax.proofs.PointCounts.{points-cut}
+use Rattle.row_relax.specs.declared.rows.Rows.{Rows}
+use Rattle.row_relax.specs.Choices.{steps_of}
 use Rattle.branch_tree.specs.Justified.{IsParted}
-use Rattle.branch_tree.specs.Searched.{spared}
+use Rattle.branch_tree.specs.Searched.{IsSearchable, spared}
 use Rattle.branch_tree.specs.Splits.{halvings, splits_of, step_at}
 use Rattle.branch_tree.specs.laws.Ends.{view_splits}
 
@@ -129,24 +131,24 @@ pub record CutsLeave (program : Program) (v w : View) : Type 0 where
   pub points : points_in w ≤ points_in v
   pub splits : view_splits w ≤ view_splits v
 
-pub cuts_leave : (program : Program) (cuts : List RowCut) (v w : View) → Fits program v → after_cuts (row_steps program) v cuts ≡ Some w → CutsLeave program v w
-cuts_leave program [] v w fit is = let same : v ≡ w = cc in subst (CutsLeave program v) same (record { fits = fit; keeps = λ point lies lawful. lies; points = omega arith; splits = omega arith })
-cuts_leave program (u ∷ us) v w fit is = next (λ x. cuts_leave program us x w) ((row_steps program).cut v u) refl is
+pub cuts_leave : (rows : Rows) (cuts : List RowCut) (v w : View) → Fits rows.program v → after_cuts (steps_of rows) v cuts ≡ Some w → CutsLeave rows.program v w
+cuts_leave rows [] v w fit is = let same : v ≡ w = cc in subst (CutsLeave rows.program v) same (record { fits = fit; keeps = λ point lies lawful. lies; points = omega arith; splits = omega arith })
+cuts_leave rows (u ∷ us) v w fit is = next (λ x. cuts_leave rows us x w) ((steps_of rows).cut v u) refl is
   where
-    next : ((x : View) → Fits program x → after_cuts (row_steps program) x us ≡ Some w → CutsLeave program x w) → (o : Option View) → (row_steps program).cut v u ≡ o
-        → option_and_then (λ x. after_cuts (row_steps program) x us) o ≡ Some w → CutsLeave program v w
+    next : ((x : View) → Fits rows.program x → after_cuts (steps_of rows) x us ≡ Some w → CutsLeave rows.program x w) → (o : Option View) → (steps_of rows).cut v u ≡ o
+        → option_and_then (λ x. after_cuts (steps_of rows) x us) o ≡ Some w → CutsLeave rows.program v w
     next others None first later = absurd (none later)
       where
         none : {X : Type 0} {x : X} → None ≡ Some x → ⊥
         none same = cc
     next others (Some x) first later =
-        let fit' = (rows_sound program).cut_fits v x u fit first in
+        let fit' = (rows_sound rows.program).cut_fits v x u fit first in
         let rest = others x fit' later in
         record {
           fits = rest.fits;
-          keeps = λ point lies lawful. rest.keeps point ((rows_sound program).cut_keeps v x u fit first point lies lawful) lawful;
-          points = omega (arith, rest.points, points-cut program v x u fit first);
-          splits = omega (arith, rest.splits, splits-cut program v x u fit first);
+          keeps = λ point lies lawful. rest.keeps point ((rows_sound rows.program).cut_keeps v x u fit first point lies lawful) lawful;
+          points = omega (arith, rest.points, points-cut rows.program v x u fit first);
+          splits = omega (arith, rest.splits, splits-cut rows.program v x u fit first);
         }
 
 -- nothing is above a value that is the greatest or more
@@ -173,20 +175,33 @@ splits-right program v w pick parted is =
     subst (λ (xs : List Domain). sum_by splits_of xs + 1 ≤ sum_by splits_of ds) (sym (domains_there (ltb pick.slot (length ds)) (kept_at ds pick.slot (over pick.max)) w is))
     (sum_less ds pick.slot (shared (domain_at ds pick.slot) (over pick.max)) parted.slot parted.fewer.right)
 
--- the root has at most 4,608 splits, less one for each slot that is spared one
-spared_most : (d : Domain) → splits_of d + spared d ≤ 9
+-- 512 slots have at most 4,608 splits, less one for each slot that is spared one
+pub spared_most : (d : Domain) → splits_of d + spared d ≤ 9
 spared_most d = at (d.zero && leb d.lo d.hi)
   where
     at : (b : Bool) → (cond b 1 0 + halvings (d.hi + 1 - d.lo)) + cond b 0 1 ≤ 9
     at true = omega (arith, halvings_most (d.hi + 1 - d.lo))
     at false = omega (arith, halvings_most (d.hi + 1 - d.lo))
 
-spared_sum : (ds : List Domain) → sum_by splits_of ds + sum_by spared ds ≤ 9 * length ds
+pub spared_sum : (ds : List Domain) → sum_by splits_of ds + sum_by spared ds ≤ 9 * length ds
 spared_sum [] = omega arith
 spared_sum (d ∷ ds) = omega (arith, sum_by-cons splits_of d ds, sum_by-cons spared d ds, spared_most d, spared_sum ds)
 
-pub splits-root : (program : Program) → length program.root ≤ 512 → view_splits (view_of program.root) + sum_by spared program.root ≤ 4608
-splits-root program few =
-    let sum = spared_sum program.root in
+-- the first of them and one more have at most nine for each domain
+pub spared_part : (ds : List Domain) (n : ℕ) (d : Domain) → n < length ds → (sum_by splits_of (take n ds) + sum_by spared (take n ds)) + (splits_of d + spared d) ≤ 9 * length ds
+spared_part ds n d lt = omega (arith, lt, length-take-le n ds (omega (arith, lt)), spared_sum (take n ds), spared_most d)
+
+pub splits_part : (ds : List Domain) (n : ℕ) (d : Domain) → n < length ds → sum_by splits_of (take n ds) + splits_of d ≤ 9 * length ds
+splits_part ds n d lt = omega (arith, spared_part ds n d lt)
+
+pub splits_sum : (ds : List Domain) → sum_by splits_of ds ≤ 9 * length ds
+splits_sum ds = omega (arith, spared_sum ds)
+
+pub splits-few : (ds : List Domain) → length ds ≤ 512 → sum_by splits_of ds + sum_by spared ds ≤ 4608
+splits-few ds few = omega (arith, few, spared_sum ds)
+
+pub splits-root : (program : Program) → IsSearchable program → view_splits (view_of program.root) + sum_by spared program.root ≤ 4608
+splits-root program searchable =
+    let few = searchable.few_splits in
     let same = ap (λ (ds : List Domain). sum_by splits_of ds) (domains_of-view_of program.root) in
-    omega (arith, few, sum, same)
+    omega (arith, few, same)

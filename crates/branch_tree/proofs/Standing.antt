@@ -33,11 +33,12 @@ use Rattle.row_relax.specs.laws.Laws.{rows_sound}
 use Rattle.row_relax.specs.laws.Shown.{domains_there}
 use Rattle.row_relax.proofs.Marks.{domains-views}
 use Rattle.row_relax.proofs.PointCounts.{points-both}
+use Rattle.row_relax.specs.Choices.{choices_of, steps_of}
 use Rattle.branch_tree.specs.declared.reached.Ground.{Ground}
 use Rattle.branch_tree.specs.declared.reached.Reached.{Reached}
 use Rattle.branch_tree.specs.Justified.{IsGroup, IsParted}
 use Rattle.branch_tree.specs.Searched.{IsBest}
-use Rattle.branch_tree.specs.laws.Grounds.{IsOwnBest, IsSplitPart, IsSplitAt, StandsIn, program_of, seen, slot_alone}
+use Rattle.branch_tree.specs.laws.Grounds.{IsOwnBest, IsSplitPart, IsSplitAt, StandsIn, program_of, seen, slot_alone, rows_of, choices_at, IsAmong}
 use Rattle.branch_tree.proofs.Depths.{CutsLeave, splits-left, splits-right}
 use Rattle.branch_tree.proofs.Forgotten.{IsLeftTo}
 use Rattle.branch_tree.proofs.Opened.{none_bare-open}
@@ -51,12 +52,12 @@ stands_after ground v w depth old new stands leave places changed own = record {
   places = places ∙ stands.places;
   deep = omega (arith, stands.deep, leave.splits);
   room = subst (λ o. IfSome o (λ slot. (slot < length (program_of ground).root) × HaveRoomBut (program_of ground).rows (slot ∷ []) (domains_of w))) (sym changed) tt;
-  own = subst (λ o. IfSome o (λ found. IsGroup (program_of ground) found × IsIn w found.point)) (sym own) (kept old.own stands.own);
+  own = subst (λ o. IfSome o (λ found. IsGroup (choices_at ground) found × IsAmong (rows_of ground) w found.point)) (sym own) (kept old.own stands.own);
 }
   where
-    kept : (o : Option Found) → IfSome o (λ found. IsGroup (program_of ground) found × IsIn v found.point) → IfSome o (λ found. IsGroup (program_of ground) found × IsIn w found.point)
+    kept : (o : Option Found) → IfSome o (λ found. IsGroup (choices_at ground) found × IsAmong (rows_of ground) v found.point) → IfSome o (λ found. IsGroup (choices_at ground) found × IsAmong (rows_of ground) w found.point)
     kept None is = tt
-    kept (Some f) is = (is.0, leave.keeps f.point is.1 is.0.lawful)
+    kept (Some f) is = (is.0, (is.1.0, is.1.1, leave.keeps is.1.0 is.1.2 is.1.1.lawful))
 
 -- and after its own point was offered there
 pub stands_on : (ground : Ground) (v w : View) (depth : ℕ) (old new : Reached) → StandsIn ground v depth old → CutsLeave (program_of ground) v w
@@ -67,7 +68,7 @@ stands_on ground v w depth old new stands leave places changed own = record {
   places = places ∙ stands.places;
   deep = omega (arith, stands.deep, leave.splits);
   room = subst (λ o. IfSome o (λ slot. (slot < length (program_of ground).root) × HaveRoomBut (program_of ground).rows (slot ∷ []) (domains_of w))) (sym changed) tt;
-  own = subst (λ o. IfSome o (λ found. IsGroup (program_of ground) found × IsIn w found.point)) (sym own) tt;
+  own = subst (λ o. IfSome o (λ found. IsGroup (choices_at ground) found × IsAmong (rows_of ground) w found.point)) (sym own) tt;
 }
 
 -- and in what the floor of a split leaves
@@ -79,7 +80,7 @@ stands_left ground v rest depth old new stands leave places changed own = record
   places = places ∙ stands.places;
   deep = omega (arith, stands.deep, leave.splits);
   room = subst (λ o. IfSome o (λ slot. (slot < length (program_of ground).root) × HaveRoomBut (program_of ground).rows (slot ∷ []) (domains_of rest))) (sym changed) tt;
-  own = subst (λ o. IfSome o (λ found. IsGroup (program_of ground) found × IsIn rest found.point)) (sym own) tt;
+  own = subst (λ o. IfSome o (λ found. IsGroup (choices_at ground) found × IsAmong (rows_of ground) rest found.point)) (sym own) tt;
 }
 
 -- what is best later is worth as much as one's own too
@@ -164,39 +165,39 @@ alone (Some n) slot P Q follows p = tt
 
 -- the left part of a split
 pub left_stands : (ground : Ground) (v x : View) (pick : RowPick) (cert : Cert) (depth : ℕ) (old new : Reached) → StandsIn ground v depth old → IfSome (slot_alone pick.floor pick.slot) (λ slot. HaveRoom (program_of ground).rows (domains_of v)) → IsSplitAt (program_of ground) ground.given v pick cert
-    → (row_steps (program_of ground)).left v pick ≡ Some x → length new.point.items ≡ length old.point.items → new.changed ≡ slot_alone pick.floor pick.slot → new.own ≡ None → StandsIn ground x (depth + 1) new
+    → (steps_of (rows_of ground)).left v pick ≡ Some x → length new.point.items ≡ length old.point.items → new.changed ≡ slot_alone pick.floor pick.slot → new.own ≡ None → StandsIn ground x (depth + 1) new
 left_stands ground v x pick cert depth old new stands room cause moved places changed own =
-    let program = program_of ground in
+    let rows = rows_of ground in
     let ds = domains_of v in
-    let rooms = λ (all : HaveRoom program.rows ds). HaveRoomBut-kept_at program.rows ds pick.slot (up_to pick.max) cause.parted.slot (rooms_of program.rows ds pick.slot (up_to pick.max) cause.parted.left all) in
+    let rooms = λ (all : HaveRoom rows.program.rows ds). HaveRoomBut-kept_at rows.program.rows ds pick.slot (up_to pick.max) cause.parted.slot (rooms_of rows.program.rows ds pick.slot (up_to pick.max) cause.parted.left all) in
     record {
       indexed = stands.indexed;
-      fits = (rows_sound program).left_fits v x pick stands.fits moved;
+      fits = (rows_sound rows.program).left_fits v x pick stands.fits moved;
       places = places ∙ stands.places;
-      deep = omega (arith, stands.deep, splits-left program v x pick cause.parted moved);
-      room = subst (λ o. IfSome o (λ slot. (slot < length program.root) × HaveRoomBut program.rows (slot ∷ []) (domains_of x))) (sym changed)
-          (alone pick.floor pick.slot (HaveRoom program.rows ds) (λ slot. (slot < length program.root) × HaveRoomBut program.rows (slot ∷ []) (domains_of x))
-          (λ all. (subst (λ n. pick.slot < n) stands.fits.slots cause.parted.slot, subst (λ (xs : List Domain). HaveRoomBut program.rows (pick.slot ∷ []) xs) (sym (left_domains program v x pick moved)) (rooms all)))
+      deep = omega (arith, stands.deep, splits-left rows.program v x pick cause.parted moved);
+      room = subst (λ o. IfSome o (λ slot. (slot < length rows.program.root) × HaveRoomBut rows.program.rows (slot ∷ []) (domains_of x))) (sym changed)
+          (alone pick.floor pick.slot (HaveRoom rows.program.rows ds) (λ slot. (slot < length rows.program.root) × HaveRoomBut rows.program.rows (slot ∷ []) (domains_of x))
+          (λ all. (subst (λ n. pick.slot < n) stands.fits.slots cause.parted.slot, subst (λ (xs : List Domain). HaveRoomBut rows.program.rows (pick.slot ∷ []) xs) (sym (left_domains rows.program v x pick moved)) (rooms all)))
           room);
-      own = subst (λ o. IfSome o (λ found. IsGroup program found × IsIn x found.point)) (sym own) tt;
+      own = subst (λ o. IfSome o (λ found. IsGroup (choices_of rows) found × IsAmong rows x found.point)) (sym own) tt;
     }
 
 pub right_stands : (ground : Ground) (v x : View) (pick : RowPick) (cert : Cert) (depth : ℕ) (old new : Reached) → StandsIn ground v depth old → IfSome (slot_alone pick.floor pick.slot) (λ slot. HaveRoom (program_of ground).rows (domains_of v)) → IsSplitAt (program_of ground) ground.given v pick cert
-    → (row_steps (program_of ground)).right v pick ≡ Some x → length new.point.items ≡ length old.point.items → new.changed ≡ slot_alone pick.floor pick.slot → new.own ≡ None → StandsIn ground x (depth + 1) new
+    → (steps_of (rows_of ground)).right v pick ≡ Some x → length new.point.items ≡ length old.point.items → new.changed ≡ slot_alone pick.floor pick.slot → new.own ≡ None → StandsIn ground x (depth + 1) new
 right_stands ground v x pick cert depth old new stands room cause moved places changed own =
-    let program = program_of ground in
+    let rows = rows_of ground in
     let ds = domains_of v in
-    let rooms = λ (all : HaveRoom program.rows ds). HaveRoomBut-kept_at program.rows ds pick.slot (over pick.max) cause.parted.slot (rooms_of program.rows ds pick.slot (over pick.max) cause.parted.right all) in
+    let rooms = λ (all : HaveRoom rows.program.rows ds). HaveRoomBut-kept_at rows.program.rows ds pick.slot (over pick.max) cause.parted.slot (rooms_of rows.program.rows ds pick.slot (over pick.max) cause.parted.right all) in
     record {
       indexed = stands.indexed;
-      fits = (rows_sound program).right_fits v x pick stands.fits moved;
+      fits = (rows_sound rows.program).right_fits v x pick stands.fits moved;
       places = places ∙ stands.places;
-      deep = omega (arith, stands.deep, splits-right program v x pick cause.parted moved);
-      room = subst (λ o. IfSome o (λ slot. (slot < length program.root) × HaveRoomBut program.rows (slot ∷ []) (domains_of x))) (sym changed)
-          (alone pick.floor pick.slot (HaveRoom program.rows ds) (λ slot. (slot < length program.root) × HaveRoomBut program.rows (slot ∷ []) (domains_of x))
-          (λ all. (subst (λ n. pick.slot < n) stands.fits.slots cause.parted.slot, subst (λ (xs : List Domain). HaveRoomBut program.rows (pick.slot ∷ []) xs) (sym (right_domains program v x pick moved)) (rooms all)))
+      deep = omega (arith, stands.deep, splits-right rows.program v x pick cause.parted moved);
+      room = subst (λ o. IfSome o (λ slot. (slot < length rows.program.root) × HaveRoomBut rows.program.rows (slot ∷ []) (domains_of x))) (sym changed)
+          (alone pick.floor pick.slot (HaveRoom rows.program.rows ds) (λ slot. (slot < length rows.program.root) × HaveRoomBut rows.program.rows (slot ∷ []) (domains_of x))
+          (λ all. (subst (λ n. pick.slot < n) stands.fits.slots cause.parted.slot, subst (λ (xs : List Domain). HaveRoomBut rows.program.rows (pick.slot ∷ []) xs) (sym (right_domains rows.program v x pick moved)) (rooms all)))
           room);
-      own = subst (λ o. IfSome o (λ found. IsGroup program found × IsIn x found.point)) (sym own) tt;
+      own = subst (λ o. IfSome o (λ found. IsGroup (choices_of rows) found × IsAmong rows x found.point)) (sym own) tt;
     }
 
 -- a part whose domains are open is a part of the split

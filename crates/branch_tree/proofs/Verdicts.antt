@@ -23,16 +23,17 @@ use Rattle.proof_tree.specs.declared.capped.Capped.TheVariants.{Bad}
 use Rattle.proof_tree.specs.declared.item.Item.TheVariants.{Node, Cut, Found as FoundItem, Empty, Dual, Point, Pending, Split}
 use Rattle.proof_tree.specs.Views.{View}
 use Rattle.row_relax.specs.declared.pick.RowPick.{RowPick}
-use Rattle.row_relax.specs.Settle.{settled}
 use Rattle.row_relax.specs.Steps.{row_steps}
 use Rattle.row_relax.specs.View.{Fits, IsIn, domains_of}
 use Rattle.row_relax.specs.laws.Laws.{rows_sound}
 use Rattle.row_relax.proofs.Marks.{domains-views}
+use Rattle.row_relax.specs.declared.rows.Rows.{Rows}
+use Rattle.row_relax.specs.Choices.{choices_of, steps_of, settled_in}
 use Rattle.branch_tree.specs.Justified.{HasCause, IsGroup, IsParted, IsReached, left_by}
 use Rattle.row_relax.specs.RowProofs.{RowItem}
 use Rattle.branch_tree.specs.Searched.{IsBest, IsFitItem}
-use Rattle.branch_tree.specs.laws.Ends.{ClosedBy, IsFloor, IsBoxVerdict, ItemEnds, Reaches, view_splits}
-use Rattle.branch_tree.specs.laws.Grounds.{IsOwnBest, seen}
+use Rattle.branch_tree.specs.laws.Ends.{ClosedBy, IsFloor, IsBoxVerdict, ItemEnds, Reaches, is_chosen, view_splits}
+use Rattle.branch_tree.specs.laws.Grounds.{IsOwnBest, seen, IsAmong}
 use Rattle.branch_tree.proofs.Best.{above-same, closed-same, not_over-closed, over-above, reached-closed, reached-same}
 use Rattle.branch_tree.proofs.Caps.{cap-total, not_over-not_bad, total-fit, within-not_bad}
 use Rattle.branch_tree.proofs.Depths.{at_slot, over_none, splits-left}
@@ -58,9 +59,9 @@ open_of ds b none found = λ k d lt.
     apart t is_false is_true = cc
 
 -- a lawful point of an area is in none that is empty
-pub own_empty : (program : Program) (view : View) (own best : Option Found) → Fits program view → (row_steps program).empty view ≡ true → IfSome own (λ found. IsGroup program found × IsIn view found.point) → IsOwnBest own best
-own_empty program view None best fit bare is = tt
-own_empty program view (Some f) best fit bare is = absurd ((rows_sound program).empty_holds view fit bare f.point is.1)
+pub own_empty : (rows : Rows) (view : View) (own best : Option Found) → Fits rows.program view → (steps_of rows).empty view ≡ true → IfSome own (λ found. IsGroup (choices_of rows) found × IsAmong rows view found.point) → IsOwnBest own best
+own_empty rows view None best fit bare is = tt
+own_empty rows view (Some f) best fit bare is = absurd ((rows_sound rows.program).empty_holds view fit bare is.1.0 is.1.2)
 
 -- where no domain is empty, what is done is exhausted
 exhausted_of : (rows : List Row) (ds : List Domain) → All IsOpen ds → AreDone rows ds → All (IsStill ds) rows
@@ -96,27 +97,27 @@ floor_short None floors best is = tt
 floor_short (Some n) floors best is = is.2
 
 -- what is judged of a box ends it
-pub verdict-ends : (program : Program) (floors : Bool) (given : ℕ) (marks : List (List Domain)) (item : RowItem) (found best : Option Found) (before : List Found)
-    → AreDone program.rows (present marks) → All IsOpen (present marks) → (All IsSingle (present marks) → Reaches (settled program (present marks)) found)
-    → IsBest best (before ++ option_to_list found) → IsBoxVerdict program floors given (present marks) (option_map (λ f. f.value) best) item → ItemEnds program given (seen marks) (before ++ option_to_list found) item
+pub verdict-ends : (rows : Rows) (floors : Bool) (given : ℕ) (marks : List (List Domain)) (item : RowItem) (found best : Option Found) (before : List Found)
+    → AreDone rows.program.rows (present marks) → All IsOpen (present marks) → (is_chosen rows (present marks) ≡ true → Reaches (settled_in rows (present marks)) found)
+    → IsBest best (before ++ option_to_list found) → IsBoxVerdict rows floors given (present marks) (option_map (λ f. f.value) best) item → ItemEnds rows given (seen marks) (before ++ option_to_list found) item
 unfolding row_steps
-verdict-ends program floors given marks (Dual cert) found best before done each only is verdict =
-    subst (λ (ds : List Domain). ClosedBy (cert_cap program ds cert) (before ++ option_to_list found)) (sym (domains-views marks)) (not_over-closed (cert_cap program (present marks) cert) best (before ++ option_to_list found) is verdict)
-verdict-ends program floors given marks Point found best before done each only is verdict =
-    subst (λ (ds : List Domain). ClosedBy (settled program ds) (before ++ option_to_list found)) (sym (domains-views marks)) (reached-closed (settled program (present marks)) found before (only verdict))
-verdict-ends program floors given marks (Split pick cert) found best before done each only is verdict =
-    subst (λ (ds : List Domain). HasCause program given ds (before ++ option_to_list found) pick cert) (sym (domains-views marks)) (record {
-      exhausted = exhausted_of program.rows (present marks) each done;
+verdict-ends rows floors given marks (Dual cert) found best before done each only is verdict =
+    subst (λ (ds : List Domain). ClosedBy (cert_cap rows.program ds cert) (before ++ option_to_list found)) (sym (domains-views marks)) (not_over-closed (cert_cap rows.program (present marks) cert) best (before ++ option_to_list found) is verdict)
+verdict-ends rows floors given marks Point found best before done each only is verdict =
+    subst (λ (ds : List Domain). ClosedBy (settled_in rows ds) (before ++ option_to_list found)) (sym (domains-views marks)) (reached-closed (settled_in rows (present marks)) found before (only verdict))
+verdict-ends rows floors given marks (Split pick cert) found best before done each only is verdict =
+    subst (λ (ds : List Domain). HasCause rows.program given ds (before ++ option_to_list found) pick cert) (sym (domains-views marks)) (record {
+      exhausted = exhausted_of rows.program.rows (present marks) each done;
       polished = verdict.0;
-      above = over-above (cert_cap program (present marks) cert) best (before ++ option_to_list found) (within-not_bad (cert_cap program (present marks) plain_cert) (cert_cap program (present marks) cert) verdict.0.no_higher) is verdict.2;
+      above = over-above (cert_cap rows.program (present marks) cert) best (before ++ option_to_list found) (within-not_bad (cert_cap rows.program (present marks) plain_cert) (cert_cap rows.program (present marks) cert) verdict.0.no_higher) is verdict.2;
       reached = best-reached floors pick.floor best (before ++ option_to_list found) is verdict.3;
       parted = verdict.1;
     })
-verdict-ends program floors given marks Node found best before done each only is verdict = absurd verdict
-verdict-ends program floors given marks (Cut cut) found best before done each only is verdict = absurd verdict
-verdict-ends program floors given marks (FoundItem f) found best before done each only is verdict = absurd verdict
-verdict-ends program floors given marks Empty found best before done each only is verdict = absurd verdict
-verdict-ends program floors given marks (Pending cert) found best before done each only is verdict = absurd verdict
+verdict-ends rows floors given marks Node found best before done each only is verdict = absurd verdict
+verdict-ends rows floors given marks (Cut cut) found best before done each only is verdict = absurd verdict
+verdict-ends rows floors given marks (FoundItem f) found best before done each only is verdict = absurd verdict
+verdict-ends rows floors given marks Empty found best before done each only is verdict = absurd verdict
+verdict-ends rows floors given marks (Pending cert) found best before done each only is verdict = absurd verdict
 
 -- a split leaves a value above it
 max_most : (d : Domain) (m : ℕ) → IsNormal d → IsOpen (shared d (over m)) → m ≤ 254
@@ -127,71 +128,71 @@ max_most d m n some =
     (cases_lt m 255)
 
 -- and its item is fit
-pub verdict-fit : (program : Program) (floors : Bool) (given : ℕ) (ds : List Domain) (best : Option ℤ) (item : RowItem) → All IsNormal ds → length ds ≡ length program.root → IsBoxVerdict program floors given ds best item → IsFitItem program floors item
-verdict-fit program floors given ds best (Dual cert) normal' slots verdict =
-    total-fit program ds cert (cap-total cert.scale (total_at program ds cert) (not_over-not_bad (cert_cap program ds cert) best verdict))
-verdict-fit program floors given ds best Point normal' slots verdict = tt
-verdict-fit program floors given ds best (Split pick cert) normal' slots verdict =
-    let left = left_by program ds cert pick.floor in
+pub verdict-fit : (rows : Rows) (floors : Bool) (given : ℕ) (ds : List Domain) (best : Option ℤ) (item : RowItem) → All IsNormal ds → length ds ≡ length rows.program.root → IsBoxVerdict rows floors given ds best item → IsFitItem rows floors item
+verdict-fit rows floors given ds best (Dual cert) normal' slots verdict =
+    total-fit rows.program ds cert (cap-total cert.scale (total_at rows.program ds cert) (not_over-not_bad (cert_cap rows.program ds cert) best verdict))
+verdict-fit rows floors given ds best Point normal' slots verdict = tt
+verdict-fit rows floors given ds best (Split pick cert) normal' slots verdict =
+    let left = left_by rows.program ds cert pick.floor in
     let parts : IsParted given left pick = verdict.1 in
     let right = at_slot left pick.slot (shared (domain_at left pick.slot) (over pick.max)) parts.slot parts.right in (
-      subst (λ n. pick.slot < n) (left_length program ds cert pick.floor ∙ slots) parts.slot,
-      max_most (domain_at left pick.slot) pick.max (left_normal program ds cert pick.floor normal' pick.slot no_values parts.slot) right,
-      total-fit program ds cert verdict.0.total,
+      subst (λ n. pick.slot < n) (left_length rows.program ds cert pick.floor ∙ slots) parts.slot,
+      max_most (domain_at left pick.slot) pick.max (left_normal rows.program ds cert pick.floor normal' pick.slot no_values parts.slot) right,
+      total-fit rows.program ds cert verdict.0.total,
       floor_may pick.floor floors best verdict.3,
       floor_short pick.floor floors best verdict.3,
     )
-verdict-fit program floors given ds best Node normal' slots verdict = absurd verdict
-verdict-fit program floors given ds best (Cut cut) normal' slots verdict = absurd verdict
-verdict-fit program floors given ds best (FoundItem f) normal' slots verdict = absurd verdict
-verdict-fit program floors given ds best Empty normal' slots verdict = absurd verdict
-verdict-fit program floors given ds best (Pending cert) normal' slots verdict = absurd verdict
+verdict-fit rows floors given ds best Node normal' slots verdict = absurd verdict
+verdict-fit rows floors given ds best (Cut cut) normal' slots verdict = absurd verdict
+verdict-fit rows floors given ds best (FoundItem f) normal' slots verdict = absurd verdict
+verdict-fit rows floors given ds best Empty normal' slots verdict = absurd verdict
+verdict-fit rows floors given ds best (Pending cert) normal' slots verdict = absurd verdict
 
 -- an item that ends a box with some found points ends it with any that have the same best
-pub ends-same : (program : Program) (given : ℕ) (view : View) (item : RowItem) (best : Option Found) (fs gs : List Found) → IsBest best fs → IsBest best gs → ItemEnds program given view fs item → ItemEnds program given view gs item
-ends-same program given view Empty best fs gs is other ends = ends
-ends-same program given view (Dual cert) best fs gs is other ends = closed-same ((row_steps program).cap view cert) best fs gs is other ends
-ends-same program given view Point best fs gs is other ends = closed-same ((row_steps program).settle view) best fs gs is other ends
-ends-same program given view (Split pick cert) best fs gs is other ends = record {
+pub ends-same : (rows : Rows) (given : ℕ) (view : View) (item : RowItem) (best : Option Found) (fs gs : List Found) → IsBest best fs → IsBest best gs → ItemEnds rows given view fs item → ItemEnds rows given view gs item
+ends-same rows given view Empty best fs gs is other ends = ends
+ends-same rows given view (Dual cert) best fs gs is other ends = closed-same ((steps_of rows).cap view cert) best fs gs is other ends
+ends-same rows given view Point best fs gs is other ends = closed-same ((steps_of rows).settle view) best fs gs is other ends
+ends-same rows given view (Split pick cert) best fs gs is other ends = record {
   exhausted = ends.exhausted;
   polished = ends.polished;
-  above = above-same (cert_cap program (domains_of view) cert) best fs gs is other ends.above;
+  above = above-same (cert_cap rows.program (domains_of view) cert) best fs gs is other ends.above;
   reached = reached-same pick.floor best fs gs is other ends.reached;
   parted = ends.parted;
 }
-ends-same program given view Node best fs gs is other ends = absurd ends
-ends-same program given view (Cut cut) best fs gs is other ends = absurd ends
-ends-same program given view (FoundItem f) best fs gs is other ends = absurd ends
-ends-same program given view (Pending cert) best fs gs is other ends = absurd ends
+ends-same rows given view Node best fs gs is other ends = absurd ends
+ends-same rows given view (Cut cut) best fs gs is other ends = absurd ends
+ends-same rows given view (FoundItem f) best fs gs is other ends = absurd ends
+ends-same rows given view (Pending cert) best fs gs is other ends = absurd ends
 
 -- no other item ends a box
-pub ends-only : (program : Program) (given : ℕ) (view : View) (fs : List Found) (item : RowItem) → ItemEnds program given view fs item → (item ≡ Empty → ⊥) → ((cert : Cert) → item ≡ Dual cert → ⊥) → (item ≡ Point → ⊥) → ((pick : RowPick) (cert : Cert) → item ≡ Split pick cert → ⊥) → ⊥
-ends-only program given view fs Empty ends empty dual point split = empty refl
-ends-only program given view fs (Dual cert) ends empty dual point split = dual cert refl
-ends-only program given view fs Point ends empty dual point split = point refl
-ends-only program given view fs (Split pick cert) ends empty dual point split = split pick cert refl
-ends-only program given view fs Node ends empty dual point split = ends
-ends-only program given view fs (Cut cut) ends empty dual point split = ends
-ends-only program given view fs (FoundItem f) ends empty dual point split = ends
-ends-only program given view fs (Pending cert) ends empty dual point split = ends
+pub ends-only : (rows : Rows) (given : ℕ) (view : View) (fs : List Found) (item : RowItem) → ItemEnds rows given view fs item → (item ≡ Empty → ⊥) → ((cert : Cert) → item ≡ Dual cert → ⊥) → (item ≡ Point → ⊥) → ((pick : RowPick) (cert : Cert) → item ≡ Split pick cert → ⊥) → ⊥
+ends-only rows given view fs Empty ends empty dual point split = empty refl
+ends-only rows given view fs (Dual cert) ends empty dual point split = dual cert refl
+ends-only rows given view fs Point ends empty dual point split = point refl
+ends-only rows given view fs (Split pick cert) ends empty dual point split = split pick cert refl
+ends-only rows given view fs Node ends empty dual point split = ends
+ends-only rows given view fs (Cut cut) ends empty dual point split = ends
+ends-only rows given view fs (FoundItem f) ends empty dual point split = ends
+ends-only rows given view fs (Pending cert) ends empty dual point split = ends
 
 -- a split leaves a split to its parts
-pub ends-room : (program : Program) (given : ℕ) (view : View) (fs : List Found) (item : RowItem) → Fits program view → ItemEnds program given view fs item → (1 ≤ view_splits view) ⊎ ((pick : RowPick) (cert : Cert) → item ≡ Split pick cert → ⊥)
-ends-room program given view fs Empty fit ends = inr (λ pick cert same. cc)
-ends-room program given view fs (Dual c) fit ends = inr (λ pick cert same. cc)
-ends-room program given view fs Point fit ends = inr (λ pick cert same. cc)
-ends-room program given view fs (Split pick cert) fit ends =
-    let rest = (row_steps program).trim view pick cert in
-    let less = left_to program view pick cert fit in
-    let parts : IsParted given (domains_of rest) pick = parted_there program view pick cert ends in
-    let part = left_there program rest pick parts in
-    inl (omega (arith, less.splits, splits-left program rest part.0 pick parts part.1))
-ends-room program given view fs Node fit ends = absurd ends
-ends-room program given view fs (Cut cut) fit ends = absurd ends
-ends-room program given view fs (FoundItem f) fit ends = absurd ends
-ends-room program given view fs (Pending cert) fit ends = absurd ends
+pub ends-room : (rows : Rows) (given : ℕ) (view : View) (fs : List Found) (item : RowItem) → Fits rows.program view → ItemEnds rows given view fs item → (1 ≤ view_splits view) ⊎ ((pick : RowPick) (cert : Cert) → item ≡ Split pick cert → ⊥)
+ends-room rows given view fs Empty fit ends = inr (λ pick cert same. cc)
+ends-room rows given view fs (Dual c) fit ends = inr (λ pick cert same. cc)
+ends-room rows given view fs Point fit ends = inr (λ pick cert same. cc)
+ends-room rows given view fs (Split pick cert) fit ends =
+    let rest = (steps_of rows).trim view pick cert in
+    let less = left_to rows.program view pick cert fit in
+    let parts : IsParted given (domains_of rest) pick = parted_there rows.program view pick cert ends in
+    let part = left_there rows.program rest pick parts in
+    inl (omega (arith, less.splits, splits-left rows.program rest part.0 pick parts part.1))
+ends-room rows given view fs Node fit ends = absurd ends
+ends-room rows given view fs (Cut cut) fit ends = absurd ends
+ends-room rows given view fs (FoundItem f) fit ends = absurd ends
+ends-room rows given view fs (Pending cert) fit ends = absurd ends
 
 -- the certificate of a part that is left open is fit
-pub pending-fit : (program : Program) (floors : Bool) (view : View) (cert : Cert) → (row_steps program).cap view cert ≢ Bad → IsFitItem program floors (Pending cert)
+pub pending-fit : (rows : Rows) (floors : Bool) (view : View) (cert : Cert) → (steps_of rows).cap view cert ≢ Bad → IsFitItem rows floors (Pending cert)
 unfolding row_steps
-pending-fit program floors view cert some = total-fit program (domains_of view) cert (cap-total cert.scale (total_at program (domains_of view) cert) some)
+pending-fit rows floors view cert some = total-fit rows.program (domains_of view) cert (cap-total cert.scale (total_at rows.program (domains_of view) cert) some)

@@ -19,7 +19,9 @@ use Rattle.proof_tree.specs.declared.capped.Capped.TheVariants.{AtMost}
 use Rattle.proof_tree.specs.Nodes.{Node, NodeEnd, closed, parted, EachNode}
 use Rattle.proof_tree.specs.Tree.{pending}
 use Rattle.row_relax.specs.declared.pick.RowPick.{RowPick}
-use Rattle.row_relax.specs.Steps.{kept_at, row_steps}
+use Rattle.row_relax.specs.declared.rows.Rows.{Rows}
+use Rattle.row_relax.specs.Choices.{choices_of, steps_of}
+use Rattle.row_relax.specs.Steps.{kept_at}
 use Rattle.row_relax.specs.View.{domains_of, view_of}
 use Rattle.row_relax.specs.RowProofs.{RowTree}
 use Rattle.branch_tree.specs.Splits.{PartsLess, split_value}
@@ -92,10 +94,10 @@ EndIsJustified program given node (closed (pending cert)) = IsLeftOpen node cert
 EndIsJustified program given node (closed end) = ⊤
 
 -- a node is justified where its end is, and its found point is lawful and stands with its worth
-pub record NodeIsJustified (program : Program) (given : ℕ) (node : RowNode) : Type 0 where
-  pub group : IfSome node.found (IsGroup program)
-  pub end : EndIsJustified program given node node.end
+pub record NodeIsJustified (rows : Rows) (given : ℕ) (node : RowNode) : Type 0 where
+  pub group : IfSome node.found (IsGroup (choices_of rows))
+  pub end : EndIsJustified rows.program given node node.end
 
 -- a proof is justified where each of its nodes is, over the root; slots from the number `given` on are sums
-abbrev pub IsJustified : Program → ℕ → RowTree → Type 0
-IsJustified program given tree = EachNode (NodeIsJustified program given) (row_steps program) None [] (view_of program.root) tree
+abbrev pub IsJustified : Rows → ℕ → RowTree → Type 0
+IsJustified rows given tree = EachNode (NodeIsJustified rows given) (steps_of rows) None [] (view_of rows.program.root) tree

@@ -7,17 +7,17 @@ ghost use Rattle.row_kit.specs.Domain.{IsOpen};
 ghost use Rattle.range_prop.specs.Cuts.{AreDone, HaveRoom};
 ghost use Rattle.proof_tree.specs.Cap.{Bounds};
 ghost use Rattle.proof_tree.specs.Taker.{Rose};
-ghost use Rattle.row_relax.specs.Steps.{row_steps};
+ghost use Rattle.row_relax.specs.Choices.{steps_of};
 ghost use Rattle.row_relax.specs.View.{Fits, domains_of, view_of};
 ghost use Rattle.branch_tree.specs.Justified.{IsGroup, HasCause};
 ghost use Rattle.branch_tree.specs.Searched.{IsBest, IsFitItem};
 ghost use Rattle.branch_tree.specs.laws.Ends.{ItemEnds};
-ghost use Rattle.branch_tree.specs.laws.Grounds.{StandsIn, IsOwnBest, IsSplitPart, IsSplitAt, program_of, seen, slot_alone};
+ghost use Rattle.branch_tree.specs.laws.Grounds.{StandsIn, IsOwnBest, IsSplitPart, IsSplitAt, program_of, seen, slot_alone, rows_of};
 ghost use Rattle.branch_tree.specs.laws.Handed.{LookHanded, TailHanded, SplitHanded, PartsHanded, BoxHanded};
 ghost use Rattle.branch_tree.specs.laws.Stops.{LookStopped, TailStopped, PartsStopped, BoxStopped};
 
 use crate::copies::copied_cert;
-use crate::found::found_at;
+use crate::found::{found_at, is_chosen};
 use crate::judging::judge;
 use crate::putting::{leave_open, open_box, put_found};
 use crate::reached::{Ground, Reached};
@@ -52,7 +52,7 @@ fn advised<G: Guide>(
     ensures places { length reached.new.point.items ≡ length reached.old.point.items }
     ensures same { reached.new ≡ record reached.old { point = reached.new.point } }
 {
-    if area.is_point() {
+    if is_chosen(ground, area) {
         return Ok(Advice {
             cert: None,
             slot: None,
@@ -87,14 +87,14 @@ fn look<H: Hinter, G: Guide, O, T: NodeTaker<Rows, O>>(
     ensures same { area.new ≡ area.old }
     ensures ready { OnOk result (T.ready taker.new out.new) }
     ensures handed { IfOk result
-        (λ item. LookHanded T.took (program_of ground.now) ground.now.floors ground.now.given
+        (λ item. LookHanded T.took (rows_of ground.now) ground.now.floors ground.now.given
         (seen area.old) item reached.old taker.old out.old reached.new taker.new out.new) }
     ensures own { OnOk result (IsOwnBest reached.old.own reached.new.best) }
     ensures spent { reached.new.spent ≡ reached.old.spent }
     ensures changed { reached.new.changed ≡ reached.old.changed }
     ensures none { OnOk result (reached.new.own ≡ None) }
     ensures places { length reached.new.point.items ≡ length reached.old.point.items }
-    ensures err { OnErr result (LookStopped T.took T.broke (program_of ground.now)
+    ensures err { OnErr result (LookStopped T.took T.broke (rows_of ground.now)
         ground.now.floors taker.old out.old taker.new out.new) }
     ensures later { T.faults out.old ≤ T.faults out.new }
     ensures failed { IsErrOf result TakeStop.Failed → Rose (T.faults out.old) (T.faults out.new) }
@@ -132,10 +132,10 @@ pub(crate) fn search_box<H: Hinter, G: Guide, O, T: NodeTaker<Rows, O>>(
     ensures own { OnOk result (IsOwnBest reached.old.own reached.new.best) }
     ensures places { length reached.new.point.items ≡ length reached.old.point.items }
     ensures handed { IfOk result
-        (λ cap. BoxHanded T.took (λ _. ⊤) (program_of ground.now) ground.now.floors
+        (λ cap. BoxHanded T.took (λ _. ⊤) (rows_of ground.now) ground.now.floors
         ground.now.given ground.now.budget ground.now.may_leave
         (seen area.old) cap reached.old taker.old out.old reached.new taker.new out.new) }
-    ensures err { OnErr result (BoxStopped T.took T.broke (program_of ground.now)
+    ensures err { OnErr result (BoxStopped T.took T.broke (rows_of ground.now)
         ground.now.floors (seen area.old) taker.old out.old taker.new out.new) }
     ensures later { T.faults out.old ≤ T.faults out.new }
     ensures failed { IsErrOf result TakeStop.Failed → Rose (T.faults out.old) (T.faults out.new) }
@@ -169,8 +169,8 @@ fn search_end<H: Hinter, G: Guide, O, T: NodeTaker<Rows, O>>(
     requires none { reached.old.own ≡ None }
     requires room { HaveRoom (program_of ground.now).rows (domains_of (seen area.old)) }
     requires ends { (found : Listed Found) → IsBest reached.old.best found
-        → ItemEnds (program_of ground.now) ground.now.given (seen area.old) found item }
-    requires fit { IsFitItem (program_of ground.now) ground.now.floors item }
+        → ItemEnds (rows_of ground.now) ground.now.given (seen area.old) found item }
+    requires fit { IsFitItem (rows_of ground.now) ground.now.floors item }
     requires ready { T.ready taker.old out.old }
     ensures as_before { OnOk result (map view_of area.new ≡ map view_of area.old) }
     ensures ready { OnOk result (T.ready taker.new out.new) }
@@ -178,10 +178,10 @@ fn search_end<H: Hinter, G: Guide, O, T: NodeTaker<Rows, O>>(
     ensures none { OnOk result (reached.new.own ≡ None) }
     ensures places { length reached.new.point.items ≡ length reached.old.point.items }
     ensures handed { IfOk result
-        (λ cap. TailHanded T.took (program_of ground.now) ground.now.floors ground.now.given
+        (λ cap. TailHanded T.took (rows_of ground.now) ground.now.floors ground.now.given
         ground.now.budget ground.now.may_leave
         (seen area.old) cap reached.old taker.old out.old reached.new taker.new out.new) }
-    ensures err { OnErr result (TailStopped T.took T.broke (program_of ground.now)
+    ensures err { OnErr result (TailStopped T.took T.broke (rows_of ground.now)
         ground.now.floors (seen area.old) taker.old out.old taker.new out.new) }
     ensures later { T.faults out.old ≤ T.faults out.new }
     ensures failed { IsErrOf result TakeStop.Failed → Rose (T.faults out.old) (T.faults out.new) }
@@ -217,7 +217,7 @@ fn search_split<H: Hinter, G: Guide, O, T: NodeTaker<Rows, O>>(
     requires none { reached.old.own ≡ None }
     requires room { HaveRoom (program_of ground.now).rows (domains_of (seen area.old)) }
     requires split { IsSplitAt (program_of ground.now) ground.now.given
-        ((row_steps (program_of ground.now)).trim (seen area.old) pick.now cert.now)
+        ((steps_of (rows_of ground.now)).trim (seen area.old) pick.now cert.now)
         pick.now cert.now }
     requires ready { T.ready taker.old out.old }
     ensures as_before { OnOk result (map view_of area.new ≡ map view_of area.old) }
@@ -226,11 +226,11 @@ fn search_split<H: Hinter, G: Guide, O, T: NodeTaker<Rows, O>>(
     ensures none { OnOk result (reached.new.own ≡ None) }
     ensures places { length reached.new.point.items ≡ length reached.old.point.items }
     ensures handed { IfOk result
-        (λ cap. SplitHanded T.took (program_of ground.now) ground.now.floors ground.now.given
+        (λ cap. SplitHanded T.took (rows_of ground.now) ground.now.floors ground.now.given
         ground.now.budget ground.now.may_leave
         (seen area.old) pick.now cert.now cap reached.old taker.old out.old reached.new taker.new
         out.new) }
-    ensures err { OnErr result (PartsStopped T.took T.broke (program_of ground.now)
+    ensures err { OnErr result (PartsStopped T.took T.broke (rows_of ground.now)
         ground.now.floors (seen area.old) taker.old out.old taker.new out.new) }
     ensures later { T.faults out.old ≤ T.faults out.new }
     ensures failed { IsErrOf result TakeStop.Failed → Rose (T.faults out.old) (T.faults out.new) }
@@ -283,11 +283,11 @@ fn search_parts<H: Hinter, G: Guide, O, T: NodeTaker<Rows, O>>(
     ensures none { OnOk result (reached.new.own ≡ None) }
     ensures places { length reached.new.point.items ≡ length reached.old.point.items }
     ensures handed { IfOk result
-        (λ cap. PartsHanded T.took (program_of ground.now) ground.now.floors ground.now.given
+        (λ cap. PartsHanded T.took (rows_of ground.now) ground.now.floors ground.now.given
         ground.now.budget ground.now.may_leave
         (seen area.old) pick.now cert.now cap reached.old taker.old out.old reached.new taker.new
         out.new) }
-    ensures err { OnErr result (PartsStopped T.took T.broke (program_of ground.now)
+    ensures err { OnErr result (PartsStopped T.took T.broke (rows_of ground.now)
         ground.now.floors (seen area.old) taker.old out.old taker.new out.new) }
     ensures later { T.faults out.old ≤ T.faults out.new }
     ensures failed { IsErrOf result TakeStop.Failed → Rose (T.faults out.old) (T.faults out.new) }
@@ -349,10 +349,10 @@ fn search_part<H: Hinter, G: Guide, O, T: NodeTaker<Rows, O>>(
     ensures places { length reached.new.point.items ≡ length reached.old.point.items }
     ensures handed { IfOk result
         (λ cap. BoxHanded T.took (λ parent. parent
-        ≡ Some cert.now) (program_of ground.now) ground.now.floors ground.now.given
+        ≡ Some cert.now) (rows_of ground.now) ground.now.floors ground.now.given
         ground.now.budget ground.now.may_leave (seen area.old) cap reached.old taker.old out.old
         reached.new taker.new out.new) }
-    ensures err { OnErr result (BoxStopped T.took T.broke (program_of ground.now)
+    ensures err { OnErr result (BoxStopped T.took T.broke (rows_of ground.now)
         ground.now.floors (seen area.old) taker.old out.old taker.new out.new) }
     ensures later { T.faults out.old ≤ T.faults out.new }
     ensures failed { IsErrOf result TakeStop.Failed → Rose (T.faults out.old) (T.faults out.new) }

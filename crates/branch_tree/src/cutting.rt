@@ -6,10 +6,10 @@ ghost use Rattle.range_prop.specs.Cuts.{AreDone, HasCut, HaveRoom, HaveRoomBut};
 ghost use Rattle.range_prop.specs.Index.{IsIndex};
 ghost use Rattle.proof_tree.specs.Tree.{after_cuts};
 ghost use Rattle.proof_tree.specs.Views.{KeepsViews};
-ghost use Rattle.row_relax.specs.Steps.{row_steps};
+ghost use Rattle.row_relax.specs.Choices.{steps_of};
 ghost use Rattle.row_relax.specs.View.{Fits, domains_of, view_of};
 ghost use Rattle.branch_tree.specs.Searched.{IsFitItem};
-ghost use Rattle.branch_tree.specs.laws.Grounds.{IsGround, program_of, seen};
+ghost use Rattle.branch_tree.specs.laws.Grounds.{IsGround, program_of, seen, rows_of};
 ghost use Rattle.branch_tree.specs.laws.Handed.{head_items};
 
 use crate::reached::Ground;
@@ -31,9 +31,9 @@ pub(crate) fn cut_box(
     ensures fits { OnOk result (Fits (program_of ground.now) (seen area.new)) }
     ensures keeps { OnOk result (KeepsViews (map view_of area.old) (map view_of area.new)) }
     ensures moved { IfOk result
-        (λ cuts. after_cuts (row_steps (program_of ground.now)) (seen area.old) cuts.items
+        (λ cuts. after_cuts (steps_of (rows_of ground.now)) (seen area.old) cuts.items
         ≡ Some (seen area.new)) }
-    ensures fit { IfOk result (λ cuts. All (IsFitItem (program_of ground.now) ground.now.floors)
+    ensures fit { IfOk result (λ cuts. All (IsFitItem (rows_of ground.now) ground.now.floors)
         (head_items cuts.items)) }
     ensures done { OnOk result (AreDone (program_of ground.now).rows (present area.new)) }
     ensures room { OnOk result (HaveRoom (program_of ground.now).rows (present area.new)) }

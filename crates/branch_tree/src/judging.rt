@@ -6,9 +6,10 @@ ghost use Rattle.row_kit.specs.Domain.{IsOpen, IsSingle};
 ghost use Rattle.dual_bound.specs.Cap.{cert_cap};
 ghost use Rattle.dual_bound.specs.Plain.{plain_cert, IsNoWorseThanPlain};
 ghost use Rattle.branch_tree.specs.laws.Ends.{is_over, says_more, IsBoxVerdict};
-ghost use Rattle.branch_tree.specs.laws.Grounds.{IsGround, program_of};
+ghost use Rattle.branch_tree.specs.laws.Grounds.{IsGround, program_of, rows_of};
 
 use crate::flooring::pick_left;
+use crate::found::is_chosen;
 use crate::reached::Ground;
 use box_advice::Advice;
 use dual_bound::{Cert, cap};
@@ -90,7 +91,7 @@ fn chosen(
     Ok(lower(program, area, cert, Some(climbed)))
 }
 
-// The end of a box with points: its only point, a certificate that leaves nothing above the best worth, or a split. What it
+// The end of a box with points: its only point, where each slot that points have has one value, a certificate that leaves nothing above the best worth, or a split. What it
 // holds of a certificate takes some 150 kB of stack, which are to be no part of the frame of each box above one that is judged. The
 // area is afterwards as before.
 #[inline(never)]
@@ -104,12 +105,12 @@ pub(crate) fn judge(
     requires ground { IsGround ground.now }
     requires slots { length (present area.old) ≡ length (program_of ground.now).root }
     requires each_open { All IsOpen (present area.old) }
-    ensures verdict { IfOk result (IsBoxVerdict (program_of ground.now) ground.now.floors
+    ensures verdict { IfOk result (IsBoxVerdict (rows_of ground.now) ground.now.floors
         ground.now.given (present area.old) best) }
     ensures same { area.new ≡ area.old }
 {
     let Advice { cert, slot, max } = advice;
-    if area.is_point() {
+    if is_chosen(ground, area) {
         return Ok(Item::Point);
     }
     let cert = chosen(ground, area, cert, held)?;
@@ -134,7 +135,7 @@ fn settle_or_split(
     requires more { ¬ All IsSingle (present area.old) }
     requires no_higher { IsNoWorseThanPlain (program_of ground.now) (present area.old) cert }
     requires over { is_over (cert_cap (program_of ground.now) (present area.old) cert) best ≡ true }
-    ensures verdict { IfOk result (IsBoxVerdict (program_of ground.now) ground.now.floors
+    ensures verdict { IfOk result (IsBoxVerdict (rows_of ground.now) ground.now.floors
         ground.now.given (present area.old) best) }
     ensures same { area.new ≡ area.old }
 {

@@ -19,5 +19,5 @@ mod searching;
 
 pub use box_advice::{Advice, Guide, Hinter};
 pub use ended::{Ended, Guided, Searched};
-pub use searchable::is_searchable;
+pub use searchable::{are_plain_searchable, is_searchable};
 pub use searching::{search, search_guided, search_guided_to, search_to};

@@ -47,7 +47,7 @@ fn halvings(values: u32) -> u32
 }
 
 // How often a domain can be split: once at 0, and as often as its other values can be halved.
-fn splits_of(domain: Domain) -> u32
+pub(crate) fn splits_of(domain: Domain) -> u32
     ensures { result ≡ splits_of domain }
 {
     let values = (u32::from(domain.hi) + 1).saturating_sub(u32::from(domain.lo));

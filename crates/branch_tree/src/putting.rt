@@ -7,12 +7,12 @@ ghost use Rattle.dual_bound.specs.Total.{is_fit};
 ghost use Rattle.proof_tree.specs.Taker.{Rose};
 ghost use Rattle.proof_tree.specs.Views.{KeepsViews};
 ghost use Rattle.proof_tree.specs.declared.item.Item.TheVariants.{Node as NodeItem, Cut as CutItem, Found as FoundItem, Pending as PendingItem};
-ghost use Rattle.row_relax.specs.Steps.{row_steps};
+ghost use Rattle.row_relax.specs.Choices.{steps_of};
 ghost use Rattle.row_relax.specs.View.{Fits, domains_of, view_of};
 ghost use Rattle.branch_tree.specs.Justified.{IsGroup};
 ghost use Rattle.branch_tree.specs.Searched.{IsFitItem};
 ghost use Rattle.branch_tree.specs.laws.Ends.{better_of};
-ghost use Rattle.branch_tree.specs.laws.Grounds.{IsGround, program_of, seen};
+ghost use Rattle.branch_tree.specs.laws.Grounds.{IsGround, program_of, seen, rows_of};
 ghost use Rattle.branch_tree.specs.laws.Handed.{Grows, HeadHanded, found_items};
 ghost use Rattle.branch_tree.specs.laws.Stops.{Stopped, HeadStopped, LookStopped};
 
@@ -66,9 +66,9 @@ pub(crate) fn open_box<O, T: NodeTaker<Rows, O>>(
     ensures room { OnOk result (HaveRoom (program_of ground.now).rows (present area.new)) }
     ensures ready { OnOk result (T.ready taker.new out.new) }
     ensures handed { OnOk result
-        (HeadHanded T.took (program_of ground.now) ground.now.floors (seen area.old) taker.old
+        (HeadHanded T.took (rows_of ground.now) ground.now.floors (seen area.old) taker.old
         out.old (seen area.new) taker.new out.new) }
-    ensures err { OnErr result (HeadStopped T.took T.broke (program_of ground.now)
+    ensures err { OnErr result (HeadStopped T.took T.broke (rows_of ground.now)
         ground.now.floors taker.old out.old taker.new out.new) }
     ensures later { T.faults out.old ≤ T.faults out.new }
     ensures failed { IsErrOf result TakeStop.Failed → Rose (T.faults out.old) (T.faults out.new) }
@@ -147,7 +147,7 @@ pub(crate) fn leave_open<O, T: NodeTaker<Rows, O>>(
     requires ready { T.ready taker.old out.old }
     ensures ready { OnOk result (T.ready taker.new out.new) }
     ensures cap { IfOk result (λ cap. cap
-        ≡ (row_steps (program_of ground.now)).cap (seen area.now) held.now) }
+        ≡ (steps_of (rows_of ground.now)).cap (seen area.now) held.now) }
     ensures handed { OnOk result
         (Grows T.took T.took taker.old out.old (NodeItem ∷ (PendingItem held.now ∷ [])) taker.new
         out.new) }

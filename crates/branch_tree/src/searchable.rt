@@ -1,23 +1,37 @@
 //! Whether a program can be searched.
-ghost use Rattle.std.specs.Prelude.{◌↔◌, IsTrue};
-ghost use Rattle.std.specs.List.{All};
+ghost use Rattle.std.specs.Prelude.{◌≡◌, ◌+◌, ◌≤◌, ◌↔◌, length, None, IsTrue};
+ghost use Rattle.std.specs.List.{All, sum_by};
 ghost use Rattle.row_kit.specs.Domain.{IsOpen};
-ghost use Rattle.branch_tree.specs.Searched.{IsSearchable};
+ghost use Rattle.branch_tree.specs.Searched.{AreSearchable, IsSearchable, spared};
+ghost use Rattle.branch_tree.specs.Splits.{splits_of};
 
+use crate::picking::splits_of;
 use dual_bound::MOST_MULTS;
 use row_kit::{Domain, Program};
+use row_relax::Rows;
 
-// The most slots of a program that is searched.
-const MOST_SLOTS: usize = 512;
+// How often the slots of a program that is searched can be split at most: the splits that stand one below another.
+const MOST_SPLITS: u32 = 4608;
 
-/// Whether a program can be searched: whether each slot of its root has a value, and it has no more than 512 slots and 50,000
-/// rows. It costs the slots.
+/// Whether a program can be searched: whether each slot of its root has a value, all of them can be split no more than 4,608 times,
+/// as 512 slots always can, and it has no more than 50,000 rows. It costs the slots.
 pub fn is_searchable(program: &Program) -> bool
     ensures { IsTrue result ↔ IsSearchable program.now }
 {
-    program.root.len() <= MOST_SLOTS
-        && program.rows.len() <= MOST_MULTS
-        && are_open(program.root.as_slice())
+    let slots = program.root.as_slice();
+    program.rows.len() <= MOST_MULTS && are_open(slots) && all_splits(slots) <= MOST_SPLITS
+}
+
+/// Whether rows can be searched whose points are judged by their own program. It costs the slots.
+pub fn are_plain_searchable(rows: &Rows) -> bool
+    ensures exact { IsTrue result
+        ↔ ((rows.now.choices ≡ None) × IsSearchable rows.now.program) }
+    ensures searchable { IsTrue result → AreSearchable rows.now }
+{
+    match &rows.choices {
+        None => is_searchable(&rows.program),
+        Some(_) => false,
+    }
 }
 
 // Whether each domain has a value.
@@ -25,4 +39,27 @@ fn are_open(domains: &[Domain]) -> bool
     ensures { IsTrue result ↔ All IsOpen domains.now }
 {
     domains.iter().all(|domain| domain.count() != 0)
+}
+
+// How often domains can be split in all, where one that lacks 0 or holds 0 alone counts once more.
+fn all_splits(domains: &[Domain]) -> u32
+    requires { length domains.now ≤ 4096 }
+    ensures { result ≡ sum_by splits_of domains.now + sum_by spared domains.now }
+{
+    let mut splits = 0;
+    for domain in domains {
+        splits += splits_of(*domain) + spared(*domain);
+    }
+    splits
+}
+
+// 1 for a domain that lacks 0 or holds 0 alone, which is split once less.
+fn spared(domain: Domain) -> u32
+    ensures { result ≡ spared domain }
+{
+    if domain.zero && domain.lo <= domain.hi {
+        0
+    } else {
+        1
+    }
 }

@@ -4,9 +4,10 @@ ghost use Rattle.proof_tree.specs.Taker.{Rose};
 ghost use Rattle.proof_tree.specs.Tree.{tree_of};
 ghost use Rattle.proof_tree.specs.Items.{tree_items};
 ghost use Rattle.proof_tree.specs.Built.{HoldsItems};
-ghost use Rattle.branch_tree.specs.Searched.{IsExact, IsSearch, IsSearchable, IsSearchedTo, IsBrokenOff, IsWorth, ended_of};
+ghost use Rattle.branch_tree.specs.Searched.{IsExact, IsSearch, AreSearchable, IsSearchedTo, IsBrokenOff, IsWorth, ended_of};
+ghost use Rattle.row_relax.specs.Choices.{HaveImages, choices_of};
 ghost use Rattle.row_relax.specs.RowProofs.{RowTree};
-ghost use Rattle.branch_tree.specs.laws.Grounds.{IsGround, IsOffered, IsStart, program_of};
+ghost use Rattle.branch_tree.specs.laws.Grounds.{IsGround, IsOffered, IsStart, program_of, rows_of, choices_at};
 
 use crate::boxes::{search_box, worth_of};
 use crate::copies::RowCopier;
@@ -18,7 +19,7 @@ use box_advice::{Guide, Hinter};
 use proof_tree::{NodeTaker, TakeStop, TreeTaker};
 use range_prop::RowIndex;
 use row_kit::{Found, Program};
-use row_relax::Rows;
+use row_relax::{Rows, choices_of};
 use std::alloc::{AllocError, Global};
 
 // The one of two points that is worth more, where it is lawful.
@@ -35,21 +36,22 @@ fn offered(
     Ok(better(given, own))
 }
 
-// The start of a search: nothing is counted, and the point to begin with or the least point of the root is offered first, the one
-// of those that are lawful which is worth more.
+// The start of a search: nothing is counted, and the point to begin with or the least point is offered first, the one of those that
+// are lawful which is worth more.
 fn begun(alloc: Global, rows: &Rows, start: &[u8]) -> Result<Reached, AllocError>
-    ensures { IfOk result (IsStart rows.now.program start.now) }
+    ensures { IfOk result (IsStart rows.now start.now) }
 {
-    let mut point = vec![in alloc; 0u8; rows.program.root.len()]?;
-    put_least(rows.program.root.as_slice(), &mut point);
-    let own = offered(alloc, &rows.program, point.as_slice(), start)?;
+    let choices = choices_of(rows);
+    let mut least = vec![in alloc; 0u8; choices.root.len()]?;
+    put_least(choices.root.as_slice(), &mut least);
+    let own = offered(alloc, choices, least.as_slice(), start)?;
     Ok(Reached {
         spent: 0,
         best: None,
         own,
         changed: None,
         held: None,
-        point,
+        point: vec![in alloc; 0u8; rows.program.root.len()]?,
     })
 }
 
@@ -63,21 +65,22 @@ fn search_root<H: Hinter, G: Guide, O, T: NodeTaker<Rows, O>>(
     out: &mut O,
 ) -> Result<Ended, TakeStop>
     requires ground { IsGround ground.now }
+    requires images { HaveImages (rows_of ground.now) }
     requires budget { 1 ≤ ground.now.budget }
     requires ready { T.ready taker.old out.old }
     ensures ready { OnOk result (T.ready taker.new out.new) }
-    ensures ok { IfOk result (λ ended. IsSearchedTo T.took (program_of ground.now)
+    ensures ok { IfOk result (λ ended. IsSearchedTo T.took (rows_of ground.now)
         ground.now.floors ground.now.given ground.now.budget ended taker.old out.old
         taker.new out.new) }
     ensures begun { IfOk result
-        (λ ended. IsWorth (program_of ground.now) start.now ended.best) }
+        (λ ended. IsWorth (choices_at ground.now) start.now ended.best) }
     ensures exact { IfOk result
         (λ ended. ground.now.may_leave ≡ false
         → IsExact (program_of ground.now) ground.now.budget ended) }
     ensures guided { IfOk result
         (λ ended. ended.spent ≡ ground.now.budget
         → IsExact (program_of ground.now) ground.now.budget ended) }
-    ensures err { OnErr result (IsBrokenOff T.took T.broke (program_of ground.now)
+    ensures err { OnErr result (IsBrokenOff T.took T.broke (rows_of ground.now)
         ground.now.floors taker.old out.old taker.new out.new) }
     ensures later { T.faults out.old ≤ T.faults out.new }
     ensures failed { IsErrOf result TakeStop.Failed → Rose (T.faults out.old) (T.faults out.new) }
@@ -109,7 +112,8 @@ fn search_root<H: Hinter, G: Guide, O, T: NodeTaker<Rows, O>>(
 ///
 /// Slots from the number `given` on are sums, and may be split at any value; those below it are split at 0 or in the middle alone.
 /// Where `floors` says so, a split may forget, by its certificate, points that are worth no more than the best one so far.
-/// The best point is worth as much as `start`, where that is a lawful point; any other is passed over.
+/// Points are judged by the choices of the rows, and each lawful one is to have an image there. The best point is worth as much as
+/// `start`, where that is a lawful point; any other is passed over.
 pub fn search_guided_to<H: Hinter, G: Guide, O, T: NodeTaker<Rows, O>>(
     alloc: Global,
     rows: &Rows,
@@ -122,20 +126,20 @@ pub fn search_guided_to<H: Hinter, G: Guide, O, T: NodeTaker<Rows, O>>(
     taker: &mut T,
     out: &mut O,
 ) -> Result<Guided, TakeStop>
-    requires searchable { IsSearchable rows.now.program }
+    requires searchable { AreSearchable rows.now }
     requires budget { (1 ≤ budget) × (budget ≤ 100000) }
     requires ready { T.ready taker.old out.old }
     ensures ready { OnOk result (T.ready taker.new out.new) }
-    ensures ok { IfOk result (λ guided. IsSearchedTo T.took rows.now.program floors given budget
+    ensures ok { IfOk result (λ guided. IsSearchedTo T.took rows.now floors given budget
         guided.ended taker.old out.old taker.new out.new) }
     ensures begun { IfOk result
-        (λ guided. IsWorth rows.now.program start.now guided.ended.best) }
+        (λ guided. IsWorth (choices_of rows.now) start.now guided.ended.best) }
     ensures exact { IfOk result
         (λ guided. guided.exact ≡ true → IsExact rows.now.program budget guided.ended) }
     ensures inexact { IfOk result
         (λ guided. guided.exact ≡ false
         → (guided.ended.left_open ≡ true) × (guided.ended.spent ≢ budget)) }
-    ensures err { OnErr result (IsBrokenOff T.took T.broke rows.now.program floors taker.old out.old
+    ensures err { OnErr result (IsBrokenOff T.took T.broke rows.now floors taker.old out.old
         taker.new out.new) }
     ensures later { T.faults out.old ≤ T.faults out.new }
     ensures failed { IsErrOf result TakeStop.Failed → Rose (T.faults out.old) (T.faults out.new) }
@@ -161,7 +165,8 @@ pub fn search_guided_to<H: Hinter, G: Guide, O, T: NodeTaker<Rows, O>>(
 ///
 /// Slots from the number `given` on are sums, and may be split at any value; those below it are split at 0 or in the middle alone.
 /// Where `floors` says so, a split may forget, by its certificate, points that are worth no more than the best one so far.
-/// The best point is worth as much as `start`, where that is a lawful point; any other is passed over.
+/// Points are judged by the choices of the rows, and each lawful one is to have an image there. The best point is worth as much as
+/// `start`, where that is a lawful point; any other is passed over.
 pub fn search_to<H: Hinter, G: Guide, O, T: NodeTaker<Rows, O>>(
     alloc: Global,
     rows: &Rows,
@@ -174,15 +179,15 @@ pub fn search_to<H: Hinter, G: Guide, O, T: NodeTaker<Rows, O>>(
     taker: &mut T,
     out: &mut O,
 ) -> Result<Ended, TakeStop>
-    requires searchable { IsSearchable rows.now.program }
+    requires searchable { AreSearchable rows.now }
     requires budget { (1 ≤ budget) × (budget ≤ 100000) }
     requires ready { T.ready taker.old out.old }
     ensures ready { OnOk result (T.ready taker.new out.new) }
-    ensures ok { IfOk result (λ ended. IsSearchedTo T.took rows.now.program floors given budget
+    ensures ok { IfOk result (λ ended. IsSearchedTo T.took rows.now floors given budget
         ended taker.old out.old taker.new out.new) }
-    ensures begun { IfOk result (λ ended. IsWorth rows.now.program start.now ended.best) }
+    ensures begun { IfOk result (λ ended. IsWorth (choices_of rows.now) start.now ended.best) }
     ensures exact { IfOk result (IsExact rows.now.program budget) }
-    ensures err { OnErr result (IsBrokenOff T.took T.broke rows.now.program floors taker.old out.old
+    ensures err { OnErr result (IsBrokenOff T.took T.broke rows.now floors taker.old out.old
         taker.new out.new) }
     ensures later { T.faults out.old ≤ T.faults out.new }
     ensures failed { IsErrOf result TakeStop.Failed → Rose (T.faults out.old) (T.faults out.new) }
@@ -203,7 +208,8 @@ pub fn search_to<H: Hinter, G: Guide, O, T: NodeTaker<Rows, O>>(
 ///
 /// Slots from the number `given` on are sums, and may be split at any value; those below it are split at 0 or in the middle alone.
 /// Where `floors` says so, a split may forget, by its certificate, points that are worth no more than the best one so far.
-/// The best point is worth as much as `start`, where that is a lawful point; any other is passed over.
+/// Points are judged by the choices of the rows, and each lawful one is to have an image there. The best point is worth as much as
+/// `start`, where that is a lawful point; any other is passed over.
 pub fn search_guided<H: Hinter, G: Guide>(
     alloc: Global,
     rows: &Rows,
@@ -214,11 +220,11 @@ pub fn search_guided<H: Hinter, G: Guide>(
     hinter: &mut H,
     guide: &mut G,
 ) -> Result<(Searched, bool), AllocError>
-    requires searchable { IsSearchable rows.now.program }
+    requires searchable { AreSearchable rows.now }
     requires budget { (1 ≤ budget) × (budget ≤ 100000) }
-    ensures ok { IfOk result (λ found. IsSearch rows.now.program floors given budget
+    ensures ok { IfOk result (λ found. IsSearch rows.now floors given budget
         (tree_of found.0.tree) (ended_of found.0)) }
-    ensures begun { IfOk result (λ found. IsWorth rows.now.program start.now found.0.best) }
+    ensures begun { IfOk result (λ found. IsWorth (choices_of rows.now) start.now found.0.best) }
     ensures exact { IfOk result
         (λ found. found.1 ≡ true → IsExact rows.now.program budget (ended_of found.0)) }
     ensures inexact { IfOk result
@@ -247,7 +253,8 @@ pub fn search_guided<H: Hinter, G: Guide>(
 ///
 /// Slots from the number `given` on are sums, and may be split at any value; those below it are split at 0 or in the middle alone.
 /// Where `floors` says so, a split may forget, by its certificate, points that are worth no more than the best one so far.
-/// The best point is worth as much as `start`, where that is a lawful point; any other is passed over.
+/// Points are judged by the choices of the rows, and each lawful one is to have an image there. The best point is worth as much as
+/// `start`, where that is a lawful point; any other is passed over.
 pub fn search<H: Hinter, G: Guide>(
     alloc: Global,
     rows: &Rows,
@@ -258,12 +265,12 @@ pub fn search<H: Hinter, G: Guide>(
     hinter: &mut H,
     guide: &mut G,
 ) -> Result<Searched, AllocError>
-    requires searchable { IsSearchable rows.now.program }
+    requires searchable { AreSearchable rows.now }
     requires budget { (1 ≤ budget) × (budget ≤ 100000) }
-    ensures ok { IfOk result (λ searched. IsSearch rows.now.program floors given budget
+    ensures ok { IfOk result (λ searched. IsSearch rows.now floors given budget
         (tree_of searched.tree) (ended_of searched)) }
     ensures begun { IfOk result
-        (λ searched. IsWorth rows.now.program start.now searched.best) }
+        (λ searched. IsWorth (choices_of rows.now) start.now searched.best) }
     ensures exact { IfOk result (λ searched. IsExact rows.now.program budget (ended_of searched)) }
 {
     let mut taker = TreeTaker::new(alloc, RowCopier);

@@ -1,5 +1,5 @@
 //! Checks of logs in memory.
-ghost use Rattle.std.specs.Prelude.{IfOk};
+ghost use Rattle.std.specs.Prelude.{◌≡◌, IfOk, None};
 ghost use Rattle.stn_model.specs.Sound.{Sound};
 ghost use Rattle.row_set.specs.PlantProgram.{IsMadeOf, IsProgramOf};
 
@@ -48,15 +48,21 @@ fn rows_of(alloc: Global, plant: &Plant) -> Result<Rows, AllocError>
     requires { Sound plant.now }
     ensures made { IfOk result (λ rows. IsMadeOf plant.now rows.program) }
     ensures means { IfOk result (λ rows. IsProgramOf plant.now rows.program) }
+    ensures plain { IfOk result (λ rows. rows.choices ≡ None) }
 {
     let program = program_of(alloc, plant)?;
-    Ok(Rows { program })
+    Ok(Rows {
+        program,
+        choices: None,
+    })
 }
 
 fn limits_of(rows: &Rows) -> Limits {
+    let slots = rows.program.root.len() as u32;
     Limits {
         rows: rows.program.rows.len() as u32,
-        slots: rows.program.root.len() as u32,
+        slots,
+        points: slots,
         depth: MOST_DEPTH,
     }
 }

@@ -3,8 +3,10 @@
 
 mod caps;
 mod parts;
+mod trial;
 mod words;
 
 pub use caps::put_cap;
 pub use parts::{is_part, program_of};
+pub use trial::{Trial, answer_over};
 pub use words::{bytes_of, domain_of};

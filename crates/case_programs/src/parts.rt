@@ -1,6 +1,6 @@
 //! The program of a case, part by part.
 use crate::words::{change_of, domain_of, row_of, tag_of, worth_of};
-use case_tables::{Sheet, Step};
+use case_tables::{Sheet, Step, Tried};
 use row_kit::{Change, Domain, Entry, List, Program, Row, Tag};
 use std::alloc::{AllocError, Global};
 
@@ -59,7 +59,7 @@ fn checked(parts: Parts) -> Option<Program> {
     Program::checked(rows, profit, base, root, tags, changes)
 }
 
-fn take(alloc: Global, parts: &mut Parts, verb: &str, sheet: &mut Sheet) -> Result<(), AllocError> {
+fn take(alloc: Global, parts: &mut Parts, verb: &str, sheet: &mut Sheet) -> Tried {
     match verb {
         "slot" => take_slot(parts, sheet),
         "row" => take_row(alloc, &mut parts.rows, sheet),
@@ -71,13 +71,13 @@ fn take(alloc: Global, parts: &mut Parts, verb: &str, sheet: &mut Sheet) -> Resu
     }
 }
 
-fn take_row(alloc: Global, rows: &mut List<Row>, sheet: &mut Sheet) -> Result<(), AllocError> {
+fn take_row(alloc: Global, rows: &mut List<Row>, sheet: &mut Sheet) -> Tried {
     let row = row_of(alloc, sheet)?;
     rows.push(row)
 }
 
 // `slot DOMAIN FIXED PER` or `slot DOMAIN FIXED PER LANE PLACE KIND`.
-fn take_slot(parts: &mut Parts, sheet: &mut Sheet) -> Result<(), AllocError> {
+fn take_slot(parts: &mut Parts, sheet: &mut Sheet) -> Tried {
     parts.root.push(domain_of(sheet))?;
     let entry = worth_of(parts.profit.len().min(100_000) as u32, sheet);
     parts.profit.push(entry)?;

@@ -2,7 +2,8 @@
 use crate::book::{Case, cases_of};
 use crate::sheet::{Sheet, Stop};
 use crate::step::Step;
-use std::alloc::{AllocError, Global};
+use crate::tried::Tried;
+use std::alloc::Global;
 use std::process::ExitCode;
 use std::rt::Files;
 use std::{fs, io};
@@ -16,7 +17,7 @@ pub trait Kinds {
         kind: &str,
         steps: &'a [Step<'a>],
         sheet: &mut Sheet<'a>,
-    ) -> Result<(), AllocError>;
+    ) -> Tried;
 }
 
 /// How many cases are as they must be, and how many are not.

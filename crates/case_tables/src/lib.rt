@@ -7,8 +7,10 @@ mod book;
 mod judging;
 mod sheet;
 mod step;
+pub mod tried;
 
 pub use book::{Case, cases_of};
 pub use judging::{Kinds, judge};
 pub use sheet::{Sheet, Stop};
 pub use step::Step;
+pub use tried::Tried;

@@ -1,5 +1,6 @@
 //! A step of a case: a line of words, and the text that stands below it.
-use std::alloc::{AllocError, Global};
+use crate::tried::Tried;
+use std::alloc::Global;
 
 /// A line of words with single blanks between, and the text of the lines below it that begin with `|` or `*`.
 #[derive(Drop)]
@@ -35,7 +36,7 @@ impl<'a> Step<'a> {
     }
 
     // Appends a line of text so many times: its line feed is left out where the line ends in `\`.
-    pub(crate) fn take_text(&mut self, line: &str, times: u32) -> Result<(), AllocError> {
+    pub(crate) fn take_text(&mut self, line: &str, times: u32) -> Tried {
         for _ in 0..times {
             match line.strip_suffix('\\') {
                 Some(text) => self.text.push_str(text)?,
@@ -45,7 +46,7 @@ impl<'a> Step<'a> {
         Ok(())
     }
 
-    fn take_line(&mut self, line: &str) -> Result<(), AllocError> {
+    fn take_line(&mut self, line: &str) -> Tried {
         self.text.push_str(line)?;
         self.text.push_str("\n")
     }

@@ -3,6 +3,7 @@ ghost use Rattle.std.specs.Prelude.{◌≡◌, ◌≢◌, ◌≤◌, ◌++◌, �
 ghost use Rattle.stn_edge.specs.Count.{Rose};
 ghost use Rattle.stn_model.specs.Sound.{Sound};
 ghost use Rattle.proof_log.specs.LogNames.{log_name};
+ghost use Rattle.command_replies.specs.Frames.{HadReadFault, OnlyReads};
 ghost use Rattle.command_replies.specs.Answers.{IsPlantAnswer};
 ghost use Rattle.command_replies.specs.Sources.{IfReplied, IfRefused};
 ghost use Rattle.order_text.specs.Marks.{kept_count};
@@ -53,14 +54,9 @@ pub fn check_conflict_file<F: Shelf>(
         (F.files files.new)
         plant.now (log_name stem.now 0 ∷ log_name stem.now 1 ∷ [])
         (λ _. ConflictChecked (F.files files.old) stem.now) reply.status reply.text.items) }
-    ensures fault { result ≡ Err Stopped.ReadFault
-        → Rose (F.read_faults files.old) (F.read_faults files.new) }
+    ensures fault { HadReadFault F.Shelf files.old files.new result }
     ensures unwritten { result ≢ Err Stopped.WriteFault }
-    ensures same { F.files files.new ≡ F.files files.old }
-    ensures readable { F.may_read files.new ≡ F.may_read files.old }
-    ensures writable { F.may_write files.new ≡ F.may_write files.old }
-    ensures later { F.read_faults files.old ≤ F.read_faults files.new }
-    ensures no_write { F.write_faults files.new ≡ F.write_faults files.old }
+    ensures kept { OnlyReads F.Shelf files.old files.new }
 {
     let plant = plant_in(alloc, files, plant)?;
     check_plant(alloc, files, &plant, stem)
@@ -79,14 +75,9 @@ fn check_plant<F: Shelf>(
     ensures answer { IfOk result (λ reply. ConflictChecked (F.files files.old) stem.now
         plant.now reply.status reply.text.items) }
     ensures none { IfRefused result (λ _. ⊥) }
-    ensures fault { result ≡ Err Stopped.ReadFault
-        → Rose (F.read_faults files.old) (F.read_faults files.new) }
+    ensures fault { HadReadFault F.Shelf files.old files.new result }
     ensures unwritten { result ≢ Err Stopped.WriteFault }
-    ensures same { F.files files.new ≡ F.files files.old }
-    ensures readable { F.may_read files.new ≡ F.may_read files.old }
-    ensures writable { F.may_write files.new ≡ F.may_write files.old }
-    ensures later { F.read_faults files.old ≤ F.read_faults files.new }
-    ensures no_write { F.write_faults files.new ≡ F.write_faults files.old }
+    ensures kept { OnlyReads F.Shelf files.old files.new }
 {
     let verdict = verdict_on(alloc, files, plant, stem)?;
     Ok(checked(alloc, &verdict)?)
@@ -105,14 +96,9 @@ fn verdict_on<F: Shelf>(
     ensures right { IfOk result (IsRightOn plant.now (F.files files.old) stem.now) }
     ensures says { IfOk result (YesSays plant.now) }
     ensures none { IfRefused result (λ _. ⊥) }
-    ensures fault { result ≡ Err Stopped.ReadFault
-        → Rose (F.read_faults files.old) (F.read_faults files.new) }
+    ensures fault { HadReadFault F.Shelf files.old files.new result }
     ensures unwritten { result ≢ Err Stopped.WriteFault }
-    ensures same { F.files files.new ≡ F.files files.old }
-    ensures readable { F.may_read files.new ≡ F.may_read files.old }
-    ensures writable { F.may_write files.new ≡ F.may_write files.old }
-    ensures later { F.read_faults files.old ≤ F.read_faults files.new }
-    ensures no_write { F.write_faults files.new ≡ F.write_faults files.old }
+    ensures kept { OnlyReads F.Shelf files.old files.new }
 {
     let name = log_name(alloc, stem, 0)?;
     match read_text(alloc, files, plant, name.as_str()) {
@@ -147,11 +133,7 @@ fn read_text<F: Shelf>(
     ensures each { IfOk result (λ kept. length kept.items ≡ length plant.now.deliveries) }
     ensures fault { result ≡ Err TextStop.Fault
         → Rose (F.read_faults files.old) (F.read_faults files.new) }
-    ensures same { F.files files.new ≡ F.files files.old }
-    ensures readable { F.may_read files.new ≡ F.may_read files.old }
-    ensures writable { F.may_write files.new ≡ F.may_write files.old }
-    ensures later { F.read_faults files.old ≤ F.read_faults files.new }
-    ensures no_write { F.write_faults files.new ≡ F.write_faults files.old }
+    ensures kept { OnlyReads F.Shelf files.old files.new }
 {
     match read_all(alloc, files, name, order_text::MAX_BYTES as u64) {
         Ok(bytes) => match read_conflict(alloc, plant, bytes.as_slice()) {
@@ -179,14 +161,9 @@ fn check_kept<F: Shelf>(
     ensures checked { IfOk result
         (IsKeptChecked plant.now (F.files files.old) (log_name stem.now 1) kept.items) }
     ensures none { IfRefused result (λ _. ⊥) }
-    ensures fault { result ≡ Err Stopped.ReadFault
-        → Rose (F.read_faults files.old) (F.read_faults files.new) }
+    ensures fault { HadReadFault F.Shelf files.old files.new result }
     ensures unwritten { result ≢ Err Stopped.WriteFault }
-    ensures same { F.files files.new ≡ F.files files.old }
-    ensures readable { F.may_read files.new ≡ F.may_read files.old }
-    ensures writable { F.may_write files.new ≡ F.may_write files.old }
-    ensures later { F.read_faults files.old ≤ F.read_faults files.new }
-    ensures no_write { F.write_faults files.new ≡ F.write_faults files.old }
+    ensures kept { OnlyReads F.Shelf files.old files.new }
 {
     let fewer = alone(alloc, plant, kept.as_slice())?;
     let name = log_name(alloc, stem, 1)?;

@@ -1,7 +1,7 @@
 //! `conflict PLANT BUDGET`: finding deliveries that can't be met together.
 ghost use Rattle.std.specs.Prelude.{◌≡◌, ◌≢◌, ◌≤◌, [], Err, IsTrue, IfOk};
-ghost use Rattle.stn_edge.specs.Count.{Rose};
 ghost use Rattle.stn_model.specs.Sound.{Sound};
+ghost use Rattle.command_replies.specs.Frames.{HadReadFault, OnlyReads};
 ghost use Rattle.command_replies.specs.Answers.{IsPlantAnswer};
 ghost use Rattle.command_replies.specs.Sources.{IfReplied};
 ghost use Rattle.conflict_commands.specs.Finding.{Found};
@@ -27,14 +27,9 @@ pub fn find_file<A: Advisers, F: Shelf>(
     ensures answer { IfReplied result (λ reply. IsPlantAnswer (F.files files.old)
         (F.files files.new)
         name.now [] (λ _. Found budget.boxes) reply.status reply.text.items) }
-    ensures fault { result ≡ Err Stopped.ReadFault
-        → Rose (F.read_faults files.old) (F.read_faults files.new) }
+    ensures fault { HadReadFault F.Shelf files.old files.new result }
     ensures unwritten { result ≢ Err Stopped.WriteFault }
-    ensures same { F.files files.new ≡ F.files files.old }
-    ensures readable { F.may_read files.new ≡ F.may_read files.old }
-    ensures writable { F.may_write files.new ≡ F.may_write files.old }
-    ensures later { F.read_faults files.old ≤ F.read_faults files.new }
-    ensures no_write { F.write_faults files.new ≡ F.write_faults files.old }
+    ensures kept { OnlyReads F.Shelf files.old files.new }
 {
     let plant = plant_in(alloc, files, name)?;
     Ok(find_plant::<A>(alloc, &plant, budget)?)

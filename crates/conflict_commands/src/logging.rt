@@ -6,6 +6,7 @@ ghost use Rattle.stn_model.specs.Sound.{Sound};
 ghost use Rattle.stn_model.specs.declared.plant.Plant.{Plant};
 ghost use Rattle.plant_text.specs.Reading.{reading};
 ghost use Rattle.proof_log.specs.LogNames.{log_name};
+ghost use Rattle.command_replies.specs.Frames.{HadReadFault, HadWriteFault, ReadsAndWrites};
 ghost use Rattle.command_replies.specs.Answers.{IsPlantAnswer, IsUnwritten};
 ghost use Rattle.command_replies.specs.Sources.{IfReplied, IfRefused, IsReadOf};
 ghost use Rattle.conflict_commands.specs.Finding.{answer_text, IsPrintable};
@@ -47,20 +48,15 @@ pub fn find_log_file<A: Advisers, F: Shelf>(
         reply.status reply.text.items) }
     ensures refused { IfReplied result (λ reply. IsUnwritten reply.status
         → F.files files.new ≡ F.files files.old) }
-    ensures fault { result ≡ Err Stopped.ReadFault
-        → Rose (F.read_faults files.old) (F.read_faults files.new) }
+    ensures fault { HadReadFault F.Shelf files.old files.new result }
     ensures unread { result ≡ Err Stopped.ReadFault → F.files files.new ≡ F.files files.old }
-    ensures write_fault { result ≡ Err Stopped.WriteFault
-        → Rose (F.write_faults files.old) (F.write_faults files.new) }
+    ensures write_fault { HadWriteFault F.Shelf files.old files.new result }
     ensures begun { result ≡ Err Stopped.WriteFault
         → (plant : Plant) × IsReadOf reading (F.files files.old) name.now (Ok plant) }
     ensures left { (F.files files.new ≡ F.files files.old) ⊎ HoldsConflict budget.boxes
         (F.files files.old) (F.files files.new) name.now stem.now }
     ensures others { OthersStayPair stem.now (F.files files.old) (F.files files.new) }
-    ensures readable { F.may_read files.new ≡ F.may_read files.old }
-    ensures writable { F.may_write files.new ≡ F.may_write files.old }
-    ensures later { F.read_faults files.old ≤ F.read_faults files.new }
-    ensures writes { F.write_faults files.old ≤ F.write_faults files.new }
+    ensures kept { ReadsAndWrites F.Shelf files.old files.new }
 {
     let plant = plant_in(alloc, files, name)?;
     find_log_plant::<A, _>(alloc, files, &plant, budget, stem)
@@ -81,8 +77,7 @@ fn find_log_plant<A: Advisers, F: Shelf>(
         (F.files files.old) (F.files files.new) plant.now reply.status reply.text.items) }
     ensures none { IfRefused result (λ _. ⊥) }
     ensures no_fault { result ≢ Err Stopped.ReadFault }
-    ensures write_fault { result ≡ Err Stopped.WriteFault
-        → Rose (F.write_faults files.old) (F.write_faults files.new) }
+    ensures write_fault { HadWriteFault F.Shelf files.old files.new result }
     ensures left { LeavesConflict plant.now budget.boxes stem.now
         (F.files files.old) (F.files files.new) }
     ensures others { OthersStayPair stem.now (F.files files.old) (F.files files.new) }
@@ -115,8 +110,7 @@ fn put_answer<F: Shelf>(
         (F.files files.old) (F.files files.new) }
     ensures none { IfRefused result (λ _. ⊥) }
     ensures no_fault { result ≢ Err Stopped.ReadFault }
-    ensures write_fault { result ≡ Err Stopped.WriteFault
-        → Rose (F.write_faults files.old) (F.write_faults files.new) }
+    ensures write_fault { HadWriteFault F.Shelf files.old files.new result }
     ensures others { OthersStay (log_name stem.now 0) (F.files files.old) (F.files files.new) }
     ensures readable { F.may_read files.new ≡ F.may_read files.old }
     ensures writable { F.may_write files.new ≡ F.may_write files.old }
@@ -142,8 +136,8 @@ fn put_text<F: Shelf>(files: &mut F, name: &str, bytes: &[u8]) -> Result<(), Sto
         → Rose (F.write_faults files.old) (F.write_faults files.new) }
     ensures readable { F.may_read files.new ≡ F.may_read files.old }
     ensures writable { F.may_write files.new ≡ F.may_write files.old }
-    ensures later { F.write_faults files.old ≤ F.write_faults files.new }
     ensures no_read { F.read_faults files.new ≡ F.read_faults files.old }
+    ensures writes { F.write_faults files.old ≤ F.write_faults files.new }
 {
     files.clear(name)?;
     files.append(name, bytes)

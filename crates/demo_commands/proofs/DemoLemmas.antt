@@ -105,7 +105,7 @@ own-log plant bytes verdict outcome checked proved =
     let has = proved.has in
     let claim = claim_of plant outcome.answer in
     let depth = depth_over program.root in
-    yes-again program checked.program (plant_root plant) (plant_root plant) depth 4608 bytes claim verdict (same_program plant program checked.program proved.made checked.of_plant.made) (omega arith)
+    yes-again plant program checked.program (plant_root plant) (plant_root plant) depth 4608 bytes claim verdict (same_program plant program checked.program proved.made checked.of_plant.made) (omega arith)
     (subst (λ (b : List ℕ). IsPlantVerdict plant program depth b (Yes claim)) (sym has.told) has.proof.valid) checked.right
 
 -- and its line is that of the claim

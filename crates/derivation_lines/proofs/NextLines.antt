@@ -1,7 +1,5 @@
 -- What stands next behind lines of derivations.
-use Rattle.std.proofs.Common.{◌≡◌, ◌≢◌, ℕ, ◌+◌, ◌<◌, List, [], ◌∷◌, ◌++◌, length, length-append, drop, Option, Some, None, IfSome, subst, sym, ap, ◌∙◌, arith, append_assoc}
-use Rattle.std.proofs.Math.Seq.{drop-append_seam}
-use Rattle.std.proofs.lemmas.List.{drop-drop}
+use Rattle.std.proofs.Common.{◌≡◌, ◌≢◌, ℕ, ◌+◌, ◌<◌, List, [], ◌∷◌, ◌++◌, length, length-append, drop, Option, Some, None, IfSome, subst, sym, ap, ◌∙◌, arith}
 use Rattle.std.specs.Option.{option_map_or}
 use Rattle.log_lines.specs.Reader.{line_length}
 use Rattle.stn_edge.specs.Files.{FileMap, file_of}
@@ -9,6 +7,7 @@ use Rattle.sum_lines.specs.declared.walk.Walk.{Walk}
 use Rattle.sum_lines.specs.Front.{BeginsWith, EndsEarly}
 use Rattle.sum_lines.specs.Walk.{HasStepped, IsAfter}
 use Rattle.sum_lines.proofs.Feeds.{begins_line, line_late, long_late, long_none}
+use Rattle.sum_lines.proofs.Walks.{next_is}
 use Rattle.derivation_lines.specs.declared.line.TailLine.{TailLine}
 use Rattle.derivation_lines.specs.declared.seen.Seen.TheVariants as seen
 use Rattle.derivation_lines.specs.Front.{NoneFirst}
@@ -17,17 +16,6 @@ use Rattle.derivation_lines.specs.Tail.{lines_text}
 use Rattle.derivation_lines.specs.laws.Walk.{HasPassed, HasSeen, rest_after}
 use Rattle.derivation_lines.proofs.LineTexts.{lines_text-more}
 use Rattle.derivation_lines.proofs.Lines.{text_fits, text_unique}
-
--- what is left of a file after lines, by what follows them
-rest_is : (start : ℕ) (text file rest : List ℕ) → drop start file ≡ text ++ rest → drop (start + length text) file ≡ rest
-rest_is start text file rest is = sym (drop-drop (length text) start file) ∙ ap (drop (length text)) is ∙ drop-append_seam text rest
-
--- the line behind a text that was passed
-pub next_is : (start : ℕ) (text line file : List ℕ) → drop start file ≡ (text ++ (line ++ 10 ∷ [])) ++ drop (start + length (text ++ (line ++ 10 ∷ []))) file
-    → drop (start + length text) file ≡ line ++ 10 ∷ drop (start + length (text ++ (line ++ 10 ∷ []))) file
-next_is start text line file is =
-    let after : List ℕ = drop (start + length (text ++ (line ++ 10 ∷ []))) file in
-    rest_is start text file (line ++ 10 ∷ after) (is ∙ append_assoc text (line ++ 10 ∷ []) after ∙ ap (λ w. text ++ w) (append_assoc line (10 ∷ []) after))
 
 -- a line that is none of a derivation
 other_told : (files : Option FileMap) (name : List ℕ) (start : ℕ) (lines : List TailLine) (old new : Walk) → HasStepped files name start (lines_text lines) old new → ((line : TailLine) → IsTailLine line → tail_line_text line ≢ new.reader.line)

@@ -1,5 +1,5 @@
 //! The rows of the plans that keep the first starts of a plan.
-ghost use Rattle.std.specs.Prelude.{◌≡◌, ◌<◌, ◌↔◌, ℕ, nat_lt, if◌then◌else◌, List as Items, map, All, IsSome, IfOk, IfSome};
+ghost use Rattle.std.specs.Prelude.{◌≡◌, ◌<◌, ◌↔◌, ℕ, nat_lt, if◌then◌else◌, List as Items, map, All, None, IsSome, IfOk, IfSome};
 ghost use Rattle.stn_model.specs.declared.start.Start.{Start};
 ghost use Rattle.stn_model.specs.Feasible.{Feasible};
 ghost use Rattle.stn_model.specs.Sound.{Sound};
@@ -30,6 +30,7 @@ pub fn freeze(
     requires sound { Sound plant.now }
     requires early { All (λ start. start.period < period) kept.now }
     ensures some { IfOk result (λ frozen. IsSome frozen ↔ HasPoint plant.now kept.now) }
+    ensures plain { IfOk result (λ frozen. IfSome frozen (λ rows. rows.choices ≡ None)) }
     ensures part { IfOk result (λ frozen. IfSome frozen (λ rows. IsPartOf plant.now rows.program)) }
     ensures root { IfOk result (λ frozen. IfSome frozen (λ rows. rows.program.root
         ≡ frozen_root plant.now period kept.now)) }
@@ -47,7 +48,10 @@ pub fn freeze(
     match frozen_root(alloc, plant, &grid, &program.root, kept, period)? {
         Some(root) => {
             program.root = root;
-            Ok(Some(Rows { program }))
+            Ok(Some(Rows {
+                program,
+                choices: None,
+            }))
         }
         None => Ok(None),
     }

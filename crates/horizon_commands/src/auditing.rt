@@ -1,8 +1,8 @@
 //! `check-least PLANT H STEM`: checking that no shorter horizon has a feasible plan.
 ghost use Rattle.std.specs.Prelude.{◌≡◌, ◌≢◌, ◌≤◌, ◌++◌, Err, IsTrue, IfOk, codes, decimal};
-ghost use Rattle.stn_edge.specs.Count.{Rose};
 ghost use Rattle.stn_model.specs.Sound.{Sound};
 ghost use Rattle.least_horizon.specs.LogNames.{AreAllowed};
+ghost use Rattle.command_replies.specs.Frames.{HadReadFault, OnlyReads};
 ghost use Rattle.command_replies.specs.Answers.{IsPlantAnswer};
 ghost use Rattle.command_replies.specs.Sources.{IfReplied, IfRefused};
 ghost use Rattle.horizon_commands.specs.Auditing.{audit_status, audit_text, Audited};
@@ -30,14 +30,9 @@ pub fn audit_file<F: Shelf>(
         (F.files files.new)
         plant.now (log_names stem.now horizon) (λ _. Audited (F.files files.old) horizon stem.now)
         reply.status reply.text.items) }
-    ensures fault { result ≡ Err Stopped.ReadFault
-        → Rose (F.read_faults files.old) (F.read_faults files.new) }
+    ensures fault { HadReadFault F.Shelf files.old files.new result }
     ensures unwritten { result ≢ Err Stopped.WriteFault }
-    ensures same { F.files files.new ≡ F.files files.old }
-    ensures readable { F.may_read files.new ≡ F.may_read files.old }
-    ensures writable { F.may_write files.new ≡ F.may_write files.old }
-    ensures later { F.read_faults files.old ≤ F.read_faults files.new }
-    ensures no_write { F.write_faults files.new ≡ F.write_faults files.old }
+    ensures kept { OnlyReads F.Shelf files.old files.new }
 {
     let plant = plant_in(alloc, files, plant)?;
     audit_plant(alloc, files, &plant, horizon, stem)
@@ -56,14 +51,9 @@ fn audit_plant<F: Shelf>(
     ensures answer { IfOk result (λ reply. Audited (F.files files.old) horizon stem.now
         plant.now reply.status reply.text.items) }
     ensures none { IfRefused result (λ _. ⊥) }
-    ensures fault { result ≡ Err Stopped.ReadFault
-        → Rose (F.read_faults files.old) (F.read_faults files.new) }
+    ensures fault { HadReadFault F.Shelf files.old files.new result }
     ensures unwritten { result ≢ Err Stopped.WriteFault }
-    ensures same { F.files files.new ≡ F.files files.old }
-    ensures readable { F.may_read files.new ≡ F.may_read files.old }
-    ensures writable { F.may_write files.new ≡ F.may_write files.old }
-    ensures later { F.read_faults files.old ≤ F.read_faults files.new }
-    ensures no_write { F.write_faults files.new ≡ F.write_faults files.old }
+    ensures kept { OnlyReads F.Shelf files.old files.new }
 {
     match check_least(alloc, plant, horizon, files, stem) {
         Ok(verdict) => Ok(audited(alloc, horizon, verdict)?),

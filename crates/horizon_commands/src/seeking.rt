@@ -1,7 +1,6 @@
 //! `least PLANT BUDGET` and `least PLANT BUDGET STEM`: finding the least horizon.
 ghost use Rattle.std.specs.Prelude.{◌≡◌, ◌≢◌, ◌≤◌, ◌⊎◌, ◌++◌, [], All, None, Ok, Err, IsTrue, IfOk, codes, decimal, string_bytes};
 ghost use Rattle.std.specs.Fmt.{signed_decimal};
-ghost use Rattle.stn_edge.specs.Count.{Rose};
 ghost use Rattle.stn_model.specs.Sound.{Sound};
 ghost use Rattle.stn_model.specs.declared.plant.Plant.{Plant};
 ghost use Rattle.plant_text.specs.Reading.{reading};
@@ -9,6 +8,7 @@ ghost use Rattle.plan_text.specs.PlanLines.{IsNamed};
 ghost use Rattle.least_horizon.specs.declared.answer.LeastAnswer.TheVariants.{At};
 ghost use Rattle.least_horizon.specs.LogNames.{logs_in, AreAllowed, OthersStayBelow};
 ghost use Rattle.least_horizon.specs.Least.{IsStopped};
+ghost use Rattle.command_replies.specs.Frames.{HadReadFault, HadWriteFault, OnlyReads, ReadsAndWrites};
 ghost use Rattle.command_replies.specs.Answers.{IsPlantAnswer, IsUnwritten};
 ghost use Rattle.command_replies.specs.Sources.{IfReplied, IfRefused, IsReadOf};
 ghost use Rattle.horizon_commands.specs.Seeking.{
@@ -42,14 +42,9 @@ pub fn seek_file<A: Advisers, F: Shelf>(
         (F.files files.new)
         name.now [] (λ _ plant. Sought budget.boxes plant (λ _. None) (λ _. Unit {0}))
         reply.status reply.text.items) }
-    ensures fault { result ≡ Err Stopped.ReadFault
-        → Rose (F.read_faults files.old) (F.read_faults files.new) }
+    ensures fault { HadReadFault F.Shelf files.old files.new result }
     ensures unwritten { result ≢ Err Stopped.WriteFault }
-    ensures same { F.files files.new ≡ F.files files.old }
-    ensures readable { F.may_read files.new ≡ F.may_read files.old }
-    ensures writable { F.may_write files.new ≡ F.may_write files.old }
-    ensures later { F.read_faults files.old ≤ F.read_faults files.new }
-    ensures no_write { F.write_faults files.new ≡ F.write_faults files.old }
+    ensures kept { OnlyReads F.Shelf files.old files.new }
 {
     let plant = plant_in(alloc, files, name)?;
     Ok(seek_plant::<A>(alloc, &plant, budget)?)
@@ -73,20 +68,15 @@ pub fn trace_file<A: Advisers, F: Shelf>(
         reply.status reply.text.items) }
     ensures refused { IfReplied result (λ reply. IsUnwritten reply.status
         → F.files files.new ≡ F.files files.old) }
-    ensures fault { result ≡ Err Stopped.ReadFault
-        → Rose (F.read_faults files.old) (F.read_faults files.new) }
+    ensures fault { HadReadFault F.Shelf files.old files.new result }
     ensures unread { result ≡ Err Stopped.ReadFault → F.files files.new ≡ F.files files.old }
-    ensures write_fault { result ≡ Err Stopped.WriteFault
-        → Rose (F.write_faults files.old) (F.write_faults files.new) }
+    ensures write_fault { HadWriteFault F.Shelf files.old files.new result }
     ensures begun { result ≡ Err Stopped.WriteFault
         → (plant : Plant) × IsReadOf reading (F.files files.old) name.now (Ok plant) }
     ensures left { (F.files files.new ≡ F.files files.old) ⊎ HoldsLogs budget.boxes
         (F.files files.old) (F.files files.new) name.now stem.now }
     ensures others { OthersStayBelow stem.now 337 (F.files files.old) (F.files files.new) }
-    ensures readable { F.may_read files.new ≡ F.may_read files.old }
-    ensures writable { F.may_write files.new ≡ F.may_write files.old }
-    ensures later { F.read_faults files.old ≤ F.read_faults files.new }
-    ensures writes { F.write_faults files.old ≤ F.write_faults files.new }
+    ensures kept { ReadsAndWrites F.Shelf files.old files.new }
 {
     let plant = plant_in(alloc, files, name)?;
     trace_plant::<A, _>(alloc, files, &plant, budget, stem)
@@ -124,8 +114,7 @@ fn trace_plant<A: Advisers, F: Shelf>(
         reply.status reply.text.items) }
     ensures none { IfRefused result (λ _. ⊥) }
     ensures no_fault { result ≢ Err Stopped.ReadFault }
-    ensures write_fault { result ≡ Err Stopped.WriteFault
-        → Rose (F.write_faults files.old) (F.write_faults files.new) }
+    ensures write_fault { HadWriteFault F.Shelf files.old files.new result }
     ensures left { IsStopped plant.now budget.boxes stem.now (F.files files.old) (F.files files.new)
         ⊎ LeavesFound plant.now budget.boxes stem.now (F.files files.old) (F.files files.new) }
     ensures others { OthersStayBelow stem.now 337 (F.files files.old) (F.files files.new) }

@@ -6,7 +6,7 @@ ghost use Rattle.time_grid.specs.Slots.{slots};
 ghost use Rattle.proof_log.specs.LogNames.{log_name};
 ghost use Rattle.log_parts.specs.PartLogs.{logs_of};
 ghost use Rattle.log_parts.specs.declared.heads.LogFront.TheVariants.{Whole};
-ghost use Rattle.log_parts.specs.laws.Checked.{AreChecked, AllSay, IsFrontKept, IsFrontOf, IsLogFront, IsPartCheck, MayDeclare, PartSays, head_limits};
+ghost use Rattle.log_parts.specs.laws.Checked.{AreChecked, AllSay, IsFrontKept, IsFrontOf, IsHeadKept, IsLogFront, IsPartCheck, PartSays, head_limits};
 
 use crate::heads::read_front;
 use log_check::CheckStop;
@@ -72,9 +72,9 @@ fn check_logs<F: Shelf>(
     requires slots { levels ≤ length (slots plant.now) }
     requires allowed { (part : ℕ) → part < 2 ^ levels
         → IsTrue (F.may_read files.old (log_name stem.now part)) }
-    requires declared { MayDeclare (head_limits plant.now levels) first.version first.declared }
+    requires kept { IsHeadKept plant.now (head_limits plant.now levels) first }
     requires first { IfSome (F.files files.old)
-        (λ m. IsLogFront (head_limits plant.now levels) (logs_of m stem.now 0) (Whole first)) }
+        (λ m. IsLogFront plant.now (head_limits plant.now levels) (logs_of m stem.now 0) (Whole first)) }
     ensures checked { IfOk result (λ said. IfSome (F.files files.old)
         (λ m. AreChecked plant.now levels (logs_of m stem.now) said)) }
     ensures says { IfOk result (AllSay plant.now levels) }
@@ -86,6 +86,7 @@ fn check_logs<F: Shelf>(
     ensures later { F.read_faults files.old ≤ F.read_faults files.new }
     ensures no_write { F.write_faults files.new ≡ F.write_faults files.old }
 {
+    let limits = first.limits;
     let declared = first.declared;
     let mut newest = is_newest(false, first.version);
     let mut heads = Vec::new(alloc);
@@ -107,6 +108,7 @@ fn check_logs<F: Shelf>(
     Ok(Checked::All {
         newest,
         declared,
+        limits,
         heads,
         claims,
     })
@@ -142,7 +144,7 @@ fn first_front<F: Shelf>(
     requires allowed { IsTrue (F.may_read files.old (log_name stem.now 0)) }
     ensures front { IfOk result (λ front. IfSome (F.files files.old)
         (λ m. IsFrontOf plant.now levels 0 (logs_of m stem.now 0) front)) }
-    ensures kept { IfOk result (IsFrontKept (head_limits plant.now levels)) }
+    ensures kept { IfOk result (IsFrontKept plant.now (head_limits plant.now levels)) }
     ensures fault { result ≡ Err CheckStop.Fault
         → Rose (F.read_faults files.old) (F.read_faults files.new) }
     ensures same { F.files files.new ≡ F.files files.old }
@@ -153,12 +155,14 @@ fn first_front<F: Shelf>(
 {
     let rows = part_rows(alloc, plant, levels, 0)?;
     let name = log_name(alloc, stem, 0)?;
+    let file = name.as_str();
     let front = read_front(
         alloc,
+        plant,
         &rows.program,
         MOST_DEPTH - levels,
         files,
-        name.as_str(),
+        file,
     )?;
     Ok(front)
 }
@@ -193,7 +197,14 @@ fn check_log<F: Shelf>(
     let rows = part_rows(alloc, plant, levels, part)?;
     let name = log_name(alloc, stem, part)?;
     let file = name.as_str();
-    let front = read_front(alloc, &rows.program, MOST_DEPTH - levels, files, file)?;
+    let front = read_front(
+        alloc,
+        plant,
+        &rows.program,
+        MOST_DEPTH - levels,
+        files,
+        file,
+    )?;
     match check_part(alloc, plant, rows.program, MOST_DEPTH - levels, files, file)? {
         LogVerdict::Yes(claim) => Ok(compared(declared, &front, claim)),
         LogVerdict::No(defect) => Ok(PartCheck::Bad(defect)),

@@ -14,8 +14,8 @@ use stn_edge::Shelf;
 use stn_model::Plant;
 
 /// Checks the logs of all parts, of any version, in their order, and joins them: LOG becomes the log of the tree of splits in
-/// which the parts' trees stand, with the joined claim. It has the head of the parts' logs, which declare the same sums, cuts and
-/// rows in the same order: it is of version 4 where one of them is, else of version 3 where they declare sums, and else of
+/// which the parts' trees stand, with the joined claim. It has the head of the parts' logs, which declare the same sums,
+/// setups, cuts and rows in the same order: it is of version 4 where one of them is, else of version 3 where they declare sums, and else of
 /// version 2. Each log is read once to be checked, its head once before, and a second time while LOG is written. At the first log
 /// that is not valid or has another head than that of part 0 it stops, and no file has changed. After an error LOG is as before,
 /// or holds a first part of the joined log. Over a store that does not tell its files the second reading may differ from the
@@ -61,6 +61,7 @@ pub fn join<F: Shelf>(
         Checked::All {
             newest,
             declared,
+            limits,
             heads,
             claims,
         } => {
@@ -68,7 +69,7 @@ pub fn join<F: Shelf>(
             let version = joined_version(newest, declared.sums.as_slice());
             let counts = heads.as_slice();
             write_joined(
-                alloc, plant, levels, version, &declared, counts, files, stem, name, claim,
+                alloc, plant, levels, version, &declared, limits, counts, files, stem, name, claim,
             )
         }
         Checked::Bad { part, defect } => Ok(Joined::No { part, defect }),

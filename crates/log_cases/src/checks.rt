@@ -1,6 +1,6 @@
 //! Logs that are checked over a program.
 use crate::defects::put_defect;
-use case_tables::Sheet;
+use case_tables::{Sheet, Tried};
 use log_check::{CheckStop, check_behind, check_bytes, check_log, check_rows};
 use log_lines::Limits;
 use proof_log::{LogStop, read_log};
@@ -11,7 +11,7 @@ use valid_log::LogVerdict;
 
 /// `check DEPTH HEAD`, over a log: its verdict by its bytes, by its proof and claim, from a file, and where its first HEAD bytes
 /// are a head.
-pub fn check(alloc: Global, rows: &Rows, sheet: &mut Sheet) -> Result<(), AllocError> {
+pub fn check(alloc: Global, rows: &Rows, sheet: &mut Sheet) -> Tried {
     let depth = sheet.number();
     let head = sheet.number();
     let log = sheet.bytes();
@@ -43,9 +43,11 @@ fn check_read(
 }
 
 fn limits_of(rows: &Rows, depth: u32) -> Limits {
+    let slots = rows.program.root.len() as u32;
     Limits {
         rows: rows.program.rows.len() as u32,
-        slots: rows.program.root.len() as u32,
+        slots,
+        points: slots,
         depth,
     }
 }
@@ -58,13 +60,7 @@ fn put_checked(checked: Result<LogVerdict, CheckStop>, sheet: &mut Sheet) {
     }
 }
 
-fn check_file(
-    alloc: Global,
-    rows: &Rows,
-    depth: u32,
-    log: &[u8],
-    sheet: &mut Sheet,
-) -> Result<(), AllocError> {
+fn check_file(alloc: Global, rows: &Rows, depth: u32, log: &[u8], sheet: &mut Sheet) -> Tried {
     let mut shelf = FixedShelf::new(alloc);
     shelf.put_file("log", log)?;
     put_checked(check_rows(alloc, rows, depth, &mut shelf, "log"), sheet);
@@ -80,7 +76,7 @@ fn check_behind_head(
     depth: u32,
     head: u64,
     sheet: &mut Sheet,
-) -> Result<(), AllocError> {
+) -> Tried {
     let mut shelf = FixedShelf::new(alloc);
     shelf.put_file("log", sheet.bytes())?;
     let checked = check_behind(alloc, rows, depth, HEAD_VERSION, head, &mut shelf, "log");

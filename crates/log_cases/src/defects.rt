@@ -2,12 +2,17 @@
 use case_tables::Sheet;
 use log_lines::{Defect, Limits};
 
-/// The limits of the next three words: `ROWS SLOTS DEPTH`.
+/// The limits of the next three words, `ROWS SLOTS DEPTH`: a point has a value for each slot.
 pub fn limits_of(sheet: &mut Sheet) -> Limits {
     let rows = sheet.number();
     let slots = sheet.number();
     let depth = sheet.number();
-    Limits { rows, slots, depth }
+    Limits {
+        rows,
+        slots,
+        points: slots,
+        depth,
+    }
 }
 
 /// Prints the line and the kind of a defect, or that there is none.

@@ -1,14 +1,14 @@
 //! Cases of logs that are written, from the start of a file and behind a head.
-use case_tables::Sheet;
+use case_tables::{Sheet, Tried};
 use proof_log::{Claim, LogWriter};
 use proof_tree::{Item, NodeTaker, TakeStop};
 use row_relax::Rows;
-use std::alloc::{AllocError, Global};
+use std::alloc::Global;
 use stn_edge::{MemShelf, Stop};
 
 /// `nodes COUNT CALL BYTES`: writes a log of so many node lines to a store whose call CALL is to fail after so many bytes, where
 /// it is not 0: how that ends, and the file.
-pub fn nodes(alloc: Global, sheet: &mut Sheet) -> Result<(), AllocError> {
+pub fn nodes(alloc: Global, sheet: &mut Sheet) -> Tried {
     let count = sheet.number();
     let call = sheet.number();
     let bytes = sheet.number();

@@ -1,18 +1,14 @@
 //! Cases of logs that are read.
 use crate::defects::{limits_of, put_defect};
 use crate::heads::{head, nodes};
-use case_tables::{Sheet, Step};
+use case_tables::{Sheet, Step, Tried};
 use log_lines::{Defect, Limits};
 use proof_log::{Log, LogStop, first_defect, put_claim, put_log, put_proof, read_log};
 use std::alloc::{AllocError, Global};
 use stn_edge::FixedShelf;
 
 /// Prints what the steps give.
-pub fn answer<'a>(
-    alloc: Global,
-    steps: &'a [Step<'a>],
-    sheet: &mut Sheet<'a>,
-) -> Result<(), AllocError> {
+pub fn answer<'a>(alloc: Global, steps: &'a [Step<'a>], sheet: &mut Sheet<'a>) -> Tried {
     for step in steps {
         sheet.begin(step);
         match step.verb {
@@ -28,7 +24,7 @@ pub fn answer<'a>(
 
 // `read ROWS SLOTS DEPTH HEAD`, over a log: its first text defect where it is read as a whole, where it is read line by line,
 // and where its first HEAD bytes are a head.
-fn read(alloc: Global, sheet: &mut Sheet) -> Result<(), AllocError> {
+fn read(alloc: Global, sheet: &mut Sheet) -> Tried {
     let limits = limits_of(sheet);
     let head = sheet.number();
     let whole = read_again(alloc, &limits, sheet)?;
@@ -53,7 +49,7 @@ fn read_again(
     }
 }
 
-fn compare(alloc: Global, log: &Log, sheet: &mut Sheet) -> Result<(), AllocError> {
+fn compare(alloc: Global, log: &Log, sheet: &mut Sheet) -> Tried {
     let mut text = Vec::new(alloc);
     put_log(alloc, log, &mut text)?;
     if text.as_slice() != sheet.bytes() {
@@ -66,7 +62,7 @@ fn compare(alloc: Global, log: &Log, sheet: &mut Sheet) -> Result<(), AllocError
 const HEAD_VERSION: u8 = 3;
 
 // The first defect of a log that stands behind so many bytes of a file.
-fn scan(alloc: Global, limits: Limits, head: u64, sheet: &mut Sheet) -> Result<(), AllocError> {
+fn scan(alloc: Global, limits: Limits, head: u64, sheet: &mut Sheet) -> Tried {
     let mut shelf = FixedShelf::new(alloc);
     shelf.put_file("log", sheet.bytes())?;
     match first_defect(alloc, limits, HEAD_VERSION, head, &mut shelf, "log") {
@@ -77,7 +73,7 @@ fn scan(alloc: Global, limits: Limits, head: u64, sheet: &mut Sheet) -> Result<(
 }
 
 // `proof ROWS SLOTS DEPTH`, over a log: what is put of its proof and of its claim, or its first text defect.
-fn proof(alloc: Global, sheet: &mut Sheet) -> Result<(), AllocError> {
+fn proof(alloc: Global, sheet: &mut Sheet) -> Tried {
     let limits = limits_of(sheet);
     match read_log(alloc, sheet.bytes(), &limits) {
         Ok(log) => put_parts(alloc, &log, sheet),
@@ -89,7 +85,7 @@ fn proof(alloc: Global, sheet: &mut Sheet) -> Result<(), AllocError> {
     }
 }
 
-fn put_parts(alloc: Global, log: &Log, sheet: &mut Sheet) -> Result<(), AllocError> {
+fn put_parts(alloc: Global, log: &Log, sheet: &mut Sheet) -> Tried {
     let mut text = Vec::new(alloc);
     put_proof(alloc, &log.tree, &mut text)?;
     put_claim(alloc, &log.claim, &mut text)?;

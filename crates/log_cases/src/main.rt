@@ -8,8 +8,8 @@ mod logs;
 mod proofs;
 mod trees;
 
-use case_tables::{Kinds, Sheet, Step, judge};
-use std::alloc::{AllocError, Global};
+use case_tables::{Kinds, Sheet, Step, Tried, judge};
+use std::alloc::Global;
 use std::process::ExitCode;
 
 /// The kinds of cases of this program.
@@ -22,7 +22,7 @@ impl Kinds for LogKinds {
         kind: &str,
         steps: &'a [Step<'a>],
         sheet: &mut Sheet<'a>,
-    ) -> Result<(), AllocError> {
+    ) -> Tried {
         match kind {
             "logs" => logs::answer(alloc, steps, sheet),
             "programs" => proofs::answer(alloc, steps, sheet),

@@ -1,54 +1,42 @@
 //! The program of a case, and the proofs and logs that its steps judge over it.
 use crate::checks::check;
 use crate::trees::{settle, tree};
-use case_programs::{is_part, program_of};
-use case_tables::{Sheet, Step};
+use case_programs::{Trial, answer_over, program_of};
+use case_tables::{Sheet, Step, Tried};
 use row_relax::Rows;
-use std::alloc::{AllocError, Global};
+use std::alloc::Global;
+
+/// The rows that proofs and logs are judged over.
+#[derive(Drop)]
+struct Judged {
+    rows: Rows,
+}
+
+impl Trial for Judged {
+    fn answer_step<'a>(&self, alloc: Global, verb: &str, sheet: &mut Sheet<'a>) -> Tried {
+        match verb {
+            "tree" => tree(alloc, &self.rows, sheet),
+            "settle" => settle(alloc, &self.rows, sheet),
+            "check" => check(alloc, &self.rows, sheet),
+            _ => {
+                sheet.refuse();
+                Ok(())
+            }
+        }
+    }
+}
 
 /// Prints what the steps give over the program that they say, or that it is out of bounds.
-pub fn answer<'a>(
-    alloc: Global,
-    steps: &'a [Step<'a>],
-    sheet: &mut Sheet<'a>,
-) -> Result<(), AllocError> {
-    match program_of(alloc, steps, sheet)? {
-        Some(program) => answer_over(alloc, &Rows { program }, steps, sheet),
-        None => {
-            sheet.line("out of bounds");
-            Ok(())
-        }
-    }
-}
-
-fn answer_over<'a>(
-    alloc: Global,
-    rows: &Rows,
-    steps: &'a [Step<'a>],
-    sheet: &mut Sheet<'a>,
-) -> Result<(), AllocError> {
-    for step in steps {
-        if !is_part(step.verb) {
-            sheet.begin(step);
-            answer_step(alloc, rows, step.verb, sheet)?;
-        }
-    }
-    Ok(())
-}
-
-fn answer_step(
-    alloc: Global,
-    rows: &Rows,
-    verb: &str,
-    sheet: &mut Sheet,
-) -> Result<(), AllocError> {
-    match verb {
-        "tree" => tree(alloc, rows, sheet),
-        "settle" => settle(alloc, rows, sheet),
-        "check" => check(alloc, rows, sheet),
-        _ => {
-            sheet.refuse();
-            Ok(())
-        }
-    }
+pub fn answer<'a>(alloc: Global, steps: &'a [Step<'a>], sheet: &mut Sheet<'a>) -> Tried {
+    let Some(program) = program_of(alloc, steps, sheet)? else {
+        sheet.line("out of bounds");
+        return Ok(());
+    };
+    let judged = Judged {
+        rows: Rows {
+            program,
+            choices: None,
+        },
+    };
+    answer_over(alloc, &judged, steps, sheet)
 }

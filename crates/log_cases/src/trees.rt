@@ -5,7 +5,7 @@ ghost use Rattle.row_relax.specs.View.{view_of, Fits};
 
 use crate::defects::put_defect;
 use case_programs::put_cap;
-use case_tables::Sheet;
+use case_tables::{Sheet, Tried};
 use log_lines::Limits;
 use proof_log::{LogStop, read_log};
 use proof_tree::{Relaxation, cap_of};
@@ -17,11 +17,12 @@ use std::alloc::{AllocError, Global};
 const LIMITS: Limits = Limits {
     rows: 45_904,
     slots: 512,
+    points: 512,
     depth: 4_608,
 };
 
 /// `tree`, over the lines of nodes: the cap of that proof over the root, or the first text defect behind the line `stn-log 2`.
-pub fn tree(alloc: Global, rows: &Rows, sheet: &mut Sheet) -> Result<(), AllocError> {
+pub fn tree(alloc: Global, rows: &Rows, sheet: &mut Sheet) -> Tried {
     let text = log_around(alloc, sheet.text())?;
     match read_log(alloc, text.as_bytes(), &LIMITS) {
         Ok(log) => put_root_cap(alloc, rows, &log.tree, sheet),
@@ -39,12 +40,7 @@ fn log_around(alloc: Global, nodes: &str) -> Result<String, AllocError> {
 }
 
 // The cap of a proof over the root.
-fn put_root_cap(
-    alloc: Global,
-    rows: &Rows,
-    proof: &RowProof,
-    sheet: &mut Sheet,
-) -> Result<(), AllocError> {
+fn put_root_cap(alloc: Global, rows: &Rows, proof: &RowProof, sheet: &mut Sheet) -> Tried {
     let mut area = rows.root_area(alloc)?;
     put_cap(cap_of(rows, &mut area, proof), sheet);
     Ok(())
@@ -52,7 +48,7 @@ fn put_root_cap(
 
 /// `settle PART PART`: what the box settles to that keeps these parts of its first two slots: `0` for that value, `+` for those
 /// above it, `*` for both.
-pub fn settle(alloc: Global, rows: &Rows, sheet: &mut Sheet) -> Result<(), AllocError> {
+pub fn settle(alloc: Global, rows: &Rows, sheet: &mut Sheet) -> Tried {
     let first = sheet.word();
     let second = sheet.word();
     let mut area = rows.root_area(alloc)?;

@@ -1,10 +1,7 @@
 -- The answer on a log that has come to its end.
 use Rattle.std.proofs.Common.{◌≡◌, ◌≢◌, inl, inr, ℕ, List, Option, Some, None, IfSome, refl, ap, sym, ◌∙◌, subst}
-use Rattle.std.specs.List.{All}
 use Rattle.row_kit.specs.declared.area.Area.{Area}
 use Rattle.row_kit.specs.declared.found.Found.{Found}
-use Rattle.row_kit.specs.declared.program.Program.{Program}
-use Rattle.row_kit.specs.Point.{IsLawful, worth_of}
 use Rattle.proof_tree.specs.declared.capped.Capped.{Capped}
 use Rattle.proof_tree.specs.declared.capped.Capped.TheVariants.{Bad}
 use Rattle.proof_tree.specs.Views.{View}
@@ -14,14 +11,11 @@ use Rattle.proof_tree.specs.Tree.{tree_cap}
 use Rattle.proof_tree.specs.Walk.{Outcome, ended, undefined, outcome_of, walked, start, stage_of}
 use Rattle.proof_tree.proofs.Forms.{whole_tree, whole-not_going}
 use Rattle.proof_tree.proofs.WalkLaw.{walked-whole}
-use Rattle.proof_tree.proofs.WalkTree.{walked-bounds, walked-is_tree}
+use Rattle.proof_tree.proofs.WalkTree.{walked-is_tree}
 use Rattle.row_relax.specs.declared.pick.RowPick.{RowPick}
-use Rattle.row_kit.specs.Domain.{IsNormal}
 use Rattle.row_relax.specs.declared.rows.Rows.{Rows}
-use Rattle.row_relax.specs.laws.Laws.{rows_sound}
-use Rattle.row_relax.specs.laws.Shown.{fits_of}
-use Rattle.row_relax.specs.Steps.{row_steps}
-use Rattle.row_relax.specs.View.{Fits, IsIn, view_of}
+use Rattle.row_relax.specs.Choices.{choices_of, steps_of}
+use Rattle.row_relax.specs.View.{view_of}
 use Rattle.stn_edge.specs.Files.{FileMap, file_of}
 use Rattle.proof_log.specs.Behind.{behind}
 use Rattle.log_lines.specs.TextDefect.{log_text_defect}
@@ -30,21 +24,18 @@ use Rattle.log_lines.specs.declared.defect.Defect.{Defect}
 use Rattle.row_relax.specs.RowProofs.{RowItem, RowTree}
 use Rattle.proof_log.specs.Log.{line_after}
 use Rattle.proof_log.specs.LogReading.{IsClean}
-use Rattle.plan_images.proofs.Imaging.{itself-relaxes}
-use Rattle.plan_images.proofs.Losing.{root-lies}
-use Rattle.plan_images.proofs.Telling.{borne, bounds-cap}
 use Rattle.log_check.specs.declared.course.Course.{Course}
 use Rattle.log_check.specs.declared.course.Course.TheVariants.{Going, Ended, Faulty}
 use Rattle.valid_log.specs.declared.verdict.LogVerdict.{LogVerdict}
 use Rattle.valid_log.specs.declared.verdict.LogVerdict.TheVariants.{Yes, No}
 use Rattle.valid_log.proofs.FoundSound.{claim_sound}
 use Rattle.log_check.specs.Course.{RowWalk, StandsAt, IsEndVerdict}
-use Rattle.valid_log.specs.Meaning.{RowSteps, HoldsOfPoints, ClaimDefect, IsSoundClaim, IsProved}
-use Rattle.valid_log.specs.Verdict.{IsLog, IsMeaningVerdict, IsVerdictGiven, IsVerdict, YesHolds, limits_of}
+use Rattle.valid_log.specs.Meaning.{RowSteps, ClaimDefect, IsSoundClaim, IsProved}
+use Rattle.valid_log.specs.Verdict.{IsBorneOut, IsLog, IsMeaningVerdict, IsVerdictGiven, IsVerdict, YesHolds, limits_of}
 
--- a text without a defect is that of a log over the program's slots
-log_of : (program : Program) (depth : ℕ) (bytes : List ℕ) (version : ℕ) (tree : RowTree) (claim : Claim) → IsClean (limits_of program depth) bytes version (tree_items tree) claim → IsLog program bytes tree claim
-log_of program depth bytes version tree claim clean = record {
+-- a text without a defect is that of a log over the rows's slots
+log_of : (rows : Rows) (depth : ℕ) (bytes : List ℕ) (version : ℕ) (tree : RowTree) (claim : Claim) → IsClean (limits_of rows depth) bytes version (tree_items tree) claim → IsLog rows bytes tree claim
+log_of rows depth bytes version tree claim clean = record {
   version = version;
   text = clean.text;
   over = record { items = clean.over; claim_over = clean.claim_over; lines = clean.lines };
@@ -60,65 +51,70 @@ ended_real s v items proof_cap led is =
     let clash : ◌≡◌ {A = Outcome RowPick} (ended proof_cap) undefined = same ∙ none in
     cc
 
--- what a sound claim of a proof says holds of all points
-pub proved_holds : (program : Program) (items : List RowItem) (proof_cap : Capped) (claim : Claim) → All IsNormal program.root → IsProved (row_steps program) program (view_of program.root) items proof_cap → IsSoundClaim program proof_cap claim → HoldsOfPoints program claim
-proved_holds program items proof_cap claim normal' proved sound =
-    borne (IsLawful program) (worth_of program) (λ point. point) proof_cap claim (ended_real (row_steps program) (view_of program.root) items proof_cap proved.led)
-    (bounds-cap (IsLawful program) (worth_of program) program (IsIn (view_of program.root)) proof_cap (itself-relaxes program) (root-lies program)
-    (walked-bounds Rows Area Found (row_steps program) (Fits program) IsIn (IsLawful program) (worth_of program) (rows_sound program) (view_of program.root) items proof_cap (fits_of program program.root refl normal') proved.led)) sound
+-- a sound claim of a proof is borne out
+proved_out : (rows : Rows) (items : List RowItem) (proof_cap : Capped) (claim : Claim) → IsProved (steps_of rows) (choices_of rows) (view_of rows.program.root) items proof_cap → IsSoundClaim (choices_of rows) proof_cap claim → IsBorneOut rows claim
+proved_out rows items proof_cap claim proved sound =
+    let s = steps_of rows in
+    let v = view_of rows.program.root in
+    let whole = walked-is_tree Rows Area Found s v items proof_cap proved.led in
+    record {
+      tree = whole.0;
+      defined = λ bad. ended_real s v items proof_cap proved.led (sym whole.2 ∙ bad);
+      borne = subst (λ (c : Capped). IsSoundClaim (choices_of rows) c claim) (sym whole.2) sound;
+    }
 
 -- the answer on a log that has come to its end is right of its text, which has no text defect
-meant_of : (program : Program) (depth : ℕ) (bytes : List ℕ) (version : ℕ) (tree : RowTree) (claim : Claim) (course : Course) (walk : RowWalk) (views : List View) (began : ℕ) (verdict : LogVerdict)
-    → IsClean (limits_of program depth) bytes version (tree_items tree) claim
-    → StandsAt (row_steps program) program (view_of program.root) (tree_items tree) course walk views → began ≡ line_after (tree_items tree)
-    → IsEndVerdict program course began claim verdict → IsMeaningVerdict program bytes verdict
-meant_of program depth bytes version tree claim Going walk views began verdict clean stand at answer = absurd answer
-meant_of program depth bytes version tree claim (Faulty defect) walk views began verdict clean stand at answer =
-    subst (IsMeaningVerdict program bytes) (sym answer) (record { tree = tree; claim = claim; is_log = log_of program depth bytes version tree claim clean; meaning = inl stand })
-meant_of program depth bytes version tree claim (Ended proof_cap) walk views began (Yes own) clean stand at answer = record {
+meant_of : (rows : Rows) (depth : ℕ) (bytes : List ℕ) (version : ℕ) (tree : RowTree) (claim : Claim) (course : Course) (walk : RowWalk) (views : List View) (began : ℕ) (verdict : LogVerdict)
+    → IsClean (limits_of rows depth) bytes version (tree_items tree) claim
+    → StandsAt (steps_of rows) (choices_of rows) (view_of rows.program.root) (tree_items tree) course walk views → began ≡ line_after (tree_items tree)
+    → IsEndVerdict (choices_of rows) course began claim verdict → IsMeaningVerdict rows bytes verdict
+meant_of rows depth bytes version tree claim Going walk views began verdict clean stand at answer = absurd answer
+meant_of rows depth bytes version tree claim (Faulty defect) walk views began verdict clean stand at answer =
+    subst (IsMeaningVerdict rows bytes) (sym answer) (record { tree = tree; claim = claim; is_log = log_of rows depth bytes version tree claim clean; meaning = inl stand })
+meant_of rows depth bytes version tree claim (Ended proof_cap) walk views began (Yes own) clean stand at answer = record {
   tree = tree;
-  is_log = subst (IsLog program bytes tree) (sym answer.0) (log_of program depth bytes version tree claim clean);
-  sound_log = record { proof_cap = proof_cap; proved = stand; sound = subst (λ c. (kind : ℕ) → ¬ ClaimDefect program proof_cap c kind) (sym answer.0) (claim_sound program proof_cap claim answer.1) };
+  is_log = subst (IsLog rows bytes tree) (sym answer.0) (log_of rows depth bytes version tree claim clean);
+  sound_log = record { proof_cap = proof_cap; proved = stand; sound = subst (λ c. (kind : ℕ) → ¬ ClaimDefect (choices_of rows) proof_cap c kind) (sym answer.0) (claim_sound (choices_of rows) proof_cap claim answer.1) };
 }
-meant_of program depth bytes version tree claim (Ended proof_cap) walk views began (No defect) clean stand at answer = record {
+meant_of rows depth bytes version tree claim (Ended proof_cap) walk views began (No defect) clean stand at answer = record {
   tree = tree;
   claim = claim;
-  is_log = log_of program depth bytes version tree claim clean;
+  is_log = log_of rows depth bytes version tree claim clean;
   meaning = inr (record { proof_cap = proof_cap; proved = stand; line = answer.0 ∙ at; has = answer.1 });
 }
 
 -- the answer on whole items and their claim is the verdict on the log behind a head of the file
-pub end_verdict : (told : Option FileMap) (name : List ℕ) (version head : ℕ) (program : Program) (depth own : ℕ) (items : List RowItem) (claim : Claim) (course : Course) (walk : RowWalk) (views : List View) (began : ℕ) (verdict : LogVerdict)
-    → AreWhole items → IfSome told (λ m. IsClean (limits_of program depth) (behind version head (file_of m name)) own items claim)
-    → StandsAt (row_steps program) program (view_of program.root) items course walk views → began ≡ line_after items
-    → IsEndVerdict program course began claim verdict → IfSome told (λ m. IsVerdict program depth (behind version head (file_of m name)) verdict)
-end_verdict None name version head program depth own items claim course walk views began verdict whole clean stand at answer = tt
-end_verdict (Some m) name version head program depth own items claim course walk views began verdict whole clean stand at answer =
+pub end_verdict : (told : Option FileMap) (name : List ℕ) (version head : ℕ) (rows : Rows) (depth own : ℕ) (items : List RowItem) (claim : Claim) (course : Course) (walk : RowWalk) (views : List View) (began : ℕ) (verdict : LogVerdict)
+    → AreWhole items → IfSome told (λ m. IsClean (limits_of rows depth) (behind version head (file_of m name)) own items claim)
+    → StandsAt (steps_of rows) (choices_of rows) (view_of rows.program.root) items course walk views → began ≡ line_after items
+    → IsEndVerdict (choices_of rows) course began claim verdict → IfSome told (λ m. IsVerdict rows depth (behind version head (file_of m name)) verdict)
+end_verdict None name version head rows depth own items claim course walk views began verdict whole clean stand at answer = tt
+end_verdict (Some m) name version head rows depth own items claim course walk views began verdict whole clean stand at answer =
     let tree = whole_tree items whole in
     let bytes = behind version head (file_of m name) in
-    subst (λ o. IsVerdictGiven program bytes o verdict) (sym clean.clean)
-    (meant_of program depth bytes own tree.0 claim course walk views began verdict
-    (subst (λ xs. IsClean (limits_of program depth) bytes own xs claim) tree.1 clean)
-    (subst (λ xs. StandsAt (row_steps program) program (view_of program.root) xs course walk views) tree.1 stand)
+    subst (λ o. IsVerdictGiven rows bytes o verdict) (sym clean.clean)
+    (meant_of rows depth bytes own tree.0 claim course walk views began verdict
+    (subst (λ xs. IsClean (limits_of rows depth) bytes own xs claim) tree.1 clean)
+    (subst (λ xs. StandsAt (steps_of rows) (choices_of rows) (view_of rows.program.root) xs course walk views) tree.1 stand)
     (subst (λ xs. began ≡ line_after xs) tree.1 at) answer)
 
 -- a text defect is the verdict on the log behind a head of the file
-pub bad_verdict : (told : Option FileMap) (name : List ℕ) (version head : ℕ) (program : Program) (depth : ℕ) (defect : Defect)
-    → IfSome told (λ m. log_text_defect (limits_of program depth) (behind version head (file_of m name)) ≡ Some (defect.line, defect.kind)) → IfSome told (λ m. IsVerdict program depth (behind version head (file_of m name)) (No defect))
-bad_verdict None name version head program depth defect is = tt
-bad_verdict (Some m) name version head program depth defect is = subst (λ o. IsVerdictGiven program (behind version head (file_of m name)) o (No defect)) (sym is) (refl, refl)
+pub bad_verdict : (told : Option FileMap) (name : List ℕ) (version head : ℕ) (rows : Rows) (depth : ℕ) (defect : Defect)
+    → IfSome told (λ m. log_text_defect (limits_of rows depth) (behind version head (file_of m name)) ≡ Some (defect.line, defect.kind)) → IfSome told (λ m. IsVerdict rows depth (behind version head (file_of m name)) (No defect))
+bad_verdict None name version head rows depth defect is = tt
+bad_verdict (Some m) name version head rows depth defect is = subst (λ o. IsVerdictGiven rows (behind version head (file_of m name)) o (No defect)) (sym is) (refl, refl)
 
--- where the answer is yes, what the claim says holds of all points
-pub end_holds : (program : Program) (items : List RowItem) (claim : Claim) (course : Course) (walk : RowWalk) (views : List View) (began : ℕ) (verdict : LogVerdict)
-    → All IsNormal program.root → StandsAt (row_steps program) program (view_of program.root) items course walk views → IsEndVerdict program course began claim verdict → YesHolds program verdict
-end_holds program items claim Going walk views began verdict normal' stand answer = absurd answer
-end_holds program items claim (Faulty defect) walk views began verdict normal' stand answer = subst (YesHolds program) (sym answer) tt
-end_holds program items claim (Ended proof_cap) walk views began (Yes own) normal' stand answer = subst (HoldsOfPoints program) (sym answer.0) (proved_holds program items proof_cap claim normal' stand answer.1)
-end_holds program items claim (Ended proof_cap) walk views began (No defect) normal' stand answer = tt
+-- where the answer is yes, the claim is borne out
+pub end_holds : (rows : Rows) (items : List RowItem) (claim : Claim) (course : Course) (walk : RowWalk) (views : List View) (began : ℕ) (verdict : LogVerdict)
+    → StandsAt (steps_of rows) (choices_of rows) (view_of rows.program.root) items course walk views → IsEndVerdict (choices_of rows) course began claim verdict → YesHolds rows verdict
+end_holds rows items claim Going walk views began verdict stand answer = absurd answer
+end_holds rows items claim (Faulty defect) walk views began verdict stand answer = subst (YesHolds rows) (sym answer) tt
+end_holds rows items claim (Ended proof_cap) walk views began (Yes own) stand answer = subst (IsBorneOut rows) (sym answer.0) (proved_out rows items proof_cap claim stand answer.1)
+end_holds rows items claim (Ended proof_cap) walk views began (No defect) stand answer = tt
 
 -- after whole items a check does not go on
-pub not_going : (program : Program) (items : List RowItem) (course : Course) (walk : RowWalk) (views : List View)
-    → AreWhole items → StandsAt (row_steps program) program (view_of program.root) items course walk views → course ≢ Going
-not_going program items Going walk views whole stand is = whole-not_going (row_steps program) (view_of program.root) items (stage_of walk views) whole stand.1
-not_going program items (Ended proof_cap) walk views whole stand is = cc
-not_going program items (Faulty defect) walk views whole stand is = cc
+pub not_going : (rows : Rows) (items : List RowItem) (course : Course) (walk : RowWalk) (views : List View)
+    → AreWhole items → StandsAt (steps_of rows) (choices_of rows) (view_of rows.program.root) items course walk views → course ≢ Going
+not_going rows items Going walk views whole stand is = whole-not_going (steps_of rows) (view_of rows.program.root) items (stage_of walk views) whole stand.1
+not_going rows items (Ended proof_cap) walk views whole stand is = cc
+not_going rows items (Faulty defect) walk views whole stand is = cc

@@ -3,7 +3,6 @@ use Rattle.std.proofs.Common.{◌≡◌, ◌≢◌, ℕ, ◌<◌, nat_lt, Bool, 
 use Rattle.std.proofs.lemmas.Bool.Decides.{nat_tests}
 use Rattle.row_kit.specs.Row.{row_at}
 use Rattle.row_kit.specs.declared.domain.Domain.{Domain}
-use Rattle.row_kit.specs.declared.program.Program.{Program}
 use Rattle.row_kit.specs.Domain.{up_to}
 use Rattle.range_prop.specs.Cut.{cut_domains}
 use Rattle.proof_tree.specs.declared.item.Item.TheVariants.{Node, Cut, Found as FoundItem, Empty, Dual, Point, Pending, Split}
@@ -11,6 +10,8 @@ use Rattle.proof_tree.specs.Form.{MayComeAfter}
 use Rattle.proof_tree.specs.Views.{View, present}
 use Rattle.proof_tree.specs.Walk.{stage_of}
 use Rattle.proof_tree.proofs.Forms.{going-may, ended-none}
+use Rattle.row_relax.specs.declared.rows.Rows.{Rows}
+use Rattle.row_relax.specs.Choices.{choices_of, steps_of}
 use Rattle.row_relax.specs.Steps.{row_steps, shown_if, kept_at, view_by}
 use Rattle.row_relax.specs.View.{Fits, domains_of}
 use Rattle.row_relax.specs.laws.Laws.{rows_sound}
@@ -32,29 +33,29 @@ shown true domains is none = cc
 shown false domains is none = cc
 
 -- what the limits allow to be named is there
-there_of : (program : Program) (depth : ℕ) (v : View) (item : RowItem) → Fits program v → IsThere (limits_of program depth) item → NamesWhatIsThere (row_steps program) v item
+there_of : (rows : Rows) (depth : ℕ) (v : View) (item : RowItem) → Fits rows.program v → IsThere (limits_of rows depth) item → NamesWhatIsThere (steps_of rows) v item
 unfolding row_steps
-there_of program depth v Node fit there = tt
-there_of program depth v (Cut cut) fit there =
+there_of rows depth v Node fit there = tt
+there_of rows depth v (Cut cut) fit there =
     let slot_in : cut.slot < length (domains_of v) = omega (arith, fit.slots, there.1) in
-    shown (nat_lt cut.row (length program.rows) && nat_lt cut.slot (length (domains_of v))) (cut_domains (row_at program.rows cut.row) cut.slot (domains_of v))
-    (both_true (nat_lt cut.row (length program.rows)) (nat_lt cut.slot (length (domains_of v))) (test_true cut.row (length program.rows) there.0) (test_true cut.slot (length (domains_of v)) slot_in))
-there_of program depth v (FoundItem found) fit there = tt
-there_of program depth v Empty fit there = tt
-there_of program depth v (Dual cert) fit there = tt
-there_of program depth v Point fit there = tt
-there_of program depth v (Pending cert) fit there = tt
-there_of program depth v (Split pick cert) fit there =
-    let rest = view_by program v cert pick.floor in
-    let fit_rest : Fits program rest = (rows_sound program).trim_fits v pick cert fit in
+    shown (nat_lt cut.row (length rows.program.rows) && nat_lt cut.slot (length (domains_of v))) (cut_domains (row_at rows.program.rows cut.row) cut.slot (domains_of v))
+    (both_true (nat_lt cut.row (length rows.program.rows)) (nat_lt cut.slot (length (domains_of v))) (test_true cut.row (length rows.program.rows) there.0) (test_true cut.slot (length (domains_of v)) slot_in))
+there_of rows depth v (FoundItem found) fit there = tt
+there_of rows depth v Empty fit there = tt
+there_of rows depth v (Dual cert) fit there = tt
+there_of rows depth v Point fit there = tt
+there_of rows depth v (Pending cert) fit there = tt
+there_of rows depth v (Split pick cert) fit there =
+    let rest = view_by rows.program v cert pick.floor in
+    let fit_rest : Fits rows.program rest = (rows_sound rows.program).trim_fits v pick cert fit in
     let slot_in : pick.slot < length (domains_of rest) = omega (arith, fit_rest.slots, there) in
     shown (nat_lt pick.slot (length (domains_of rest))) (kept_at (domains_of rest) pick.slot (up_to pick.max)) (test_true pick.slot (length (domains_of rest)) slot_in)
 
-pub may_take : (program : Program) (depth : ℕ) (root : View) (items : List RowItem) (item : RowItem) (course : Course) (walk : RowWalk) (views : List View)
-    → Fits program (present views) → StandsAt (row_steps program) program root items course walk views
-    → MayComeAfter items item → IsThere (limits_of program depth) item → MayTake (row_steps program) course walk (present views) item
-may_take program depth root items item Going walk views fit stand may there =
-    (going-may (row_steps program) root items (stage_of walk views) item stand.1 may, there_of program depth (present views) item fit there)
-may_take program depth root items item (Ended proof_cap) walk views fit stand may there =
-    absurd (ended-none (row_steps program) root items proof_cap item stand.led may)
-may_take program depth root items item (Faulty defect) walk views fit stand may there = tt
+pub may_take : (rows : Rows) (depth : ℕ) (root : View) (items : List RowItem) (item : RowItem) (course : Course) (walk : RowWalk) (views : List View)
+    → Fits rows.program (present views) → StandsAt (steps_of rows) (choices_of rows) root items course walk views
+    → MayComeAfter items item → IsThere (limits_of rows depth) item → MayTake (steps_of rows) course walk (present views) item
+may_take rows depth root items item Going walk views fit stand may there =
+    (going-may (steps_of rows) root items (stage_of walk views) item stand.1 may, there_of rows depth (present views) item fit there)
+may_take rows depth root items item (Ended proof_cap) walk views fit stand may there =
+    absurd (ended-none (steps_of rows) root items proof_cap item stand.led may)
+may_take rows depth root items item (Faulty defect) walk views fit stand may there = tt

@@ -15,8 +15,8 @@ pub fn check_bytes(
     depth: u32,
     bytes: &[u8],
 ) -> Result<LogVerdict, AllocError>
-    ensures verdict { IfOk result (IsVerdict rows.now.program depth bytes.now) }
-    ensures holds { IfOk result (YesHolds rows.now.program) }
+    ensures verdict { IfOk result (IsVerdict rows.now depth bytes.now) }
+    ensures holds { IfOk result (YesHolds rows.now) }
 {
     let mut shelf = FixedShelf::new(alloc);
     shelf.put_file("log", bytes)?;

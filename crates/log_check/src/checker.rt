@@ -1,7 +1,7 @@
 //! The check of a proof's items, one at a time.
 ghost use Rattle.std.specs.Prelude.{map, ◌≡◌, ℕ, List as Items, [], ◌∷◌, ◌++◌, MatchOption, None, IfOk, OnOk, IsTrue};
 ghost use Rattle.proof_tree.specs.Views.{View, present};
-ghost use Rattle.row_relax.specs.Steps.{row_steps};
+ghost use Rattle.row_relax.specs.Choices.{choices_of, steps_of};
 ghost use Rattle.row_relax.specs.View.{Fits, view_of};
 ghost use Rattle.proof_tree.specs.Walk.{IsAnswer, Stands, may_come, stage_of, step};
 ghost use Rattle.row_relax.specs.RowProofs.{RowItem};
@@ -14,8 +14,8 @@ use crate::course::Course;
 use crate::points::found_defect;
 use log_lines::Defect;
 use proof_tree::{Expected, Item, Relaxation, Took, Walk};
-use row_kit::{Area, Program};
-use row_relax::Rows;
+use row_kit::Area;
+use row_relax::{Rows, choices_of};
 use row_rooms::RowRooms;
 use std::alloc::{AllocError, Global};
 
@@ -31,17 +31,22 @@ pub struct Checker {
 /// The defect of an item that shows before the walk takes it: that of a found point, or an empty domain under a certificate.
 fn defect_before(rows: &Rows, rooms: &mut RowRooms, area: &Area, item: &Item<Rows>) -> Option<u8>
     requires fits { Fits rows.now.program (present (map view_of area.now)) }
-    requires rooms { IsRoomsOf rows.now.program rooms.old }
-    ensures rooms { IsRoomsOf rows.now.program rooms.new }
+    requires rooms { IsRoomsOf (choices_of rows.now) rooms.old }
+    ensures rooms { IsRoomsOf (choices_of rows.now) rooms.new }
     ensures defect { MatchOption result
-        (IsTested (row_steps rows.now.program) rows.now.program (present (map view_of area.now))
+        (IsTested (steps_of rows.now) (choices_of rows.now) (present (map view_of area.now))
         item.now)
-        (λ kind. ItemDefect (row_steps rows.now.program) rows.now.program
+        (λ kind. ItemDefect (steps_of rows.now) (choices_of rows.now)
         (present (map view_of area.now)) item.now kind) }
 {
     match item {
         Item::Found(found) => {
-            found_defect(rooms, &rows.program, &found.value, found.point.as_slice())
+            found_defect(
+                rooms,
+                choices_of(rows),
+                &found.value,
+                found.point.as_slice(),
+            )
         }
         Item::Dual(_) | Item::Pending(_) => { if rows.empty(area) { Some(11) } else { None } }
         Item::Node | Item::Cut(_) | Item::Empty | Item::Point | Item::Split(_, _) => None,
@@ -81,14 +86,14 @@ impl Checker {
         ensures first { IfOk result (λ checker. checker.walk.first ≡ None) }
         ensures splits { IfOk result (λ checker. checker.walk.splits ≡ []) }
         ensures expected { IfOk result (λ checker. checker.walk.expected ≡ Expected.Node) }
-        ensures rooms { IfOk result (λ checker. IsRoomsOf rows.now.program checker.rooms) }
+        ensures rooms { IfOk result (λ checker. IsRoomsOf (choices_of rows.now) checker.rooms) }
     {
         let area = rows.root_area(alloc)?;
         Ok(Checker {
             area,
             walk: Walk::new(alloc),
             course: Course::Going,
-            rooms: RowRooms::new(alloc, &rows.program)?,
+            rooms: RowRooms::new(alloc, choices_of(rows))?,
         })
     }
 
@@ -103,22 +108,22 @@ impl Checker {
     /// After a defect it changes nothing.
     pub fn take(&mut self, rows: &Rows, line: u64, item: Item<Rows>) -> Result<(), AllocError>
         requires fits { Fits rows.now.program (present (map view_of self.old.area)) }
-        requires ready { IsReady (row_steps rows.now.program) self.old.course self.old.walk
+        requires ready { IsReady (steps_of rows.now) self.old.course self.old.walk
             (map view_of self.old.area) }
-        requires may { MayTake (row_steps rows.now.program) self.old.course self.old.walk
+        requires may { MayTake (steps_of rows.now) self.old.course self.old.walk
             (present (map view_of self.old.area)) item }
-        requires rooms { IsRoomsOf rows.now.program self.old.rooms }
+        requires rooms { IsRoomsOf (choices_of rows.now) self.old.rooms }
         ensures fits { Fits rows.now.program (present (map view_of self.new.area)) }
-        ensures rooms { IsRoomsOf rows.now.program self.new.rooms }
+        ensures rooms { IsRoomsOf (choices_of rows.now) self.new.rooms }
         ensures ready { OnOk result
-            (IsReady (row_steps rows.now.program) self.new.course self.new.walk
+            (IsReady (steps_of rows.now) self.new.course self.new.walk
             (map view_of self.new.area)) }
         ensures stands { OnOk result ((root : View) (items : Items RowItem)
             → line ≡ line_after items
-            → StandsAt (row_steps rows.now.program) rows.now.program root items self.old.course
+            → StandsAt (steps_of rows.now) (choices_of rows.now) root items self.old.course
             self.old.walk
             (map view_of self.old.area)
-            → StandsAt (row_steps rows.now.program) rows.now.program root (items
+            → StandsAt (steps_of rows.now) (choices_of rows.now) root (items
             ++ item ∷ []) self.new.course self.new.walk
             (map view_of self.new.area)) }
     {
@@ -132,22 +137,22 @@ impl Checker {
     // Takes an item that may come, before any defect.
     fn advance(&mut self, rows: &Rows, line: u64, item: &Item<Rows>) -> Result<(), AllocError>
         requires fits { Fits rows.now.program (present (map view_of self.old.area)) }
-        requires ready { Stands (row_steps rows.now.program) self.old.walk
+        requires ready { Stands (steps_of rows.now) self.old.walk
             (map view_of self.old.area) }
-        requires may { MayTake (row_steps rows.now.program) Course.Going self.old.walk
+        requires may { MayTake (steps_of rows.now) Course.Going self.old.walk
             (present (map view_of self.old.area)) item.now }
-        requires rooms { IsRoomsOf rows.now.program self.old.rooms }
+        requires rooms { IsRoomsOf (choices_of rows.now) self.old.rooms }
         ensures fits { Fits rows.now.program (present (map view_of self.new.area)) }
-        ensures rooms { IsRoomsOf rows.now.program self.new.rooms }
+        ensures rooms { IsRoomsOf (choices_of rows.now) self.new.rooms }
         ensures ready { OnOk result
-            (IsReady (row_steps rows.now.program) self.new.course self.new.walk
+            (IsReady (steps_of rows.now) self.new.course self.new.walk
             (map view_of self.new.area)) }
         ensures stands { OnOk result ((root : View) (items : Items RowItem)
             → line ≡ line_after items
-            → StandsAt (row_steps rows.now.program) rows.now.program root items Course.Going
+            → StandsAt (steps_of rows.now) (choices_of rows.now) root items Course.Going
             self.old.walk
             (map view_of self.old.area)
-            → StandsAt (row_steps rows.now.program) rows.now.program root (items
+            → StandsAt (steps_of rows.now) (choices_of rows.now) root (items
             ++ item.now ∷ []) self.new.course self.new.walk
             (map view_of self.new.area)) }
     {
@@ -160,23 +165,23 @@ impl Checker {
         Ok(())
     }
 
-    // Has the walk take an item. What the only point of an area is worth is found from the point that was tested before.
+    // Has the walk take an item. What an area settles to is found from the point that was tested before.
     fn walk_on(&mut self, rows: &Rows, item: &Item<Rows>) -> Result<Took, AllocError>
         requires fits { Fits rows.now.program (present (map view_of self.old.area)) }
-        requires stands { Stands (row_steps rows.now.program) self.old.walk
+        requires stands { Stands (steps_of rows.now) self.old.walk
             (map view_of self.old.area) }
         requires comes { IsTrue (may_come self.old.walk.expected item.now) }
-        requires rooms { IsRoomsOf rows.now.program self.old.rooms }
+        requires rooms { IsRoomsOf (choices_of rows.now) self.old.rooms }
         ensures fits { Fits rows.now.program (present (map view_of self.new.area)) }
-        ensures stands { Stands (row_steps rows.now.program) self.new.walk
+        ensures stands { Stands (steps_of rows.now) self.new.walk
             (map view_of self.new.area) }
-        ensures rooms { IsRoomsOf rows.now.program self.new.rooms }
+        ensures rooms { IsRoomsOf (choices_of rows.now) self.new.rooms }
         ensures step { IfOk result (λ took. IsAnswer took self.new.walk (map view_of self.new.area)
-            (step (row_steps rows.now.program) (stage_of self.old.walk (map view_of self.old.area))
+            (step (steps_of rows.now) (stage_of self.old.walk (map view_of self.old.area))
             item.now)) }
     {
         if let Item::Point = item {
-            let cap = self.rooms.settle(&rows.program, &self.area);
+            let cap = self.rooms.settle(rows, &self.area);
             return Ok(self.walk.take_point(rows, &mut self.area, cap));
         }
         self.walk.take(rows, &mut self.area, item)

@@ -14,18 +14,19 @@ use log_lines::{Defect, Limits};
 use proof_log::{Claim, LogPart, LogReader};
 use proof_tree::Capped;
 use row_kit::Program;
-use row_relax::Rows;
+use row_relax::{Rows, choices_of};
 use std::alloc::Global;
 use stn_edge::Shelf;
 use valid_log::LogVerdict;
 
-/// The limits of a program's logs.
-fn limits_of(program: &Program, depth: u32) -> Limits
-    ensures { result ≡ limits_of program.now depth }
+/// The limits of logs over rows.
+fn limits_of(rows: &Rows, depth: u32) -> Limits
+    ensures { result ≡ limits_of rows.now depth }
 {
     Limits {
-        rows: program.rows.len() as u32,
-        slots: program.root.len() as u32,
+        rows: rows.program.rows.len() as u32,
+        slots: rows.program.root.len() as u32,
+        points: choices_of(rows).root.len() as u32,
         depth,
     }
 }
@@ -63,7 +64,8 @@ fn verdict(program: &Program, course: Course, began: u64, claim: Option<Claim>) 
 /// slot, and where its point is lawful the worth.
 ///
 /// The answer is the first text defect of the log, where there is none the first meaning defect, and where there is none its
-/// claim: then what the claim says holds of all points. `Fault` comes only where a read failed.
+/// claim: then a proof over the rows has a cap that bears the claim out. Points are judged by the rows' choices. `Fault` comes only
+/// where a read failed.
 pub fn check_rows<F: Shelf>(
     alloc: Global,
     rows: &Rows,
@@ -73,8 +75,8 @@ pub fn check_rows<F: Shelf>(
 ) -> Result<LogVerdict, CheckStop>
     requires { IsTrue (F.may_read files.old name.now) }
     ensures verdict { IfOk result (λ verdict. IfSome (F.files files.old)
-        (λ m. IsVerdict rows.now.program depth (file_of m name.now) verdict)) }
-    ensures holds { IfOk result (YesHolds rows.now.program) }
+        (λ m. IsVerdict rows.now depth (file_of m name.now) verdict)) }
+    ensures holds { IfOk result (YesHolds rows.now) }
     ensures fault { result ≡ Err CheckStop.Fault
         → Rose (F.read_faults files.old) (F.read_faults files.new) }
     ensures same { F.files files.new ≡ F.files files.old }
@@ -100,8 +102,8 @@ pub fn check_behind<F: Shelf>(
 ) -> Result<LogVerdict, CheckStop>
     requires { IsTrue (F.may_read files.old name.now) }
     ensures verdict { IfOk result (λ verdict. IfSome (F.files files.old)
-        (λ m. IsVerdict rows.now.program depth (behind version head (file_of m name.now)) verdict)) }
-    ensures holds { IfOk result (YesHolds rows.now.program) }
+        (λ m. IsVerdict rows.now depth (behind version head (file_of m name.now)) verdict)) }
+    ensures holds { IfOk result (YesHolds rows.now) }
     ensures fault { result ≡ Err CheckStop.Fault
         → Rose (F.read_faults files.old) (F.read_faults files.new) }
     ensures same { F.files files.new ≡ F.files files.old }
@@ -110,12 +112,7 @@ pub fn check_behind<F: Shelf>(
     ensures later { F.read_faults files.old ≤ F.read_faults files.new }
     ensures no_write { F.write_faults files.new ≡ F.write_faults files.old }
 {
-    let mut reader = LogReader::begin_behind(
-        alloc,
-        limits_of(&rows.program, depth),
-        version,
-        head,
-    )?;
+    let mut reader = LogReader::begin_behind(alloc, limits_of(rows, depth), version, head)?;
     let mut checker = Checker::new(alloc, rows)?;
     let mut began = 0;
     let mut claimed = None;
@@ -127,7 +124,7 @@ pub fn check_behind<F: Shelf>(
                 claimed = Some(claim);
             }
             LogPart::End { version: _ } => {
-                return Ok(verdict(&rows.program, checker.course(), began, claimed));
+                return Ok(verdict(choices_of(rows), checker.course(), began, claimed));
             }
             LogPart::Bad(defect) => return Ok(LogVerdict::No(defect)),
         }

@@ -2,7 +2,7 @@
 //!
 //! `check_rows` reads a log in a file once, part by part, and `check_behind` one that stands behind a head of its file;
 //! `check_bytes` takes one as bytes, and `check_log` as a proof and a claim.
-//! They answer as `valid_log` says is right: where it is yes, what the claim says holds of all points, and where it is no, it
+//! They answer as `valid_log` says is right: where it is yes, a proof over the rows bears the claim out, and where it is no, it
 //! names the first defect.
 #![tactic(auto)]
 

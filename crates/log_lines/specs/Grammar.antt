@@ -119,9 +119,13 @@ first_kind (test ∷ tests) = if test.0 then Some test.1 else first_kind tests
 abbrev pub row_test : Limits → ℕ → Bool × ℕ
 row_test limits row = (nat_le limits.rows row, 4)
 
--- the test of a slot: kind 5 where it is not there
+-- the test of the slot of a cut or a split: kind 5 where it is not there
 abbrev pub slot_test : Limits → ℕ → Bool × ℕ
 slot_test limits slot = (nat_le limits.slots slot, 5)
+
+-- the test of a slot of a point: kind 5 where points have no such slot
+abbrev pub point_test : Limits → ℕ → Bool × ℕ
+point_test limits slot = (nat_le limits.points slot, 5)
 
 -- the tests of a certificate: kind 7 for a scale above 1,048,576, kind 8 for more than 50,000 multipliers
 abbrev pub cert_tests : ℕ → ℕ → List (Bool × ℕ)
@@ -132,7 +136,7 @@ cert_tests scale count = (nat_lt 1048576 scale, 7) ∷ (nat_lt 50000 count, 8) �
 abbrev pub tests_of : Limits → ℕ → Line → List (Bool × ℕ)
 tests_of limits opened Node = (nat_lt limits.depth opened, 9) ∷ []
 tests_of limits _ (Cut row slot) = row_test limits row ∷ slot_test limits slot ∷ []
-tests_of limits _ (Value slot _) = slot_test limits slot ∷ []
+tests_of limits _ (Value slot _) = point_test limits slot ∷ []
 tests_of _ _ (Dual scale count) = cert_tests scale count
 tests_of _ _ (Pending scale count) = cert_tests scale count
 tests_of limits _ (Split slot _ scale count) = slot_test limits slot ∷ cert_tests scale count

@@ -58,8 +58,11 @@ pub struct Limits {
     /// Rows are below this.
     pub rows: u32,
 
-    /// Slots are below this.
+    /// The slots of cuts and splits are below this.
     pub slots: u32,
+
+    /// The slots of the points of groups are below this: so many values a point has.
+    pub points: u32,
 
     /// So many splits may be open at a node line.
     pub depth: u32,

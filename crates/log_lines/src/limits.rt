@@ -1,7 +1,7 @@
 //! Which numbers of a line are too large.
-ghost use Rattle.std.specs.Prelude.{◌≡◌, ◌∷◌, [], nat_lt};
+ghost use Rattle.std.specs.Prelude.{◌≡◌, ◌∷◌, [], nat_le, nat_lt};
 ghost use Rattle.log_lines.specs.declared.line.Line.TheVariants as line;
-ghost use Rattle.log_lines.specs.Grammar.{first_kind, row_test, slot_test, cert_tests, over_at};
+ghost use Rattle.log_lines.specs.Grammar.{first_kind, row_test, cert_tests, over_at};
 
 use crate::grammar::Limits;
 use crate::kinds::{
@@ -18,9 +18,9 @@ pub(crate) fn over(limits: &Limits, opened: usize, line: &Line) -> Option<u8>
         Line::Node => too_deep(limits, opened),
         Line::Cut { row, slot } => match row_number(limits, row) {
             Some(kind) => Some(kind),
-            None => slot_number(limits, slot),
+            None => slot_number(limits.slots, slot),
         },
-        Line::Value { slot, quanta: _ } => slot_number(limits, slot),
+        Line::Value { slot, quanta: _ } => slot_number(limits.points, slot),
         Line::Dual { scale, count } => cert_size(scale, count),
         Line::Pending { scale, count } => cert_size(scale, count),
         Line::Split {
@@ -28,7 +28,7 @@ pub(crate) fn over(limits: &Limits, opened: usize, line: &Line) -> Option<u8>
             max: _,
             scale,
             count,
-        } => match slot_number(limits, slot) {
+        } => match slot_number(limits.slots, slot) {
             Some(kind) => Some(kind),
             None => cert_size(scale, count),
         },
@@ -60,10 +60,10 @@ fn row_number(limits: &Limits, row: u128) -> Option<u8>
     }
 }
 
-fn slot_number(limits: &Limits, slot: u128) -> Option<u8>
-    ensures { result ≡ first_kind (slot_test limits.now slot ∷ []) }
+fn slot_number(slots: u32, slot: u128) -> Option<u8>
+    ensures { result ≡ first_kind ((nat_le slots slot, 5) ∷ []) }
 {
-    if slot >= u128::from(limits.slots) {
+    if slot >= u128::from(slots) {
         Some(SLOT_NUMBER)
     } else {
         None

@@ -60,12 +60,12 @@ read_stays head name limits items claim r old new same read = record {
 }
 
 -- the items whose lines stand in front of the text of a log are its first items
-front_at : (limits : Limits) (version : ℕ) (p : Place) (group : Group) (claim : Option Claim) (bytes rest : List ℕ) (tree : RowTree) (items : List RowItem) (lines : List Line) → IsLogOf limits bytes tree → All (IsOver limits.slots) items → IsFresh p items
+front_at : (limits : Limits) (version : ℕ) (p : Place) (group : Group) (claim : Option Claim) (bytes rest : List ℕ) (tree : RowTree) (items : List RowItem) (lines : List Line) → IsLogOf limits bytes tree → All (IsOver limits.points) items → IsFresh p items
     → lines ≡ lines_at version p items group claim → All IsLine lines → bytes ≡ lines_text lines ++ rest → (later : List RowItem) × (tree_items tree ≡ items ++ later)
 front_at limits version place.Header group claim bytes rest tree items lines is over fresh listed written read =
     (tree_items tree, sym (ap (λ (own : List RowItem). own ++ tree_items tree) fresh))
 front_at limits version p group claim bytes rest tree items lines is over fresh listed written read =
-    items_read limits.slots is.version version tree is.claim items (tail_lines group claim p) rest is.over over (subst (All IsLine) listed written)
+    items_read limits.points is.version version tree is.claim items (tail_lines group claim p) rest is.over over (subst (All IsLine) listed written)
     (sym is.text ∙ read ∙ ap (λ (own : List Line). lines_text own ++ rest) listed)
 
 -- what a reader has read of a log are its first items
@@ -73,7 +73,7 @@ pub front_read : (limits : Limits) (head : ℕ) (name : List ℕ) (m : FileMap) 
     → (later : List RowItem) × (tree_items tree ≡ items ++ later)
 front_read limits head name m items claim r tree is read =
     let g = r.gatherer in
-    let over : All (IsOver limits.slots) items = subst (λ (l : Limits). All (IsOver l.slots) items) read.limited read.gathered.over in
+    let over : All (IsOver limits.points) items = subst (λ (l : Limits). All (IsOver l.points) items) read.limited read.gathered.over in
     front_at limits g.grammar.version g.grammar.place g.group claim (behind 4 head (file_of m name)) (drop r.lines.place (file_of m name)) tree items read.lines is over read.gathered.fresh read.gathered.listed read.gathered.written read.read
 
 -- A reader under the limits has read items of a file that may be told, and a writer, which began with others, has them too.
@@ -123,12 +123,12 @@ copied_end limits head name (Some m) (Some n) writer later r s version on part =
     let found = whole_tree on.items part.0 in
     let text : log_text is.version (tree_items tree) is.claim ≡ log_text version (tree_items found.0) part.1.0 ++ [] =
     sym is.text ∙ sym (ap (behind 4 head) here) ∙ clean.text ∙ ap (λ (items : List RowItem). log_text version items part.1.0) found.1 ∙ sym (append-nil (log_text version (tree_items found.0) part.1.0)) in
-    let over : IsLogOver limits.slots version found.0 part.1.0 = record {
-      items = subst (All (IsOver limits.slots)) found.1 clean.over;
+    let over : IsLogOver limits.points version found.0 part.1.0 = record {
+      items = subst (All (IsOver limits.points)) found.1 clean.over;
       claim_over = clean.claim_over;
       lines = subst (λ (items : List RowItem). All IsLine (log_lines version items part.1.0)) found.1 clean.lines;
     } in
-    let one = logs_same limits.slots is.version version tree found.0 is.claim part.1.0 [] is.over over text in
+    let one = logs_same limits.points is.version version tree found.0 is.claim part.1.0 [] is.over over text in
     let items_are : on.items ≡ tree_items tree = found.1 ∙ ap tree_items (sym one.tree_same) in
     (refl, subst (λ (items : List RowItem). HasItems front later (Some n) (before ++ items)) items_are (on.has front before has))
 

@@ -1,15 +1,19 @@
 -- Where the heads of two logs differ.
-use Rattle.std.proofs.Common.{◌≡◌, ◌≢◌, ◌∙◌, ℕ, suc, ◌+◌, ◌-◌, ◌<◌, ◌≤◌, List, [], ◌∷◌, ◌++◌, length, length-append, map, take, drop, get_or, Some, refl, sym, ap, ap₂, inl, inr, arith}
+use Rattle.std.proofs.Common.{◌≡◌, ◌≢◌, ◌∙◌, ℕ, suc, ◌+◌, ◌-◌, ◌<◌, ◌≤◌, List, [], ◌∷◌, ◌++◌, append-nil, length, length-append, map, flat_map, take, drop, get_or, Some, refl, sym, ap, ap₂, inl, inr, arith}
 use Rattle.std.proofs.Math.Seq.{split_at}
 use Rattle.std.proofs.lemmas.List.{get_or_append_left, get_or-append_right, get_or-map, length-drop, length-map, length-take-le, take-append-drop, take_all, take_more_same}
 use Rattle.std.proofs.lemmas.Option.{slice_get-get_or}
-use Rattle.std.specs.Prelude.{slice_get, slice_index_or}
+use Rattle.std.specs.Prelude.{⊤, slice_get, slice_index_or}
+use Rattle.std.specs.List.{range_with_len}
+use Rattle.std.proofs.lemmas.Bool.{cases_lt}
+use Rattle.std.proofs.lemmas.Grind.{flat_map-append}
+use Rattle.std.proofs.lemmas.List.FromFn.{length-range_with_len}
 use Rattle.sum_slots.specs.declared.sum.Sum.{Sum}
 use Rattle.sum_lines.specs.Head.{begins_on, lines_of}
 use Rattle.derivations.specs.declared.derivation.Derivation.{Derivation}
 use Rattle.derivation_lines.specs.Tail.{begins_on as derivations_begin_on, derivation_lines}
 use Rattle.log_parts.specs.declared.heads.Declared.{Declared}
-use Rattle.log_parts.specs.Heads.{Item, OfSum, Derived, items_of, lines_on}
+use Rattle.log_parts.specs.Heads.{Item, OfSum, OfUnit, Derived, behind_sums, items_of, lines_behind, lines_on}
 use Rattle.log_parts.specs.OtherHeads.{AreOther}
 
 -- ---- lists that differ
@@ -102,101 +106,212 @@ derivations_long : (first : ℕ) (derivations : List Derivation) → length (der
 derivations_long first [] = refl
 derivations_long first (derivation ∷ later) = ap suc (derivations_long (first + length (derivation_lines derivation)) later)
 
--- as many items as sums and derivations
-pub items_long : (declared : Declared) → length (items_of declared) ≡ length declared.sums + length declared.derivations
-items_long declared =
-    let all = length-append (map OfSum declared.sums) (map Derived declared.derivations) in
-    let one = length-map declared.sums OfSum in
+-- as many items behind the sums as setups and derivations
+behind_long : (declared : Declared) → length (behind_sums declared) ≡ length declared.units + length declared.derivations
+behind_long declared =
+    let all = length-append (map OfUnit declared.units) (map Derived declared.derivations) in
+    let one = length-map declared.units OfUnit in
     let other = length-map declared.derivations Derived in
     omega (arith, all, one, other)
 
+-- and with the sums
+pub items_long : (declared : Declared) → length (items_of declared) ≡ length declared.sums + (length declared.units + length declared.derivations)
+items_long declared =
+    let all = length-append (map OfSum declared.sums) (behind_sums declared) in
+    let one = length-map declared.sums OfSum in
+    omega (arith, all, one, behind_long declared)
+
 -- and as many lines
+lines_behind_long : (first : ℕ) (declared : Declared) → length (lines_behind first declared) ≡ length declared.units + length declared.derivations
+lines_behind_long first declared =
+    let units = range_with_len first (length declared.units) in
+    let second = derivations_begin_on (first + length declared.units) declared.derivations in
+    omega (arith, length-append units second, length-range_with_len first (length declared.units), derivations_long (first + length declared.units) declared.derivations)
+
 pub lines_long : (declared : Declared) → length (lines_on declared) ≡ length (items_of declared)
 lines_long declared =
-    let second = derivations_begin_on (2 + length (lines_of declared.sums)) declared.derivations in
-    omega (arith, length-append (begins_on 2 declared.sums) second, sums_long 2 declared.sums, derivations_long (2 + length (lines_of declared.sums)) declared.derivations, items_long declared)
+    let second = lines_behind (2 + length (lines_of declared.sums)) declared in
+    omega (arith, length-append (begins_on 2 declared.sums) second, sums_long 2 declared.sums, lines_behind_long (2 + length (lines_of declared.sums)) declared, items_long declared)
 
--- the item at the place of a sum
-pub item_sum : (declared : Declared) (place : ℕ) (sum : Sum) → place < length declared.sums → slice_get (items_of declared) place ≡ Some (OfSum (get_or declared.sums place sum))
-item_sum declared place sum low =
-    let first = map OfSum declared.sums in
-    let within : place < length first = omega (arith, low, length-map declared.sums OfSum) in
-    let all : place < length (items_of declared) = omega (arith, low, items_long declared) in
-    slice_get-get_or (items_of declared) place (OfSum sum) all
-    ∙ ap Some (get_or_append_left first (map Derived declared.derivations) (OfSum sum) place within ∙ get_or-map OfSum declared.sums place sum (OfSum sum) low)
+-- ---- the item at a place
 
--- and that at the place of a derivation
-pub item_derivation : (declared : Declared) (place : ℕ) (derivation : Derivation) → length declared.sums ≤ place → place < length (items_of declared)
-    → slice_get (items_of declared) place ≡ Some (Derived (get_or declared.derivations (place - length declared.sums) derivation))
-item_derivation declared place derivation high all =
-    let first = map OfSum declared.sums in
-    let long : length first ≡ length declared.sums = length-map declared.sums OfSum in
-    let within : place - length declared.sums < length declared.derivations = omega (arith, all, high, items_long declared) in
-    slice_get-get_or (items_of declared) place (Derived derivation) all
-    ∙ ap Some (get_or-append_right first (map Derived declared.derivations) (length declared.sums) place (Derived derivation) long high
-    ∙ get_or-map Derived declared.derivations (place - length declared.sums) derivation (Derived derivation) within)
+-- items that are made of others, and more behind them
+module _ {X Y : Type 0} (make : X → Y) (xs : List X) (more : List Y) where
+  -- the first are those
+  pub at_first : (place : ℕ) (x : X) → place < length xs → slice_get (map make xs ++ more) place ≡ Some (make (get_or xs place x))
+  at_first place x low =
+      let first = map make xs in
+      let within : place < length first = omega (arith, low, length-map xs make) in
+      let all : place < length (first ++ more) = omega (arith, within, length-append first more) in
+      slice_get-get_or (first ++ more) place (make x) all
+      ∙ ap Some (get_or_append_left first more (make x) place within ∙ get_or-map make xs place x (make x) low)
 
--- some item of a list
-some_of : {X : Type 0} (xs : List X) (place : ℕ) → place < length xs → X
-some_of [] place within = absurd (omega (arith, within))
-some_of (x ∷ xs) place within = x
+  -- and behind them stand the others
+  pub at_rest : (place : ℕ) → length xs ≤ place → place < length (map make xs ++ more) → slice_get (map make xs ++ more) place ≡ slice_get more (place - length xs)
+  at_rest place high all = by more refl
+    where
+      first : List Y
+      first = map make xs
 
--- a sum stands there
+      long : length first ≡ length xs
+      long = length-map xs make
+
+      within : place - length xs < length more
+      within = omega (arith, all, high, length-append first more, long)
+
+      by : (ys : List Y) → ys ≡ more → slice_get (first ++ more) place ≡ slice_get more (place - length xs)
+      by [] none = absurd (omega (arith, within, ap length none))
+      by (y ∷ ys) some =
+          slice_get-get_or (first ++ more) place y all ∙ ap Some (get_or-append_right first more (length xs) place y long high) ∙ sym (slice_get-get_or more (place - length xs) y within)
+
+-- the item that stands at a place of a list
+pub one_at : {X : Type 0} (xs : List X) (place : ℕ) → place < length xs → (x : X) × (slice_get xs place ≡ Some x)
+one_at xs place within = let d = some_of xs place within in (get_or xs place d, slice_get-get_or xs place d within)
+  where
+    some_of : {X : Type 0} (xs : List X) (place : ℕ) → place < length xs → X
+    some_of [] place within = absurd (omega (arith, within))
+    some_of (x ∷ xs) place within = x
+
+-- a sum stands in front
 pub has_sum : (declared : Declared) (place : ℕ) → place < length declared.sums → (sum : Sum) × (slice_get (items_of declared) place ≡ Some (OfSum sum))
-has_sum declared place low = let d = some_of declared.sums place low in (get_or declared.sums place d, item_sum declared place d low)
+has_sum declared place low = let found = one_at declared.sums place low in (get_or declared.sums place found.0, at_first OfSum declared.sums (behind_sums declared) place found.0 low)
 
--- or a derivation
-pub has_derivation : (declared : Declared) (place : ℕ) → length declared.sums ≤ place → place < length (items_of declared) → (derivation : Derivation) × (slice_get (items_of declared) place ≡ Some (Derived derivation))
+-- behind the sums no sum stands
+abbrev IsNoSum : Item → Type 0
+IsNoSum (OfSum sum) = ⊥
+IsNoSum (OfUnit unit) = ⊤
+IsNoSum (Derived derivation) = ⊤
+
+pub has_unit : (declared : Declared) (place : ℕ) → place < length declared.units → (unit : ℕ) × (slice_get (behind_sums declared) place ≡ Some (OfUnit unit))
+has_unit declared place low = (get_or declared.units place 0, at_first OfUnit declared.units (map Derived declared.derivations) place 0 low)
+
+pub has_derivation : (declared : Declared) (place : ℕ) → length declared.units ≤ place → place < length (behind_sums declared) → (derivation : Derivation) × (slice_get (behind_sums declared) place ≡ Some (Derived derivation))
 has_derivation declared place high all =
-    let within : place - length declared.sums < length declared.derivations = omega (arith, all, high, items_long declared) in
-    let d = some_of declared.derivations (place - length declared.sums) within in
-    (get_or declared.derivations (place - length declared.sums) d, item_derivation declared place d high all)
+    let within : place - length declared.units < length declared.derivations = omega (arith, all, high, behind_long declared) in
+    let found = one_at declared.derivations (place - length declared.units) within in (
+      found.0,
+      at_rest OfUnit declared.units (map Derived declared.derivations) place high all ∙ mapped declared.derivations (place - length declared.units) found.0 within found.1,
+    )
+  where
+    mapped : (ds : List Derivation) (place : ℕ) (d : Derivation) → place < length ds → slice_get ds place ≡ Some d → slice_get (map Derived ds) place ≡ Some (Derived d)
+    mapped ds place d within is =
+        slice_get-get_or (map Derived ds) place (Derived d) (omega (arith, within, length-map ds Derived)) ∙ ap Some (get_or-map Derived ds place d (Derived d) within)
+        ∙ ap (λ (x : Derivation). Some (Derived x)) (some_same (get_or ds place d) d (sym (slice_get-get_or ds place d within) ∙ is))
 
--- the derivation that was found at a place
-pub at_derivation : (declared : Declared) (place count : ℕ) (derivation : Derivation) → count ≡ length declared.sums → count ≤ place → place < length (items_of declared) → derivation ≡ slice_index_or declared.derivations (place - count) derivation
-    → slice_get (items_of declared) place ≡ Some (Derived derivation)
+no_sum-behind : (declared : Declared) (place : ℕ) → place < length (behind_sums declared) → (item : Item) × (IsNoSum item × (slice_get (behind_sums declared) place ≡ Some item))
+no_sum-behind declared place all = elim (cases_lt place (length declared.units)) [
+  | inl low ↦ (let found = has_unit declared place low in (OfUnit found.0, (tt, found.1)))
+  | inr high ↦ (let found = has_derivation declared place high all in (Derived found.0, (tt, found.1)))
+]
+
+-- so a sum is not what stands there
+pub sum_apart : (declared : Declared) (place : ℕ) (sum : Sum) → place < length (behind_sums declared) → slice_get (behind_sums declared) place ≢ Some (OfSum sum)
+sum_apart declared place sum all is = let found = no_sum-behind declared place all in by found.0 found.1.0 (some_same found.0 (OfSum sum) (sym found.1.1 ∙ is))
+  where
+    by : (item : Item) → IsNoSum item → item ≡ OfSum sum → ⊥
+    by (OfSum other) none same = none
+    by (OfUnit unit) none same = cc
+    by (Derived derivation) none same = cc
+
+-- what stands behind the sums
+pub item_behind : (declared : Declared) (place : ℕ) → length declared.sums ≤ place → place < length (items_of declared) → slice_get (items_of declared) place ≡ slice_get (behind_sums declared) (place - length declared.sums)
+item_behind declared place high all = at_rest OfSum declared.sums (behind_sums declared) place high all
+
+-- and within it
+pub within_behind : (declared : Declared) (place : ℕ) → length declared.sums ≤ place → place < length (items_of declared) → place - length declared.sums < length (behind_sums declared)
+within_behind declared place high all = omega (arith, high, all, items_long declared, behind_long declared)
+
+-- the sum, the unit or the derivation that was found at a place
+pub at_sum : (declared : Declared) (place : ℕ) (sum : Sum) → place < length declared.sums → sum ≡ slice_index_or declared.sums place sum → slice_get (items_of declared) place ≡ Some (OfSum sum)
+at_sum declared place sum low is = at_first OfSum declared.sums (behind_sums declared) place sum low ∙ ap (λ (x : Sum). Some (OfSum x)) (sym is)
+
+pub at_unit : (declared : Declared) (place unit : ℕ) → place < length declared.units → unit ≡ slice_index_or declared.units place unit → slice_get (behind_sums declared) place ≡ Some (OfUnit unit)
+at_unit declared place unit low is = at_first OfUnit declared.units (map Derived declared.derivations) place unit low ∙ ap (λ (x : ℕ). Some (OfUnit x)) (sym is)
+
+pub at_derivation : (declared : Declared) (place count : ℕ) (derivation : Derivation) → count ≡ length declared.units → count ≤ place → place < length (behind_sums declared) → derivation ≡ slice_index_or declared.derivations (place - count) derivation
+    → slice_get (behind_sums declared) place ≡ Some (Derived derivation)
 at_derivation declared place count derivation long high all is =
-    item_derivation declared place derivation (omega (arith, long, high)) all
+    let found = has_derivation declared place (omega (arith, long, high)) all in
+    let within : place - length declared.units < length declared.derivations = omega (arith, all, high, long, behind_long declared) in
+    at_rest OfUnit declared.units (map Derived declared.derivations) place (omega (arith, long, high)) all
+    ∙ slice_get-get_or (map Derived declared.derivations) (place - length declared.units) (Derived derivation) (omega (arith, within, length-map declared.derivations Derived))
+    ∙ ap Some (get_or-map Derived declared.derivations (place - length declared.units) derivation (Derived derivation) within)
     ∙ ap (λ (n : ℕ). Some (Derived (get_or declared.derivations (place - n) derivation))) (sym long)
     ∙ ap (λ (d : Derivation). Some (Derived d)) (sym is)
 
--- a sum is no derivation
-pub kinds_apart : (sum : Sum) (derivation : Derivation) → Some (OfSum sum) ≢ Some (Derived derivation)
-kinds_apart sum derivation is = cc
+-- a unit is no derivation
+pub units_apart : (unit : ℕ) (derivation : Derivation) → Some (OfUnit unit) ≢ Some (Derived derivation)
+units_apart unit derivation is = cc
 
-pub kinds_apart_back : (sum : Sum) (derivation : Derivation) → Some (Derived derivation) ≢ Some (OfSum sum)
-kinds_apart_back sum derivation is = cc
+pub units_apart_back : (unit : ℕ) (derivation : Derivation) → Some (Derived derivation) ≢ Some (OfUnit unit)
+units_apart_back unit derivation is = cc
 
 pub same_sum : (one other : Sum) → Some (OfSum one) ≡ Some (OfSum other) → one ≡ other
 same_sum one other is = cc
 
+pub same_unit : (one other : ℕ) → Some (OfUnit one) ≡ Some (OfUnit other) → one ≡ other
+same_unit one other is = cc
+
 pub same_derivation : (one other : Derivation) → Some (Derived one) ≡ Some (Derived other) → one ≡ other
 same_derivation one other is = cc
 
-derivations_one : (one other : List Derivation) → map Derived one ≡ map Derived other → one ≡ other
-derivations_one [] [] is = refl
-derivations_one [] (d ∷ other) is = absurd cc
-derivations_one (d ∷ one) [] is = absurd cc
-derivations_one (d ∷ one) (e ∷ other) is =
-    let here : d ≡ e = same_derivation d e (ap (λ (items : List Item). slice_get items 0) is) in
-    ap₂ (λ (x : Derivation) (xs : List Derivation). x ∷ xs) here (derivations_one one other (ap (drop 1) is))
+-- ---- the same items are of the same head
 
--- the same items are of the same sums and derivations
-parts_one : (sums other : List Sum) (one two : List Derivation) → map OfSum sums ++ map Derived one ≡ map OfSum other ++ map Derived two → (sums ≡ other) × (one ≡ two)
-parts_one [] [] one two is = (refl, derivations_one one two is)
-parts_one [] (s ∷ other) [] two is = absurd cc
-parts_one [] (s ∷ other) (d ∷ one) two is = absurd (kinds_apart_back s d (ap (λ (items : List Item). slice_get items 0) is))
-parts_one (s ∷ sums) [] one [] is = absurd cc
-parts_one (s ∷ sums) [] one (d ∷ two) is = absurd (kinds_apart s d (ap (λ (items : List Item). slice_get items 0) is))
-parts_one (s ∷ sums) (t ∷ other) one two is =
-    let here : s ≡ t = same_sum s t (ap (λ (items : List Item). slice_get items 0) is) in
-    let rest = parts_one sums other one two (ap (drop 1) is) in
-    (ap₂ (λ (x : Sum) (xs : List Sum). x ∷ xs) here rest.0, rest.1)
+-- what an item is
+abbrev sum_in : Item → List Sum
+sum_in (OfSum sum) = sum ∷ []
+sum_in (OfUnit unit) = []
+sum_in (Derived derivation) = []
+
+abbrev unit_in : Item → List ℕ
+unit_in (OfSum sum) = []
+unit_in (OfUnit unit) = unit ∷ []
+unit_in (Derived derivation) = []
+
+abbrev derivation_in : Item → List Derivation
+derivation_in (OfSum sum) = []
+derivation_in (OfUnit unit) = []
+derivation_in (Derived derivation) = derivation ∷ []
+
+-- what is found among items that are all of another kind, and among those of this kind
+none_in : {X Y Z : Type 0} (take_of : Y → List Z) (make : X → Y) (xs : List X) → ((x : X) → take_of (make x) ≡ []) → flat_map take_of (map make xs) ≡ []
+none_in take_of make [] none = refl
+none_in take_of make (x ∷ xs) none = ap₂ (λ one rest. one ++ rest) (none x) (none_in take_of make xs none)
+
+all_in : {X Y : Type 0} (take_of : Y → List X) (make : X → Y) (xs : List X) → ((x : X) → take_of (make x) ≡ x ∷ []) → flat_map take_of (map make xs) ≡ xs
+all_in take_of make [] each = refl
+all_in take_of make (x ∷ xs) each = ap₂ (λ one rest. one ++ rest) (each x) (all_in take_of make xs each)
+
+-- so the sums, the setups and the derivations are found in the items
+sums_in : (declared : Declared) → flat_map sum_in (items_of declared) ≡ declared.sums
+sums_in declared =
+    flat_map-append sum_in (map OfSum declared.sums) (behind_sums declared)
+    ∙ ap₂ (λ (one other : List Sum). one ++ other) (all_in sum_in OfSum declared.sums (λ sum. refl))
+    (flat_map-append sum_in (map OfUnit declared.units) (map Derived declared.derivations)
+    ∙ ap₂ (λ (one other : List Sum). one ++ other) (none_in sum_in OfUnit declared.units (λ unit. refl)) (none_in sum_in Derived declared.derivations (λ derivation. refl)))
+    ∙ append-nil declared.sums
+
+units_in : (declared : Declared) → flat_map unit_in (items_of declared) ≡ declared.units
+units_in declared =
+    flat_map-append unit_in (map OfSum declared.sums) (behind_sums declared)
+    ∙ ap₂ (λ (one other : List ℕ). one ++ other) (none_in unit_in OfSum declared.sums (λ sum. refl))
+    (flat_map-append unit_in (map OfUnit declared.units) (map Derived declared.derivations)
+    ∙ ap₂ (λ (one other : List ℕ). one ++ other) (all_in unit_in OfUnit declared.units (λ unit. refl)) (none_in unit_in Derived declared.derivations (λ derivation. refl))
+    ∙ append-nil declared.units)
+
+derivations_in : (declared : Declared) → flat_map derivation_in (items_of declared) ≡ declared.derivations
+derivations_in declared =
+    flat_map-append derivation_in (map OfSum declared.sums) (behind_sums declared)
+    ∙ ap₂ (λ (one other : List Derivation). one ++ other) (none_in derivation_in OfSum declared.sums (λ sum. refl))
+    (flat_map-append derivation_in (map OfUnit declared.units) (map Derived declared.derivations)
+    ∙ ap₂ (λ (one other : List Derivation). one ++ other) (none_in derivation_in OfUnit declared.units (λ unit. refl)) (all_in derivation_in Derived declared.derivations (λ derivation. refl)))
 
 pub declared_one : (one other : Declared) → items_of one ≡ items_of other → one ≡ other
 declared_one one other is =
-    let parts = parts_one one.sums other.sums one.derivations other.derivations is in
-    λ i. record { sums = parts.0 i; derivations = parts.1 i }
+    let sums : one.sums ≡ other.sums = sym (sums_in one) ∙ ap (flat_map sum_in) is ∙ sums_in other in
+    let units : one.units ≡ other.units = sym (units_in one) ∙ ap (flat_map unit_in) is ∙ units_in other in
+    let derivations : one.derivations ≡ other.derivations = sym (derivations_in one) ∙ ap (flat_map derivation_in) is ∙ derivations_in other in
+    λ i. record { sums = sums i; units = units i; derivations = derivations i }
 
 -- items that are the same as far as either goes are the same
 pub all_same : (one other : Declared) (few : ℕ) → few ≡ length (items_of one) → few ≡ length (items_of other) → take few (items_of one) ≡ take few (items_of other) → one ≡ other

@@ -2,23 +2,29 @@
 use Rattle.std.proofs.Common.{◌≡◌, ◌≢◌, ℕ, zero, suc, ◌+◌, ◌-◌, ◌*◌, ◌^◌, ◌<◌, ◌≤◌, Bool, List, [], ◌∷◌, ◌++◌, length, get_or, Option, None, Some, IfSome, refl, sym, ap, ◌∙◌, subst, inl, inr, arith, length-append}
 use Rattle.std.proofs.Math.Seq.{get_or-append_seam}
 use Rattle.std.proofs.lemmas.Bool.{cases_eq}
+use Rattle.std.specs.List.{All}
 use Rattle.std.proofs.lemmas.List.{get_or_append_left, length-map}
+use Rattle.std.proofs.lemmas.List.Elements.{All-head, All-tail}
+use Rattle.std.proofs.lemmas.List.FromFn.{get_or-map-range_with_len, length-map-range_with_len}
 use Rattle.stn_edge.specs.Files.{FileMap, file_of, OthersStay}
 use Rattle.stn_model.specs.declared.plant.Plant.{Plant}
 use Rattle.stn_model.specs.Sound.{Sound}
 use Rattle.time_grid.specs.Slots.{slots}
 use Rattle.row_kit.specs.declared.program.Program.{Program}
 use Rattle.row_set.specs.PlantProgram.{plant_root, plant_rows, slot_domain}
+use Rattle.row_relax.specs.declared.rows.Rows.{Rows}
+use Rattle.row_relax.specs.Choices.{choices_of}
 use Rattle.row_relax.specs.RowProofs.{RowTree}
+use Rattle.setup_slots.specs.Several.{rows_with, slots_with}
+use Rattle.setup_lines.specs.declared.setups.SetupSize.{SetupSize}
+use Rattle.setup_lines.specs.Setups.{limits_set_up, size_of, with_setup}
 use Rattle.derivations.specs.Growth.{rows_of}
 use Rattle.log_lines.specs.declared.grammar.Limits.{Limits}
-use Rattle.log_lines.specs.TextDefect.{log_text_defect}
 use Rattle.proof_log.specs.declared.claim.Claim.{Claim}
 use Rattle.proof_log.specs.declared.claim.Claim.TheVariants.{Infeasible}
 use Rattle.proof_log.specs.Behind.{behind}
-use Rattle.proof_log.specs.OneText.{IsLogOver}
 use Rattle.valid_log.specs.Verdict.{limits_of}
-use Rattle.valid_log.specs.AnyVersion.{IsWithHead}
+use Rattle.valid_log.specs.Heads.{IsWithHead, setup_size, setup_sizes}
 use Rattle.valid_log.specs.SumTexts.{larger_claim}
 use Rattle.valid_log.specs.Claims.{SaysOfPlans}
 use Rattle.log_parts.specs.declared.heads.Declared.{Declared}
@@ -28,8 +34,8 @@ use Rattle.log_parts.specs.Heads.{front_text, joined_version}
 use Rattle.log_parts.specs.Joining.{IsJoined}
 use Rattle.plant_parts.specs.PlantParts.{IsPartProgram}
 use Rattle.log_parts.specs.PartLogs.{IsJoinedLog, IsJoining, IsJoiningIn, IsJoinBegun, LeavesJoin, AllAreValid, JoinSays, IsNo, logs_of, no_tree}
-use Rattle.log_parts.specs.laws.Checked.{AreNewest, HaveClaims, MayDeclare, head_limits}
-use Rattle.log_parts.specs.laws.Copying.{part_limits, joined_text, AreLogsOf, IsLogOf, HasWritten, HasLeft, IsClaim, IsFit}
+use Rattle.log_parts.specs.laws.Checked.{AreNewest, HaveClaims, MayDeclare, head_limits, limits_more, part_limits}
+use Rattle.log_parts.specs.laws.Copying.{joined_text, AreLogsOf, IsLogOf, HasWritten, HasLeft, IsClaim, IsFit}
 use Rattle.log_parts.proofs.JoinedValid.{AllTrees, joined_fit, joined_log, part-stays}
 use Rattle.log_parts.proofs.Limits.{head_same}
 use Rattle.log_parts.proofs.PartHeads.{as-four, head-counts}
@@ -73,29 +79,63 @@ trees_of plant levels logs declared heads claims have (suc n) within =
 
 -- ---- the logs under the limits
 
-limits_larger : (plant : Plant) (levels part : ℕ) (declared : Declared) (program larger : Program) → IsPartProgram plant levels part program → length (plant_root plant) ≡ length program.root
-    → IsWithHead 4 program (plant_root plant) declared.sums declared.derivations larger → limits_of larger (4608 - levels) ≡ part_limits plant levels declared
-limits_larger plant levels part declared program larger is judged added =
-    let made : ℕ → ℕ → Limits = λ r s. record { rows = r; slots = s; depth = 4608 - levels } in
+-- what the setup of a unit adds to the limits
+size-there : (plant : Plant) (unit : ℕ) → unit < length (setup_sizes plant) → size_of (setup_sizes plant) unit ≡ setup_size plant unit
+size-there plant unit there =
+    get_or-map-range_with_len (setup_size plant) 0 (length plant.units) unit unit (record { slots = 0; rows = 0 }) (omega (arith, there, length-map-range_with_len (setup_size plant) 0 (length plant.units))) (omega arith)
+
+-- so setups add to limits what they add to a program
+set_up-slots : (plant : Plant) (limits : Limits) (units : List ℕ) → All (λ unit. unit < length (setup_sizes plant)) units → (limits_set_up limits (setup_sizes plant) units).slots ≡ slots_with plant units limits.slots
+set_up-slots plant limits [] there = refl
+set_up-slots plant limits (unit ∷ units) there =
+    set_up-slots plant (with_setup limits (size_of (setup_sizes plant) unit)) units (All-tail (λ u. u < length (setup_sizes plant)) unit units there)
+    ∙ ap (λ (s : SetupSize). slots_with plant units (limits.slots + s.slots)) (size-there plant unit (All-head (λ u. u < length (setup_sizes plant)) unit units there))
+
+set_up-rows : (plant : Plant) (limits : Limits) (units : List ℕ) → All (λ unit. unit < length (setup_sizes plant)) units → (limits_set_up limits (setup_sizes plant) units).rows ≡ rows_with plant units limits.rows
+set_up-rows plant limits [] there = refl
+set_up-rows plant limits (unit ∷ units) there =
+    set_up-rows plant (with_setup limits (size_of (setup_sizes plant) unit)) units (All-tail (λ u. u < length (setup_sizes plant)) unit units there)
+    ∙ ap (λ (s : SetupSize). rows_with plant units (limits.rows + s.rows)) (size-there plant unit (All-head (λ u. u < length (setup_sizes plant)) unit units there))
+
+-- and leave their points and their depth
+set_up-points : (limits : Limits) (sizes : List SetupSize) (units : List ℕ) → ((limits_set_up limits sizes units).points ≡ limits.points) × ((limits_set_up limits sizes units).depth ≡ limits.depth)
+set_up-points limits sizes [] = (refl, refl)
+set_up-points limits sizes (unit ∷ units) = set_up-points (with_setup limits (size_of sizes unit)) sizes units
+
+limits_larger : (plant : Plant) (levels part : ℕ) (declared : Declared) (program : Program) (rows : Rows) → IsPartProgram plant levels part program → All (λ unit. unit < length (setup_sizes plant)) declared.units
+    → length (plant_root plant) ≡ length program.root → IsWithHead plant 4 program (plant_root plant) declared.sums declared.units declared.derivations rows → limits_of rows (4608 - levels) ≡ part_limits plant levels declared
+limits_larger plant levels part declared program rows is there judged added =
+    let units = declared.units in
+    let sizes = setup_sizes plant in
+    let before = limits_more (head_limits plant levels) (length declared.sums) in
     let own = head_same plant levels part program is in
     let own_rows : length program.rows ≡ length (plant_rows plant) = ap (λ (l : Limits). l.rows) own in
     let own_slots : length program.root ≡ length (slots plant) = ap (λ (l : Limits). l.slots) own in
-    let counts = head-counts program larger (plant_root plant) declared.sums declared.derivations judged added in
-    let rows : length larger.rows ≡ length (plant_rows plant) + 2 * length declared.sums + rows_of declared.derivations = omega (arith, counts.1, own_rows) in
-    let root : length larger.root ≡ length (slots plant) + length declared.sums = omega (arith, counts.0, own_slots) in
-    ap (λ (r : ℕ). made r (length larger.root)) rows ∙ ap (made (length (plant_rows plant) + 2 * length declared.sums + rows_of declared.derivations)) root
+    let counts = head-counts plant program (plant_root plant) declared.sums units declared.derivations rows judged added in
+    let rows_before : length program.rows + 2 * length declared.sums ≡ before.rows = omega (arith, own_rows) in
+    let slots_before : length program.root + length declared.sums ≡ before.slots = omega (arith, own_slots) in
+    let points_before : length program.root + length declared.sums ≡ before.points = omega (arith, own_slots) in
+    let kept = set_up-points before sizes units in
+    let all_rows : length rows.program.rows ≡ (limits_set_up before sizes units).rows + rows_of declared.derivations =
+    counts.rows_are ∙ ap (λ (n : ℕ). n + rows_of declared.derivations) (ap (rows_with plant units) rows_before ∙ sym (set_up-rows plant before units there)) in
+    let all_slots : length rows.program.root ≡ (limits_set_up before sizes units).slots = counts.slots ∙ ap (slots_with plant units) slots_before ∙ sym (set_up-slots plant before units there) in
+    let all_points : length (choices_of rows).root ≡ (limits_set_up before sizes units).points = counts.points ∙ points_before ∙ sym kept.0 in
+    λ i. record { rows = all_rows i; slots = all_slots i; points = all_points i; depth = sym kept.1 i }
 
-are_logs : (plant : Plant) (levels : ℕ) (logs : ℕ → List ℕ) (declared : Declared) (heads : List ℕ) (claims : List Claim) (n : ℕ) → Sound plant → levels ≤ length (slots plant) → (have : HaveTrees plant levels logs declared heads claims n)
-    → AreLogsOf (part_limits plant levels declared) n (λ part. behind 4 (get_or heads part 0) (logs part)) have.trees
-are_logs plant levels logs declared heads claims n sound within have part below =
+are_logs : (plant : Plant) (levels : ℕ) (logs : ℕ → List ℕ) (declared : Declared) (heads : List ℕ) (claims : List Claim) (n : ℕ) → Sound plant → levels ≤ length (slots plant) → All (λ unit. unit < length (setup_sizes plant)) declared.units
+    → (have : HaveTrees plant levels logs declared heads claims n) → AreLogsOf (part_limits plant levels declared) n (λ part. behind 4 (get_or heads part 0) (logs part)) have.trees
+are_logs plant levels logs declared heads claims n sound within there have part below =
     let is = have.each part below in
     let base = plant_root plant in
+    let sums = declared.sums in
+    let units = declared.units in
     let own = head_same plant levels part is.program is.of_part in
     let judged : length base ≡ length is.program.root = length-map (slots plant) (slot_domain plant) ∙ sym (ap (λ (l : Limits). l.slots) own) in
-    let four = as-four is.version is.program is.larger base declared.sums declared.derivations is.enlarged is.none (part-stays plant levels part is.program is.enlarged.between declared.sums sound within is.of_part.root is.enlarged.with_sums) in
-    let same = limits_larger plant levels part declared is.program is.larger is.of_part judged four in
+    let four = as-four plant is.version is.program base sums units declared.derivations is.rows is.enlarged is.none
+    (part-stays plant levels part is.program is.enlarged.between is.enlarged.wide sums units sound within is.of_part.root is.enlarged.with_sums is.enlarged.with_setups) in
+    let same = limits_larger plant levels part declared is.program is.rows is.of_part there judged four in
     subst (λ (l : Limits). IsLogOf l (behind 4 (get_or heads part 0) (logs part)) (get_or have.trees part no_tree)) same
-    (read-newest is.larger (4608 - levels) (logs part) is.version (get_or heads part 0) (get_or have.trees part no_tree) is.own is.log is.clean)
+    (read-newest is.rows (4608 - levels) (logs part) is.version (get_or heads part 0) (get_or have.trees part no_tree) is.own is.log is.clean)
 
 -- ---- the told case
 
@@ -107,14 +147,14 @@ pub record CanJoin (plant : Plant) (levels : ℕ) (logs : ℕ → List ℕ) (dec
   pub log : (bytes : List ℕ) → bytes ≡ joined_text (front_text (joined_version newest declared.sums) declared) levels trees (larger_claim declared.sums claim) → IsJoinedLog plant levels logs claim bytes
 
 can_join : (plant : Plant) (levels : ℕ) (logs : ℕ → List ℕ) (declared : Declared) (newest : Bool) (heads : List ℕ) (claims : List Claim) (claim : Claim) → Sound plant → 1 ≤ levels → levels ≤ 8 → levels ≤ length (slots plant)
-    → MayDeclare (head_limits plant levels) (joined_version newest declared.sums) declared → length claims ≡ 2 ^ levels → HaveClaims plant levels logs declared heads claims → AreNewest logs (2 ^ levels) newest → IsJoined claims claim → CanJoin plant levels logs declared newest heads claim
+    → MayDeclare plant (head_limits plant levels) (joined_version newest declared.sums) declared → length claims ≡ 2 ^ levels → HaveClaims plant levels logs declared heads claims → AreNewest logs (2 ^ levels) newest → IsJoined claims claim → CanJoin plant levels logs declared newest heads claim
 can_join plant levels logs declared newest heads claims claim sound some few within may all have known joined =
     let trees = trees_of plant levels logs declared heads claims have (2 ^ levels) (omega (arith, all)) in
     let each : AllTrees plant levels logs declared newest heads trees.trees claims =
     record { sound = sound; some = some; few = few; within = within; may = may; known = known; all_trees = trees.counted; all_claims = all; each = trees.each } in
     record {
       trees = trees.trees;
-      are = are_logs plant levels logs declared heads claims (2 ^ levels) sound within trees;
+      are = are_logs plant levels logs declared heads claims (2 ^ levels) sound within may.units.there trees;
       fit = joined_fit plant levels logs declared newest heads trees.trees claims claim each joined;
       log = λ bytes text. joined_log plant levels logs declared newest heads trees.trees claims claim bytes each joined text;
     }
@@ -124,7 +164,7 @@ abbrev pub Ready : Plant → ℕ → List ℕ → Declared → Bool → List ℕ
 Ready plant levels stem declared newest heads claim old = IfSome old (λ m. CanJoin plant levels (logs_of m stem) declared newest heads claim)
 
 pub ready : (plant : Plant) (levels : ℕ) (stem : List ℕ) (declared : Declared) (newest : Bool) (heads : List ℕ) (claims : List Claim) (claim : Claim) (old : Option FileMap) → Sound plant → 1 ≤ levels → levels ≤ 8 → levels ≤ length (slots plant)
-    → MayDeclare (head_limits plant levels) (joined_version newest declared.sums) declared → length claims ≡ 2 ^ levels → IfSome old (λ m. HaveClaims plant levels (logs_of m stem) declared heads claims × AreNewest (logs_of m stem) (2 ^ levels) newest) → IsJoined claims claim
+    → MayDeclare plant (head_limits plant levels) (joined_version newest declared.sums) declared → length claims ≡ 2 ^ levels → IfSome old (λ m. HaveClaims plant levels (logs_of m stem) declared heads claims × AreNewest (logs_of m stem) (2 ^ levels) newest) → IsJoined claims claim
     → Ready plant levels stem declared newest heads claim old
 ready plant levels stem declared newest heads claims claim None sound some few within may all have joined = tt
 ready plant levels stem declared newest heads claims claim (Some m) sound some few within may all have joined =

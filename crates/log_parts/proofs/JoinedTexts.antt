@@ -7,9 +7,10 @@ use Rattle.std.proofs.lemmas.Bool.{le-ltb}
 use Rattle.std.proofs.lemmas.Bool.Decides.{nat_tests}
 use Rattle.std.proofs.lemmas.Grind.{flat_map-append}
 use Rattle.std.proofs.lemmas.List.Elements.{All-nil, All-cons, All-append, All-head, All-tail}
-use Rattle.row_kit.specs.declared.program.Program.{Program}
 use Rattle.proof_tree.specs.declared.item.Item.TheVariants.{Node, Split}
 use Rattle.proof_tree.specs.Items.{tree_items}
+use Rattle.row_relax.specs.declared.rows.Rows.{Rows}
+use Rattle.row_relax.specs.Choices.{choices_of}
 use Rattle.row_relax.specs.RowProofs.{RowItem, RowTree}
 use Rattle.log_lines.specs.declared.line.Line.TheVariants.{Header, Node as NodeLine, Split as SplitLine, ClaimOptimal, ClaimInfeasible, ClaimBetween, ClaimBelow, End as EndLine}
 use Rattle.log_lines.specs.declared.grammar.Limits.{Limits}
@@ -76,15 +77,15 @@ last-standing : (limits : Limits) (lines : Option Standing) → IsSomeAnd lines 
 last-standing limits None is = absurd is
 last-standing limits (Some last) is = (last, refl)
 
-pub log-leads : (program : Program) (depth : ℕ) (bytes : List ℕ) (tree : RowTree) (claim : Claim) (is : IsLog program bytes tree claim) → log_text_defect (limits_of program depth) bytes ≡ None
-    → (last : Standing) × (leads (limits_of program depth) new_standing (log_lines is.version (tree_items tree) claim) ≡ Some last)
-log-leads program depth bytes tree claim is clean =
-    let limits = limits_of program depth in
-    let few_rows = program.few_rows in
-    let few_slots = program.few_slots in
+pub log-leads : (rows : Rows) (depth : ℕ) (bytes : List ℕ) (tree : RowTree) (claim : Claim) (is : IsLog rows bytes tree claim) → log_text_defect (limits_of rows depth) bytes ≡ None
+    → (last : Standing) × (leads (limits_of rows depth) new_standing (log_lines is.version (tree_items tree) claim) ≡ Some last)
+log-leads rows depth bytes tree claim is clean =
+    let limits = limits_of rows depth in
+    let few_rows = rows.program.few_rows in
+    let few_slots = rows.program.few_slots in
     let own : IsTextOfLog limits bytes = clean_texts limits bytes (omega (arith, few_rows)) (omega (arith, few_slots)) clean in
     let same : SameLog own.version is.version own.tree tree own.claim claim [] =
-    logs_same (length program.root) own.version is.version own.tree tree own.claim claim [] own.over is.over
+    logs_same (length (choices_of rows).root) own.version is.version own.tree tree own.claim claim [] own.over is.over
     (sym own.text ∙ is.text ∙ sym (append-nil (log_text is.version (tree_items tree) claim))) in
     let found = last-standing limits (leads limits new_standing (log_lines own.version (tree_items own.tree) own.claim)) own.accepted in (
       found.0,
@@ -93,23 +94,27 @@ log-leads program depth bytes tree claim is clean =
           (subst (λ (v : ℕ). leads limits new_standing (log_lines v (tree_items own.tree) own.claim) ≡ Some found.0) same.version_same found.1)),
     )
 
+-- rows have as many rows, slots and slots of points as others
+pub record AreAsMany (whole part : Rows) : Type 0 where
+  pub rows : length part.program.rows ≡ length whole.program.rows
+  pub slots : length part.program.root ≡ length whole.program.root
+  pub points : length (choices_of part).root ≡ length (choices_of whole).root
+
 -- a part's limits, with a split more for each level, are the plant's
-deeper-same : (whole part : Program) (levels : ℕ) → part.rows ≡ whole.rows → length part.root ≡ length whole.root → levels ≤ 4608 → deeper (limits_of part (4608 - levels)) levels ≡ limits_of whole 4608
-deeper-same whole part levels rows_same long few =
-    let limits : ℕ → ℕ → ℕ → Limits = λ rows slots depth. record { rows = rows; slots = slots; depth = depth } in
-    ap (λ (n : ℕ). limits n (length part.root) (4608 - levels + levels)) (ap length rows_same)
-    ∙ ap (λ (n : ℕ). limits (length whole.rows) n (4608 - levels + levels)) long
-    ∙ ap (limits (length whole.rows) (length whole.root)) (let e : 4608 - levels + levels ≡ 4608 = omega arith in e)
+deeper-same : (whole part : Rows) (levels : ℕ) → AreAsMany whole part → levels ≤ 4608 → deeper (limits_of part (4608 - levels)) levels ≡ limits_of whole 4608
+deeper-same whole part levels same few =
+    let depth : 4608 - levels + levels ≡ 4608 = omega arith in
+    λ i. record { rows = same.rows i; slots = same.slots i; points = same.points i; depth = depth i }
 
 -- the lines of a part's tree lead through it in a log of the plant in which a split is open for each level
-pub part-lead : (wide : ℕ) (whole part : Program) (levels : ℕ) (bytes : List ℕ) (tree : RowTree) (claim : Claim) → part.rows ≡ whole.rows → length part.root ≡ length whole.root → levels ≤ 4608
+pub part-lead : (wide : ℕ) (whole part : Rows) (levels : ℕ) (bytes : List ℕ) (tree : RowTree) (claim : Claim) → AreAsMany whole part → levels ≤ 4608
     → (is : IsLog part bytes tree claim) → HasLinesOf wide is.version → log_text_defect (limits_of part (4608 - levels)) bytes ≡ None
     → (outer : List Bool) → length outer ≡ levels → leads (limits_of whole 4608) (at wide AtNode outer) (tree_lines tree) ≡ Some (closed wide outer)
-part-lead wide whole part levels bytes tree claim rows_same long few is has clean outer same =
+part-lead wide whole part levels bytes tree claim counts few is has clean outer same =
     let limits = limits_of part (4608 - levels) in
     let found = log-leads part (4608 - levels) bytes tree claim is clean in
     let within = tree_within wide limits is.version tree claim found.0 outer has found.1 in
-    subst (λ (l : Limits). leads l (at wide AtNode outer) (tree_lines tree) ≡ Some (closed wide outer)) (ap (deeper limits) same ∙ deeper-same whole part levels rows_same long few) within
+    subst (λ (l : Limits). leads l (at wide AtNode outer) (tree_lines tree) ≡ Some (closed wide outer)) (ap (deeper limits) same ∙ deeper-same whole part levels counts few) within
 
 -- ---- lines that may be written
 
@@ -138,9 +143,9 @@ pub record IsWrittenLog (slots : ℕ) (tree : RowTree) (claim : Claim) : Type 0 
   pub items : All IsWrittenItem (tree_items tree)
   pub claim_written : IsWrittenClaim slots claim
 
-pub log-written : (program : Program) (bytes : List ℕ) (tree : RowTree) (claim : Claim) → IsLog program bytes tree claim → IsWrittenLog (length program.root) tree claim
+pub log-written : (rows : Rows) (bytes : List ℕ) (tree : RowTree) (claim : Claim) → IsLog rows bytes tree claim → IsWrittenLog (length (choices_of rows).root) tree claim
 unfolding log_lines
-log-written program bytes tree claim is =
+log-written rows bytes tree claim is =
     let lines = flat_map item_lines (tree_items tree) in
     let rest = claim_lines claim ++ EndLine ∷ [] in
     let body = All-tail IsLine (Header is.version) (lines ++ rest) is.over.lines in
@@ -261,7 +266,7 @@ log-over wide slots tree claim known is = record {
 }
 
 -- a log whose proof leads through the grammar has no text defect
-pub text-clean : (wide : ℕ) (limits : Limits) (tree : RowTree) (claim : Claim) → IsLogOver limits.slots wide tree claim → leads limits (at wide AtNode []) (tree_lines tree) ≡ Some (closed wide [])
+pub text-clean : (wide : ℕ) (limits : Limits) (tree : RowTree) (claim : Claim) → IsLogOver limits.points wide tree claim → leads limits (at wide AtNode []) (tree_lines tree) ≡ Some (closed wide [])
     → log_text_defect limits (log_text wide (tree_items tree) claim) ≡ None
 unfolding log_lines log_text
 text-clean wide limits tree claim over leading =

@@ -1,5 +1,5 @@
 -- The joined log of the valid logs of all parts is a valid log of the plant.
-use Rattle.std.proofs.Common.{◌≡◌, ◌≢◌, ℕ, ◌+◌, ◌-◌, ◌*◌, ◌^◌, ◌<◌, ◌≤◌, zero, suc, Bool, true, false, if◌then◌else◌, List, [], ◌∷◌, ◌++◌, drop, flat_map, length, length-append, map, get_or, Option, Some, None, refl, sym, ap, ◌∙◌, subst, inl, inr, arith, pow_pos}
+use Rattle.std.proofs.Common.{◌≡◌, ◌≢◌, ℕ, ◌+◌, ◌-◌, ◌*◌, ◌^◌, ◌<◌, ◌≤◌, zero, suc, Bool, true, false, if◌then◌else◌, List, [], ◌∷◌, ◌++◌, append_assoc, drop, flat_map, length, length-append, map, get_or, Option, Some, None, refl, sym, ap, ◌∙◌, subst, inl, inr, arith, pow_pos}
 use Rattle.std.specs.Prelude.{ℤ, IfSome, codes, ◌↔◌}
 use Rattle.std.proofs.lemmas.Bool.{cases_eq, eq-eqb, ne_eqb}
 use Rattle.std.proofs.lemmas.Fmt.{decimal_digit}
@@ -26,6 +26,8 @@ use Rattle.sum_slots.specs.Shown.{IsShown}
 use Rattle.sum_slots.specs.Sum.{IsDeclared}
 use Rattle.sum_slots.proofs.Joined.{All-second}
 use Rattle.derivations.specs.declared.derivation.Derivation.{Derivation}
+use Rattle.setup_slots.specs.Several.{AreSetUp, choices_before}
+use Rattle.setup_slots.proofs.ManyUnits.{begins-several}
 use Rattle.derivations.specs.Larger.{begun, grown_by, met}
 use Rattle.derivations.proofs.Holding.{slots-after_all}
 use Rattle.derivations.proofs.Shares.{length-met}
@@ -39,8 +41,8 @@ use Rattle.proof_tree.specs.Walk.{ended, outcome_of, walked, start}
 use Rattle.proof_tree.proofs.WalkLaw.{walked-whole}
 use Rattle.row_relax.specs.declared.pick.RowPick.{RowPick}
 use Rattle.row_relax.specs.declared.rows.Rows.{Rows}
+use Rattle.row_relax.specs.Choices.{choices_of, plain, steps_of}
 use Rattle.row_relax.specs.RowProofs.{RowItem, RowTree}
-use Rattle.row_relax.specs.Steps.{row_steps}
 use Rattle.row_relax.specs.View.{view_of}
 use Rattle.log_lines.specs.declared.line.Line.TheVariants.{Header, End}
 use Rattle.log_lines.specs.Line.{IsShort, IsVersion, line_text, number_text}
@@ -59,7 +61,8 @@ use Rattle.valid_log.specs.declared.verdict.LogVerdict.TheVariants as verdict
 use Rattle.valid_log.specs.Verdict.{IsLog, IsSoundLog, IsVerdict, IsVerdictGiven, limits_of}
 use Rattle.valid_log.proofs.FoundSound.{IsFine, IsFinePoint, items-fine, items_sound, real_outcome}
 use Rattle.valid_log.specs.Claims.{SaysOf}
-use Rattle.valid_log.specs.AnyVersion.{IsAnyVerdict, IsWithHead, given_claim, head_domains}
+use Rattle.valid_log.specs.Heads.{IsWithHead, wide_domains}
+use Rattle.valid_log.specs.AnyVersion.{IsAnyVerdict, given_claim}
 use Rattle.valid_log.specs.PlantLogs.{IsAnyChecked}
 use Rattle.valid_log.specs.SumTexts.{larger_claim}
 use Rattle.valid_log.proofs.Holding.{head-points, larger-none}
@@ -81,22 +84,22 @@ use Rattle.log_parts.proofs.JoinedSound.{HasNoDefect, IsNotAbove, AllowsNone, Is
 use Rattle.log_parts.proofs.JoinedTexts.{IsWrittenItem, IsWrittenClaim, IsWrittenLog, IsWrittenPlan, over-lead, part-lead, log-written, node-written, split-written, plan-written, cap-written, with-written, log-over, text-clean}
 use Rattle.plant_parts.proofs.Meaning.{part-exact, plant-slots}
 use Rattle.log_parts.proofs.LargerClaims.{claim-at, fine-pointed, given-larger, joined-larger, joined-pointed, own-larger}
-use Rattle.log_parts.proofs.PartCaps.{IsPart, cap-same, lawful-part}
+use Rattle.log_parts.proofs.CutFronts.{cut-front}
+use Rattle.log_parts.proofs.PartCaps.{AreParts, IsPart, cap-same, lawful-part}
 use Rattle.log_parts.proofs.HeadTexts.{headed_any, may_deeper, text_plain}
-use Rattle.log_parts.proofs.PartHeads.{as-four, cut-front, cut-stays, derived-of, head-counts, head-whole, none-enlarged, part-larger, root-larger, shown-same}
+use Rattle.log_parts.proofs.PartHeads.{as-four, cut-stays, derived-of, head-whole, none-enlarged, part-larger, root-larger, shown-same, wide-long}
 use Rattle.log_parts.proofs.PartTexts.{HasLinesOf}
 use Rattle.log_parts.proofs.PartTrees.{IsPartTree}
 use Rattle.log_parts.proofs.RootSplits.{left_root, no-cut, over-cap, over-items, part_cap}
 
 -- ---- the log of a part
 
--- what the log of a part, whose lines a log of a version may have, says over the plant's own program, of whose slots' domains cuts have left some
-record IsPartProof (target : ℕ) (whole : Program) (base left : List Domain) (levels number : ℕ) (tree : RowTree) (claim : Claim) : Type 0 where
-  part : Program
+-- what the log of a part, whose lines a log of a version may have, says over the plant's own rows, of whose slots' domains cuts have left some
+record IsPartProof (target : ℕ) (whole : Rows) (base left : List Domain) (levels number : ℕ) (tree : RowTree) (claim : Claim) : Type 0 where
+  part : Rows
   bytes : List ℕ
-  is : IsPart whole part
-  root : part.root ≡ left_root base left levels number
-  slots : length part.root ≡ length whole.root
+  is : AreParts whole part
+  root : part.program.root ≡ left_root base left levels number
   log : IsLog part bytes tree claim
   lines : HasLinesOf target log.version
   clean : log_text_defect (limits_of part (4608 - levels)) bytes ≡ None
@@ -124,53 +127,54 @@ ended-cap Bad proof_cap is = absurd (cc)
 ended-cap NoPoint proof_cap is = (let e : NoPoint ≡ proof_cap = cc in e, λ bad. let e : NoPoint ≡ proof_cap = cc in cc)
 ended-cap (AtMost n) proof_cap is = (let e : AtMost n ≡ proof_cap = cc in e, λ bad. let e : AtMost n ≡ proof_cap = cc in cc)
 
-module _ (target : ℕ) (whole : Program) (base left : List Domain) (levels number : ℕ) (tree : RowTree) (claim : Claim) (proof : IsPartProof target whole base left levels number tree claim) where
+module _ (target : ℕ) (whole : Rows) (base left : List Domain) (levels number : ℕ) (tree : RowTree) (claim : Claim) (proof : IsPartProof target whole base left levels number tree claim) where
   -- the cap of its proof, over the part's rows
-  own-led : (tree_cap (row_steps proof.part) (view_of proof.part.root) tree ≡ proof.sound.proof_cap) × (proof.sound.proof_cap ≢ Bad)
+  own-led : (tree_cap (steps_of proof.part) (view_of proof.part.program.root) tree ≡ proof.sound.proof_cap) × (proof.sound.proof_cap ≢ Bad)
   own-led =
-      ended-cap (tree_cap (row_steps proof.part) (view_of proof.part.root) tree) proof.sound.proof_cap
-      (sym (walked-whole Rows Area Found (row_steps proof.part) tree (view_of proof.part.root)) ∙ proof.sound.proved.led)
+      ended-cap (tree_cap (steps_of proof.part) (view_of proof.part.program.root) tree) proof.sound.proof_cap
+      (sym (walked-whole Rows Area Found (steps_of proof.part) tree (view_of proof.part.program.root)) ∙ proof.sound.proved.led)
 
   -- and over the plant's
   cap-is : part_cap whole base left levels number tree ≡ proof.sound.proof_cap
   cap-is =
-      ap (λ (ds : List Domain). tree_cap (row_steps whole) (view_of ds) tree) (sym proof.root)
+      ap (λ (ds : List Domain). tree_cap (steps_of whole) (view_of ds) tree) (sym proof.root)
       ∙ sym (cap-same whole proof.part tree proof.is) ∙ own-led.0
 
   -- what holds of that cap
   of-cap : (Q : Capped → Type 0) → Q proof.sound.proof_cap → Q (part_cap whole base left levels number tree)
   of-cap Q holds = subst Q (sym cap-is) holds
 
-  -- its found points have no defect in the plant's program
-  fine-parts : All (IsFine whole) (tree_items tree)
+  -- its found points have no defect in the plant's choices
+  fine-parts : All (IsFine (choices_of whole)) (tree_items tree)
   fine-parts =
-      All-weaker (IsFine proof.part) (IsFine whole) (fine-item whole proof.part proof.is) (tree_items tree)
-      (items-fine (row_steps proof.part) proof.part (start (view_of proof.part.root)) (tree_items tree) proof.sound.proof_cap proof.sound.proved.sound proof.sound.proved.led)
+      All-weaker (IsFine (choices_of proof.part)) (IsFine (choices_of whole)) (fine-item (choices_of whole) (choices_of proof.part) proof.is.judged) (tree_items tree)
+      (items-fine (steps_of proof.part) (choices_of proof.part) (start (view_of proof.part.program.root)) (tree_items tree) proof.sound.proof_cap proof.sound.proved.sound proof.sound.proved.led)
 
   -- it is written in lines that may be written
-  own-written : IsWrittenLog (length whole.root) tree claim
-  own-written = subst (λ (n : ℕ). IsWrittenLog n tree claim) proof.slots (log-written proof.part proof.bytes tree claim proof.log)
+  own-written : IsWrittenLog (length (choices_of whole).root) tree claim
+  own-written = subst (λ (n : ℕ). IsWrittenLog n tree claim) proof.is.points (log-written proof.part proof.bytes tree claim proof.log)
 
   -- its lines lead through it in a log of the plant
   own-lead : levels ≤ 4608 → (outer : List Bool) → length outer ≡ levels → leads (limits_of whole 4608) (at target AtNode outer) (tree_lines tree) ≡ Some (closed target outer)
-  own-lead few = part-lead target whole proof.part levels proof.bytes tree claim proof.is.rows proof.slots few proof.log proof.lines proof.clean
+  own-lead few =
+      part-lead target whole proof.part levels proof.bytes tree claim (record { rows = ap length proof.is.alike.rows; slots = proof.is.slots; points = proof.is.points }) few proof.log proof.lines proof.clean
 
 -- ---- the joined log
 
--- the cap of a tree over the root of a program
-abbrev root_cap : Program → RowTree → Capped
-root_cap program tree = tree_cap (row_steps program) (view_of program.root) tree
+-- the cap of a tree over the root of rows
+abbrev root_cap : Rows → RowTree → Capped
+root_cap rows tree = tree_cap (steps_of rows) (view_of rows.program.root) tree
 
-module _ (target : ℕ) (known : IsVersion target) (whole : Program) (base left : List Domain) (long : length left ≡ length base) (root_is : whole.root ≡ met base left) (levels : ℕ) (trees : List RowTree) (claims : List Claim) (claim : Claim) (are : AreFirstOfSlots levels base)
+module _ (target : ℕ) (known : IsVersion target) (whole : Rows) (base left : List Domain) (long : length left ≡ length base) (root_is : whole.program.root ≡ met base left) (levels : ℕ) (trees : List RowTree) (claims : List Claim) (claim : Claim) (are : AreFirstOfSlots levels base)
     (few : levels ≤ 8) (within : levels ≤ length base) (each : (part : ℕ) → part < 2 ^ levels → IsPartProof target whole base left levels part (get_or trees part no_tree) (get_or claims part Infeasible)) (all : length claims ≡ 2 ^ levels) (joined : IsJoined claims claim) where
   -- the root has a domain for each slot
-  there : levels ≤ length whole.root
+  there : levels ≤ length whole.program.root
   there = omega (arith, within, ap length root_is, length-met base left long)
 
   -- what holds of each part's cap, and of the greater of two of which it holds, holds of the joined cap
   joined-cap : (Q : Capped → Type 0) → ((a b : Capped) → Q a → Q b → Q (greater a b)) → ((part : ℕ) (l : part < 2 ^ levels) → Q (each part l).sound.proof_cap) → Q (root_cap whole (tree_over 0 levels trees))
   joined-cap Q closed holds =
-      subst (λ (ds : List Domain). Q (tree_cap (row_steps whole) (view_of ds) (tree_over 0 levels trees))) (ap (λ (ds : List Domain). met ds left) (no-cut base) ∙ sym root_is)
+      subst (λ (ds : List Domain). Q (tree_cap (steps_of whole) (view_of ds) (tree_over 0 levels trees))) (ap (λ (ds : List Domain). met ds left) (no-cut base) ∙ sym root_is)
       (over-cap Q closed whole base left long levels are levels 0 0 trees (omega arith) within
       (λ i l.
       let number : i ≡ 0 * 2 ^ levels + i = omega arith in
@@ -181,81 +185,81 @@ module _ (target : ℕ) (known : IsVersion target) (whole : Program) (base left 
   real = joined-cap (λ (c : Capped). c ≢ Bad) greater-real (λ part l. (own-led target whole base left levels part (get_or trees part no_tree) (get_or claims part Infeasible) (each part l)).1)
 
   -- the items lead to the joined cap
-  led : walked {R = Rows} {A = Area} {F = Found} (row_steps whole) (start (view_of whole.root)) (tree_items (tree_over 0 levels trees)) ≡ ended (root_cap whole (tree_over 0 levels trees))
-  led = walked-whole Rows Area Found (row_steps whole) (tree_over 0 levels trees) (view_of whole.root) ∙ real_outcome (root_cap whole (tree_over 0 levels trees)) real
+  led : walked {R = Rows} {A = Area} {F = Found} (steps_of whole) (start (view_of whole.program.root)) (tree_items (tree_over 0 levels trees)) ≡ ended (root_cap whole (tree_over 0 levels trees))
+  led = walked-whole Rows Area Found (steps_of whole) (tree_over 0 levels trees) (view_of whole.program.root) ∙ real_outcome (root_cap whole (tree_over 0 levels trees)) real
 
   -- no found point has a defect
-  all-fine : All (IsFine whole) (tree_items (tree_over 0 levels trees))
+  all-fine : All (IsFine (choices_of whole)) (tree_items (tree_over 0 levels trees))
   all-fine =
-      over-items (IsFine whole) levels levels 0 trees tt (λ k l. tt) (omega arith)
+      over-items (IsFine (choices_of whole)) levels levels 0 trees tt (λ k l. tt) (omega arith)
       (λ i l. fine-parts target whole base left levels i (get_or trees i no_tree) (get_or claims i Infeasible) (each i l))
 
   -- what a place of the claims has
   at-place : (place : ℕ) → place < length claims → IsPartProof target whole base left levels place (get_or trees place no_tree) (get_or claims place Infeasible)
   at-place place l = each place (omega (arith, l, all))
 
-  written-at : (place : ℕ) → place < length claims → IsWrittenClaim (length whole.root) (get_or claims place Infeasible)
+  written-at : (place : ℕ) → place < length claims → IsWrittenClaim (length (choices_of whole).root) (get_or claims place Infeasible)
   written-at place l = (own-written target whole base left levels place (get_or trees place no_tree) (get_or claims place Infeasible) (at-place place l)).claim_written
 
   -- the best plan has no defect, and may be written
-  best-fine : (plan : Option ClaimedPlan) → IsBestPlan claims plan → IfSome plan (λ p. IsFinePoint whole p.profit p.point)
+  best-fine : (plan : Option ClaimedPlan) → IsBestPlan claims plan → IfSome plan (λ p. IsFinePoint (choices_of whole) p.profit p.point)
   best-fine None best = tt
   best-fine (Some plan) best =
       let found = best-place claims plan best in
       let proof = at-place found.0 found.1.0 in
-      fine-whole whole proof.part plan.profit plan.point proof.is (plan-fine proof.part proof.sound.proof_cap (get_or claims found.0 Infeasible) plan proof.sound.sound found.1.1)
+      fine-whole (choices_of whole) (choices_of proof.part) plan.profit plan.point proof.is.judged (plan-fine (choices_of proof.part) proof.sound.proof_cap (get_or claims found.0 Infeasible) plan proof.sound.sound found.1.1)
 
-  best-written : (plan : Option ClaimedPlan) → IsBestPlan claims plan → IfSome plan (IsWrittenPlan (length whole.root))
+  best-written : (plan : Option ClaimedPlan) → IsBestPlan claims plan → IfSome plan (IsWrittenPlan (length (choices_of whole).root))
   best-written None best = tt
   best-written (Some plan) best =
       let found = best-place claims plan best in
-      plan-written (length whole.root) (get_or claims found.0 Infeasible) plan (written-at found.0 found.1.0) found.1.1
+      plan-written (length (choices_of whole).root) (get_or claims found.0 Infeasible) plan (written-at found.0 found.1.0) found.1.1
 
   -- the joined cap is not above the greatest cap of the claims, which may be written
   best-caps : (cap : Option ℤ) → IsBestCap claims cap → IsCappedBy cap (root_cap whole (tree_over 0 levels trees))
   best-caps None none =
       joined-cap AllowsNone greater-allows_none
-      (λ part l. let proof = each part l in no_cap-none proof.part proof.sound.proof_cap (get_or claims part Infeasible) proof.sound.sound (none part Infeasible (omega (arith, l, all))))
+      (λ part l. let proof = each part l in no_cap-none (choices_of proof.part) proof.sound.proof_cap (get_or claims part Infeasible) proof.sound.sound (none part Infeasible (omega (arith, l, all))))
   best-caps (Some cap) best =
       joined-cap (IsNotAbove cap) (greater-not_above cap)
-      (λ part l. let proof = each part l in capped-fine proof.part proof.sound.proof_cap (get_or claims part Infeasible) cap proof.sound.sound (best.most part Infeasible (omega (arith, l, all))))
+      (λ part l. let proof = each part l in capped-fine (choices_of proof.part) proof.sound.proof_cap (get_or claims part Infeasible) cap proof.sound.sound (best.most part Infeasible (omega (arith, l, all))))
 
   cap-short : (cap : Option ℤ) → IsBestCap claims cap → IfSome cap IsShort
   cap-short None none = tt
-  cap-short (Some cap) best = cap-written (length whole.root) (get_or claims best.place Infeasible) cap (written-at best.place best.within) best.has
+  cap-short (Some cap) best = cap-written (length (choices_of whole).root) (get_or claims best.place Infeasible) cap (written-at best.place best.within) best.has
 
   -- the joined proof and the joined claim have no defect
   joined-sound : IsSoundLog whole (tree_over 0 levels trees) claim
   joined-sound = record {
     proof_cap = root_cap whole (tree_over 0 levels trees);
     proved = record {
-      sound = items_sound whole (start (view_of whole.root)) (tree_items (tree_over 0 levels trees)) (root_cap whole (tree_over 0 levels trees)) all-fine led;
+      sound = items_sound whole (start (view_of whole.program.root)) (tree_items (tree_over 0 levels trees)) (root_cap whole (tree_over 0 levels trees)) all-fine led;
       led = led;
     };
-    sound = subst (HasNoDefect whole (root_cap whole (tree_over 0 levels trees))) (sym joined.is)
-        (with-sound whole (root_cap whole (tree_over 0 levels trees)) joined.plan joined.cap (best-fine joined.plan joined.best_plan) (best-caps joined.cap joined.best_cap));
+    sound = subst (HasNoDefect (choices_of whole) (root_cap whole (tree_over 0 levels trees))) (sym joined.is)
+        (with-sound (choices_of whole) (root_cap whole (tree_over 0 levels trees)) joined.plan joined.cap (best-fine joined.plan joined.best_plan) (best-caps joined.cap joined.best_cap));
   }
 
   -- the joined log is one of written lines
-  joined-written : IsWrittenLog (length whole.root) (tree_over 0 levels trees) claim
+  joined-written : IsWrittenLog (length (choices_of whole).root) (tree_over 0 levels trees) claim
   joined-written =
-      let few_slots = whole.few_slots in
+      let few_slots = whole.program.few_slots in
       record {
-        items_over = over-items (IsOver (length whole.root)) levels levels 0 trees tt (λ k l. tt) (omega arith)
+        items_over = over-items (IsOver (length (choices_of whole).root)) levels levels 0 trees tt (λ k l. tt) (omega arith)
             (λ i l. (own-written target whole base left levels i (get_or trees i no_tree) (get_or claims i Infeasible) (each i l)).items_over);
         items = over-items IsWrittenItem levels levels 0 trees node-written (λ k l. split-written k (omega (arith, l, few))) (omega arith)
             (λ i l. (own-written target whole base left levels i (get_or trees i no_tree) (get_or claims i Infeasible) (each i l)).items);
-        claim_written = subst (IsWrittenClaim (length whole.root)) (sym joined.is)
-            (with-written (length whole.root) joined.plan joined.cap (best-written joined.plan joined.best_plan) (cap-short joined.cap joined.best_cap));
+        claim_written = subst (IsWrittenClaim (length (choices_of whole).root)) (sym joined.is)
+            (with-written (length (choices_of whole).root) joined.plan joined.cap (best-written joined.plan joined.best_plan) (cap-short joined.cap joined.best_cap));
       }
 
   joined-log : IsLog whole (log_text target (tree_items (tree_over 0 levels trees)) claim) (tree_over 0 levels trees) claim
-  joined-log = record { version = target; text = refl; over = log-over target (length whole.root) (tree_over 0 levels trees) claim known joined-written }
+  joined-log = record { version = target; text = refl; over = log-over target (length (choices_of whole).root) (tree_over 0 levels trees) claim known joined-written }
 
   -- its text has no text defect
   joined-clean : log_text_defect (limits_of whole 4608) (log_text target (tree_items (tree_over 0 levels trees)) claim) ≡ None
   joined-clean =
-      text-clean target (limits_of whole 4608) (tree_over 0 levels trees) claim (log-over target (length whole.root) (tree_over 0 levels trees) claim known joined-written)
+      text-clean target (limits_of whole 4608) (tree_over 0 levels trees) claim (log-over target (length (choices_of whole).root) (tree_over 0 levels trees) claim known joined-written)
       (over-lead target (limits_of whole 4608) levels levels 0 trees [] (omega arith) there (omega (arith, few)) refl
       (λ i l. own-lead target whole base left levels i (get_or trees i no_tree) (get_or claims i Infeasible) (each i l) (omega (arith, few))))
 
@@ -288,7 +292,7 @@ pub record AllTrees (plant : Plant) (levels : ℕ) (logs : ℕ → List ℕ) (de
   pub some : 1 ≤ levels
   pub few : levels ≤ 8
   pub within : levels ≤ length (slots plant)
-  pub may : MayDeclare (head_limits plant levels) (joined_version newest declared.sums) declared
+  pub may : MayDeclare plant (head_limits plant levels) (joined_version newest declared.sums) declared
   pub known : (newest ≡ true) ↔ HasNewest logs (2 ^ levels)
   pub all_trees : length trees ≡ 2 ^ levels
   pub all_claims : length claims ≡ 2 ^ levels
@@ -319,8 +323,8 @@ unfolding lines_text line_text number_text
 two-first rest = let e = decimal_digit 2 (omega arith) in rw e refl
 
 -- a log behind a head is of version 4 only where the whole log is
-log-newest : (bytes : List ℕ) (version head : ℕ) (larger : Program) (tree : RowTree) (claim : Claim) (log : IsLog larger (behind version head bytes) tree claim) → (version ≡ 4 → IsNewest bytes) → log.version ≡ 4 → IsNewest bytes
-log-newest bytes version head larger tree claim log newest four = by head (subst (λ (v : ℕ). behind version head bytes ≡ log_text v (tree_items tree) claim) four log.text ∙ four-text (tree_items tree) claim)
+log-newest : (bytes : List ℕ) (version head : ℕ) (rows : Rows) (tree : RowTree) (claim : Claim) (log : IsLog rows (behind version head bytes) tree claim) → (version ≡ 4 → IsNewest bytes) → log.version ≡ 4 → IsNewest bytes
+log-newest bytes version head rows tree claim log newest four = by head (subst (λ (v : ℕ). behind version head bytes ≡ log_text v (tree_items tree) claim) four log.text ∙ four-text (tree_items tree) claim)
   where
     rest : List ℕ
     rest = lines_text (flat_map item_lines (tree_items tree) ++ (claim_lines claim ++ End ∷ []))
@@ -346,20 +350,24 @@ first-slots plant levels more sound within k l =
 slots-normal : (plant : Plant) → Sound plant → All IsNormal (plant_root plant)
 slots-normal plant sound k d l = subst IsNormal (get_or_default (plant_root plant) k no_values d l) (plant-slots plant sound k l).normal
 
--- the first slots of a part's root with sums are those of a plant, and what a head is judged over holds all of it
-pub part-stays : (plant : Plant) (levels number : ℕ) (part between : Program) (sums : List Sum) → Sound plant → levels ≤ length (slots plant) → part.root ≡ cut_root levels number (plant_root plant) → IsWithSums part (plant_root plant) sums between
-    → met between.root (head_domains part (plant_root plant) sums) ≡ between.root
-part-stays plant levels number part between sums sound within root added =
+-- the first slots of a part's root with sums are those of a plant, and what a head is judged over holds all of it, where it sets no unit up
+pub part-stays : (plant : Plant) (levels number : ℕ) (part between wide : Program) (sums : List Sum) (units : List ℕ) → Sound plant → levels ≤ length (slots plant) → part.root ≡ cut_root levels number (plant_root plant) → IsWithSums part (plant_root plant) sums between
+    → AreSetUp plant units between wide → units ≡ [] → met wide.root (wide_domains plant part (plant_root plant) sums units) ≡ wide.root
+part-stays plant levels number part between wide sums [] sound within root added set none =
     let base = plant_root plant in
     let own = map (sum_domain part base) sums in
     let all : length base ≡ length (slots plant) = length-map (slots plant) (slot_domain plant) in
-    let is : between.root ≡ cut_root levels number (base ++ own) = added.root ∙ ap (λ (ds : List Domain). ds ++ own) root ∙ sym (cut-front levels number base own (omega (arith, within, all))) in
+    let is : wide.root ≡ cut_root levels number (base ++ own) = ap (λ (p : Program). p.root) set ∙ added.root ∙ ap (λ (ds : List Domain). ds ++ own) root ∙ sym (cut-front levels number base own (omega (arith, within, all))) in
     subst (λ (ds : List Domain). met ds (base ++ own) ≡ ds) (sym is) (cut-stays (base ++ own) (base ++ own) levels number refl (first-slots plant levels own sound within)
     (All-append IsNormal base own (slots-normal plant sound) (All-second IsNormal part.root own (subst (All IsNormal) added.root between.root_normal))))
+part-stays plant levels number part between wide sums (unit ∷ units) sound within root added set none = absurd cc
 
 module _ (plant : Plant) (levels : ℕ) (logs : ℕ → List ℕ) (declared : Declared) (newest : Bool) (heads : List ℕ) (trees : List RowTree) (claims : List Claim) (all : AllTrees plant levels logs declared newest heads trees claims) (whole : Program) (made : IsMadeOf plant whole) where
   abbrev sums : List Sum
   sums = declared.sums
+
+  abbrev units : List ℕ
+  units = declared.units
 
   abbrev derivations : List Derivation
   derivations = declared.derivations
@@ -387,11 +395,11 @@ module _ (plant : Plant) (levels : ℕ) (logs : ℕ → List ℕ) (declared : De
   long-same k l = ap length (root-cut k l) ∙ length-cut levels k whole.root
 
   -- each part's program with its head, as with one of version 4
-  head-of-part : (k : ℕ) (l : k < 2 ^ levels) → IsWithHead 4 (all.each k l).program base sums derivations (all.each k l).larger
+  head-of-part : (k : ℕ) (l : k < 2 ^ levels) → IsWithHead plant 4 (all.each k l).program base sums units derivations (all.each k l).rows
   head-of-part k l =
       let is = all.each k l in
-      as-four is.version is.program is.larger base sums derivations is.enlarged is.none
-      (part-stays plant levels k is.program is.enlarged.between sums all.sound all.within is.of_part.root is.enlarged.with_sums)
+      as-four plant is.version is.program base sums units derivations is.rows is.enlarged is.none
+      (part-stays plant levels k is.program is.enlarged.between is.enlarged.wide sums units all.sound all.within is.of_part.root is.enlarged.with_sums is.enlarged.with_setups)
 
   -- the sums are shown
   pub all-shown : All (IsShown whole base) sums
@@ -400,19 +408,20 @@ module _ (plant : Plant) (levels : ℕ) (logs : ℕ → List ℕ) (declared : De
       All-weaker (IsShown first.program base) (IsShown whole base) (λ sum is. shown-same first.program whole base sum (rows-same 0 (pow_pos levels)) is) sums (head-of-part 0 (pow_pos levels)).sums_shown
 
   -- a program with the head has the same points
-  same-whole : (wide : Program) → IsWithHead 4 whole base sums derivations wide → HaveSamePoints whole wide (completed sums) (given_of whole)
-  same-whole wide added = head-points 4 whole wide base sums derivations (plant-ranges plant whole made) declared-here added
+  same-whole : (wide : Rows) → IsWithHead plant 4 whole base sums units derivations wide → HaveSamePoints whole (choices_of wide) (completed sums) (given_of whole)
+  same-whole wide added = head-points plant 4 whole base sums units derivations wide (plant-ranges plant whole made) declared-here added
 
-  same-part : (k : ℕ) (l : k < 2 ^ levels) → HaveSamePoints (all.each k l).program (all.each k l).larger (completed sums) (given_of (all.each k l).program)
+  same-part : (k : ℕ) (l : k < 2 ^ levels) → HaveSamePoints (all.each k l).program (choices_of (all.each k l).rows) (completed sums) (given_of (all.each k l).program)
   same-part k l =
       let is = all.each k l in
-      head-points 4 is.program is.larger base sums derivations (part-ranges plant is.program is.of_part.is_part) (subst (λ (n : ℕ). All (IsDeclared n) sums) (sym (long-same k l)) declared-here) (head-of-part k l)
+      head-points plant 4 is.program base sums units derivations is.rows (part-ranges plant is.program is.of_part.is_part) (subst (λ (n : ℕ). All (IsDeclared n) sums) (sym (long-same k l)) declared-here) (head-of-part k l)
 
   -- the claim of a part over the part's program with the head
   own-claim : (k : ℕ) (l : k < 2 ^ levels) → ((all.each k l).own ≡ larger_claim sums (get_or claims k Infeasible)) × IsPointed (all.each k l).program (get_or claims k Infeasible)
   own-claim k l =
       let is = all.each k l in
-      let own = own-larger is.program is.larger sums is.own (same-part k l) (fine-pointed is.larger is.sound.proof_cap is.own is.sound.sound) in
+      let judged = choices_of is.rows in
+      let own = own-larger is.program judged sums is.own (same-part k l) (fine-pointed judged is.sound.proof_cap is.own is.sound.sound) in
       subst (λ (claim : Claim). (is.own ≡ larger_claim sums claim) × IsPointed is.program claim) (sym is.claim_is) own
 
   -- its point is lawful in the plant's program
@@ -424,8 +433,8 @@ module _ (plant : Plant) (levels : ℕ) (logs : ℕ → List ℕ) (declared : De
       pointed-more is.program whole (get_or claims k Infeasible) (λ point lawful. lawful-part whole is.program point part lawful) (own-claim k l).1
 
   -- what a head of the plant's program leaves of its slots' domains
-  abbrev left-of : (wide : Program) → IsWithHead 4 whole base sums derivations wide → List Domain
-  left-of wide added = (grown_by added.between (head_domains whole base sums) derivations).domains
+  abbrev left-of : (wide : Rows) → IsWithHead plant 4 whole base sums units derivations wide → List Domain
+  left-of wide added = (grown_by added.wide (wide_domains plant whole base sums units) derivations).domains
 
   -- where none of the logs is of version 4, a log of version 2 may have the lines of each
   lines-two : newest ≡ false → (k : ℕ) (l : k < 2 ^ levels) → HasLinesOf 2 (all.each k l).log.version
@@ -434,135 +443,172 @@ module _ (plant : Plant) (levels : ℕ) (logs : ℕ → List ℕ) (declared : De
       inr (
         omega arith,
         λ four.
-            let newest_log = log-newest (logs k) is.version (get_or heads k 0) is.larger (get_or trees k no_tree) is.own is.log is.newest four in
+            let newest_log = log-newest (logs k) is.version (get_or heads k 0) is.rows (get_or trees k no_tree) is.own is.log is.newest four in
             let yes = all.known.1 (k, (l, newest_log)) in
             let clash : true ≡ false = sym yes ∙ old in
             cc,
       )
 
-  -- what each log says over the plant's program with the head
-  each-proof : (target : ℕ) → ((k : ℕ) (l : k < 2 ^ levels) → HasLinesOf target (all.each k l).log.version) → (wide : Program) (added : IsWithHead 4 whole base sums derivations wide) → (k : ℕ) → k < 2 ^ levels
-      → IsPartProof target wide added.between.root (left-of wide added) levels k (get_or trees k no_tree) (get_or (map (larger_claim sums) claims) k Infeasible)
+  -- the plant's domains are as many as the slots
+  judged-long : length base ≡ length whole.root
+  judged-long = sym (ap length made.root_is)
+
+  -- what each log says over the plant's rows with the head
+  each-proof : (target : ℕ) → ((k : ℕ) (l : k < 2 ^ levels) → HasLinesOf target (all.each k l).log.version) → (wide : Rows) (added : IsWithHead plant 4 whole base sums units derivations wide) → (k : ℕ) → k < 2 ^ levels
+      → IsPartProof target wide added.wide.root (left-of wide added) levels k (get_or trees k no_tree) (get_or (map (larger_claim sums) claims) k Infeasible)
   each-proof target has wide added k l =
       let is = all.each k l in
       let but = but-root plant whole is.program made is.of_part.is_part in
       let claim : is.own ≡ get_or (map (larger_claim sums) claims) k Infeasible = (own-claim k l).0 ∙ sym (claim-at sums claims k (let long = all.all_claims in omega (arith, l, long))) in
-      let judged : length base ≡ length whole.root = sym (ap length made.root_is) in
-      let one = head-counts whole wide base sums derivations judged added in
-      let other = head-counts is.program is.larger base sums derivations (judged ∙ sym (long-same k l)) (head-of-part k l) in
       record {
-        part = is.larger;
+        part = is.rows;
         bytes = behind is.version (get_or heads k 0) (logs k);
-        is = part-larger whole is.program wide is.larger base sums derivations but (within-root plant whole is.program made is.of_part.is_part) (long-same k l) added (head-of-part k l) (same-whole wide added) (same-part k l);
-        root = root-larger whole is.program is.larger base sums derivations added.between levels k levels-there but.rows (root-cut k l) added.with_sums (head-of-part k l);
-        slots = other.0 ∙ ap (λ (n : ℕ). n + length sums) (long-same k l) ∙ sym one.0;
+        is = part-larger plant whole is.program base sums units derivations wide is.rows but (within-root plant whole is.program made is.of_part.is_part) (long-same k l) judged-long added (head-of-part k l) (same-whole wide added) (same-part k l);
+        root = root-larger plant whole is.program base sums units derivations is.rows added.between added.wide levels k levels-there but (root-cut k l) added.with_sums added.with_setups (head-of-part k l);
         log = record {
           version = is.log.version;
           text = is.log.text ∙ ap (log_text is.log.version (tree_items (get_or trees k no_tree))) claim;
-          over = subst (IsLogOver (length is.larger.root) is.log.version (get_or trees k no_tree)) claim is.log.over;
+          over = subst (IsLogOver (length (choices_of is.rows).root) is.log.version (get_or trees k no_tree)) claim is.log.over;
         };
         lines = has k l;
         clean = is.clean;
-        sound = subst (IsSoundLog is.larger (get_or trees k no_tree)) claim is.sound;
+        sound = subst (IsSoundLog is.rows (get_or trees k no_tree)) claim is.sound;
       }
 
-  -- the plant's program with the sums has the first slots of the plant
-  first-here : (between : Program) → IsWithSums whole base sums between → AreFirstOfSlots levels between.root
-  first-here between added =
+  -- the plant's program with the sums and the setups has the first slots of the plant
+  wide-first : (between wide : Program) → IsWithSums whole base sums between → AreSetUp plant units between wide → (more : List Domain) × (wide.root ≡ base ++ more)
+  wide-first between wide added set =
       let own = map (sum_domain whole base) sums in
-      let is : base ++ own ≡ between.root = ap (λ (ds : List Domain). ds ++ own) (sym made.root_is) ∙ sym added.root in
-      subst (AreFirstOfSlots levels) is (first-slots plant levels own all.sound all.within)
+      let begins = begins-several plant units between wide set in
+      (own ++ begins.slots, begins.root ∙ ap (λ (ds : List Domain). ds ++ begins.slots) (added.root ∙ ap (λ (ds : List Domain). ds ++ own) made.root_is) ∙ append_assoc base own begins.slots)
+
+  first-here : (between wide : Program) → IsWithSums whole base sums between → AreSetUp plant units between wide → AreFirstOfSlots levels wide.root
+  first-here between wide added set = let of = wide-first between wide added set in subst (AreFirstOfSlots levels) (sym of.1) (first-slots plant levels of.0 all.sound all.within)
+
+  wide-there : (between wide : Program) → IsWithSums whole base sums between → AreSetUp plant units between wide → levels ≤ length wide.root
+  wide-there between wide added set = let of = wide-first between wide added set in omega (arith, levels-there, judged-long, ap length of.1, length-append base of.0)
 
   -- what a head leaves has a domain for each slot
-  left-long : (wide : Program) (added : IsWithHead 4 whole base sums derivations wide) → length (left-of wide added) ≡ length added.between.root
+  left-long : (wide : Rows) (added : IsWithHead plant 4 whole base sums units derivations wide) → length (left-of wide added) ≡ length added.wide.root
   left-long wide added =
-      let own = map (sum_domain whole base) sums in
-      slots-after_all (begun added.between (head_domains whole base sums)) derivations ∙ length-append base own ∙ ap (λ (n : ℕ). n + length own) (sym (ap length made.root_is)) ∙ sym (length-append whole.root own) ∙ sym (ap length added.with_sums.root)
+      slots-after_all (begun added.wide (wide_domains plant whole base sums units)) derivations ∙ wide-long plant whole added.between added.wide base sums units judged-long added.with_sums added.with_setups
 
-  -- what a head is judged over holds all of the plant's root
-  whole-stays : (between : Program) (own : List Sum) → IsWithSums whole base own between → met between.root (head_domains whole base own) ≡ between.root
-  whole-stays between own added = part-stays plant 0 0 whole between own all.sound (omega arith) (made.root_is ∙ sym (no-cut base)) added
+  -- what a head is judged over holds all of the plant's root, where it sets no unit up
+  whole-stays : (between wide : Program) (own : List Sum) (set : List ℕ) → IsWithSums whole base own between → AreSetUp plant set between wide → set ≡ [] → met wide.root (wide_domains plant whole base own set) ≡ wide.root
+  whole-stays between wide own set added is none = part-stays plant 0 0 whole between wide own set all.sound (omega arith) (made.root_is ∙ sym (no-cut base)) added is none
 
-  -- without sums and derivations the plant's program is itself
-  plain-head : IsWithHead 4 whole base [] [] whole
+  -- without sums, setups and derivations the plant's program is itself
+  plain-head : IsWithHead plant 4 whole base [] [] [] (plain whole)
   plain-head =
       let none = none-enlarged whole base in
-      let three : IsWithHead 3 whole base [] [] whole = record { sums_shown = All-nil (IsShown whole base); between = whole; with_sums = none; derivations_shown = tt; grown = inl (refl, refl) } in
-      as-four 3 whole whole base [] [] three (λ e. refl) (whole-stays whole [] none)
+      let three : IsWithHead plant 3 whole base [] [] [] (plain whole) = record {
+        sums_shown = All-nil (IsShown whole base);
+        between = whole;
+        with_sums = none;
+        wide = whole;
+        with_setups = refl;
+        derivations_shown = tt;
+        grown = inl (refl, refl, refl);
+        choices = refl;
+      } in
+      as-four plant 3 whole base [] [] [] (plain whole) three (λ e. refl) (whole-stays whole whole [] [] none refl)
 
   module _ (claim : Claim) (joined : IsJoined claims claim) where
-    -- the joined log over the plant's program with the head
-    right-over : (target : ℕ) → IsVersion target → ((k : ℕ) (l : k < 2 ^ levels) → HasLinesOf target (all.each k l).log.version) → (wide : Program) → IsWithHead 4 whole base sums derivations wide
+    -- the joined log over the plant's rows with the head
+    right-over : (target : ℕ) → IsVersion target → ((k : ℕ) (l : k < 2 ^ levels) → HasLinesOf target (all.each k l).log.version) → (wide : Rows) → IsWithHead plant 4 whole base sums units derivations wide
         → IsVerdict wide 4608 (log_text target (tree_items (tree_over 0 levels trees)) (larger_claim sums claim)) (verdict.Yes (larger_claim sums claim))
     right-over target known has wide added =
-        joined-right target known wide added.between.root (left-of wide added) (left-long wide added) (derived-of whole wide base sums derivations added).root levels trees (map (larger_claim sums) claims) (larger_claim sums claim) (first-here added.between added.with_sums) all.few
-        (let long = length-append whole.root (map (sum_domain whole base) sums) in omega (arith, levels-there, ap length added.with_sums.root, long))
+        joined-right target known wide added.wide.root (left-of wide added) (left-long wide added) (derived-of plant whole base sums units derivations wide added).root levels trees (map (larger_claim sums) claims) (larger_claim sums claim)
+        (first-here added.between added.wide added.with_sums added.with_setups) all.few (wide-there added.between added.wide added.with_sums added.with_setups)
         (each-proof target has wide added) (length-map claims (larger_claim sums) ∙ all.all_claims) (joined-larger sums claims claim joined)
 
     -- its point is lawful
     pub joint-pointed : IsPointed whole claim
     joint-pointed = joined-pointed whole claims claim joined (λ place l. pointed place (let long = all.all_claims in omega (arith, l, long)))
 
-    -- the plant's program with the head
-    wide-some : (wide : Program) × IsWithHead 4 whole base sums derivations wide
+    -- the plant's rows with the head
+    wide-some : (wide : Rows) × IsWithHead plant 4 whole base sums units derivations wide
     wide-some =
         let first = all.each 0 (pow_pos levels) in
-        head-whole whole first.program first.larger base sums derivations (but-root plant whole first.program made first.of_part.is_part) (long-same 0 (pow_pos levels)) (sym (ap length made.root_is)) (head-of-part 0 (pow_pos levels))
+        head-whole plant whole first.program base sums units derivations first.rows (but-root plant whole first.program made first.of_part.is_part) (long-same 0 (pow_pos levels)) judged-long (head-of-part 0 (pow_pos levels))
 
-    -- and that of a head of version 3, which has no derivations
-    three-wide : derivations ≡ [] → IsWithHead 4 whole base sums derivations wide-some.1.between
-    three-wide none =
+    -- and those of a head of version 3, which has neither setups nor derivations
+    abbrev three-rows : Rows
+    three-rows = plain wide-some.1.wide
+
+    three-of : units ≡ [] → IsWithHead plant 3 whole base sums units derivations three-rows
+    three-of none =
         let is = wide-some.1 in
-        let three : IsWithHead 3 whole base sums derivations is.between = record { sums_shown = is.sums_shown; between = is.between; with_sums = is.with_sums; derivations_shown = is.derivations_shown; grown = inl (refl, refl) } in
-        as-four 3 whole is.between base sums derivations three (λ e. none) (whole-stays is.between sums is.with_sums)
+        record {
+          sums_shown = is.sums_shown;
+          between = is.between;
+          with_sums = is.with_sums;
+          wide = is.wide;
+          with_setups = is.with_setups;
+          derivations_shown = is.derivations_shown;
+          grown = inl (refl, none, refl);
+          choices = sym (ap (λ (us : List ℕ). choices_before us is.between) none);
+        }
+
+    three-wide : units ≡ [] → derivations ≡ [] → IsWithHead plant 4 whole base sums units derivations three-rows
+    unfolding three-of wide-some
+    three-wide none nothing =
+        let is = wide-some.1 in
+        as-four plant 3 whole base sums units derivations three-rows (three-of none) (λ e. nothing) (whole-stays is.between is.wide sums units is.with_sums is.with_setups)
 
     abbrev text : ℕ → List ℕ
     text version = declared_text version declared (tree_over 0 levels trees) (larger_claim sums claim)
 
-    may-here : (version : ℕ) → MayDeclare (head_limits plant levels) version declared → MayDeclare (limits_of whole 4608) version declared
+    may-here : (version : ℕ) → MayDeclare plant (head_limits plant levels) version declared → MayDeclare plant (limits_of (plain whole) 4608) version declared
     may-here version may =
-        let deeper = may_deeper (head_limits plant levels) 4608 version declared may in
-        let made' : ℕ → ℕ → Limits = λ r s. record { rows = r; slots = s; depth = 4608 } in
-        let same : made' (length (plant_rows plant)) (length (slots plant)) ≡ limits_of whole 4608 = ap (λ (r : ℕ). made' r (length (slots plant))) (sym (ap length made.rows_are)) ∙ ap (made' (length whole.rows)) (sym slots-same) in
-        subst (λ (l : Limits). MayDeclare l version declared) same deeper
+        let deeper = may_deeper plant (head_limits plant levels) 4608 version declared may in
+        let made' : ℕ → ℕ → Limits = λ r s. record { rows = r; slots = s; points = s; depth = 4608 } in
+        let same : made' (length (plant_rows plant)) (length (slots plant)) ≡ limits_of (plain whole) 4608 =
+        ap (λ (r : ℕ). made' r (length (slots plant))) (sym (ap length made.rows_are)) ∙ ap (made' (length whole.rows)) (sym slots-same) in
+        subst (λ (l : Limits). MayDeclare plant l version declared) same deeper
 
-    given-here : (wide : Program) → IsWithHead 4 whole base sums derivations wide → claim ≡ given_claim (length whole.root) (larger_claim sums claim)
-    given-here wide added = given-larger whole wide sums claim (same-whole wide added) joint-pointed
+    given-here : (wide : Rows) → IsWithHead plant 4 whole base sums units derivations wide → claim ≡ given_claim (length whole.root) (larger_claim sums claim)
+    given-here wide added = given-larger whole (choices_of wide) sums claim (same-whole wide added) joint-pointed
 
     -- the text of version 2, which declares nothing
-    right-plain : newest ≡ false → sums ≡ [] → derivations ≡ [] → IsAnyVerdict whole base base 4608 (text 2) (verdict.Yes claim)
-    right-plain old none nothing =
+    right-plain : newest ≡ false → sums ≡ [] → units ≡ [] → derivations ≡ [] → IsAnyVerdict plant whole base base 4608 (text 2) (verdict.Yes claim)
+    right-plain old none unset nothing =
         let tree = tree_over 0 levels trees in
         let own : larger_claim sums claim ≡ claim = ap (λ (ss : List Sum). larger_claim ss claim) none ∙ larger-none claim in
-        let is = subst (λ (ss : List Sum). IsWithHead 4 whole base ss derivations whole) (sym none) (subst (λ (ds : List Derivation). IsWithHead 4 whole base [] ds whole) (sym nothing) plain-head) in
+        let is = subst (λ (ss : List Sum). IsWithHead plant 4 whole base ss units derivations (plain whole)) (sym none)
+        (subst (λ (us : List ℕ). IsWithHead plant 4 whole base [] us derivations (plain whole)) (sym unset)
+        (subst (λ (ds : List Derivation). IsWithHead plant 4 whole base [] [] ds (plain whole)) (sym nothing) plain-head)) in
         let larger = larger_claim sums claim in
-        let right = subst (λ (c : Claim). IsVerdict whole 4608 (log_text 2 (tree_items tree) larger) (verdict.Yes c)) own (right-over 2 (omega arith, omega arith, omega arith) (lines-two old) whole is) in
-        subst (λ (bytes : List ℕ). IsAnyVerdict whole base base 4608 bytes (verdict.Yes claim)) (sym (text_plain declared tree larger))
-        (plain-verdict whole base base 4608 (tree_items tree) larger (verdict.Yes claim) right)
+        let right = subst (λ (c : Claim). IsVerdict (plain whole) 4608 (log_text 2 (tree_items tree) larger) (verdict.Yes c)) own (right-over 2 (omega arith, omega arith, omega arith) (lines-two old) (plain whole) is) in
+        subst (λ (bytes : List ℕ). IsAnyVerdict plant whole base base 4608 bytes (verdict.Yes claim)) (sym (text_plain declared tree larger))
+        (plain-verdict plant whole base base 4608 (tree_items tree) larger (verdict.Yes claim) right)
 
-    pub right-any : IsAnyVerdict whole base base 4608 (text (joined_version newest sums)) (verdict.Yes claim)
+    pub right-any : IsAnyVerdict plant whole base base 4608 (text (joined_version newest sums)) (verdict.Yes claim)
     right-any = by (joined_version newest sums) refl all.may
       where
-        by : (version : ℕ) → joined_version newest sums ≡ version → MayDeclare (head_limits plant levels) version declared → IsAnyVerdict whole base base 4608 (text version) (verdict.Yes claim)
+        by : (version : ℕ) → joined_version newest sums ≡ version → MayDeclare plant (head_limits plant levels) version declared → IsAnyVerdict plant whole base base 4608 (text version) (verdict.Yes claim)
         by version is_version may = elim may.known [
           | inl two ↦
               let old = not-newest newest sums (λ four. omega (arith, is_version, two, four)) in
-              subst (λ (v : ℕ). IsAnyVerdict whole base base 4608 (text v) (verdict.Yes claim)) (sym two) (right-plain old (may.plain two) (may.few (λ four. omega (arith, two, four))))
+              let other : version ≢ 4 = λ four. omega (arith, two, four) in
+              subst (λ (v : ℕ). IsAnyVerdict plant whole base base 4608 (text v) (verdict.Yes claim)) (sym two) (right-plain old (may.plain two) (may.few_units other) (may.few other))
           | inr known ↦ elim known [
             | inl three ↦
-                let none = may.few (λ four. omega (arith, three, four)) in
+                let other : version ≢ 4 = λ four. omega (arith, three, four) in
+                let none = may.few other in
+                let unset = may.few_units other in
                 let old = not-newest newest sums (λ four. omega (arith, is_version, three, four)) in
-                let inner : 2 ≡ version_behind version = sym (behind-other version (λ four. omega (arith, three, four))) in
-                let is = wide-some.1 in
-                let own : IsWithHead version whole base sums derivations is.between = record { sums_shown = is.sums_shown; between = is.between; with_sums = is.with_sums; derivations_shown = is.derivations_shown; grown = inl (three, refl) } in
-                headed_any whole is.between base version 4608 declared (tree_over 0 levels trees) (larger_claim sums claim) claim (inl three) (may-here version may) own
-                (subst (λ (v : ℕ). IsVerdict is.between 4608 (log_text v (tree_items (tree_over 0 levels trees)) (larger_claim sums claim)) (verdict.Yes (larger_claim sums claim))) inner
-                (right-over 2 (omega arith, omega arith, omega arith) (lines-two old) is.between (three-wide none)))
-                (given-here is.between (three-wide none))
+                let inner : 2 ≡ version_behind version = sym (behind-other version other) in
+                let own = subst (λ (v : ℕ). IsWithHead plant v whole base sums units derivations three-rows) (sym three) (three-of unset) in
+                headed_any plant whole three-rows base version 4608 declared (tree_over 0 levels trees) (larger_claim sums claim) claim (inl three) (may-here version may) own
+                (subst (λ (v : ℕ). IsVerdict three-rows 4608 (log_text v (tree_items (tree_over 0 levels trees)) (larger_claim sums claim)) (verdict.Yes (larger_claim sums claim))) inner
+                (right-over 2 (omega arith, omega arith, omega arith) (lines-two old) three-rows (three-wide unset none)))
+                (given-here three-rows (three-wide unset none))
             | inr four ↦
                 let wide = wide-some in
                 let inner : 4 ≡ version_behind version = sym (behind-newest version four) in
-                headed_any whole wide.0 base version 4608 declared (tree_over 0 levels trees) (larger_claim sums claim) claim (inr four) (may-here version may) (subst (λ (v : ℕ). IsWithHead v whole base sums derivations wide.0) (sym four) wide.1)
+                headed_any plant whole wide.0 base version 4608 declared (tree_over 0 levels trees) (larger_claim sums claim) claim (inr four) (may-here version may)
+                (subst (λ (v : ℕ). IsWithHead plant v whole base sums units derivations wide.0) (sym four) wide.1)
                 (subst (λ (v : ℕ). IsVerdict wide.0 4608 (log_text v (tree_items (tree_over 0 levels trees)) (larger_claim sums claim)) (verdict.Yes (larger_claim sums claim))) inner
                 (right-over 4 (omega arith, omega arith, omega arith) (λ k l. inl refl) wide.0 wide.1))
                 (given-here wide.0 wide.1)

@@ -9,7 +9,10 @@ pub mod JoinedTexts
 pub mod ReadNewest
 pub mod Limits
 pub mod HeadsDiffer
+pub mod HeadLines
 pub mod HeadTexts
+pub mod CutFronts
+pub mod PartSetups
 pub mod PartHeads
 pub mod PartTrees
 pub mod LargerClaims

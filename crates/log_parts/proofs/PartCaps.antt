@@ -1,20 +1,19 @@
 -- The caps of trees over a part's rows are those over the whole's.
-use Rattle.std.proofs.Common.{◌≡◌, ℕ, ℤ, ◌+◌, ◌<◌, arith, get_or, Bool, true, false, ◌&&◌, cond, ltb, List, [], ◌∷◌, length, set, Option, Some, None, option_and_then, refl, sym, ap, ◌∙◌, subst}
+use Rattle.std.proofs.Common.{◌≡◌, ℕ, ℤ, ◌+◌, ◌<◌, ◌≤◌, arith, get_or, take, inl, inr, Bool, true, false, ◌&&◌, cond, ltb, List, [], ◌∷◌, length, set, Option, Some, None, option_and_then, refl, sym, ap, ◌∙◌, subst}
 use Rattle.std.specs.Prelude.{◌+ℤ◌, ◌-ℤ◌, ◌*ℤ◌, pos, int_le, if◌then◌else◌}
-use Rattle.std.specs.List.{All, AllZip, list_all, list_any}
-use Rattle.std.proofs.lemmas.Bool.{and_parts, ltb-true}
+use Rattle.std.specs.List.{All, AllZip, list_all}
+use Rattle.std.proofs.lemmas.Bool.{and_parts, cases_eq, ltb-true}
+use Rattle.std.proofs.lemmas.List.{get_or-set_other, get_or-set_same, get_or-take, length-set, length-take-le}
+use Rattle.std.proofs.lemmas.List.Elements.{All-take}
 use Rattle.row_kit.specs.declared.domain.Domain.{Domain}
 use Rattle.row_kit.specs.declared.program.Program.{Program}
-use Rattle.row_kit.specs.declared.row.Entry.{Entry}
-use Rattle.row_kit.specs.declared.row.Row.{Row}
 use Rattle.row_kit.specs.Domain.{Holds, IsNormal, count_of, domain_at, no_values, values_of, up_to, over, shared}
 use Rattle.row_kit.specs.Point.{IsLawful, LiesIn, worth_of}
 use Rattle.row_kit.specs.Row.{IsKept, entry_at, row_at}
 use Rattle.row_kit.specs.Points.{kept_at}
-use Rattle.row_kit.proofs.Marks.{LiesIn-from_set}
 use Rattle.row_kit.proofs.Parts.{shared_within}
 use Rattle.range_prop.specs.declared.row_cut.RowCut.{RowCut}
-use Rattle.range_prop.specs.Cut.{cut_domain, cut_domains, is_bare}
+use Rattle.range_prop.specs.Cut.{cut_domain, cut_domains}
 use Rattle.range_prop.proofs.CutLaws.{cut_within}
 use Rattle.dual_bound.specs.declared.cert.Cert.{Cert}
 use Rattle.dual_bound.specs.Cap.{scaled_cap}
@@ -28,14 +27,17 @@ use Rattle.proof_tree.specs.Relaxation.{Steps}
 use Rattle.proof_tree.specs.Tree.{Leaf, no_point, dual, one_point, pending, Tree, leaf, split, tree_cap, leaf_cap, after_cuts, cap_if}
 use Rattle.proof_tree.specs.Views.{View}
 use Rattle.row_relax.specs.declared.pick.RowPick.{RowPick}
+use Rattle.row_relax.specs.declared.rows.Rows.{Rows}
+use Rattle.row_relax.specs.Choices.{choices_of, settle_of, steps_of}
 use Rattle.row_relax.specs.RowProofs.{RowTree}
 use Rattle.row_relax.specs.Settle.{are_single, is_lawful, only_point, settled}
 use Rattle.row_relax.specs.Steps.{floor_by, row_steps, shown_if, view_by}
-use Rattle.row_relax.specs.View.{Fits, IsIn, domains_of, view_of}
+use Rattle.row_relax.specs.View.{Fits, domains_of, view_of}
 use Rattle.row_relax.specs.laws.Laws.{rows_sound}
 use Rattle.row_relax.specs.laws.Lawful.{lawful_true, true_lawful}
 use Rattle.row_relax.specs.laws.Shown.{domains_of-view_of, domains_there, fits_of, shown_there}
 use Rattle.row_relax.specs.laws.Singles.{single_point}
+use Rattle.row_relax.proofs.Choosing.{first-settled}
 use Rattle.row_set.specs.Parts.{IsWithin}
 use Rattle.row_set.proofs.PartPoints.{lies-within}
 
@@ -103,17 +105,32 @@ tree_same s settle good are (split cuts found pick cert a b) v is =
 
 -- ---- views within a root
 
--- a view fits, and its points lie in the root
+-- each of domains lies within one of others
+abbrev AreWithin : List Domain → List Domain → Type 0
+AreWithin inner outer = (k : ℕ) → k < length inner → IsWithin (domain_at inner k) (domain_at outer k)
+
+-- a view fits, and its domains lie within the root's
 record IsInside (program : Program) (v : View) : Type 0 where
   fits : Fits program v
-  lies : (p : List ℕ) → IsIn v p → LiesIn program.root p
+  within : AreWithin (domains_of v) program.root
+
+-- a domain that is narrowed leaves the others
+set-within : (ds root : List Domain) (slot : ℕ) (d : Domain) → slot < length ds → ((x : ℕ) → Holds d x → Holds (domain_at ds slot) x) → AreWithin ds root → AreWithin (set ds slot d) root
+set-within ds root slot d low narrow within k lt =
+    let there : k < length ds = omega (arith, lt, length-set ds slot d) in
+    elim (cases_eq k slot) [
+      | inl here ↦
+          subst (λ (n : ℕ). IsWithin (domain_at (set ds slot d) n) (domain_at root n)) (sym here)
+          (subst (λ (own : Domain). IsWithin own (domain_at root slot)) (sym (get_or-set_same ds slot d no_values low)) (λ x holds. within slot low x (narrow x holds)))
+      | inr apart ↦ subst (λ (own : Domain). IsWithin own (domain_at root k)) (sym (get_or-set_other ds slot k d no_values apart)) (within k there)
+    ]
 
 -- a step that narrows one slot's domain stays inside
 one_inside : (program : Program) (v w : View) (there : Bool) (slot : ℕ) (d : Domain) → IsInside program v → Fits program w → slot < length (domains_of v)
     → ((x : ℕ) → Holds d x → Holds (domain_at (domains_of v) slot) x) → shown_if there (set (domains_of v) slot d) ≡ Some w → IsInside program w
-one_inside program v w there slot d is fits low within shows = record {
+one_inside program v w there slot d is fits low narrow shows = record {
   fits = fits;
-  lies = λ p lies. is.lies p (LiesIn-from_set (domains_of v) p slot d low within (subst (λ (ds : List Domain). LiesIn ds p) (domains_there there _ w shows) lies));
+  within = subst (λ (ds : List Domain). AreWithin ds program.root) (sym (domains_there there (set (domains_of v) slot d) w shows)) (set-within (domains_of v) program.root slot d low narrow is.within);
 }
 
 cut_inside : (program : Program) (v w : View) (u : RowCut) → IsInside program v → (row_steps program).cut v u ≡ Some w → IsInside program w
@@ -144,33 +161,30 @@ right_inside program v w k is shows =
     one_inside program v w there k.slot (shared (domain_at ds k.slot) (over k.max)) is ((rows_sound program).right_fits v w k is.fits shows) low
     (λ x. shared_within (domain_at ds k.slot) (over k.max) x) shows
 
--- what a floor leaves lies in what was there
-passing_inside : (test : ℕ → ℕ → Bool) (ds : List Domain) (p : List ℕ) → All IsNormal ds → LiesIn (each_passing test 0 ds) p → LiesIn ds p
-passing_inside test ds p normal' lies = record {
-  same_length = lies.same_length ∙ each-length test 0 ds;
-  held = λ k lt.
-      let there : k < length (each_passing test 0 ds) = omega (arith, lt, each-length test 0 ds) in
-      let is = each-at test 0 ds k no_values lt ∙ ap (λ (j : ℕ). passing (test j) (domain_at ds k)) (let e : 0 + k ≡ k = omega arith in e) in
-      passing_within (test k) (domain_at ds k) (get_or p k 0) (normal' k no_values lt).positive (subst (λ (d : Domain). Holds d (get_or p k 0)) is (lies.held k there));
-}
+-- what a floor leaves lies within what was there
+passing_within_all : (test : ℕ → ℕ → Bool) (ds root : List Domain) → All IsNormal ds → AreWithin ds root → AreWithin (each_passing test 0 ds) root
+passing_within_all test ds root normal' within k lt =
+    let there : k < length ds = omega (arith, lt, each-length test 0 ds) in
+    let is = each-at test 0 ds k no_values there ∙ ap (λ (j : ℕ). passing (test j) (domain_at ds k)) (let e : 0 + k ≡ k = omega arith in e) in
+    subst (λ (own : Domain). IsWithin own (domain_at root k)) (sym is) (λ x holds. within k there x (passing_within (test k) (domain_at ds k) x (normal' k no_values there).positive holds))
 
-trimmed_inside : (program : Program) (ds : List Domain) (cert : Cert) (floor : ℤ) (p : List ℕ) → All IsNormal ds → LiesIn (trimmed program ds cert floor) p → LiesIn ds p
+trimmed_inside : (program : Program) (ds root : List Domain) (cert : Cert) (floor : ℤ) → All IsNormal ds → AreWithin ds root → AreWithin (trimmed program ds cert floor) root
 unfolding trimmed
-trimmed_inside program ds cert floor p normal' = step (has_total program ds cert)
+trimmed_inside program ds root cert floor normal' within = step (has_total program ds cert)
   where
-    step : (b : Bool) → LiesIn (cond b (each_passing (may_exceed program ds cert floor) 0 ds) ds) p → LiesIn ds p
-    step true lies = passing_inside (may_exceed program ds cert floor) ds p normal' lies
-    step false lies = lies
+    step : (b : Bool) → AreWithin (cond b (each_passing (may_exceed program ds cert floor) 0 ds) ds) root
+    step true = passing_within_all (may_exceed program ds cert floor) ds root normal' within
+    step false = within
 
 trim_inside : (program : Program) (v : View) (k : RowPick) (c : Cert) → IsInside program v → IsInside program ((row_steps program).trim v k c)
 unfolding row_steps
-trim_inside program v k c is = record { fits = (rows_sound program).trim_fits v k c is.fits; lies = λ p lies. is.lies p (by k.floor p lies) }
+trim_inside program v k c is = record { fits = (rows_sound program).trim_fits v k c is.fits; within = by k.floor }
   where
-    by : (floor : Option ℤ) (p : List ℕ) → IsIn (view_by program v c floor) p → IsIn v p
-    by None p lies = lies
-    by (Some floor) p lies =
+    by : (floor : Option ℤ) → AreWithin (domains_of (view_by program v c floor)) program.root
+    by None = is.within
+    by (Some floor) =
         let left = trimmed program (domains_of v) c floor in
-        trimmed_inside program (domains_of v) c floor p is.fits.normal (subst (λ (ds : List Domain). LiesIn ds p) (domains_of-view_of left) lies)
+        subst (λ (ds : List Domain). AreWithin ds program.root) (sym (domains_of-view_of left)) (trimmed_inside program (domains_of v) program.root c floor is.fits.normal is.within)
 
 -- ---- a part and the whole
 
@@ -203,30 +217,73 @@ lawful-same whole part point is lies =
     (λ h. lawful_true whole point (lawful-part whole part point is (true_lawful part point h)))
     (λ h. lawful_true part point (record { lies = lies; keeps = subst (All (IsKept point)) (sym is.rows) (true_lawful whole point h).keeps }))
 
-settle-same : (whole part : Program) → IsPart whole part → (v : View) → IsInside part v → (row_steps part).settle v ≡ settled whole (domains_of v)
-unfolding row_steps settled
-settle-same whole part is v inside = by_single (are_single (domains_of v)) refl
+-- where each domain has one value that lies in the part's root, the part settles them as the whole does
+settle-same : (whole part : Program) (ds : List Domain) → IsPart whole part → (are_single ds ≡ true → LiesIn part.root (only_point ds)) → settled part ds ≡ settled whole ds
+unfolding settled
+settle-same whole part ds is inside = by_single (are_single ds) refl
   where
-    by_lawful : (lawful : Bool) → is_lawful part (only_point (domains_of v)) ≡ lawful
-        → cond lawful (AtMost (worth_of part (only_point (domains_of v)))) NoPoint ≡ cond lawful (AtMost (worth_of whole (only_point (domains_of v)))) NoPoint
-    by_lawful true e = ap AtMost (is.worth (only_point (domains_of v)) (true_lawful part (only_point (domains_of v)) e))
+    by_lawful : (lawful : Bool) → is_lawful part (only_point ds) ≡ lawful → cond lawful (AtMost (worth_of part (only_point ds))) NoPoint ≡ cond lawful (AtMost (worth_of whole (only_point ds))) NoPoint
+    by_lawful true e = ap AtMost (is.worth (only_point ds) (true_lawful part (only_point ds) e))
     by_lawful false e = refl
 
-    by_single : (single : Bool) → are_single (domains_of v) ≡ single
-        → cond single (cond (is_lawful part (only_point (domains_of v))) (AtMost (worth_of part (only_point (domains_of v)))) NoPoint) Bad
-        ≡ cond single (cond (is_lawful whole (only_point (domains_of v))) (AtMost (worth_of whole (only_point (domains_of v)))) NoPoint) Bad
+    by_single : (single : Bool) → are_single ds ≡ single
+        → cond single (cond (is_lawful part (only_point ds)) (AtMost (worth_of part (only_point ds))) NoPoint) Bad
+        ≡ cond single (cond (is_lawful whole (only_point ds)) (AtMost (worth_of whole (only_point ds))) NoPoint) Bad
     by_single false e = refl
     by_single true e =
-        let lies = inside.lies (only_point (domains_of v)) (single_point (domains_of v) inside.fits.normal e).0 in
-        by_lawful (is_lawful part (only_point (domains_of v))) refl
-        ∙ ap (λ (test : Bool). cond test (AtMost (worth_of whole (only_point (domains_of v)))) NoPoint) (lawful-same whole part (only_point (domains_of v)) is lies)
+        by_lawful (is_lawful part (only_point ds)) refl
+        ∙ ap (λ (test : Bool). cond test (AtMost (worth_of whole (only_point ds))) NoPoint) (lawful-same whole part (only_point ds) is (inside e))
+
+-- ---- rows
+
+-- rows have the same rows and profit
+pub record AreRowsAlike (whole part : Program) : Type 0 where
+  pub rows : part.rows ≡ whole.rows
+  pub profit : part.profit ≡ whole.profit
+  pub base : part.base ≡ whole.base
+
+-- Rows are a part of a whole's: they have its rows and profit, their choices are a part of its choices, with as many slots, and their root
+-- lies within that of their choices, in whose slots it begins.
+pub record AreParts (whole part : Rows) : Type 0 where
+  pub alike : AreRowsAlike whole.program part.program
+  pub judged : IsPart (choices_of whole) (choices_of part)
+  pub points : length (choices_of part).root ≡ length (choices_of whole).root
+  pub slots : length part.program.root ≡ length whole.program.root
+  pub few : length (choices_of part).root ≤ length part.program.root
+  pub first : (k : ℕ) → k < length (choices_of part).root → IsWithin (domain_at part.program.root k) (domain_at (choices_of part).root k)
+
+-- the only point of the first domains of a view within the part's root lies in the choices' root
+first-lies : (whole part : Rows) (v : View) → AreParts whole part → IsInside part.program v → let n = length (choices_of part).root in are_single (take n (domains_of v)) ≡ true → LiesIn (choices_of part).root (only_point (take n (domains_of v)))
+first-lies whole part v is inside single =
+    let n = length (choices_of part).root in
+    let ds = domains_of v in
+    let enough : n ≤ length ds = omega (arith, is.few, inside.fits.slots) in
+    let long : length (take n ds) ≡ n = length-take-le n ds enough in
+    let own = (single_point (take n ds) (All-take IsNormal n ds inside.fits.normal) single).0 in
+    record {
+      same_length = own.same_length ∙ long;
+      held = λ k lt.
+          let there : k < length (take n ds) = omega (arith, lt, long) in
+          let here : domain_at (take n ds) k ≡ domain_at ds k = get_or-take n ds k no_values lt in
+          let held = subst (λ (d : Domain). Holds d (get_or (only_point (take n ds)) k 0)) here (own.held k there) in
+          is.first k lt (get_or (only_point (take n ds)) k 0) (inside.within k (omega (arith, lt, enough)) (get_or (only_point (take n ds)) k 0) held);
+    }
+
+settle-rows : (whole part : Rows) → AreParts whole part → (v : View) → IsInside part.program v → settle_of part v ≡ settle_of whole v
+settle-rows whole part is v inside =
+    let ds = domains_of v in
+    let n = length (choices_of part).root in
+    sym (first-settled part ds inside.fits.slots)
+    ∙ settle-same (choices_of whole) (choices_of part) (take n ds) is.judged (first-lies whole part v is inside)
+    ∙ ap (λ (m : ℕ). settled (choices_of whole) (take m ds)) is.points
+    ∙ first-settled whole ds (inside.fits.slots ∙ is.slots)
 
 -- floors count alike over the part's rows and the whole's, and leave the same
-floor-same : (whole part : Program) (domains : List Domain) (cert : Cert) (floor : Option ℤ) → IsPart whole part → floor_by part domains cert floor ≡ floor_by whole domains cert floor
+floor-same : (whole part : Program) (domains : List Domain) (cert : Cert) (floor : Option ℤ) → AreRowsAlike whole part → floor_by part domains cert floor ≡ floor_by whole domains cert floor
 floor-same whole part domains cert None but = refl
 floor-same whole part domains cert (Some floor) but = λ i. if is_fit (length (but.rows i)) cert && list_all (λ (domain : Domain). ltb 0 (count_of domain)) domains then Some floor else None
 
-trimmed-same : (whole part : Program) (domains : List Domain) (cert : Cert) (floor : ℤ) → IsPart whole part → trimmed part domains cert floor ≡ trimmed whole domains cert floor
+trimmed-same : (whole part : Program) (domains : List Domain) (cert : Cert) (floor : ℤ) → AreRowsAlike whole part → trimmed part domains cert floor ≡ trimmed whole domains cert floor
 unfolding trimmed
 trimmed-same whole part domains cert floor but = λ i.
     let gained : ℕ → ℕ → ℤ = λ slot value. (pos cert.scale *ℤ entry_at (but.profit i) slot value) -ℤ rows_at (but.rows i) cert.mults slot value in
@@ -235,36 +292,37 @@ trimmed-same whole part domains cert floor but = λ i.
     then each_passing (λ slot value. int_le (pos cert.scale *ℤ (floor +ℤ pos 1)) ((total -ℤ greatest (gained slot) (values_of (domain_at domains slot))) +ℤ gained slot value)) 0 domains
     else domains
 
-trim-same : (whole part : Program) (view : View) (cert : Cert) (floor : Option ℤ) → IsPart whole part → view_by part view cert floor ≡ view_by whole view cert floor
+trim-same : (whole part : Program) (view : View) (cert : Cert) (floor : Option ℤ) → AreRowsAlike whole part → view_by part view cert floor ≡ view_by whole view cert floor
 trim-same whole part view cert None but = refl
 trim-same whole part view cert (Some floor) but = ap view_of (trimmed-same whole part (domains_of view) cert floor but)
 
 -- the part's calls are the whole's, but for settling
-steps-same : (whole part : Program) → IsPart whole part → resettled (row_steps part) (λ v. settled whole (domains_of v)) ≡ row_steps whole
+steps-same : (whole part : Rows) → AreRowsAlike whole.program part.program → resettled (steps_of part) (settle_of whole) ≡ steps_of whole
 unfolding row_steps
 steps-same whole part but = λ i. record {
   cut = λ view cut. shown_if (ltb cut.row (length (but.rows i)) && ltb cut.slot (length (domains_of view))) (cut_domains (row_at (but.rows i) cut.row) cut.slot (domains_of view));
-  left = (row_steps part).left;
-  right = (row_steps part).right;
-  empty = (row_steps part).empty;
+  left = (row_steps part.program).left;
+  right = (row_steps part.program).right;
+  empty = (row_steps part.program).empty;
   cap = λ view cert.
       scaled_cap cert.scale
       (if is_fit (length (but.rows i)) cert && list_all (λ (domain : Domain). ltb 0 (count_of domain)) (domains_of view)
       then Some (((pos cert.scale *ℤ but.base i) +ℤ limits_sum (but.rows i) cert.mults)
       +ℤ slots_total (λ slot value. (pos cert.scale *ℤ entry_at (but.profit i) slot value) -ℤ rows_at (but.rows i) cert.mults slot value) 0 (domains_of view))
       else None);
-  settle = λ view. settled whole (domains_of view);
-  floor = λ view pick cert. floor-same whole part (domains_of view) cert pick.floor but i;
-  trim = λ view pick cert. trim-same whole part view cert pick.floor but i;
+  settle = settle_of whole;
+  floor = λ view pick cert. floor-same whole.program part.program (domains_of view) cert pick.floor but i;
+  trim = λ view pick cert. trim-same whole.program part.program view cert pick.floor but i;
 }
 
 -- the cap of a tree over the root of a part is the same over the part's rows and over the whole's
-pub cap-same : (whole part : Program) (tree : RowTree) → IsPart whole part → tree_cap (row_steps part) (view_of part.root) tree ≡ tree_cap (row_steps whole) (view_of part.root) tree
+pub cap-same : (whole part : Rows) (tree : RowTree) → AreParts whole part → tree_cap (steps_of part) (view_of part.program.root) tree ≡ tree_cap (steps_of whole) (view_of part.program.root) tree
 cap-same whole part tree is =
-    tree_same (row_steps part) (λ v. settled whole (domains_of v)) (IsInside part)
-    (record { cut_good = cut_inside part; left_good = left_inside part; right_good = right_inside part; trim_good = trim_inside part; same = settle-same whole part is }) tree (view_of part.root)
+    let program = part.program in
+    tree_same (steps_of part) (settle_of whole) (IsInside program)
+    (record { cut_good = cut_inside program; left_good = left_inside program; right_good = right_inside program; trim_good = trim_inside program; same = settle-rows whole part is }) tree (view_of program.root)
     (record {
-      fits = fits_of part part.root refl part.root_normal;
-      lies = λ p lies. subst (λ (ds : List Domain). LiesIn ds p) (domains_of-view_of part.root) lies;
+      fits = fits_of program program.root refl program.root_normal;
+      within = subst (λ (ds : List Domain). AreWithin ds program.root) (sym (domains_of-view_of program.root)) (λ k lt x holds. holds);
     })
-    ∙ ap (λ (s : Steps RowCut Cert RowPick). tree_cap s (view_of part.root) tree) (steps-same whole part is)
+    ∙ ap (λ (s : Steps RowCut Cert RowPick). tree_cap s (view_of program.root) tree) (steps-same whole part is.alike)

@@ -84,7 +84,7 @@ stepped standing later line (Some step) is = (step, (refl, (let e : later ≡ af
 
 -- limits under which this many splits more may be open
 abbrev pub deeper : Limits → ℕ → Limits
-deeper limits more = record { rows = limits.rows; slots = limits.slots; depth = limits.depth + more }
+deeper limits more = record { rows = limits.rows; slots = limits.slots; points = limits.points; depth = limits.depth + more }
 
 over_same : (limits : Limits) (more opened : ℕ) (line : Line) → over_at limits opened line ≡ None → over_at (deeper limits more) (opened + more) line ≡ None
 over_same limits more opened (Header version) is = is

@@ -8,8 +8,11 @@ use Rattle.stn_edge.specs.Files.{FileMap, file_of}
 use Rattle.stn_model.specs.declared.plant.Plant.{Plant}
 use Rattle.stn_model.specs.declared.start.Start.{Start}
 use Rattle.stn_model.specs.Profit.{profit}
+use Rattle.row_kit.specs.declared.domain.Domain.{Domain}
 use Rattle.row_kit.specs.declared.program.Program.{Program}
 use Rattle.row_set.specs.Parts.{IsPartOf, IsAdmitted, plan_of_values}
+use Rattle.row_set.specs.PlantProgram.{plant_root}
+use Rattle.row_relax.specs.Choices.{plain}
 use Rattle.log_lines.specs.declared.grammar.Limits.{Limits}
 use Rattle.proof_log.specs.declared.claim.Claim.{Claim}
 use Rattle.proof_log.specs.declared.claim.Claim.TheVariants.{Infeasible}
@@ -19,11 +22,15 @@ use Rattle.plan_images.proofs.Telling.{same-plans}
 use Rattle.sum_lines.specs.declared.head.Front.{Front}
 use Rattle.sum_lines.specs.declared.head.Front.TheVariants as front
 use Rattle.sum_lines.specs.Front.{IsFront}
+use Rattle.setup_lines.specs.declared.setups.SetupFront.{SetupFront}
+use Rattle.setup_lines.specs.declared.setups.SetupFront.TheVariants as setting
+use Rattle.setup_lines.specs.declared.setups.Setups.{Setups}
 use Rattle.derivation_lines.specs.declared.tail.TailFront.{TailFront}
 use Rattle.derivation_lines.specs.declared.tail.TailFront.TheVariants as tailed
 use Rattle.valid_log.specs.declared.verdict.LogVerdict.TheVariants.{Yes, No}
 use Rattle.valid_log.specs.Verdict.{limits_of}
-use Rattle.valid_log.specs.AnyVersion.{IsTail, limits_with}
+use Rattle.valid_log.specs.AnyVersion.{IsSetUpVerdict, IsSetupsVerdict}
+use Rattle.valid_log.specs.Heads.{AreSetups, IsTail, judged_over, limits_with, setup_sizes}
 use Rattle.valid_log.specs.PlantLogs.{IsAnyPartChecked}
 use Rattle.valid_log.proofs.LogFronts.{limits_same}
 use Rattle.valid_log.specs.Claims.{SaysOf}
@@ -36,7 +43,7 @@ use Rattle.log_parts.specs.declared.heads.LogFront.TheVariants as head
 use Rattle.log_parts.specs.declared.heads.LogHead.{LogHead}
 use Rattle.log_parts.specs.Heads.{items_of, lines_on}
 use Rattle.log_parts.specs.Joining.{EachSays}
-use Rattle.log_parts.specs.laws.Checked.{AreChecked, HasFront, HaveClaims, IsAnyFound, IsCompared, IsFoundLog, IsFrontKept, IsFrontOf, IsHeadCompared, IsLogFront, IsOtherFront, IsPartCheck, PartSays, front_with, head_limits}
+use Rattle.log_parts.specs.laws.Checked.{AreChecked, HasFront, HasSetups, HaveClaims, IsAnyFound, IsCompared, IsFoundLog, IsFrontKept, IsFrontOf, IsHeadCompared, IsLogFront, IsOtherFront, IsPartCheck, PartSays, front_with, head_limits, nothing}
 use Rattle.log_parts.specs.PartLogs.{AreValid, IsPartVerdict, IsRefused, IsValidPart, logs_of}
 use Rattle.plant_parts.specs.PlantParts.{IsOfPart, part_root, IsPartProgram}
 use Rattle.log_parts.proofs.HeadsDiffer.{no_other}
@@ -59,29 +66,43 @@ part_said plant levels part program declared (head.Whole own) claim said exact s
 part_said plant levels part program declared (head.Bad defect) claim said exact says is = subst (PartSays plant levels part) (sym is) tt
 
 -- a front with a defect is the verdict's
-bad_front : (plant : Plant) (levels part : ℕ) (program : Program) (bytes : List ℕ) (f : Front) (defect : Defect) → IsPartProgram plant levels part program → IsFront (limits_of program (4608 - levels)) bytes f
-    → HasFront (limits_of program (4608 - levels)) bytes f (head.Bad defect) → IsPartVerdict plant levels part bytes (No defect)
+bad_front : (plant : Plant) (levels part : ℕ) (program : Program) (bytes : List ℕ) (f : Front) (defect : Defect) → IsPartProgram plant levels part program → IsFront (limits_of (plain program) (4608 - levels)) bytes f
+    → HasFront plant (limits_of (plain program) (4608 - levels)) bytes f (head.Bad defect) → IsPartVerdict plant levels part bytes (No defect)
 bad_front plant levels part program bytes front.Plain defect of_part stands has = absurd cc
-bad_front plant levels part program bytes (front.Headed own) defect of_part stands has = bad_tail has.tail has.follows has.is
+bad_front plant levels part program bytes (front.Headed own) defect of_part stands has = by has.setups has.set_up has.has
   where
     stands' : IsFront (limits_with program (4608 - levels) 0) bytes (front.Headed own)
     stands' = subst (λ (l : Limits). IsFront l bytes (front.Headed own)) (limits_same program (4608 - levels)) stands
 
-    bad_tail : (tail : TailFront) → IsTail (limits_with program (4608 - levels) (length own.sums)) own bytes tail → head.Bad defect ≡ front_with own tail → IsPartVerdict plant levels part bytes (No defect)
-    bad_tail (tailed.Whole tail) follows' is = absurd cc
-    bad_tail (tailed.Bad other) follows' is =
-        let same : No defect ≡ No other = (let e : defect ≡ other = cc in ap No e) in
-        record { program = program; of_part = of_part; right = record { right = record { front = front.Headed own; stands = stands'; right = record { tail = tailed.Bad other; follows = follows'; right = same } }; holds = tt } }
+    -- the answer on the file, whatever stands behind the sums
+    over : (set : SetupFront) → AreSetups (limits_with program (4608 - levels) (length own.sums)) (setup_sizes plant) own bytes set
+        → ((judged : List Domain) → IsSetupsVerdict plant program judged (4608 - levels) bytes set (No defect)) → IsPartVerdict plant levels part bytes (No defect)
+    over set stands_set right = record {
+      program = program;
+      of_part = of_part;
+      right = record {
+        right = record { front = front.Headed own; stands = stands'; right = record { setups = set; set_up = stands_set; right = right (judged_over (plant_root plant) (plant_root plant) own.version) } };
+        holds = tt;
+      };
+    }
+
+    bad_tail : (setups : Setups) (tail : TailFront) → IsTail setups.limits setups.head bytes tail → head.Bad defect ≡ front_with setups tail → (judged : List Domain) → IsSetUpVerdict plant program judged (4608 - levels) bytes setups (No defect)
+    bad_tail setups (tailed.Whole tail) follows' is judged = absurd cc
+    bad_tail setups (tailed.Bad other) follows' is judged = (let e : defect ≡ other = cc in record { tail = tailed.Bad other; follows = follows'; right = ap No e })
+
+    by : (set : SetupFront) → AreSetups (limits_with program (4608 - levels) (length own.sums)) (setup_sizes plant) own bytes set → HasSetups bytes set (head.Bad defect) → IsPartVerdict plant levels part bytes (No defect)
+    by (setting.Whole setups) stands_set has' = over (setting.Whole setups) stands_set (bad_tail setups has'.tail has'.follows has'.is)
+    by (setting.Bad other) stands_set has' = (let e : defect ≡ other = cc in over (setting.Bad other) stands_set (λ judged. ap No e))
 bad_front plant levels part program bytes (front.Bad other) defect of_part stands has =
     let stands' = subst (λ (l : Limits). IsFront l bytes (front.Bad other)) (limits_same program (4608 - levels)) stands in
     let same : No defect ≡ No other = (let e : defect ≡ other = cc in ap No e) in
     record { program = program; of_part = of_part; right = record { right = record { front = front.Bad other; stands = stands'; right = same }; holds = tt } }
 
-bad_log : (plant : Plant) (levels part : ℕ) (program : Program) (bytes : List ℕ) (defect : Defect) → IsPartProgram plant levels part program → IsLogFront (limits_of program (4608 - levels)) bytes (head.Bad defect) → IsPartVerdict plant levels part bytes (No defect)
+bad_log : (plant : Plant) (levels part : ℕ) (program : Program) (bytes : List ℕ) (defect : Defect) → IsPartProgram plant levels part program → IsLogFront plant (limits_of (plain program) (4608 - levels)) bytes (head.Bad defect) → IsPartVerdict plant levels part bytes (No defect)
 bad_log plant levels part program bytes defect of_part is = bad_front plant levels part program bytes is.front defect of_part is.stands is.has
 
 compared_head : (plant : Plant) (levels part : ℕ) (program : Program) (bytes : List ℕ) (declared : Declared) (own : LogHead) (claim : Claim) (said : PartCheck) → IsPartProgram plant levels part program
-    → IsLogFront (head_limits plant levels) bytes (head.Whole own) → IsAnyPartChecked plant program (4608 - levels) bytes (Yes claim) → IsHeadCompared declared own claim said → IsPartCheck plant levels part bytes declared said
+    → IsLogFront plant (head_limits plant levels) bytes (head.Whole own) → IsAnyPartChecked plant program (4608 - levels) bytes (Yes claim) → IsHeadCompared declared own claim said → IsPartCheck plant levels part bytes declared said
 compared_head plant levels part program bytes declared own claim (check.Valid version head_bytes other) of_part stands right is =
     record {
       program = program;
@@ -105,16 +126,16 @@ compared_head plant levels part program bytes declared own claim (check.Bad defe
     })
 
 compared_at : (plant : Plant) (levels part : ℕ) (program : Program) (bytes : List ℕ) (declared : Declared) (own : LogFront) (claim : Claim) (said : PartCheck) → IsPartProgram plant levels part program
-    → IsLogFront (limits_of program (4608 - levels)) bytes own → IsAnyPartChecked plant program (4608 - levels) bytes (Yes claim) → IsCompared declared own claim said → IsPartCheck plant levels part bytes declared said
+    → IsLogFront plant (limits_of (plain program) (4608 - levels)) bytes own → IsAnyPartChecked plant program (4608 - levels) bytes (Yes claim) → IsCompared declared own claim said → IsPartCheck plant levels part bytes declared said
 compared_at plant levels part program bytes declared (head.Whole own) claim said of_part stands right is =
-    compared_head plant levels part program bytes declared own claim said of_part (subst (λ (l : Limits). IsLogFront l bytes (head.Whole own)) (head_same plant levels part program of_part) stands) right is
+    compared_head plant levels part program bytes declared own claim said of_part (subst (λ (l : Limits). IsLogFront plant l bytes (head.Whole own)) (head_same plant levels part program of_part) stands) right is
 compared_at plant levels part program bytes declared (head.Bad defect) claim said of_part stands right is =
     subst (IsPartCheck plant levels part bytes declared) (sym is) (inl (bad_log plant levels part program bytes defect of_part stands))
 
 -- a yes to the log of a part, against what is declared, where the files are told
 pub yes_checked : (plant : Plant) (levels part : ℕ) (program : Program) (files now : Option FileMap) (name stem : List ℕ) (declared : Declared) (own : LogFront) (claim : Claim) (said : PartCheck) → name ≡ log_name stem part → now ≡ files
     → IsPartOf plant program → program.root ≡ part_root plant levels part
-    → IfSome files (λ m. IsLogFront (limits_of program (4608 - levels)) (file_of m name) own) → IfSome now (λ m. IsAnyPartChecked plant program (4608 - levels) (file_of m name) (Yes claim)) → IsCompared declared own claim said
+    → IfSome files (λ m. IsLogFront plant (limits_of (plain program) (4608 - levels)) (file_of m name) own) → IfSome now (λ m. IsAnyPartChecked plant program (4608 - levels) (file_of m name) (Yes claim)) → IsCompared declared own claim said
     → IfSome files (λ m. IsPartCheck plant levels part (logs_of m stem part) declared said)
 yes_checked plant levels part program None now name stem declared own claim said named same of_plant root stands right is = tt
 yes_checked plant levels part program (Some m) now name stem declared own claim said named same of_plant root stands right is =
@@ -134,27 +155,26 @@ no_checked plant levels part program (Some m) now name stem declared defect name
 -- ---- the head of the first log
 
 -- the front of a part's log, under the limits of all parts
-front_at : (plant : Plant) (levels part : ℕ) (program : Program) (bytes : List ℕ) (own : LogFront) → IsPartProgram plant levels part program → IsLogFront (limits_of program (4608 - levels)) bytes own → IsFrontOf plant levels part bytes own
-front_at plant levels part program bytes (head.Whole own) is stands = subst (λ (l : Limits). IsLogFront l bytes (head.Whole own)) (head_same plant levels part program is) stands
+front_at : (plant : Plant) (levels part : ℕ) (program : Program) (bytes : List ℕ) (own : LogFront) → IsPartProgram plant levels part program → IsLogFront plant (limits_of (plain program) (4608 - levels)) bytes own → IsFrontOf plant levels part bytes own
+front_at plant levels part program bytes (head.Whole own) is stands = subst (λ (l : Limits). IsLogFront plant l bytes (head.Whole own)) (head_same plant levels part program is) stands
 front_at plant levels part program bytes (head.Bad defect) is stands = bad_log plant levels part program bytes defect is stands
 
 pub front_found : (plant : Plant) (levels part : ℕ) (program : Program) (files : Option FileMap) (name stem : List ℕ) (own : LogFront) → name ≡ log_name stem part → IsPartOf plant program → program.root ≡ part_root plant levels part
-    → IfSome files (λ m. IsLogFront (limits_of program (4608 - levels)) (file_of m name) own) → IfSome files (λ m. IsFrontOf plant levels part (logs_of m stem part) own)
+    → IfSome files (λ m. IsLogFront plant (limits_of (plain program) (4608 - levels)) (file_of m name) own) → IfSome files (λ m. IsFrontOf plant levels part (logs_of m stem part) own)
 front_found plant levels part program None name stem own named of_plant root stands = tt
 front_found plant levels part program (Some m) name stem own named of_plant root stands =
     subst (λ (n : List ℕ). IsFrontOf plant levels part (file_of m n) own) named (front_at plant levels part program (file_of m name) own (record { is_part = of_plant; root = root }) stands)
 
 -- and what it keeps
-pub front_kept : (plant : Plant) (levels part : ℕ) (program : Program) (own : LogFront) → IsPartOf plant program → program.root ≡ part_root plant levels part → IsFrontKept (limits_of program (4608 - levels)) own → IsFrontKept (head_limits plant levels) own
-front_kept plant levels part program own of_plant root kept = subst (λ (l : Limits). IsFrontKept l own) (head_same plant levels part program (record { is_part = of_plant; root = root })) kept
+pub front_kept : (plant : Plant) (levels part : ℕ) (program : Program) (own : LogFront) → IsPartOf plant program → program.root ≡ part_root plant levels part → IsFrontKept plant (limits_of (plain program) (4608 - levels)) own → IsFrontKept plant (head_limits plant levels) own
+front_kept plant levels part program own of_plant root kept = subst (λ (l : Limits). IsFrontKept plant l own) (head_same plant levels part program (record { is_part = of_plant; root = root })) kept
 
 -- where its head has a defect no log was valid
 pub first_refused : (plant : Plant) (levels : ℕ) (stem : List ℕ) (files : Option FileMap) (said : LogFront) (defect : Defect) → said ≡ head.Bad defect → IfSome files (λ m. IsFrontOf plant levels 0 (logs_of m stem 0) said)
     → IfSome files (λ m. AreChecked plant levels (logs_of m stem) (Bad 0 defect))
 first_refused plant levels stem None said defect is are = tt
 first_refused plant levels stem (Some m) said defect is are =
-    let none : Declared = record { sums = []; derivations = [] } in
-    (pow_pos levels, (none, ((λ part below. absurd (omega (arith, below))), inl (subst (IsFrontOf plant levels 0 (logs_of m stem 0)) is are))))
+    (pow_pos levels, (nothing, ((λ part below. absurd (omega (arith, below))), inl (subst (IsFrontOf plant levels 0 (logs_of m stem 0)) is are))))
 
 -- ---- all logs
 
@@ -209,14 +229,14 @@ are_valid plant levels logs declared heads claims count few have part below =
     valid_part plant levels part (logs part) declared found.0 (get_or heads part 0) (get_or claims part Infeasible) found.1
 
 -- the first log has no other head than its own
-not_first : (plant : Plant) (levels part : ℕ) (logs : ℕ → List ℕ) (first : LogHead) (defect : Defect) → IsLogFront (head_limits plant levels) (logs 0) (head.Whole first) → IsOtherFront plant levels part (logs part) first.declared defect → 0 < part
+not_first : (plant : Plant) (levels part : ℕ) (logs : ℕ → List ℕ) (first : LogHead) (defect : Defect) → IsLogFront plant (head_limits plant levels) (logs 0) (head.Whole first) → IsOtherFront plant levels part (logs part) first.declared defect → 0 < part
 not_first plant levels part logs first defect are other =
     elim (cases_eq part 0) [
       | inl none ↦
           let found = subst (λ (n : ℕ). IsFoundLog plant levels n (logs n) other.found_declared other.found_version other.found_bytes other.claim) none other.found in
           let here = front_here plant levels 0 found.program (logs 0) (head.Whole first) found.of_part are in
           let own = front_here plant levels 0 found.program (logs 0) (head.Whole found.own) found.of_part found.stands in
-          let same : first ≡ found.own = one_head found.program (4608 - levels) (logs 0) first found.own here own in
+          let same : first ≡ found.own = one_head plant found.program (4608 - levels) (logs 0) first found.own here own in
           let declared : first.declared ≡ other.found_declared = ap (λ (h : LogHead). h.declared) same ∙ sym found.declares in
           absurd (no_other (items_of first.declared) (items_of other.found_declared) (lines_on other.found_declared) defect.line (ap items_of declared) other.differ)
       | inr later ↦ omega (arith, later)
@@ -224,7 +244,7 @@ not_first plant levels part logs first defect are other =
 
 -- the first log that is refused
 pub first_bad : (plant : Plant) (levels part : ℕ) (stem : List ℕ) (first : LogHead) (declared : Declared) (files now : Option FileMap) (heads : List ℕ) (claims : List Claim) (said : PartCheck) (defect : Defect) → now ≡ files → length claims ≡ part → part < 2 ^ levels
-    → declared ≡ first.declared → said ≡ check.Bad defect → IfSome files (λ m. IsLogFront (head_limits plant levels) (logs_of m stem 0) (head.Whole first))
+    → declared ≡ first.declared → said ≡ check.Bad defect → IfSome files (λ m. IsLogFront plant (head_limits plant levels) (logs_of m stem 0) (head.Whole first))
     → IfSome files (λ m. HaveClaims plant levels (logs_of m stem) declared heads claims) → IfSome now (λ m. IsPartCheck plant levels part (logs_of m stem part) declared said) → IfSome files (λ m. AreChecked plant levels (logs_of m stem) (Bad part defect))
 first_bad plant levels part stem first declared None now heads claims said defect same counted within declares is_bad front have here = tt
 first_bad plant levels part stem first declared (Some m) now heads claims said defect same counted within declares is_bad front have here =

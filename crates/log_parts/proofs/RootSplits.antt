@@ -19,6 +19,8 @@ use Rattle.proof_tree.specs.declared.item.Item.TheVariants.{Node, Split}
 use Rattle.proof_tree.specs.Items.{tree_items}
 use Rattle.proof_tree.specs.Tree.{tree_cap, cap_if, split}
 use Rattle.proof_tree.specs.Views.{View}
+use Rattle.row_relax.specs.declared.rows.Rows.{Rows}
+use Rattle.row_relax.specs.Choices.{steps_of}
 use Rattle.row_relax.specs.RowProofs.{RowItem, RowTree}
 use Rattle.row_relax.specs.Steps.{row_steps, shown_if}
 use Rattle.row_relax.specs.View.{domains_of, view_of}
@@ -159,8 +161,8 @@ module _ (program : Program) (whole left : List Domain) (same : length left ≡ 
 -- ---- what holds of the cap
 
 -- the cap of a part's tree over the whole's rows
-abbrev pub part_cap : Program → List Domain → List Domain → ℕ → ℕ → RowTree → Capped
-part_cap program whole left levels part tree = tree_cap (row_steps program) (view_of (left_root whole left levels part)) tree
+abbrev pub part_cap : Rows → List Domain → List Domain → ℕ → ℕ → RowTree → Capped
+part_cap rows whole left levels part tree = tree_cap (steps_of rows) (view_of (left_root whole left levels part)) tree
 
 -- the numbers of the parts of two halves
 first-number : (part half i : ℕ) → (part * 2 + 0) * half + i ≡ part * (half * 2) + i
@@ -196,35 +198,35 @@ split-cap Q closed first second a b f g is also one other =
     (subst (λ (next : Option View). Q (greater (f a) (cap_if next g))) (sym also) (closed (f a) (g b) one other))
 
 -- the cap of a split without a floor is the greater of those of its parts
-no-floor : (program : Program) (v : View) (slot : ℕ) (a b : RowTree) → tree_cap (row_steps program) v (split [] None (record { slot = slot; max = 0; floor = None }) no_mults a b)
-    ≡ greater (cap_if ((row_steps program).left v (record { slot = slot; max = 0; floor = None })) (λ x. tree_cap (row_steps program) x a)) (cap_if ((row_steps program).right v (record { slot = slot; max = 0; floor = None })) (λ x. tree_cap (row_steps program) x b))
+no-floor : (rows : Rows) (v : View) (slot : ℕ) (a b : RowTree) → tree_cap (steps_of rows) v (split [] None (record { slot = slot; max = 0; floor = None }) no_mults a b)
+    ≡ greater (cap_if ((row_steps rows.program).left v (record { slot = slot; max = 0; floor = None })) (λ x. tree_cap (steps_of rows) x a)) (cap_if ((row_steps rows.program).right v (record { slot = slot; max = 0; floor = None })) (λ x. tree_cap (steps_of rows) x b))
 unfolding row_steps
-no-floor program v slot a b = refl
+no-floor rows v slot a b = refl
 
 -- what holds of the cap of each part's tree, and of the greater of two caps of which it holds, holds of the cap of the tree of splits
-pub over-cap : (Q : Capped → Type 0) → ((a b : Capped) → Q a → Q b → Q (greater a b)) → (program : Program) (whole left : List Domain) → length left ≡ length whole → (total : ℕ) → AreFirstOfSlots total whole → (levels slot part : ℕ) (trees : List RowTree)
+pub over-cap : (Q : Capped → Type 0) → ((a b : Capped) → Q a → Q b → Q (greater a b)) → (rows : Rows) (whole left : List Domain) → length left ≡ length whole → (total : ℕ) → AreFirstOfSlots total whole → (levels slot part : ℕ) (trees : List RowTree)
     → slot + levels ≡ total → total ≤ length whole
-    → ((i : ℕ) → i < 2 ^ levels → Q (part_cap program whole left total (part * 2 ^ levels + i) (get_or trees i no_tree)))
-    → Q (tree_cap (row_steps program) (view_of (left_root whole left slot part)) (tree_over slot levels trees))
-over-cap Q closed program whole left long total are zero slot part trees sum within each =
+    → ((i : ℕ) → i < 2 ^ levels → Q (part_cap rows whole left total (part * 2 ^ levels + i) (get_or trees i no_tree)))
+    → Q (tree_cap (steps_of rows) (view_of (left_root whole left slot part)) (tree_over slot levels trees))
+over-cap Q closed rows whole left long total are zero slot part trees sum within each =
     let same : total ≡ slot = omega (arith, sum) in
     let number : part * 1 + 0 ≡ part = omega arith in
-    subst (λ (n : ℕ). Q (part_cap program whole left n part (get_or trees 0 no_tree))) same
-    (subst (λ (n : ℕ). Q (part_cap program whole left total n (get_or trees 0 no_tree))) number (each 0 (omega arith)))
-over-cap Q closed program whole left long total are (suc levels) slot part trees sum within each =
+    subst (λ (n : ℕ). Q (part_cap rows whole left n part (get_or trees 0 no_tree))) same
+    (subst (λ (n : ℕ). Q (part_cap rows whole left total n (get_or trees 0 no_tree))) number (each 0 (omega arith)))
+over-cap Q closed rows whole left long total are (suc levels) slot part trees sum within each =
     let half = 2 ^ levels in
     let low : slot < length whole = omega (arith, sum, within) in
     let further : (slot + 1) + levels ≡ total = omega (arith, sum) in
-    let each_half = subst (λ (n : ℕ). (i : ℕ) → i < n → Q (part_cap program whole left total (part * n + i) (get_or trees i no_tree))) (pow-suc 2 levels) each in
-    let halves = in-halves (λ (number : ℕ) (tree : RowTree). Q (part_cap program whole left total number tree)) part half trees each_half in
-    subst Q (sym (no-floor program (view_of (left_root whole left slot part)) slot (tree_over (slot + 1) levels (take half trees)) (tree_over (slot + 1) levels (drop half trees))))
+    let each_half = subst (λ (n : ℕ). (i : ℕ) → i < n → Q (part_cap rows whole left total (part * n + i) (get_or trees i no_tree))) (pow-suc 2 levels) each in
+    let halves = in-halves (λ (number : ℕ) (tree : RowTree). Q (part_cap rows whole left total number tree)) part half trees each_half in
+    subst Q (sym (no-floor rows (view_of (left_root whole left slot part)) slot (tree_over (slot + 1) levels (take half trees)) (tree_over (slot + 1) levels (drop half trees))))
     (split-cap Q closed
-    ((row_steps program).left (view_of (left_root whole left slot part)) (record { slot = slot; max = 0; floor = None })) ((row_steps program).right (view_of (left_root whole left slot part)) (record { slot = slot; max = 0; floor = None }))
+    ((row_steps rows.program).left (view_of (left_root whole left slot part)) (record { slot = slot; max = 0; floor = None })) ((row_steps rows.program).right (view_of (left_root whole left slot part)) (record { slot = slot; max = 0; floor = None }))
     (view_of (left_root whole left (slot + 1) (part * 2 + 0))) (view_of (left_root whole left (slot + 1) (part * 2 + 1)))
-    (λ x. tree_cap (row_steps program) x (tree_over (slot + 1) levels (take half trees))) (λ x. tree_cap (row_steps program) x (tree_over (slot + 1) levels (drop half trees)))
-    (left-view program whole left long slot part (are slot (omega (arith, sum))) low) (right-view program whole left long slot part (are slot (omega (arith, sum))) low)
-    (over-cap Q closed program whole left long total are levels (slot + 1) (part * 2 + 0) (take half trees) further within halves.0)
-    (over-cap Q closed program whole left long total are levels (slot + 1) (part * 2 + 1) (drop half trees) further within halves.1))
+    (λ x. tree_cap (steps_of rows) x (tree_over (slot + 1) levels (take half trees))) (λ x. tree_cap (steps_of rows) x (tree_over (slot + 1) levels (drop half trees)))
+    (left-view rows.program whole left long slot part (are slot (omega (arith, sum))) low) (right-view rows.program whole left long slot part (are slot (omega (arith, sum))) low)
+    (over-cap Q closed rows whole left long total are levels (slot + 1) (part * 2 + 0) (take half trees) further within halves.0)
+    (over-cap Q closed rows whole left long total are levels (slot + 1) (part * 2 + 1) (drop half trees) further within halves.1))
 
 -- ---- what holds of the items
 

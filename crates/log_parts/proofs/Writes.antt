@@ -10,6 +10,7 @@ use Rattle.log_lines.specs.declared.line.Line.TheVariants.{Header, End}
 use Rattle.log_lines.specs.Line.{line_text}
 use Rattle.std.proofs.lemmas.Bool.{cond-true, cond-false, eq-eqb, ne_eqb}
 use Rattle.sum_lines.specs.Head.{head_text}
+use Rattle.setup_lines.specs.Line.{setups_text}
 use Rattle.derivation_lines.specs.Tail.{tail_text}
 use Rattle.log_parts.specs.declared.heads.Declared.{Declared}
 use Rattle.log_parts.specs.Heads.{front_text}
@@ -82,7 +83,11 @@ pub front_two : (version : ℕ) (declared : Declared) (old new : List ℕ) → v
 front_two version declared old new two is = is ∙ ap (λ (text : List ℕ). old ++ text) (sym (lines_text-one (Header 2)) ∙ sym (cond-true _ _ _ (eq-eqb version 2 two)))
 
 -- and a head that of a later one
-pub front_other : (version : ℕ) (declared : Declared) (old mid new : List ℕ) → version ≢ 2 → mid ≡ old ++ head_text version declared.sums → new ≡ mid ++ tail_text declared.derivations → new ≡ old ++ front_text version declared
-front_other version declared old mid new other head tail =
-    tail ∙ ap (λ (text : List ℕ). text ++ tail_text declared.derivations) head ∙ append_assoc old (head_text version declared.sums) (tail_text declared.derivations)
+pub front_other : (version : ℕ) (declared : Declared) (old mid mid2 new : List ℕ) → version ≢ 2 → mid ≡ old ++ head_text version declared.sums → mid2 ≡ mid ++ setups_text declared.units → new ≡ mid2 ++ tail_text declared.derivations
+    → new ≡ old ++ front_text version declared
+front_other version declared old mid mid2 new other head setups tail =
+    let first = head_text version declared.sums in
+    let second = setups_text declared.units in
+    let third = tail_text declared.derivations in
+    tail ∙ ap (λ (text : List ℕ). text ++ third) (setups ∙ ap (λ (text : List ℕ). text ++ second) head) ∙ append_assoc (old ++ first) second third ∙ append_assoc old first (second ++ third)
     ∙ ap (λ (text : List ℕ). old ++ text) (sym (cond-false _ _ _ (ne_eqb version 2 other)))

@@ -26,6 +26,6 @@ pub record IsOtherCount {X : Type 0} (given own : List X) (line : ℕ) : Type 0 
 abbrev pub AreOther : {X : Type 0} → List X → List X → List ℕ → ℕ → Type 0
 AreOther given own lines line = IsOtherItem given own lines line ⊎ IsOtherCount given own line
 
--- a log declares other sums or derivations than these: the first sum, cut or row that differs begins on this line, and line 1 where one head is a first part of the other
+-- a log declares other sums, setups or derivations than these: the first sum, setup, cut or row that differs begins on this line, and line 1 where one head is a first part of the other
 abbrev pub IsOtherHead : Declared → Declared → ℕ → Type 0
 IsOtherHead given own line = AreOther (items_of given) (items_of own) (lines_on own) line

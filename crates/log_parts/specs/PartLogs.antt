@@ -31,23 +31,23 @@ pub record IsPartVerdict (plant : Plant) (levels part : ℕ) (bytes : List ℕ) 
   pub of_part : IsPartProgram plant levels part program
   pub right : IsAnyPartChecked plant program (4608 - levels) bytes said
 
--- the bytes are a valid log of a part, which declares these sums and derivations, of this tree and this claim
+-- the bytes are a valid log of a part, which declares this, of this tree and this claim
 pub record IsPartLog (plant : Plant) (levels part : ℕ) (bytes : List ℕ) (declared : Declared) (tree : RowTree) (claim : Claim) : Type 0 where
   pub program : Program
   pub of_part : IsPartProgram plant levels part program
   pub right : IsAnyPartChecked plant program (4608 - levels) bytes (verdict.Yes claim)
-  pub log : IsAnyLog program (plant_root plant) (plant_root plant) bytes declared.sums declared.derivations tree claim
+  pub log : IsAnyLog plant program (plant_root plant) (plant_root plant) bytes declared.sums declared.units declared.derivations tree claim
 
--- the bytes are a valid log of a part, which declares these sums and derivations
+-- the bytes are a valid log of a part, which declares this
 abbrev pub IsValidPart : Plant → ℕ → ℕ → List ℕ → Declared → Type 0
 IsValidPart plant levels part bytes declared = (tree : RowTree) × ((claim : Claim) × IsPartLog plant levels part bytes declared tree claim)
 
--- each log of the first parts, so many, is valid and declares these sums and derivations
+-- each log of the first parts, so many, is valid and declares this
 abbrev pub AreValid : Plant → ℕ → (ℕ → List ℕ) → Declared → ℕ → Type 0
 AreValid plant levels logs declared count = (part : ℕ) → part < count → IsValidPart plant levels part (logs part) declared
 
 -- The bytes are a valid log of a part, but its head is another than this: the defect is of kind 22, at the line on which the first sum,
--- cut or row that differs begins, or line 1 where one head is a first part of the other.
+-- setup, cut or row that differs begins, or line 1 where one head is a first part of the other.
 pub record IsOtherLog (plant : Plant) (levels part : ℕ) (bytes : List ℕ) (declared : Declared) (defect : Defect) : Type 0 where
   pub own : Declared
   pub valid : IsValidPart plant levels part bytes own

@@ -1,16 +1,20 @@
 //! The head of a part's log, beside that of the first part's.
-ghost use Rattle.std.specs.Prelude.{◌≡◌, ◌↔◌, ◌<◌, ◌^◌, ◌++◌, length, IsTrue, IfOk, MatchOption, slice_get};
+ghost use Rattle.std.specs.Prelude.{◌≡◌, ◌↔◌, ◌+◌, ◌-◌, ◌<◌, ◌≤◌, ◌++◌, length, IsTrue, IfOk, MatchOption, slice_get, slice_index};
+ghost use Rattle.std.specs.List.{range_with_len};
+ghost use Rattle.stn_model.specs.declared.plant.Plant.{Plant};
 ghost use Rattle.log_lines.specs.declared.grammar.Limits.{Limits};
-ghost use Rattle.log_parts.specs.Heads.{items_of, lines_on};
+ghost use Rattle.valid_log.specs.Heads.{limits_behind};
+ghost use Rattle.log_parts.specs.Heads.{behind_sums, items_of, lines_on};
 ghost use Rattle.log_parts.specs.OtherHeads.{IsOtherHead};
 ghost use Rattle.log_parts.specs.laws.Checked.{IsCompared, IsFrontKept, IsHeadCompared, head_with, no_head};
 
 use crate::heads::{Declared, LogFront, LogHead};
 use crate::sameness::{is_same_derivation, is_same_sum};
 use derivation_lines::Tail;
-use log_lines::Defect;
+use log_lines::{Defect, Limits};
 use proof_log::Claim;
 use row_kit::List;
+use setup_lines::Setups;
 use std::alloc::{AllocError, Global};
 use sum_lines::Head;
 
@@ -31,34 +35,64 @@ pub enum PartCheck {
     Bad(Defect),
 }
 
-/// The head of a log without one.
-pub fn no_head(alloc: Global) -> LogHead
-    ensures { result ≡ no_head }
+/// The head of a log without one, under limits.
+pub fn no_head(alloc: Global, limits: Limits) -> LogHead
+    ensures { result ≡ no_head limits }
 {
     LogHead {
         version: 2,
         declared: Declared {
             sums: List::new(alloc),
+            units: List::new(alloc),
             derivations: List::new(alloc),
         },
         lines: List::new(alloc),
         bytes: 0,
+        limits,
     }
 }
 
-/// A head with the derivations behind its sums. It takes memory for the lines on which these begin.
-pub fn head_with(head: Head, tail: Tail) -> Result<LogHead, AllocError>
-    ensures { IfOk result (λ own. own ≡ head_with head tail) }
+/// A head with the derivations behind its setups, and the limits of the log behind it. It takes memory for the lines on which setups and
+/// derivations begin.
+pub fn head_with(setups: Setups, tail: Tail, limits: Limits) -> Result<LogHead, AllocError>
+    requires counted { length setups.units ≤ setups.head.count }
+    requires limits { limits ≡ limits_behind setups tail }
+    ensures { IfOk result (λ own. own ≡ head_with setups tail) }
 {
+    let Setups { units, head, .. } = setups;
+    let Head {
+        version,
+        sums,
+        lines,
+        count,
+        ..
+    } = head;
+    let lines = with_unit_lines(lines, count, units.len() as u64)?;
+    let lines = joined_lines(lines, tail.lines.as_slice())?;
+    let derivations = tail.derivations;
     Ok(LogHead {
-        version: head.version,
+        version,
         declared: Declared {
-            sums: head.sums,
-            derivations: tail.derivations,
+            sums,
+            units,
+            derivations,
         },
-        lines: joined_lines(head.lines, tail.lines.as_slice())?,
+        lines,
         bytes: tail.bytes,
+        limits,
     })
+}
+
+// Numbers of lines, and behind them those of the last so many of this count of lines.
+fn with_unit_lines(lines: List<u64>, count: u64, units: u64) -> Result<List<u64>, AllocError>
+    requires { units ≤ count }
+    ensures { IfOk result (λ all. all ≡ lines ++ range_with_len (1 + (count - units)) units) }
+{
+    let mut all = lines;
+    for place in 0..units {
+        all.push(count - (units - 1 - place))?;
+    }
+    Ok(all)
 }
 
 // Numbers of lines, and more behind them.
@@ -74,7 +108,7 @@ fn joined_lines(lines: List<u64>, more: &[u64]) -> Result<List<u64>, AllocError>
 
 /// A log with this front, to which a check said yes with this claim, against what is declared.
 pub fn compared(declared: &Declared, front: &LogFront, claim: Claim) -> PartCheck
-    requires { (limits : Limits) × IsFrontKept limits front.now }
+    requires { (plant : Plant) × ((limits : Limits) × IsFrontKept plant limits front.now) }
     ensures { IsCompared declared.now front.now claim result }
 {
     match front {
@@ -110,18 +144,26 @@ fn other_line(given: &Declared, own: &Declared, lines: &[u64]) -> Option<u64>
     let few = if all < own_all { all } else { own_all };
     for place in 0..few {
         if !is_same_at(given, own, place) {
-            return Some(lines[place]);
+            return Some(line_at(lines, place));
         }
     }
     if all == own_all { None } else { Some(1) }
 }
 
-// How many sums and derivations are declared.
-fn count_of(declared: &Declared) -> usize
-    ensures count { result ≡ length (items_of declared.now) }
-    ensures small { result < 2 ^ 60 }
+// The line at a place.
+fn line_at(lines: &[u64], place: usize) -> u64
+    requires { place < length lines.now }
+    ensures { result ≡ slice_index lines.now place }
 {
-    declared.sums.as_slice().len() + declared.derivations.as_slice().len()
+    lines[place]
+}
+
+// How many sums, setups and derivations are declared.
+fn count_of(declared: &Declared) -> usize
+    ensures { result ≡ length (items_of declared.now) }
+{
+    let sums = declared.sums.as_slice().len();
+    sums + declared.units.as_slice().len() + declared.derivations.as_slice().len()
 }
 
 // Whether what is declared at a place is the same.
@@ -135,10 +177,25 @@ fn is_same_at(given: &Declared, own: &Declared, place: usize) -> bool
     if place < sums {
         place < own_sums && is_same_sum(given.sums.get(place), own.sums.get(place))
     } else {
-        place >= own_sums
+        place >= own_sums && is_same_behind(given, own, place - sums, place - own_sums)
+    }
+}
+
+// Whether what is declared behind the sums at these places is the same.
+fn is_same_behind(given: &Declared, own: &Declared, place: usize, own_place: usize) -> bool
+    requires within { place < length (behind_sums given.now) }
+    requires within_own { own_place < length (behind_sums own.now) }
+    ensures { IsTrue result
+        ↔ slice_get (behind_sums given.now) place ≡ slice_get (behind_sums own.now) own_place }
+{
+    let (units, own_units) = (given.units.len(), own.units.len());
+    if place < units {
+        own_place < own_units && *given.units.get(place) == *own.units.get(own_place)
+    } else {
+        own_place >= own_units
             && is_same_derivation(
-                given.derivations.get(place - sums),
-                own.derivations.get(place - own_sums),
+                given.derivations.get(place - units),
+                own.derivations.get(own_place - own_units),
             )
     }
 }

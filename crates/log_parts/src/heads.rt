@@ -1,13 +1,16 @@
 //! What the head of a log declares, and what stands at the front of a log.
 use derivations::Derivation;
-use log_lines::Defect;
+use log_lines::{Defect, Limits};
 use row_kit::List;
 use sum_slots::Sum;
 
-/// What the head of a log declares: sums, and behind them derivations. It declares nothing where there is no head.
+/// What the head of a log declares: sums, behind them the setups of units, and then derivations. It declares nothing where there is no
+/// head.
 #[derive(Drop)]
 pub struct Declared {
     pub sums: List<Sum>,
+    /// The units whose setups are declared, in ascending order.
+    pub units: List<u32>,
     pub derivations: List<Derivation>,
 }
 
@@ -17,10 +20,12 @@ pub struct LogHead {
     /// The version of its text: 3 or 4, or 2 where there is no head.
     pub version: u8,
     pub declared: Declared,
-    /// The line of the file on which each sum and each derivation begins, counted from 1.
+    /// The line of the file on which each sum, each setup and each derivation begins, counted from 1.
     pub lines: List<u64>,
     /// How many bytes it has; none where there is no head.
     pub bytes: u64,
+    /// The limits of the log behind it.
+    pub limits: Limits,
 }
 
 /// What stands at the front of a log.

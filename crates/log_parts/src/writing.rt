@@ -3,15 +3,11 @@ ghost use Rattle.std.specs.Prelude.{◌≡◌, ◌≢◌, ◌≤◌, ◌<◌, su
 ghost use Rattle.stn_edge.specs.Count.{Rose};
 ghost use Rattle.stn_edge.specs.Files.{OthersStay, MayClear};
 ghost use Rattle.stn_model.specs.Sound.{Sound};
-ghost use Rattle.time_grid.specs.Slots.{slots};
 ghost use Rattle.row_relax.specs.RowProofs.{RowItem};
 ghost use Rattle.proof_log.specs.LogNames.{log_name};
-ghost use Rattle.derivations.specs.Growth.{rows_of};
 ghost use Rattle.sum_slots.specs.declared.sum.Sum.{Sum};
 ghost use Rattle.log_parts.specs.Heads.{front_text, joined_version};
 ghost use Rattle.log_parts.specs.laws.Copying.{
-  limits_over,
-  part_limits,
   IsFit,
   name_of,
   opening_split,
@@ -29,21 +25,21 @@ ghost use Rattle.log_parts.specs.laws.Copying.{
 };
 ghost use Rattle.proof_log.specs.declared.claim.Claim.{Claim};
 ghost use Rattle.valid_log.specs.SumTexts.{larger_claim};
-ghost use Rattle.log_parts.specs.laws.Checked.{MayDeclare, head_limits};
+ghost use Rattle.log_parts.specs.laws.Checked.{MayDeclare, head_limits, part_limits};
 
 use crate::completing::larger_claim;
 use crate::copying::{copy_log, put_item};
 use crate::heads::Declared;
 use crate::joins::{JoinStop, Joined};
 use derivation_lines::put_derivations;
-use derivations::Derivation;
 use dual_bound::Cert;
 use log_lines::{Defect, Limits, Line, put_line};
 use proof_log::{Claim, LogWriter, log_name};
 use proof_tree::Item;
-use row_kit::{List, Program};
+use row_kit::List;
 use row_relax::{RowPick, Rows};
 use row_set::program_of;
+use setup_lines::put_setups;
 use std::alloc::{AllocError, Global};
 use stn_edge::{Shelf, Stop};
 use stn_model::Plant;
@@ -218,44 +214,6 @@ fn write_tree<F: Shelf>(
     write_tree(alloc, logs, slot + 1, right, writer, files)
 }
 
-// The limits of the logs of a plant's parts over their programs with what they declare, from the plant's program.
-fn limits_of(program: &Program, levels: u32, declared: &Declared) -> Limits
-    requires most { levels ≤ 8 }
-    requires few { length declared.now.sums ≤ 4096 }
-    requires few_rows { rows_of declared.now.derivations ≤ 4096 }
-    ensures { result ≡ limits_over program.now levels declared.now }
-{
-    let sums = declared.sums.len() as u32;
-    let rows = rows_in(declared.derivations.as_slice());
-    Limits {
-        rows: program.rows.len() as u32 + 2 * sums + rows as u32,
-        slots: program.root.len() as u32 + sums,
-        depth: 4608 - levels,
-    }
-}
-
-// How many of derivations are rows.
-fn rows_in(derivations: &[Derivation]) -> usize
-    ensures { result ≡ rows_of derivations.now }
-{
-    let mut rows = 0;
-    for derivation in derivations {
-        rows += row_count(derivation);
-    }
-    rows
-}
-
-// 1 for a row, and 0 for a cut.
-fn row_count(derivation: &Derivation) -> usize
-    ensures count { result ≡ rows_of (derivation.now ∷ []) }
-    ensures most { result ≤ 1 }
-{
-    match derivation {
-        Derivation::Cut(_) => 0,
-        Derivation::Row(_) => 1,
-    }
-}
-
 // Why the log was not written.
 fn write_stop(stop: Stop) -> JoinStop
     ensures fault { result ≡ JoinStop.WriteFault → stop ≡ Stop.Failed }
@@ -293,6 +251,7 @@ fn put_front(
         put_line(alloc, &Line::Header { version: 2 }, into)?;
     } else {
         put_head(alloc, version, declared.sums.as_slice(), into)?;
+        put_setups(alloc, declared.units.as_slice(), into)?;
         put_derivations(alloc, declared.derivations.as_slice(), into)?;
     }
     Ok(())
@@ -398,14 +357,15 @@ fn write_log<F: Shelf>(
     }
 }
 
-/// Writes the joined log of this version, which declares this, with this claim, where no log of a part shows a defect now. It takes
-/// memory for the text of the head and for the plant's program.
+/// Writes the joined log of this version, which declares this, with this claim, where no log of a part shows a defect now. What stands
+/// behind the heads keeps these limits. It takes memory for the text of the head and for the plant's program.
 pub fn write_joined<F: Shelf>(
     alloc: Global,
     plant: &Plant,
     levels: u32,
     version: u8,
     declared: &Declared,
+    limits: Limits,
     heads: &[u64],
     files: &mut F,
     stem: &str,
@@ -414,7 +374,8 @@ pub fn write_joined<F: Shelf>(
 ) -> Result<Joined, JoinStop>
     requires sound { Sound plant.now }
     requires most { levels ≤ 8 }
-    requires declared { MayDeclare (head_limits plant.now levels) version declared.now }
+    requires declared { MayDeclare plant.now (head_limits plant.now levels) version declared.now }
+    requires limits { limits ≡ part_limits plant.now levels declared.now }
     requires heads { length heads.now ≡ 2 ^ levels }
     requires may_read { (part : ℕ) → part < 2 ^ levels
         → IsTrue (F.may_read files.old (log_name stem.now part)) }
@@ -441,7 +402,6 @@ pub fn write_joined<F: Shelf>(
     let program = program_of(alloc, plant)?;
     match larger_claim(alloc, &program, declared.sums.as_slice(), &claim)? {
         Some(larger) => {
-            let limits = limits_of(&program, levels, declared);
             let logs = PartLogs {
                 levels,
                 limits,

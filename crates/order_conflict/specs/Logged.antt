@@ -48,7 +48,7 @@ IsLogOf plant budget name old new (Unproved marks) = IsConflict plant budget (Am
 
 -- the bytes are a first part of a log over the plant's program
 abbrev pub IsBegunLog : Plant → Option (List ℕ) → Type 0
-IsBegunLog plant log = (program : Program) × (IsMadeOf plant program × (IsProgramOf plant program × IfSome log (IsSomeLogBegun program (plant_root plant))))
+IsBegunLog plant log = (program : Program) × (IsMadeOf plant program × (IsProgramOf plant program × IfSome log (IsSomeLogBegun plant program (plant_root plant))))
 
 -- what is left of an answer that was not reached: the file as it was, or the log of right marks, begun
 abbrev pub LeavesLog : Plant → ℕ → List ℕ → Option FileMap → Option FileMap → Type 0

@@ -95,6 +95,12 @@ impl Accounts {
         }
     }
 
+    /// Whether more may be done for a first plan, after so much work for plans: at the first box, and later while that is at most
+    /// three tenths of all work.
+    pub fn allow_first(&self, plans: u64) -> bool {
+        self.is_first || plans <= self.boxes.saturating_add(plans) / 10 * 3
+    }
+
     // How long a better plan is waited for at first: a tenth as long where little may be gained.
     fn patience_at(&self, gap: i128) -> u64 {
         if gap.saturating_mul(WIDE_GAP) >= self.cap {

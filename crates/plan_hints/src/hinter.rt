@@ -7,7 +7,7 @@ use crate::small_search::{Effort, Picking};
 use box_advice::Hinter;
 use dual_simplex::Amount;
 use plan_repair::{Walk, put_sums, without_sums};
-use row_activity::{copy, domain_of, least_value, numbered};
+use row_activity::{copy, domain_of, is_single, least_value, numbered};
 use row_kit::{Area, Program};
 use std::alloc::{AllocError, Global};
 
@@ -15,12 +15,13 @@ use std::alloc::{AllocError, Global};
 /// dives by the bound; and what searches in the neighbourhoods of the best plan find. Its work is counted in steps. `offer` takes memory
 /// for one neighbourhood after the other, and leaves those out for which there is none.
 ///
-/// Values are chosen for the given slots alone, in the program without its sums; an offered point has the values that the sums have
-/// there.
+/// Values are chosen for the given slots alone, in the program without its sums and setups; an offered point has the values that the
+/// sums have there, and says nothing of setups.
 #[derive(Drop)]
 pub struct PlanHinter {
     own: Option<Program>,
     given: u32,
+    points: u32,
     looker: Looker,
 }
 
@@ -54,12 +55,14 @@ const MOST_WORK: u64 = 1_000_000_000;
 const MOST_STEPS: u32 = 100_000;
 
 impl PlanHinter {
-    /// A hinter for a program, of which the slots from `given` on are those of sums. It begins with a point at hand, a value for each
-    /// slot, which is repaired where it is not lawful; or with none, where `start` is empty. It has room for all that can come.
+    /// A hinter for a program, of which the slots from `given` on and before `points` are those of sums. It begins with a point at hand,
+    /// a value for each slot before `points`, which is repaired where it is not lawful; or with none, where `start` is empty. It has
+    /// room for all that can come.
     pub fn new(
         alloc: Global,
         program: &Program,
         given: u32,
+        points: u32,
         start: &[u8],
     ) -> Result<PlanHinter, AllocError> {
         let own = without_sums(alloc, program, given)?;
@@ -67,7 +70,12 @@ impl PlanHinter {
             None => Looker::begun(alloc, program, start)?,
             Some(own) => Looker::begun(alloc, own, start)?,
         };
-        Ok(PlanHinter { own, given, looker })
+        Ok(PlanHinter {
+            own,
+            given,
+            points,
+            looker,
+        })
     }
 }
 
@@ -141,8 +149,11 @@ impl Looker {
         }
     }
 
-    // Searches the box for a first plan, where none is known.
+    // Searches the box for a first plan, where none is known and there is work left for one.
     fn find_first(&mut self, program: &Program) {
+        if !self.accounts.allow_first(self.finder.work) {
+            return;
+        }
         for picking in [Picking::Furthest, Picking::Tried] {
             if self.finder.plans.kept.worth.is_none() {
                 let mark = self.finder.field.mark();
@@ -235,6 +246,16 @@ impl Looker {
     }
 }
 
+// Whether each slot of a program has one value in an area.
+fn is_only(program: &Program, area: &Area) -> bool {
+    for slot in 0..program.root.len() {
+        if !is_single(domain_of(area, numbered(slot))) {
+            return false;
+        }
+    }
+    true
+}
+
 // Writes the least value of each slot of an area.
 fn put_only(area: &Area, point: &mut [u8]) {
     for slot in 0..point.len() {
@@ -249,7 +270,7 @@ impl Hinter for PlanHinter {
             Some(own) => self.looker.offer(own, area, point),
         };
         if offers {
-            put_sums(program, self.given, point);
+            put_sums(program, self.given, self.points, point);
         }
         offers
     }
@@ -260,7 +281,7 @@ impl Looker {
     fn offer(&mut self, program: &Program, area: &Area, point: &mut [u8]) -> bool {
         self.boxes = self.boxes.saturating_add(1);
         self.accounts.note_box();
-        if area.is_point() {
+        if is_only(program, area) {
             self.take_only(program, area);
         } else {
             self.look(program, area, point);

@@ -1,6 +1,5 @@
 -- Cuts and splits lose no image of what earns more than their floors, so the cap of a proof allows what each plan earns.
-use Rattle.std.proofs.Common.{◌≡◌, ℕ, ℤ, ◌≤ℤ◌, ◌⊎◌, Bool, true, false, cond, List, [], ◌∷◌, Option, Some, None, option_and_then, refl, sym, ap, ◌∙◌, subst, arith, inl, inr, ⊎_elim}
-use Rattle.std.proofs.lemmas.Int.{ints}
+use Rattle.std.proofs.Common.{◌≡◌, ℕ, ℤ, ◌≤ℤ◌, ◌⊎◌, Bool, true, false, cond, List, [], ◌∷◌, Option, Some, None, option_and_then, refl, sym, subst, inl, inr, ⊎_elim}
 use Rattle.row_kit.specs.declared.domain.Domain.{Domain}
 use Rattle.row_kit.specs.declared.program.Program.{Program}
 use Rattle.row_kit.specs.Point.{IsLawful, LiesIn, value_of, worth_of}
@@ -13,20 +12,21 @@ use Rattle.dual_bound.proofs.Floors.{trimmed_keeps, trimmed_without}
 use Rattle.dual_bound.proofs.Quotients.{cert_cap-holds}
 use Rattle.proof_tree.specs.declared.capped.Capped.{Capped}
 use Rattle.proof_tree.specs.declared.capped.Capped.TheVariants.{AtMost, NoPoint, Bad}
-use Rattle.proof_tree.specs.Cap.{IsWithinFloor, Settles, greater, floor_cap}
+use Rattle.proof_tree.specs.Cap.{IsWithinFloor, greater, floor_cap}
 use Rattle.proof_tree.specs.Tree.{Leaf, no_point, dual, one_point, pending, leaf, split, tree_cap, split_cap, leaf_cap, after_cuts, cap_if}
-use Rattle.proof_tree.specs.Views.{View, Point}
+use Rattle.proof_tree.specs.Views.{View}
 use Rattle.row_relax.specs.declared.pick.RowPick.{RowPick}
 use Rattle.row_relax.specs.RowProofs.{RowTree}
+use Rattle.row_relax.specs.Choices.{settled_by}
 use Rattle.row_relax.specs.Steps.{floor_by, row_steps, view_by}
 use Rattle.row_relax.specs.View.{Fits, IsIn, domains_of, view_of}
 use Rattle.row_relax.specs.laws.Laws.{rows_sound}
 use Rattle.row_relax.specs.laws.Shown.{domains_of-view_of, fits_of}
-use Rattle.plan_images.specs.Boxes.{LosesNone, SettlesBy, settled_by}
+use Rattle.plan_images.specs.Boxes.{LosesNone, SettlesBy}
 use Rattle.plan_images.specs.Caps.{Allows, Caps}
 use Rattle.plan_images.specs.Images.{IsImage, IsRelaxation}
 use Rattle.plan_images.specs.Law.{NoneIsLost, RowsSettle}
-use Rattle.plan_images.proofs.Allowing.{allows-half, allows-left, allows-less, allows-right}
+use Rattle.plan_images.proofs.Allowing.{allows-half, allows-left, allows-less, allows-one, allows-right}
 
 -- a floor leaves a lawful point, or its value is at most the floor
 floor-keeps : (program : Program) (v : View) (cert : Cert) (floor : Option ℤ) (point : List ℕ) → IsIn v point → IsLawful program point → IsIn (view_by program v cert floor) point ⊎ IsWithinFloor (floor_by program (domains_of v) cert floor) (value_of program point)
@@ -62,18 +62,14 @@ none-lost program alone earned point image = lawful-kept program point image.law
 
 -- ---- boxes of one point
 
-at_most : (a b : ℤ) → a ≡ b → a ≤ℤ b
-at_most a b same = omega (arith, ints, same)
-
-settled_allows : (P L : Point → Type 0) (worth : Point → ℤ) (cap : Capped) → Settles P L worth cap → (p : Point) → P p → L p → Allows cap (worth p)
-settled_allows P L worth (AtMost n) one p is lawful = at_most (worth p) n (ap worth (one.1.1 p is) ∙ one.3)
-settled_allows P L worth NoPoint one p is lawful = one.2 (subst L (one.1.1 p is) lawful)
-settled_allows P L worth Bad one p is lawful = tt
-
 -- the rows of a program settle a box by what its point is worth
-pub rows-settle : RowsSettle
-rows-settle program v point fits lies lawful =
-    settled_allows (IsIn v) (IsLawful program) (worth_of program) ((row_steps program).settle v) ((rows_sound program).settles v fits) point lies lawful
+pub rows-settle : (program : Program) → SettlesBy program (row_steps program).settle (worth_of program)
+rows-settle program v point fits lies lawful = allows-one (IsIn v) (IsLawful program) (worth_of program) ((row_steps program).settle v) ((rows_sound program).settles v fits) point lies lawful
+
+-- so do rows without choices
+pub plain-settle : RowsSettle
+unfolding row_steps
+plain-settle program v point fits lies lawful = rows-settle program v point fits lies lawful
 
 -- ---- certificates
 

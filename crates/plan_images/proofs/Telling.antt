@@ -21,6 +21,19 @@ borne admits earned of_values cap Infeasible real caps is = λ x admitted. is (a
 borne admits earned of_values cap (Between profit most point) real caps is = (is.0, λ x admitted. allowed-most cap most (earned x) real is.1 (caps x admitted))
 borne admits earned of_values cap (Below most) real caps is = λ x admitted. allowed-most cap most (earned x) real is (caps x admitted)
 
+-- the plan of a claim
+plan_told : {X : Type 0} (admits : X → Type 0) (earned : X → ℤ) (program : Program) (of_values : List ℕ → X) (value : ℤ) (point : List ℕ) → ReadsAs program admits earned of_values
+    → HasWorth (IsLawful program) (worth_of program) point value → HasWorth admits earned (of_values point) value
+plan_told admits earned program of_values value point reads has = let own = reads point has.0 in (own.0, own.1 ∙ has.1)
+
+-- a cap that bears out a claim by points bears it out by the plans that they stand for
+pub borne-read : {X : Type 0} (admits : X → Type 0) (earned : X → ℤ) (program : Program) (of_values : List ℕ → X) (cap : Capped) (claim : Claim) → ReadsAs program admits earned of_values
+    → IsBorne (IsLawful program) (worth_of program) (λ point. point) cap claim → IsBorne admits earned of_values cap claim
+borne-read admits earned program of_values cap (Optimal profit point) reads is = (plan_told admits earned program of_values profit point reads is.0, is.1)
+borne-read admits earned program of_values cap Infeasible reads is = is
+borne-read admits earned program of_values cap (Between profit most point) reads is = (plan_told admits earned program of_values profit point reads is.0, is.1)
+borne-read admits earned program of_values cap (Below most) reads is = is
+
 -- what bounds the worths of a relaxation's points allows what each plan earns
 pub bounds-cap : {X : Type 0} (admits : X → Type 0) (earned : X → ℤ) (program : Program) (P : List ℕ → Type 0) (cap : Capped) → Relaxes admits earned program → ((point : List ℕ) → IsLawful program point → P point)
     → Bounds P (IsLawful program) (worth_of program) cap → Caps admits earned cap
@@ -36,11 +49,6 @@ above_none : {X : Type 0} (admits : X → Type 0) (earned : X → ℤ) (program 
 above_none admits earned program most is above x admitted =
     let image = is.is x admitted in
     most_earned (earned x) (worth_of program (is.image x)) most image.said (above (is.image x) image.lawful)
-
--- the plan of a claim
-plan_told : {X : Type 0} (admits : X → Type 0) (earned : X → ℤ) (program : Program) (of_values : List ℕ → X) (value : ℤ) (point : List ℕ) → ReadsAs program admits earned of_values
-    → HasWorth (IsLawful program) (worth_of program) point value → HasWorth admits earned (of_values point) value
-plan_told admits earned program of_values value point reads has = let own = reads point has.0 in (own.0, own.1 ∙ has.1)
 
 -- what a claim says of all points of a relaxation it says of the plans
 pub told : {X : Type 0} (admits : X → Type 0) (earned : X → ℤ) (program : Program) (of_values : List ℕ → X) (claim : Claim) → Relaxes admits earned program → ReadsAs program admits earned of_values

@@ -1,9 +1,11 @@
 -- The laws of relaxations.
-use Rattle.std.specs.Prelude.{◌≢◌, ℕ, List, length, ℤ, ◌<ℤ◌}
+use Rattle.std.specs.Prelude.{◌≢◌, ℕ, List, length, Some, ℤ, ◌<ℤ◌}
 use Rattle.std.specs.List.{All}
+use Rattle.std.specs.List.Sorted.{IsStrictlyIncreasing}
 use Rattle.stn_model.specs.declared.plant.Plant.{Plant}
 use Rattle.stn_model.specs.declared.start.Start.{Start}
 use Rattle.stn_model.specs.Profit.{profit}
+use Rattle.stn_model.specs.Sound.{Sound}
 use Rattle.row_kit.specs.declared.domain.Domain.{Domain}
 use Rattle.row_kit.specs.declared.program.Program.{Program}
 use Rattle.row_kit.specs.declared.row.Row.{Row}
@@ -16,18 +18,19 @@ use Rattle.proof_tree.specs.Cap.{greater}
 use Rattle.proof_tree.specs.Tree.{tree_cap}
 use Rattle.proof_tree.specs.Views.{View}
 use Rattle.row_relax.specs.RowProofs.{RowTree}
-use Rattle.row_relax.specs.Steps.{row_steps}
+use Rattle.row_relax.specs.Choices.{plain, settle_of, settled_by}
 use Rattle.row_relax.specs.View.{view_of}
 use Rattle.sum_slots.specs.declared.sum.Sum.{Sum}
 use Rattle.sum_slots.specs.Larger.{IsWithSums}
 use Rattle.sum_slots.specs.Shown.{AreRanges, IsShown}
 use Rattle.sum_slots.specs.Sum.{IsDeclared}
+use Rattle.setup_slots.specs.Several.{AreSetUp}
 use Rattle.derivations.specs.declared.derivation.Derivation.{Derivation}
 use Rattle.derivations.specs.Growth.{AreShown}
 use Rattle.derivations.specs.Larger.{IsWithDerivations, begun}
 use Rattle.proof_log.specs.declared.claim.Claim.{Claim}
 use Rattle.proof_log.specs.ClaimSays.{ClaimSays}
-use Rattle.plan_images.specs.Boxes.{LosesNone, SettlesBy, settled_by}
+use Rattle.plan_images.specs.Boxes.{Judges, LosesNone, SettlesBy, worth_by}
 use Rattle.plan_images.specs.Caps.{Caps}
 use Rattle.plan_images.specs.Extensions.{Extends, IsWithRows}
 use Rattle.plan_images.specs.Images.{IsImage, IsRelaxation, Relaxes}
@@ -53,6 +56,28 @@ DerivationsExtend =
     (given larger : Program) (domains : List Domain) (derivations : List Derivation) → AreRanges given domains → AreShown (begun given domains) derivations → IsWithDerivations given domains derivations larger
     → Extends given (worth_of given) larger (worth_of larger)
 
+-- the program of a part with sums and then the setups of different units is a relaxation of the plans that the part admits, in which a point that is alone counts what its first values are worth without the setups
+abbrev pub SetupsRelax : Type 0
+SetupsRelax =
+    (plant : Plant) (part between wide : Program) (ranges : List Domain) (sums : List Sum) (units : List ℕ) → Sound plant → IsPartOf plant part → AreRanges part ranges → All (IsDeclared (length part.root)) sums → All (IsShown part ranges) sums
+    → IsWithSums part ranges sums between → IsStrictlyIncreasing units → AreSetUp plant units between wide → RelaxesPart plant part wide (worth_by between)
+
+-- a relaxation stays one, with the same images, where derivations are added that are shown
+abbrev pub DerivationsKeep : Type 0
+DerivationsKeep =
+    (plant : Plant) (part given larger : Program) (alone : List ℕ → ℤ) (domains : List Domain) (derivations : List Derivation) → RelaxesPart plant part given alone → AreRanges given domains → AreShown (begun given domains) derivations
+    → IsWithDerivations given domains derivations larger → RelaxesPart plant part larger alone
+
+-- a program judges the points of itself with the setups of units
+abbrev pub SetupsAreJudged : Type 0
+SetupsAreJudged = (plant : Plant) (units : List ℕ) (between wide : Program) → AreSetUp plant units between wide → Judges between wide
+
+-- what judges the points of a program judges those of the program with derivations that are shown
+abbrev pub DerivationsAreJudged : Type 0
+DerivationsAreJudged =
+    (choices given larger : Program) (domains : List Domain) (derivations : List Derivation) → AreRanges given domains → AreShown (begun given domains) derivations → IsWithDerivations given domains derivations larger → Judges choices given
+    → Judges choices larger
+
 -- a relaxation stays one, with the same images, where rows are added that each image keeps, and the root is narrowed to domains in which each image lies
 abbrev pub RowsExtend : Type 0
 RowsExtend =
@@ -70,7 +95,11 @@ NoneIsLost = (program : Program) (alone : List ℕ → ℤ) (earned : ℤ) (poin
 
 -- the rows of a program settle a box by what its point is worth
 abbrev pub RowsSettle : Type 0
-RowsSettle = (program : Program) → SettlesBy program (row_steps program).settle (worth_of program)
+RowsSettle = (program : Program) → SettlesBy program (settle_of (plain program)) (worth_of program)
+
+-- rows that come with choices which judge their points settle a box by what the first values of its point are worth by the choices
+abbrev pub ChoicesSettle : Type 0
+ChoicesSettle = (program choices : Program) → Judges choices program → SettlesBy program (settle_of (record { program = program; choices = Some choices })) (worth_by choices)
 
 -- the cap of a proof over a relaxation allows what each admitted plan earns
 abbrev pub TreesCap : Type 0

@@ -1,5 +1,4 @@
 //! Programs with sums, and without.
-use row_activity::numbered;
 use row_chains::SumRows;
 use row_kit::{Entry, List, Program, Row};
 use std::alloc::{AllocError, Global};
@@ -39,11 +38,12 @@ fn first_rows(alloc: Global, rows: &[Row], count: usize) -> Result<List<Row>, Al
     Ok(copies)
 }
 
-/// Writes the values of the sums of a program, of which the slots from `given` on are theirs, into a point with values for the others.
-pub fn put_sums(program: &Program, given: u32, point: &mut [u8]) {
+/// Writes the values of the sums of a program, of which the slots from `given` on and before `points` are theirs, into a point with
+/// values for those before.
+pub fn put_sums(program: &Program, given: u32, points: u32, point: &mut [u8]) {
     let rows = program.rows.as_slice();
     let sums = SumRows::new(program, given);
-    for slot in given..numbered(program.root.len()) {
+    for slot in given..points {
         if let Some(row) = rows.get(sums.row_of(slot) as usize) {
             let value = value_of(row, slot, point);
             if (slot as usize) < point.len() {

@@ -1,5 +1,5 @@
 -- The cap of the proof of a search has at most 30 digits.
-use Rattle.std.proofs.Common.{◌≡◌, ℕ, ◌<◌, ◌^◌, leb, ltb, Bool, true, false, ◌&&◌, cond, List, [], ◌∷◌, ◌++◌, length, map, Option, Some, None, option_and_then, option_to_list, if◌then◌else◌, refl, subst, arith, ℤ, unsigned_abs}
+use Rattle.std.proofs.Common.{◌≡◌, ℕ, ◌<◌, ◌^◌, leb, ltb, Bool, true, false, ◌&&◌, cond, List, [], ◌∷◌, ◌++◌, length, map, take, Option, Some, None, option_and_then, option_to_list, if◌then◌else◌, refl, subst, arith, ℤ, unsigned_abs}
 use Rattle.std.specs.Prelude.{IfSome}
 use Rattle.std.specs.Int.{int_max}
 use Rattle.std.specs.List.{All, list_all, list_any}
@@ -31,6 +31,8 @@ use Rattle.row_relax.specs.laws.Laws.{rows_sound}
 use Rattle.row_relax.specs.laws.Shown.{fits_of}
 use Rattle.row_relax.specs.RowProofs.{RowItem, RowTree}
 use Rattle.row_relax.specs.Settle.{are_single, is_lawful, only_point, settled}
+use Rattle.row_relax.specs.Choices.{settled_with, steps_of}
+use Rattle.row_relax.specs.declared.rows.Rows.{Rows}
 use Rattle.row_relax.specs.Steps.{floor_by, row_steps}
 use Rattle.row_relax.specs.View.{Fits, domains_of, view_of}
 use Rattle.sum_slots.proofs.Joined.{All-first, All-second}
@@ -71,13 +73,18 @@ empty_short : (empty : Bool) → IsSmallCap (10 ^ 30) (cond empty NoPoint Bad)
 empty_short true = tt
 empty_short false = tt
 
+-- the same by choices, where there are any
+settled_with_short : (program : Program) (choices : Option Program) (ds : List Domain) → IsSmallCap (10 ^ 30) (settled_with program choices ds)
+settled_with_short program None ds = settled_short program ds
+settled_with_short program (Some choices) ds = settled_short choices (take (length choices.root) ds)
+
 -- the cap of a leaf
-leaf_short : (program : Program) (v : View) (end : Leaf Cert) → Fits program v → IsSmallCap (10 ^ 30) (leaf_cap (row_steps program) v end)
+leaf_short : (rows : Rows) (v : View) (end : Leaf Cert) → Fits rows.program v → IsSmallCap (10 ^ 30) (leaf_cap (steps_of rows) v end)
 unfolding row_steps
-leaf_short program v no_point fit = empty_short (list_any is_bare (domains_of v))
-leaf_short program v (dual cert) fit = cert_short program (domains_of v) cert fit.normal fit.slots
-leaf_short program v one_point fit = settled_short program (domains_of v)
-leaf_short program v (pending cert) fit = cert_short program (domains_of v) cert fit.normal fit.slots
+leaf_short rows v no_point fit = empty_short (list_any is_bare (domains_of v))
+leaf_short rows v (dual cert) fit = cert_short rows.program (domains_of v) cert fit.normal fit.slots
+leaf_short rows v one_point fit = settled_with_short rows.program rows.choices (domains_of v)
+leaf_short rows v (pending cert) fit = cert_short rows.program (domains_of v) cert fit.normal fit.slots
 
 max_short : (most : ℕ) (a b : ℤ) → unsigned_abs a < most → unsigned_abs b < most → unsigned_abs (int_max a b) < most
 max_short most a b low high = omega (arith, ints, clamps)
@@ -98,13 +105,13 @@ some_same : (v w : View) → Some v ≡ Some w → v ≡ w
 some_same v w is = cc
 
 -- what cuts lead to fits
-cuts_fit : (program : Program) (cuts : List RowCut) (v w : View) → Fits program v → after_cuts (row_steps program) v cuts ≡ Some w → Fits program w
-cuts_fit program [] v w fit is = subst (Fits program) (some_same v w is) fit
-cuts_fit program (u ∷ us) v w fit is = first (λ x there led. cuts_fit program us x w there led) ((row_steps program).cut v u) refl is
+cuts_fit : (rows : Rows) (cuts : List RowCut) (v w : View) → Fits rows.program v → after_cuts (steps_of rows) v cuts ≡ Some w → Fits rows.program w
+cuts_fit rows [] v w fit is = subst (Fits rows.program) (some_same v w is) fit
+cuts_fit rows (u ∷ us) v w fit is = first (λ x there led. cuts_fit rows us x w there led) ((steps_of rows).cut v u) refl is
   where
-    first : ((x : View) → Fits program x → after_cuts (row_steps program) x us ≡ Some w → Fits program w) → (next : Option View) → (row_steps program).cut v u ≡ next → option_and_then (λ x. after_cuts (row_steps program) x us) next ≡ Some w → Fits program w
+    first : ((x : View) → Fits rows.program x → after_cuts (steps_of rows) x us ≡ Some w → Fits rows.program w) → (next : Option View) → (steps_of rows).cut v u ≡ next → option_and_then (λ x. after_cuts (steps_of rows) x us) next ≡ Some w → Fits rows.program w
     first rest None to led = absurd (cc)
-    first rest (Some x) to led = rest x ((rows_sound program).cut_fits v x u fit to) led
+    first rest (Some x) to led = rest x ((rows_sound rows.program).cut_fits v x u fit to) led
 
 -- the cap of a floor that has at most 30 digits
 floor_short : (program : Program) (v : View) (cert : Cert) (floor : Option ℤ) → IfSome floor (λ n. unsigned_abs n < 10 ^ 30) → IsSmallCap (10 ^ 30) (floor_cap (floor_by program (domains_of v) cert floor))
@@ -115,9 +122,9 @@ floor_short program v cert (Some n) short = at (has_total program (domains_of v)
     at true = short
     at false = tt
 
-pick_short : (program : Program) (v : View) (pick : RowPick) (cert : Cert) → IfSome pick.floor (λ n. unsigned_abs n < 10 ^ 30) → IsSmallCap (10 ^ 30) (floor_cap ((row_steps program).floor v pick cert))
+pick_short : (rows : Rows) (v : View) (pick : RowPick) (cert : Cert) → IfSome pick.floor (λ n. unsigned_abs n < 10 ^ 30) → IsSmallCap (10 ^ 30) (floor_cap ((steps_of rows).floor v pick cert))
 unfolding row_steps
-pick_short program v pick cert short = floor_short program v cert pick.floor short
+pick_short rows v pick cert short = floor_short rows.program v cert pick.floor short
 
 -- what holds of the items of a split holds of its own, and of those of its parts
 split_items : (P : RowItem → Type 0) (cuts : List RowCut) (found : Option Found) (pick : RowPick) (cert : Cert) (a b : RowTree) → All P (tree_items (split cuts found pick cert a b)) → P (Split pick cert) × All P (tree_items a) × All P (tree_items b)
@@ -131,23 +138,23 @@ split_items P cuts found pick cert a b all =
     (All-head P (Split pick cert) parts own, All-first P (tree_items a) (tree_items b) rest, All-second P (tree_items a) (tree_items b) rest)
 
 -- the cap of a tree whose items may be written
-tree_short : (program : Program) (floors : Bool) (tree : RowTree) (v : View) → Fits program v → All (IsFitItem program floors) (tree_items tree) → IsSmallCap (10 ^ 30) (tree_cap (row_steps program) v tree)
-tree_short program floors (leaf cuts found end) v fit items =
-    if_short (10 ^ 30) (after_cuts (row_steps program) v cuts) (λ w. leaf_cap (row_steps program) w end) (λ w is. leaf_short program w end (cuts_fit program cuts v w fit is))
-tree_short program floors (split cuts found pick cert a b) v fit items =
-    let own = split_items (IsFitItem program floors) cuts found pick cert a b items in
-    if_short (10 ^ 30) (after_cuts (row_steps program) v cuts) (λ w. split_cap (row_steps program) w pick cert (λ x. tree_cap (row_steps program) x a) (λ x. tree_cap (row_steps program) x b))
+tree_short : (rows : Rows) (floors : Bool) (tree : RowTree) (v : View) → Fits rows.program v → All (IsFitItem rows floors) (tree_items tree) → IsSmallCap (10 ^ 30) (tree_cap (steps_of rows) v tree)
+tree_short rows floors (leaf cuts found end) v fit items =
+    if_short (10 ^ 30) (after_cuts (steps_of rows) v cuts) (λ w. leaf_cap (steps_of rows) w end) (λ w is. leaf_short rows w end (cuts_fit rows cuts v w fit is))
+tree_short rows floors (split cuts found pick cert a b) v fit items =
+    let own = split_items (IsFitItem rows floors) cuts found pick cert a b items in
+    if_short (10 ^ 30) (after_cuts (steps_of rows) v cuts) (λ w. split_cap (steps_of rows) w pick cert (λ x. tree_cap (steps_of rows) x a) (λ x. tree_cap (steps_of rows) x b))
     (λ w is.
-    let rest = (row_steps program).trim w pick cert in
-    let inner = (rows_sound program).trim_fits w pick cert (cuts_fit program cuts v w fit is) in
-    let floor = floor_cap ((row_steps program).floor w pick cert) in
-    let first = cap_if ((row_steps program).left rest pick) (λ x. tree_cap (row_steps program) x a) in
-    let second = cap_if ((row_steps program).right rest pick) (λ x. tree_cap (row_steps program) x b) in
+    let rest = (steps_of rows).trim w pick cert in
+    let inner = (rows_sound rows.program).trim_fits w pick cert (cuts_fit rows cuts v w fit is) in
+    let floor = floor_cap ((steps_of rows).floor w pick cert) in
+    let first = cap_if ((steps_of rows).left rest pick) (λ x. tree_cap (steps_of rows) x a) in
+    let second = cap_if ((steps_of rows).right rest pick) (λ x. tree_cap (steps_of rows) x b) in
     greater_short (10 ^ 30) (greater floor first) second
-    (greater_short (10 ^ 30) floor first (pick_short program w pick cert own.0.4)
-    (if_short (10 ^ 30) ((row_steps program).left rest pick) (λ x. tree_cap (row_steps program) x a) (λ x to. tree_short program floors a x ((rows_sound program).left_fits rest x pick inner to) own.1)))
-    (if_short (10 ^ 30) ((row_steps program).right rest pick) (λ x. tree_cap (row_steps program) x b) (λ x to. tree_short program floors b x ((rows_sound program).right_fits rest x pick inner to) own.2)))
+    (greater_short (10 ^ 30) floor first (pick_short rows w pick cert own.0.4)
+    (if_short (10 ^ 30) ((steps_of rows).left rest pick) (λ x. tree_cap (steps_of rows) x a) (λ x to. tree_short rows floors a x ((rows_sound rows.program).left_fits rest x pick inner to) own.1)))
+    (if_short (10 ^ 30) ((steps_of rows).right rest pick) (λ x. tree_cap (steps_of rows) x b) (λ x to. tree_short rows floors b x ((rows_sound rows.program).right_fits rest x pick inner to) own.2)))
 
 -- the cap of a proof over the root whose items may be written
-pub root_short : (program : Program) (floors : Bool) (tree : RowTree) → All (IsFitItem program floors) (tree_items tree) → IsSmallCap (10 ^ 30) (tree_cap (row_steps program) (view_of program.root) tree)
-root_short program floors tree items = tree_short program floors tree (view_of program.root) (fits_of program program.root refl program.root_normal) items
+pub root_short : (rows : Rows) (floors : Bool) (tree : RowTree) → All (IsFitItem rows floors) (tree_items tree) → IsSmallCap (10 ^ 30) (tree_cap (steps_of rows) (view_of rows.program.root) tree)
+root_short rows floors tree items = tree_short rows floors tree (view_of rows.program.root) (fits_of rows.program rows.program.root refl rows.program.root_normal) items

@@ -6,6 +6,8 @@ use Rattle.row_kit.specs.declared.program.Program.{Program}
 use Rattle.proof_tree.specs.declared.capped.Capped.{Capped}
 use Rattle.proof_tree.specs.declared.item.Item.TheVariants.{Node, Cut, Found as FoundItem, Empty, Dual, Point, Pending, Split}
 use Rattle.proof_tree.specs.Items.{tree_items}
+use Rattle.row_relax.specs.declared.rows.Rows.{Rows}
+use Rattle.row_relax.specs.Choices.{choices_of}
 use Rattle.row_relax.specs.RowProofs.{RowItem, RowTree}
 use Rattle.branch_tree.specs.Searched.{IsFitItem, IsWritable}
 use Rattle.log_lines.specs.Line.{IsLine, IsShort, IsVersion}
@@ -41,55 +43,55 @@ floor_fits true None none = tt
 floor_fits true (Some profit) none = refl
 floor_fits false floor none = subst (MayFloor 2) (sym (none refl)) tt
 
--- an item that may be written is one that a log over the program may have
-item_fits : (program : Program) (floors : Bool) (depth : ℕ) (item : RowItem) → IsFitItem program floors item → MayBeItem (limits_of program depth) (text_version floors) item
-item_fits program floors depth Node fit = tt
-item_fits program floors depth (Cut cut) fit = fit
-item_fits program floors depth (FoundItem found) fit = omega (arith, fit.lawful.lies.same_length)
-item_fits program floors depth Empty fit = tt
-item_fits program floors depth (Dual cert) fit = fit
-item_fits program floors depth Point fit = from_two floors
-item_fits program floors depth (Pending cert) fit = fit
-item_fits program floors depth (Split pick cert) fit = (fit.0, fit.2, floor_fits floors pick.floor fit.3)
+-- an item that may be written is one that a log over the rows may have
+item_fits : (rows : Rows) (floors : Bool) (depth : ℕ) (item : RowItem) → IsFitItem rows floors item → MayBeItem (limits_of rows depth) (text_version floors) item
+item_fits rows floors depth Node fit = tt
+item_fits rows floors depth (Cut cut) fit = fit
+item_fits rows floors depth (FoundItem found) fit = omega (arith, fit.lawful.lies.same_length)
+item_fits rows floors depth Empty fit = tt
+item_fits rows floors depth (Dual cert) fit = fit
+item_fits rows floors depth Point fit = from_two floors
+item_fits rows floors depth (Pending cert) fit = fit
+item_fits rows floors depth (Split pick cert) fit = (fit.0, fit.2, floor_fits floors pick.floor fit.3)
 
 -- what may be written without floors may be written where splits may have them
-fit_newest : (program : Program) (floors : Bool) (item : RowItem) → IsFitItem program floors item → IsFitItem program true item
-fit_newest program floors Node fit = tt
-fit_newest program floors (Cut cut) fit = fit
-fit_newest program floors (FoundItem found) fit = fit
-fit_newest program floors Empty fit = tt
-fit_newest program floors (Dual cert) fit = fit
-fit_newest program floors Point fit = tt
-fit_newest program floors (Pending cert) fit = fit
-fit_newest program floors (Split pick cert) fit = (fit.0, fit.1, fit.2, λ is. cc, fit.4)
+fit_newest : (rows : Rows) (floors : Bool) (item : RowItem) → IsFitItem rows floors item → IsFitItem rows true item
+fit_newest rows floors Node fit = tt
+fit_newest rows floors (Cut cut) fit = fit
+fit_newest rows floors (FoundItem found) fit = fit
+fit_newest rows floors Empty fit = tt
+fit_newest rows floors (Dual cert) fit = fit
+fit_newest rows floors Point fit = tt
+fit_newest rows floors (Pending cert) fit = fit
+fit_newest rows floors (Split pick cert) fit = (fit.0, fit.1, fit.2, λ is. cc, fit.4)
 
-pub writable-newest : (program : Program) (floors : Bool) (tree : RowTree) → IsWritable program floors tree → IsWritable program true tree
-writable-newest program floors tree writable = record {
-  fit = All-weaker (IsFitItem program floors) (IsFitItem program true) (fit_newest program floors) (tree_items tree) writable.fit;
+pub writable-newest : (rows : Rows) (floors : Bool) (tree : RowTree) → IsWritable rows floors tree → IsWritable rows true tree
+writable-newest rows floors tree writable = record {
+  fit = All-weaker (IsFitItem rows floors) (IsFitItem rows true) (fit_newest rows floors) (tree_items tree) writable.fit;
   shallow = writable.shallow;
 }
 
 -- its numbers have at most 30 digits
-item_short : (program : Program) (floors : Bool) (item : RowItem) → IsFitItem program floors item → IsShortItem item
-item_short program floors Node fit = tt
-item_short program floors (Cut cut) fit = tt
-item_short program floors (FoundItem found) fit = (subst IsShort (sym fit.worth) (worth_short program found.point fit.lawful), lawful_bytes program found.point fit.lawful)
-item_short program floors Empty fit = tt
-item_short program floors (Dual cert) fit = tt
-item_short program floors Point fit = tt
-item_short program floors (Pending cert) fit = tt
-item_short program floors (Split pick cert) fit = (fit.1, fit.4)
+item_short : (rows : Rows) (floors : Bool) (item : RowItem) → IsFitItem rows floors item → IsShortItem item
+item_short rows floors Node fit = tt
+item_short rows floors (Cut cut) fit = tt
+item_short rows floors (FoundItem found) fit = (subst IsShort (sym fit.worth) (worth_short (choices_of rows) found.point fit.lawful), lawful_bytes (choices_of rows) found.point fit.lawful)
+item_short rows floors Empty fit = tt
+item_short rows floors (Dual cert) fit = tt
+item_short rows floors Point fit = tt
+item_short rows floors (Pending cert) fit = tt
+item_short rows floors (Split pick cert) fit = (fit.1, fit.4)
 
 -- its point has a value for each slot
-item_over : (program : Program) (floors : Bool) (item : RowItem) → IsFitItem program floors item → IsOver (length program.root) item
-item_over program floors Node fit = tt
-item_over program floors (Cut cut) fit = tt
-item_over program floors (FoundItem found) fit = fit.lawful.lies.same_length
-item_over program floors Empty fit = tt
-item_over program floors (Dual cert) fit = tt
-item_over program floors Point fit = tt
-item_over program floors (Pending cert) fit = tt
-item_over program floors (Split pick cert) fit = tt
+item_over : (rows : Rows) (floors : Bool) (item : RowItem) → IsFitItem rows floors item → IsOver (length (choices_of rows).root) item
+item_over rows floors Node fit = tt
+item_over rows floors (Cut cut) fit = tt
+item_over rows floors (FoundItem found) fit = fit.lawful.lies.same_length
+item_over rows floors Empty fit = tt
+item_over rows floors (Dual cert) fit = tt
+item_over rows floors Point fit = tt
+item_over rows floors (Pending cert) fit = tt
+item_over rows floors (Split pick cert) fit = tt
 
 -- the same of a sound claim
 claim_over : (program : Program) (proof_cap : Capped) (claim : Claim) → IsSoundClaim program proof_cap claim → IsClaimOver (length program.root) claim
@@ -104,27 +106,27 @@ claim_short program proof_cap Infeasible sound small = tt
 claim_short program proof_cap (Between profit most point) sound small = (subst IsShort sound.0.1 (worth_short program point sound.0.0), small, lawful_bytes program point sound.0.0)
 claim_short program proof_cap (Below most) sound small = small
 
-module _ (program : Program) (floors : Bool) (tree : RowTree) (claim : Claim) (proof_cap : Capped) (writable : IsWritable program floors tree) (sound : IsSoundClaim program proof_cap claim) (small : IsSmallClaim claim) where
-  fit : All (MayBeItem (limits_of program (depth_over program.root)) (text_version floors)) (tree_items tree)
-  fit = All-weaker (IsFitItem program floors) (MayBeItem (limits_of program (depth_over program.root)) (text_version floors)) (item_fits program floors (depth_over program.root)) (tree_items tree) writable.fit
+module _ (rows : Rows) (floors : Bool) (tree : RowTree) (claim : Claim) (proof_cap : Capped) (writable : IsWritable rows floors tree) (sound : IsSoundClaim (choices_of rows) proof_cap claim) (small : IsSmallClaim claim) where
+  fit : All (MayBeItem (limits_of rows (depth_over rows.program.root)) (text_version floors)) (tree_items tree)
+  fit = All-weaker (IsFitItem rows floors) (MayBeItem (limits_of rows (depth_over rows.program.root)) (text_version floors)) (item_fits rows floors (depth_over rows.program.root)) (tree_items tree) writable.fit
 
-  fits : IsFitClaim (limits_of program (depth_over program.root)) claim
-  fits = claim_fits (limits_of program (depth_over program.root)) claim (claim_over program proof_cap claim sound)
+  fits : IsFitClaim (limits_of rows (depth_over rows.program.root)) claim
+  fits = claim_fits (limits_of rows (depth_over rows.program.root)) claim (claim_over (choices_of rows) proof_cap claim sound)
 
   -- the lines may be written
   pub lines_written : All IsLine (log_lines (text_version floors) (tree_items tree) claim)
   lines_written =
-      logs_written (limits_of program (depth_over program.root)) (text_version floors) tree claim (omega (arith, program.few_rows)) (omega (arith, program.few_slots)) (version_known floors) fit fits
-      (All-weaker (IsFitItem program floors) IsShortItem (item_short program floors) (tree_items tree) writable.fit) (claim_short program proof_cap claim sound small)
+      logs_written (limits_of rows (depth_over rows.program.root)) (text_version floors) tree claim (omega (arith, rows.program.few_rows)) (omega (arith, rows.program.few_slots)) (omega (arith, (choices_of rows).few_slots)) (version_known floors) fit fits
+      (All-weaker (IsFitItem rows floors) IsShortItem (item_short rows floors) (tree_items tree) writable.fit) (claim_short (choices_of rows) proof_cap claim sound small)
 
-  -- it is a log over the slots of the program
-  pub log_over : IsLogOver (length program.root) (text_version floors) tree claim
+  -- it is a log over the slots of the choices
+  pub log_over : IsLogOver (length (choices_of rows).root) (text_version floors) tree claim
   log_over = record {
-    items = All-weaker (IsFitItem program floors) (IsOver (length program.root)) (item_over program floors) (tree_items tree) writable.fit;
-    claim_over = claim_over program proof_cap claim sound;
+    items = All-weaker (IsFitItem rows floors) (IsOver (length (choices_of rows).root)) (item_over rows floors) (tree_items tree) writable.fit;
+    claim_over = claim_over (choices_of rows) proof_cap claim sound;
     lines = lines_written;
   }
 
   -- its text has no text defect
-  pub text_clean : log_text_defect (limits_of program (depth_over program.root)) (log_text (text_version floors) (tree_items tree) claim) ≡ None
-  text_clean = logs_clean (limits_of program (depth_over program.root)) (text_version floors) tree claim fit (omega (arith, writable.shallow)) fits lines_written
+  pub text_clean : log_text_defect (limits_of rows (depth_over rows.program.root)) (log_text (text_version floors) (tree_items tree) claim) ≡ None
+  text_clean = logs_clean (limits_of rows (depth_over rows.program.root)) (text_version floors) tree claim fit (omega (arith, writable.shallow)) fits lines_written

@@ -1,9 +1,11 @@
 -- At a lawful point the sums have values that are bytes.
 use Rattle.std.proofs.Common.{ℕ, List, sym, subst, arith}
 use Rattle.std.specs.List.{All}
+use Rattle.stn_model.specs.declared.plant.Plant.{Plant}
 use Rattle.row_kit.specs.declared.domain.Domain.{Domain}
 use Rattle.row_kit.specs.declared.program.Program.{Program}
 use Rattle.row_kit.specs.Point.{IsLawful}
+use Rattle.row_relax.specs.declared.rows.Rows.{Rows}
 use Rattle.proof_log.specs.declared.claim.Claim.{Claim}
 use Rattle.proof_log.specs.declared.claim.Claim.TheVariants.{Optimal, Infeasible, Between, Below}
 use Rattle.sum_slots.specs.declared.sum.Sum.{Sum}
@@ -14,7 +16,7 @@ use Rattle.derivations.specs.declared.derivation.Derivation.{Derivation}
 use Rattle.plan_told.specs.Claims.{HaveBytes, IfPoint}
 use Rattle.plan_told.specs.Heads.{CanHead}
 
-module _ (part larger : Program) (judged : List Domain) (sums : List Sum) (derivations : List Derivation) (wide : AreRanges part judged) (can : CanHead part judged sums derivations larger) where
+module _ (plant : Plant) (part : Program) (rows : Rows) (judged : List Domain) (sums : List Sum) (units : List ℕ) (derivations : List Derivation) (wide : AreRanges part judged) (can : CanHead plant part judged sums units derivations rows) where
   -- at a lawful point
   have_bytes : (point : List ℕ) → IsLawful part point → HaveBytes sums point
   have_bytes point lawful = record {

@@ -11,6 +11,8 @@ use Rattle.range_prop.specs.Cut.{is_bare}
 use Rattle.proof_tree.specs.declared.capped.Capped.TheVariants.{NoPoint, Bad}
 use Rattle.proof_tree.specs.declared.item.Item.TheVariants.{Node, Empty}
 use Rattle.proof_tree.specs.Tree.{tree_cap}
+use Rattle.row_relax.specs.declared.rows.Rows.{Rows}
+use Rattle.row_relax.specs.Choices.{plain, steps_of}
 use Rattle.row_relax.specs.laws.Laws.{rows_sound}
 use Rattle.row_relax.specs.laws.Shown.{domains_of-view_of, fits_of}
 use Rattle.row_relax.specs.Steps.{row_steps}
@@ -29,19 +31,19 @@ any_bare ds bare = at (list_any is_bare ds) refl
     at false is = absurd (bare (none_bare-open ds is))
 
 -- so the root is empty
-empty_root : (program : Program) → (¬ All IsOpen program.root) → (row_steps program).empty (view_of program.root) ≡ true
+empty_root : (rows : Rows) → (¬ All IsOpen rows.program.root) → (steps_of rows).empty (view_of rows.program.root) ≡ true
 unfolding row_steps
-empty_root program bare = subst (λ (ds : List Domain). list_any is_bare ds ≡ true) (sym (domains_of-view_of program.root)) (any_bare program.root bare)
+empty_root rows bare = subst (λ (ds : List Domain). list_any is_bare ds ≡ true) (sym (domains_of-view_of rows.program.root)) (any_bare rows.program.root bare)
 
 -- no point lies in it
 pub empty-none : (program : Program) → (¬ All IsOpen program.root) → (point : List ℕ) → LiesIn program.root point → ⊥
 empty-none program bare point lies =
-    (rows_sound program).empty_holds (view_of program.root) (fits_of program program.root refl program.root_normal) (empty_root program bare) point
+    (rows_sound program).empty_holds (view_of program.root) (fits_of program program.root refl program.root_normal) (empty_root (plain program) bare) point
     (subst (λ (ds : List Domain). LiesIn ds point) (sym (domains_of-view_of program.root)) lies)
 
 -- the proof of one empty box says so
-pub empty-cap : (program : Program) → (¬ All IsOpen program.root) → NoPoint ≡ tree_cap (row_steps program) (view_of program.root) empty_tree
-empty-cap program bare = ap (λ (empty : Bool). cond empty NoPoint Bad) (sym (empty_root program bare))
+pub empty-cap : (rows : Rows) → (¬ All IsOpen rows.program.root) → NoPoint ≡ tree_cap (steps_of rows) (view_of rows.program.root) empty_tree
+empty-cap rows bare = ap (λ (empty : Bool). cond empty NoPoint Bad) (sym (empty_root rows bare))
 
 spared_one : (d : Domain) → spared d ≤ 1
 spared_one d = at (d.zero && leb d.lo d.hi)
@@ -51,12 +53,12 @@ spared_one d = at (d.zero && leb d.lo d.hi)
     at false = omega arith
 
 -- it may be written
-pub empty-writable : (program : Program) (floors : Bool) → IsWritable program floors empty_tree
-empty-writable program floors = record {
-  fit = All-cons (IsFitItem program floors) Node (Empty ∷ []) tt (All-cons (IsFitItem program floors) Empty [] tt (All-nil (IsFitItem program floors)));
-  shallow = omega (arith, sum_by-le spared 1 program.root (λ k d within. spared_one (get_or program.root k d)), program.few_slots);
+pub empty-writable : (rows : Rows) (floors : Bool) → IsWritable rows floors empty_tree
+empty-writable rows floors = record {
+  fit = All-cons (IsFitItem rows floors) Node (Empty ∷ []) tt (All-cons (IsFitItem rows floors) Empty [] tt (All-nil (IsFitItem rows floors)));
+  shallow = omega (arith, sum_by-le spared 1 rows.program.root (λ k d within. spared_one (get_or rows.program.root k d)), rows.program.few_slots);
 }
 
 -- and is justified: nothing is split
-pub empty-justified : (program : Program) (given : ℕ) → IsJustified program given empty_tree
-empty-justified program given = record { group = tt; end = tt }
+pub empty-justified : (rows : Rows) (given : ℕ) → IsJustified rows given empty_tree
+empty-justified rows given = record { group = tt; end = tt }

@@ -5,6 +5,7 @@ pub mod Completing
 pub mod EmptyRoots
 pub mod Endings
 pub mod GivenBest
+pub mod HeadImages
 pub mod HeadTexts
 pub mod Least
 pub mod Narrowed

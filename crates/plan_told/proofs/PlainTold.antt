@@ -21,9 +21,9 @@ use Rattle.proof_tree.specs.Items.{tree_items}
 use Rattle.proof_tree.specs.Nodes.{counted, found_points}
 use Rattle.proof_tree.specs.Tree.{leaf, split, no_point, dual, one_point, pending, after_cuts}
 use Rattle.proof_tree.proofs.Folds.{found_in-tree}
-use Rattle.row_relax.specs.declared.Rows.{Rows}
+use Rattle.row_relax.specs.declared.rows.Rows.{Rows}
+use Rattle.row_relax.specs.Choices.{choices_of, plain, steps_of}
 use Rattle.row_relax.specs.RowProofs.{RowTree}
-use Rattle.row_relax.specs.Steps.{row_steps}
 use Rattle.row_relax.specs.View.{view_of}
 use Rattle.branch_tree.specs.declared.ended.Ended.{Ended}
 use Rattle.branch_tree.specs.Justified.{IsAbove, IsGroup, IsJustified}
@@ -45,26 +45,26 @@ use Rattle.plan_told.proofs.Texts.{plain-is}
 use Rattle.plan_told.proofs.ValidLog.{cap-short, valid-tree}
 
 -- the found points of a search are lawful, and stand with their worth
-groups_of : {given : ℕ} (program : Program) (floors : Bool) (budget : ℕ) (tree : RowTree) (ended : Ended) → IsSearch program floors given budget tree ended → All (IsGroup program) (found_points tree)
-groups_of program floors budget tree ended made = subst (All (IsGroup program)) (found_in-tree Rows Area tree) (fit-groups program floors (tree_items tree) made.writable.fit)
+groups_of : {given : ℕ} (rows : Rows) (floors : Bool) (budget : ℕ) (tree : RowTree) (ended : Ended) → IsSearch rows floors given budget tree ended → All (IsGroup (choices_of rows)) (found_points tree)
+groups_of rows floors budget tree ended made = subst (All (IsGroup (choices_of rows))) (found_in-tree Rows Area tree) (fit-groups rows floors (tree_items tree) made.writable.fit)
 
 best_group : (program : Program) (best : Option Found) (fs : List Found) → IsBest best fs → All (IsGroup program) fs → IfSome best (IsGroup program)
 best_group program None fs best groups = tt
 best_group program (Some found) fs best groups = All-contains (IsGroup program) fs found groups best.0
 
 -- the best found point of a search is lawful, and stands with its worth
-pub best-group : {given : ℕ} (program : Program) (floors : Bool) (budget : ℕ) (tree : RowTree) (ended : Ended) → IsSearch program floors given budget tree ended → IfSome ended.best (IsGroup program)
-best-group program floors budget tree ended made = best_group program ended.best (found_points tree) made.best (groups_of program floors budget tree ended made)
+pub best-group : {given : ℕ} (rows : Rows) (floors : Bool) (budget : ℕ) (tree : RowTree) (ended : Ended) → IsSearch rows floors given budget tree ended → IfSome ended.best (IsGroup (choices_of rows))
+best-group rows floors budget tree ended made = best_group (choices_of rows) ended.best (found_points tree) made.best (groups_of rows floors budget tree ended made)
 
 -- a proof that is justified counts a box: its root was not left open, since no certificate is held above it
-pub counted-some : (program : Program) (given : ℕ) (tree : RowTree) → IsJustified program given tree → 0 < counted tree
-counted-some program given (leaf cuts found no_point) just = omega arith
-counted-some program given (leaf cuts found (dual cert)) just = omega arith
-counted-some program given (leaf cuts found one_point) just = omega arith
-counted-some program given (leaf cuts found (pending cert)) just =
-    let node = fact_of (after_cuts (row_steps program) (view_of program.root) cuts) _ just in
+pub counted-some : (rows : Rows) (given : ℕ) (tree : RowTree) → IsJustified rows given tree → 0 < counted tree
+counted-some rows given (leaf cuts found no_point) just = omega arith
+counted-some rows given (leaf cuts found (dual cert)) just = omega arith
+counted-some rows given (leaf cuts found one_point) just = omega arith
+counted-some rows given (leaf cuts found (pending cert)) just =
+    let node = fact_of (after_cuts (steps_of rows) (view_of rows.program.root) cuts) _ just in
     let held = node.1.1.end.held in cc
-counted-some program given (split cuts found pick cert a b) just = omega arith
+counted-some rows given (split cuts found pick cert a b) just = omega arith
 
 -- an outcome that is told is right, this is its proof, and the claim that is told is that of its answer
 pub record IsToldRight (plant : Plant) (part : Program) (budget : ℕ) (tree : RowTree) (told : Told) : Type 0 where
@@ -92,18 +92,18 @@ over_of (AtMost n) None fs best above = tt
 over_of NoPoint best fs is above = above
 over_of Bad best fs is above = above
 
-module _ (plant : Plant) (part : Program) (sound : Sound plant) (is : IsPartOf plant part) (budget : ℕ) (tree : RowTree) (ended : Ended) (of : IsSearchOf part false (length part.root) budget ended tree) where
+module _ (plant : Plant) (part : Program) (sound : Sound plant) (is : IsPartOf plant part) (budget : ℕ) (tree : RowTree) (ended : Ended) (of : IsSearchOf (plain part) false (length part.root) budget ended tree) where
   -- what the search ended with
-  plain_end : IsEnd plant part budget (HasOpenBox part (view_of part.root) tree) ended
+  plain_end : IsEnd plant part budget (HasOpenBox (plain part) (view_of part.root) tree) ended
   plain_end =
-      let some : 0 < counted tree = counted-some part (length part.root) tree of.search.justified in
+      let some : 0 < counted tree = counted-some (plain part) (length part.root) tree of.search.justified in
       let spent : ended.spent ≡ counted tree = of.search.spent in
       let few : ended.spent + 1 ≤ 2 * points_of part.root = of.search.few in
       record {
-        group = best-group part false budget tree ended of.search;
+        group = best-group (plain part) false budget tree ended of.search;
         least = of.search.least;
         caps = bounds-cap (IsAdmitted plant part) (profit plant) part (LiesIn part.root) ended.cap (part-relaxes plant part is) (λ point lawful. lawful.lies) of.search.bounds;
-        short = cap-short part false tree ended.cap of.search.writable of.search.cap;
+        short = cap-short (plain part) false tree ended.cap of.search.writable of.search.cap;
         shut = λ closed. shut_of ended.cap ended.best (of.search.settled closed);
         over = λ left.
             let was = of.search.left_open left in
@@ -117,19 +117,19 @@ module _ (plant : Plant) (part : Program) (sound : Sound plant) (is : IsPartOf p
   -- what is told of a search that ended is right
   pub told-right : (told : Told) → IsTold plant ended told → IsToldRight plant part budget tree told
   told-right told says =
-      let with' = told-with plant part sound is budget (HasOpenBox part (view_of part.root) tree) (λ outcome. IsProofOf plant part outcome tree) ended plain_end
+      let with' = told-with plant part sound is budget (HasOpenBox (plain part) (view_of part.root) tree) (λ outcome. IsProofOf plant part outcome tree) ended plain_end
       (λ said borne small most left judged. record {
         boxes = sym of.search.spent;
         justified = of.search.justified;
-        is = plain-is part judged tree (claim_of plant said);
-        valid = plain-verdict part (plant_root plant) judged (depth_over part.root) (tree_items tree) (claim_of plant said) (Yes (claim_of plant said))
-            (valid-tree part false tree ended.cap of.search.writable of.search.cap (claim_of plant said) of.search.defined borne small);
+        is = plain-is plant part judged tree (claim_of plant said);
+        valid = plain-verdict plant part (plant_root plant) judged (depth_over part.root) (tree_items tree) (claim_of plant said) (Yes (claim_of plant said))
+            (valid-tree (plain part) false tree ended.cap of.search.writable of.search.cap (claim_of plant said) of.search.defined borne small);
         cap = subst (IsCapOf said) of.search.cap most;
         left_open = left;
       }) told says in
       record { outcome = with'.outcome; proof = with'.proof; claim = with'.claim }
 
 -- the best found point of a search has a value for each slot
-pub best-places : (plant : Plant) (part : Program) (sound : Sound plant) (is : IsPartOf plant part) (floors : Bool) (budget : ℕ) (tree : RowTree) (ended : Ended) → IsSearch part floors (length part.root) budget tree ended
+pub best-places : (plant : Plant) (part : Program) (sound : Sound plant) (is : IsPartOf plant part) (floors : Bool) (budget : ℕ) (tree : RowTree) (ended : Ended) → IsSearch (plain part) floors (length part.root) budget tree ended
     → IfSome ended.best (λ found. length found.point ≡ length (slots plant))
-best-places plant part sound is floors budget tree ended search = group-places plant part sound is ended.best (best-group part floors budget tree ended search)
+best-places plant part sound is floors budget tree ended search = group-places plant part sound is ended.best (best-group (plain part) floors budget tree ended search)

@@ -1,4 +1,4 @@
--- What is told of a search over a program with the sums and derivations of a head, as of the given program, is right.
+-- What is told of a search over the rows of a head, as of the given program, is right.
 use Rattle.std.proofs.Common.{◌≡◌, ◌≢◌, ℕ, Bool, ◌-◌, ◌*◌, ◌<◌, ◌≤◌, true, false, List, length, Option, Some, None, ℤ, ◌≤ℤ◌, ◌<ℤ◌, refl, sym, subst, arith, inr}
 use Rattle.std.specs.Prelude.{IfSome, int_lt}
 use Rattle.std.proofs.lemmas.Int.{ints}
@@ -15,6 +15,8 @@ use Rattle.row_set.specs.Parts.{IsAdmitted, IsPartOf}
 use Rattle.proof_tree.specs.declared.capped.Capped.{Capped}
 use Rattle.proof_tree.specs.declared.capped.Capped.TheVariants.{AtMost, NoPoint, Bad}
 use Rattle.proof_tree.specs.Nodes.{counted}
+use Rattle.row_relax.specs.declared.rows.Rows.{Rows}
+use Rattle.row_relax.specs.Choices.{choices_of}
 use Rattle.row_relax.specs.RowProofs.{RowTree}
 use Rattle.row_relax.specs.View.{view_of}
 use Rattle.branch_tree.specs.declared.ended.Ended.{Ended}
@@ -42,6 +44,7 @@ use Rattle.plan_told.proofs.PlainTold.{counted-some}
 use Rattle.plan_told.proofs.ValidLog.{cap-short}
 use Rattle.plan_told.specs.Given.{IsGivenEnded, given_end, least_found, worth_found}
 use Rattle.plan_told.specs.Law.{HeadsAreTold, IsToldByHead}
+use Rattle.plan_told.proofs.HeadImages.{head-images}
 use Rattle.plan_told.proofs.GivenBest.{best_given, given-group, given-least, open-left}
 use Rattle.plan_told.proofs.ValidHeads.{head-relaxes, head-same, valid-head}
 
@@ -72,25 +75,26 @@ over_of (AtMost n) None real over = tt
 over_of NoPoint found real over = cc
 over_of Bad found real over = absurd (real refl)
 
-module _ (plant : Plant) (part larger : Program) (judged : List Domain) (sums : List Sum) (derivations : List Derivation) (sound : Sound plant) (is : IsPartOf plant part) (wide : AreRanges part judged) (can : CanHead part judged sums derivations larger)
-    (many : 50000 < points_of part.root) (floors : Bool) (budget : ℕ) (few : budget ≤ 100000) (tree : RowTree) (ended : Ended) (has : HasEnded larger floors (length part.root) budget ended tree) where
-  same : HaveSamePoints part larger (completed sums) (given_of part)
-  same = head-same part larger judged sums derivations wide can
+module _ (plant : Plant) (part : Program) (rows : Rows) (judged : List Domain) (sums : List Sum) (units : List ℕ) (derivations : List Derivation) (sound : Sound plant) (is : IsPartOf plant part) (ranges : AreRanges part judged)
+    (can : CanHead plant part judged sums units derivations rows) (many : 50000 < points_of part.root) (floors : Bool) (budget : ℕ) (few : budget ≤ 100000) (tree : RowTree) (ended : Ended) (has : HasEnded rows floors (length part.root) budget ended tree) where
+  same : HaveSamePoints part (choices_of rows) (completed sums) (given_of part)
+  same = head-same plant part rows judged sums units derivations ranges can
 
   -- what the search ended with, as of the part
-  head_end : IsEnd plant part budget (HasOpenBox larger (view_of larger.root) tree) (given_end (length part.root) (least_found part) ended)
+  head_end : IsEnd plant part budget (HasOpenBox rows (view_of rows.program.root) tree) (given_end (length part.root) (least_found part) ended)
   head_end =
-      let some : 0 < counted tree = counted-some larger (length part.root) tree has.justified in
+      let choices = choices_of rows in
+      let some : 0 < counted tree = counted-some rows (length part.root) tree has.justified in
       let spent : ended.spent ≡ counted tree = has.spent in
       let count : budget < whole_count part = below_count budget (points_of part.root) many few in
-      let group = given-group part larger sums same ended.best has.group in
-      let relaxes = same-relaxes (IsLawful part) (worth_of part) part larger (completed sums) (given_of part) same (itself-relaxes part) in
-      let points = bounds-cap (IsLawful part) (worth_of part) larger (LiesIn larger.root) ended.cap relaxes (λ point lawful. lawful.lies) has.bounds in
+      let group = given-group part choices sums same ended.best has.group in
+      let relaxes = same-relaxes (IsLawful part) (worth_of part) part choices (completed sums) (given_of part) same (itself-relaxes part) in
+      let points = bounds-cap (IsLawful part) (worth_of part) choices (LiesIn choices.root) ended.cap relaxes (λ point lawful. lawful.lies) has.bounds in
       record {
         group = group;
         least = given-least part ended.best;
-        caps = bounds-cap (IsAdmitted plant part) (profit plant) larger (LiesIn larger.root) ended.cap (head-relaxes part larger judged sums derivations wide can plant is) (λ point lawful. lawful.lies) has.bounds;
-        short = cap-short larger floors tree ended.cap has.writable has.cap;
+        caps = bounds-cap (IsAdmitted plant part) (profit plant) choices (LiesIn choices.root) ended.cap (head-relaxes plant part rows judged sums units derivations ranges can is) (λ point lawful. lawful.lies) has.bounds;
+        short = cap-short rows floors tree ended.cap has.writable has.cap;
         shut = λ closed. shut_of part ended.cap (best_given part ended.best) has.defined points group closed;
         over = λ over.
             let left = open-left part ended.best ended.cap ended.left_open has.defined has.settled over in
@@ -102,31 +106,33 @@ module _ (plant : Plant) (part larger : Program) (judged : List Domain) (sums : 
       }
 
   -- what is told of it is right
-  told_given : (told : Told) → IsTold plant (given_end (length part.root) (least_found part) ended) told → IsToldByHead plant part judged sums derivations budget tree told
+  told_given : (told : Told) → IsTold plant (given_end (length part.root) (least_found part) ended) told → IsToldByHead plant part judged sums units derivations budget tree told
   told_given told says =
-      let with' = told-with plant part sound is budget (HasOpenBox larger (view_of larger.root) tree) (λ outcome. IsHeadedProofOf plant part judged sums derivations outcome tree) (given_end (length part.root) (least_found part) ended) head_end
+      let with' = told-with plant part sound is budget (HasOpenBox rows (view_of rows.program.root) tree) (λ outcome. IsHeadedProofOf plant part judged sums units derivations outcome tree) (given_end (length part.root) (least_found part) ended) head_end
       (λ said borne small most left. (
-        larger,
+        rows,
         record {
           boxes = sym has.spent;
           justified = has.justified;
           is = inr (can.enlarged, refl);
-          valid = valid-head part larger judged sums derivations wide can plant tree ended.cap (claim_of plant said) (writable-newest larger floors tree has.writable) has.cap has.defined borne small;
+          valid = valid-head plant part rows judged sums units derivations ranges can tree ended.cap (claim_of plant said) (writable-newest rows floors tree has.writable) has.cap has.defined borne small;
           cap = subst (IsCapOf said) has.cap most;
           left_open = left;
         },
       )) told says in
       record { outcome = with'.outcome; proof = with'.proof; claim = with'.claim; point = with'.point }
 
--- what is told of a search over a program with the sums and derivations of a head is right
+-- what is told of a search over the rows of a head is right
 pub told-by_head : HeadsAreTold
-told-by_head plant part larger judged sums derivations floors budget tree ended given told sound is wide can many some few of given_is says =
-    told_given plant part larger judged sums derivations sound is wide can many floors budget few tree ended (has-ended larger floors (length part.root) budget some ended tree of) told (subst (λ (end : Ended). IsTold plant end told) given_is says)
+told-by_head plant part rows judged sums units derivations floors budget tree ended given told sound is ranges can many some few of given_is says =
+    let images = head-images plant part rows judged sums units derivations sound is ranges can in
+    told_given plant part rows judged sums units derivations sound is ranges can many floors budget few tree ended (has-ended rows floors (length part.root) budget images some ended tree of) told (subst (λ (end : Ended). IsTold plant end told) given_is says)
 
 -- the best point as of the part has a value for each slot of the plant
-pub given-places : {floors : Bool} {budget : ℕ} (plant : Plant) (part larger : Program) (judged : List Domain) (sums : List Sum) (derivations : List Derivation) (tree : RowTree) (ended given : Ended) → Sound plant → IsPartOf plant part → AreRanges part judged → CanHead part judged sums derivations larger
-    → 1 ≤ budget → IsEnding larger floors (length part.root) budget ended tree → IsGivenEnded part ended given → IfSome given.best (λ found. length found.point ≡ length (slots plant))
-given-places {floors = floors} {budget = budget} plant part larger judged sums derivations tree ended given sound is wide can some of given_is =
+pub given-places : {floors : Bool} {budget : ℕ} (plant : Plant) (part : Program) (rows : Rows) (judged : List Domain) (sums : List Sum) (units : List ℕ) (derivations : List Derivation) (tree : RowTree) (ended given : Ended) → Sound plant → IsPartOf plant part
+    → AreRanges part judged → CanHead plant part judged sums units derivations rows → 1 ≤ budget → IsEnding rows floors (length part.root) budget ended tree → IsGivenEnded part ended given → IfSome given.best (λ found. length found.point ≡ length (slots plant))
+given-places {floors = floors} {budget = budget} plant part rows judged sums units derivations tree ended given sound is ranges can some of given_is =
+    let images = head-images plant part rows judged sums units derivations sound is ranges can in
     subst (λ (end : Ended). IfSome end.best (λ found. length found.point ≡ length (slots plant))) (sym given_is)
     (group-places plant part sound is (best_given part ended.best)
-    (given-group part larger sums (head-same part larger judged sums derivations wide can) ended.best (has-ended larger floors (length part.root) budget some ended tree of).group))
+    (given-group part (choices_of rows) sums (head-same plant part rows judged sums units derivations ranges can) ended.best (has-ended rows floors (length part.root) budget images some ended tree of).group))

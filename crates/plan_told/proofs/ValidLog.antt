@@ -1,13 +1,13 @@
 -- The text of a proof that may be written, with a claim that its cap bears out, is a valid log.
 use Rattle.std.proofs.Common.{◌≡◌, ◌≢◌, ◌^◌, Bool, refl, sym, subst}
-use Rattle.row_kit.specs.declared.program.Program.{Program}
+use Rattle.row_relax.specs.declared.rows.Rows.{Rows}
 use Rattle.dual_bound.specs.Cap.{IsSmallCap}
 use Rattle.proof_tree.specs.declared.capped.Capped.{Capped}
 use Rattle.proof_tree.specs.declared.capped.Capped.TheVariants.{Bad}
 use Rattle.proof_tree.specs.Items.{tree_items}
 use Rattle.proof_tree.specs.Tree.{tree_cap}
 use Rattle.row_relax.specs.RowProofs.{RowTree}
-use Rattle.row_relax.specs.Steps.{row_steps}
+use Rattle.row_relax.specs.Choices.{choices_of, steps_of}
 use Rattle.row_relax.specs.View.{view_of}
 use Rattle.branch_tree.specs.Searched.{IsWritable}
 use Rattle.proof_log.specs.declared.claim.Claim.{Claim}
@@ -23,18 +23,18 @@ pub use Rattle.plan_told.proofs.CleanText.{text_version}
 use Rattle.plan_told.proofs.NoDefect.{tree-proved}
 pub use Rattle.plan_told.proofs.SmallClaim.{IsSmallClaim}
 
-module _ (program : Program) (floors : Bool) (tree : RowTree) (cap : Capped) (writable : IsWritable program floors tree) (is : cap ≡ tree_cap (row_steps program) (view_of program.root) tree) where
+module _ (rows : Rows) (floors : Bool) (tree : RowTree) (cap : Capped) (writable : IsWritable rows floors tree) (is : cap ≡ tree_cap (steps_of rows) (view_of rows.program.root) tree) where
   -- the cap of a proof that may be written, where it is a number, has at most 30 digits: at `AtMost n` this is `IsShort n`
   pub cap-short : IsSmallCap (10 ^ 30) cap
-  cap-short = subst (IsSmallCap (10 ^ 30)) (sym is) (root_short program floors tree writable.fit)
+  cap-short = subst (IsSmallCap (10 ^ 30)) (sym is) (root_short rows floors tree writable.fit)
 
   -- a proof that may be written, with a claim that its cap bears out, is a valid log
-  pub valid-tree : (claim : Claim) → cap ≢ Bad → IsSoundClaim program cap claim → IsSmallClaim claim
-      → IsVerdict program (depth_over program.root) (log_text (text_version floors) (tree_items tree) claim) (Yes claim)
+  pub valid-tree : (claim : Claim) → cap ≢ Bad → IsSoundClaim (choices_of rows) cap claim → IsSmallClaim claim
+      → IsVerdict rows (depth_over rows.program.root) (log_text (text_version floors) (tree_items tree) claim) (Yes claim)
   valid-tree claim defined sound small =
-      subst (λ defect. IsVerdictGiven program (log_text (text_version floors) (tree_items tree) claim) defect (Yes claim)) (sym (text_clean program floors tree claim cap writable sound small))
+      subst (λ defect. IsVerdictGiven rows (log_text (text_version floors) (tree_items tree) claim) defect (Yes claim)) (sym (text_clean rows floors tree claim cap writable sound small))
       (record {
         tree = tree;
-        is_log = record { version = text_version floors; text = refl; over = log_over program floors tree claim cap writable sound small };
-        sound_log = record { proof_cap = cap; proved = tree-proved program floors tree cap writable is defined; sound = claim_sound program cap claim sound };
+        is_log = record { version = text_version floors; text = refl; over = log_over rows floors tree claim cap writable sound small };
+        sound_log = record { proof_cap = cap; proved = tree-proved rows floors tree cap writable is defined; sound = claim_sound (choices_of rows) cap claim sound };
       })

@@ -1,7 +1,7 @@
 -- The whole of a plant's choices is a part of them, and its outcomes are those of the plant.
 use Rattle.std.proofs.Common.{◌≡◌, ℕ, ◌-◌, ◌*◌, List, [], ◌∷◌, map, Option, Some, None, ℤ, refl, ap, ap₂, ◌∙◌, subst, arith}
 use Rattle.std.specs.Prelude.{MatchOption}
-use Rattle.std.specs.List.{All, AllZip}
+use Rattle.std.specs.List.{All}
 use Rattle.std.proofs.lemmas.List.Elements.{All-head, All-tail}
 use Rattle.stn_model.specs.declared.plant.Plant.{Plant}
 use Rattle.stn_model.specs.declared.start.Start.{Start}
@@ -22,25 +22,10 @@ use Rattle.row_kit.specs.declared.program.Program.{Program}
 use Rattle.row_kit.specs.Domain.{count_of}
 use Rattle.row_kit.specs.Points.{points_of}
 use Rattle.row_relax.specs.Settle.{only_point}
-use Rattle.row_set.specs.Parts.{IsAdmitted, IsPartOf, IsWithin, plan_of_values}
+use Rattle.row_set.specs.Parts.{IsAdmitted, plan_of_values}
 use Rattle.row_set.specs.PlantProgram.{IsMadeOf, IsProgramOf, slot_domain}
-use Rattle.row_set.proofs.Limits.{made-open}
+pub use Rattle.valid_log.proofs.Saying.{whole-is_part}
 use Rattle.plan_told.specs.Outcomes.{IsPartOutcome, least_plan, whole_count}
-
-within_itself : (ds : List Domain) → AllZip IsWithin ds ds
-within_itself [] = tt
-within_itself (d ∷ ds) = (λ value holds. holds, within_itself ds)
-
--- the program of a plant is a part of its choices
-pub whole-is_part : (plant : Plant) (program : Program) → IsMadeOf plant program → IsProgramOf plant program → IsPartOf plant program
-whole-is_part plant program made means = record {
-  whole = program;
-  made = made;
-  means = means;
-  but_root = record { rows = refl; profit = refl; base = refl; tags = refl; changes = refl };
-  within = within_itself program.root;
-  each_open = made-open plant program made;
-}
 
 -- the least values of a plant's slots start nothing
 least_starts : (plant : Plant) (grid : List (ℕ × ℕ)) → point_starts plant grid (only_point (map (slot_domain plant) grid)) ≡ []

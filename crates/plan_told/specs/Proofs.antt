@@ -16,8 +16,9 @@ use Rattle.proof_tree.specs.Nodes.{counted}
 use Rattle.proof_tree.specs.declared.capped.Capped.{Capped}
 use Rattle.proof_tree.specs.declared.capped.Capped.TheVariants.{AtMost}
 use Rattle.proof_tree.specs.Tree.{tree_cap}
+use Rattle.row_relax.specs.declared.rows.Rows.{Rows}
+use Rattle.row_relax.specs.Choices.{plain, steps_of}
 use Rattle.row_relax.specs.RowProofs.{RowTree}
-use Rattle.row_relax.specs.Steps.{row_steps}
 use Rattle.row_relax.specs.View.{view_of}
 use Rattle.branch_tree.specs.Justified.{IsJustified}
 use Rattle.branch_tree.specs.Searched.{HasOpenBox, IsWritable, spared}
@@ -27,7 +28,8 @@ use Rattle.proof_log.specs.Log.{log_text}
 use Rattle.valid_log.specs.declared.verdict.LogVerdict.TheVariants.{Yes}
 use Rattle.sum_slots.specs.declared.sum.Sum.{Sum}
 use Rattle.derivations.specs.declared.derivation.Derivation.{Derivation}
-use Rattle.valid_log.specs.AnyVersion.{IsAnyVerdict, IsWithHead}
+use Rattle.valid_log.specs.Heads.{IsWithHead}
+use Rattle.valid_log.specs.AnyVersion.{IsAnyVerdict}
 use Rattle.valid_log.specs.SumTexts.{larger_claim}
 use Rattle.plan_told.specs.Heads.{headed_text}
 
@@ -55,58 +57,59 @@ IsCapOf answer.Infeasible capped = ⊤
 IsCapOf (answer.BudgetSpent plan earned cap) capped = capped ≡ AtMost cap
 
 -- the text is that of a log of a part, of this proof and this claim over the part's own program: it is of version 2, and declares nothing
-abbrev pub IsPlainText : Program → List Sum → List Derivation → Program → RowTree → Claim → List ℕ → Type 0
-IsPlainText part sums derivations larger tree own text =
-    (sums ≡ []) × (derivations ≡ []) × (larger ≡ part) × (text ≡ log_text 2 (tree_items tree) own)
+abbrev pub IsPlainText : Program → List Sum → List ℕ → List Derivation → Rows → RowTree → Claim → List ℕ → Type 0
+IsPlainText part sums units derivations rows tree own text =
+    (sums ≡ []) × (units ≡ []) × (derivations ≡ []) × (rows ≡ plain part) × (text ≡ log_text 2 (tree_items tree) own)
 
--- the text is that of a log of a part over its program with the sums and derivations which its head declares, judged over domains: it is of version 4
-abbrev pub IsHeadedText : Program → List Domain → List Sum → List Derivation → Program → RowTree → Claim → List ℕ → Type 0
-IsHeadedText part judged sums derivations larger tree own text =
-    IsWithHead 4 part judged sums derivations larger × (text ≡ headed_text sums derivations tree own)
+-- the text is that of a log of a part over the rows with the sums, the setups and the derivations which its head declares, judged over domains: it is of version 4
+abbrev pub IsHeadedText : Plant → Program → List Domain → List Sum → List ℕ → List Derivation → Rows → RowTree → Claim → List ℕ → Type 0
+IsHeadedText plant part judged sums units derivations rows tree own text =
+    IsWithHead plant 4 part judged sums units derivations rows × (text ≡ headed_text sums units derivations tree own)
 
 -- The text is that of a log of a part, of version 2 without a head or of version 4 with one. No log of another version is written.
-abbrev pub IsLogText : Program → List Domain → List Sum → List Derivation → Program → RowTree → Claim → List ℕ → Type 0
-IsLogText part judged sums derivations larger tree own text =
-    IsPlainText part sums derivations larger tree own text ⊎ IsHeadedText part judged sums derivations larger tree own text
+abbrev pub IsLogText : Plant → Program → List Domain → List Sum → List ℕ → List Derivation → Rows → RowTree → Claim → List ℕ → Type 0
+IsLogText plant part judged sums units derivations rows tree own text =
+    IsPlainText part sums units derivations rows tree own text ⊎ IsHeadedText plant part judged sums units derivations rows tree own text
 
--- A proof of an outcome over the part's program with sums and derivations, or without: no box was split without cause, as many boxes are
--- counted as the outcome says, and its text with the claim of the answer is a valid log, whose head is judged over these domains. Where
--- the budget was spent, CAP is the proof's cap, and a box with a point is open.
-pub record IsProofOver (plant : Plant) (part : Program) (judged : List Domain) (sums : List Sum) (derivations : List Derivation) (larger : Program) (outcome : Outcome) (tree : RowTree) (text : List ℕ) : Type 0 where
+-- A proof of an outcome over the rows of a part with sums, setups and derivations, or without: no box was split without cause, as many
+-- boxes are counted as the outcome says, and its text with the claim of the answer is a valid log, whose head is judged over these
+-- domains. Where the budget was spent, CAP is the proof's cap, and a box with a point is open.
+pub record IsProofOver (plant : Plant) (part : Program) (judged : List Domain) (sums : List Sum) (units : List ℕ) (derivations : List Derivation) (rows : Rows) (outcome : Outcome) (tree : RowTree) (text : List ℕ) : Type 0 where
   pub boxes : counted tree ≡ outcome.boxes
-  -- the slots of the part are the plant's own, all later ones a sum's
-  pub justified : IsJustified larger (length part.root) tree
-  pub is : IsLogText part judged sums derivations larger tree (larger_claim sums (claim_of plant outcome.answer)) text
-  pub valid : IsAnyVerdict part (plant_root plant) judged (depth_over part.root) text (Yes (claim_of plant outcome.answer))
-  pub cap : IsCapOf outcome.answer (tree_cap (row_steps larger) (view_of larger.root) tree)
-  pub left_open : IfSpent outcome.answer (HasOpenBox larger (view_of larger.root) tree)
+  -- the slots of the part are the plant's own, all later ones a sum's or a setup's
+  pub justified : IsJustified rows (length part.root) tree
+  pub is : IsLogText plant part judged sums units derivations rows tree (larger_claim sums (claim_of plant outcome.answer)) text
+  pub valid : IsAnyVerdict plant part (plant_root plant) judged (depth_over part.root) text (Yes (claim_of plant outcome.answer))
+  pub cap : IsCapOf outcome.answer (tree_cap (steps_of rows) (view_of rows.program.root) tree)
+  pub left_open : IfSpent outcome.answer (HasOpenBox rows (view_of rows.program.root) tree)
 
 -- the text of the log of a proof, with the claim of an answer
 abbrev pub proof_text : Plant → Answer → RowTree → List ℕ
 proof_text plant answer tree = log_text 2 (tree_items tree) (claim_of plant answer)
 
 -- the text of the log of a proof behind a head, with the claim of an answer, whose point the values of the sums follow
-abbrev pub headed_proof_text : Plant → Answer → List Sum → List Derivation → RowTree → List ℕ
-headed_proof_text plant answer sums derivations tree = headed_text sums derivations tree (larger_claim sums (claim_of plant answer))
+abbrev pub headed_proof_text : Plant → Answer → List Sum → List ℕ → List Derivation → RowTree → List ℕ
+headed_proof_text plant answer sums units derivations tree = headed_text sums units derivations tree (larger_claim sums (claim_of plant answer))
 
 -- a proof of an outcome over the part's own program
 abbrev pub IsProofOf : Plant → Program → Outcome → RowTree → Type 0
-IsProofOf plant part outcome tree = (judged : List Domain) → IsProofOver plant part judged [] [] part outcome tree (proof_text plant outcome.answer tree)
+IsProofOf plant part outcome tree = (judged : List Domain) → IsProofOver plant part judged [] [] [] (plain part) outcome tree (proof_text plant outcome.answer tree)
 
--- a proof of an outcome over the part's program with the sums and derivations of a head that is judged over domains
-abbrev pub IsHeadedProofOf : Plant → Program → List Domain → List Sum → List Derivation → Outcome → RowTree → Type 0
-IsHeadedProofOf plant part judged sums derivations outcome tree =
-    (larger : Program) × IsProofOver plant part judged sums derivations larger outcome tree (headed_proof_text plant outcome.answer sums derivations tree)
+-- a proof of an outcome over the rows of a part with the sums, the setups and the derivations of a head that is judged over domains
+abbrev pub IsHeadedProofOf : Plant → Program → List Domain → List Sum → List ℕ → List Derivation → Outcome → RowTree → Type 0
+IsHeadedProofOf plant part judged sums units derivations outcome tree =
+    (rows : Rows) × IsProofOver plant part judged sums units derivations rows outcome tree (headed_proof_text plant outcome.answer sums units derivations tree)
 
--- there is a proof of the outcome, over the part's own program or over that with what a head declares that is judged over these domains;
+-- there is a proof of the outcome, over the part's own program or over the rows with what a head declares that is judged over these domains;
 -- where bytes are told, they are the text of its log
 pub record HasProof (plant : Plant) (part : Program) (judged : List Domain) (log : Option (List ℕ)) (outcome : Outcome) : Type 0 where
   pub sums : List Sum
+  pub units : List ℕ
   pub derivations : List Derivation
-  pub larger : Program
+  pub rows : Rows
   pub tree : RowTree
   pub text : List ℕ
-  pub proof : IsProofOver plant part judged sums derivations larger outcome tree text
+  pub proof : IsProofOver plant part judged sums units derivations rows outcome tree text
   pub told : IfSome log (λ bytes. bytes ≡ text)
 
 -- the bytes of the file of this name, where files are told
@@ -114,19 +117,20 @@ abbrev pub bytes_in : List ℕ → Option FileMap → Option (List ℕ)
 bytes_in name files = option_map (λ m. file_of m name) files
 
 -- bytes are a first part of the text of a log of either version, whose found points are lawful and stand with their worth
-pub record IsSomeLogBegun (part : Program) (judged : List Domain) (bytes : List ℕ) : Type 0 where
+pub record IsSomeLogBegun (plant : Plant) (part : Program) (judged : List Domain) (bytes : List ℕ) : Type 0 where
   pub sums : List Sum
+  pub units : List ℕ
   pub derivations : List Derivation
-  pub larger : Program
+  pub rows : Rows
   pub tree : RowTree
   pub own : Claim
   pub rest : List ℕ
   -- only in a log of version 4 a split may have a floor
-  pub is : (IsPlainText part sums derivations larger tree own (bytes ++ rest) × IsWritable larger false tree) ⊎ (IsHeadedText part judged sums derivations larger tree own (bytes ++ rest) × IsWritable larger true tree)
+  pub is : (IsPlainText part sums units derivations rows tree own (bytes ++ rest) × IsWritable rows false tree) ⊎ (IsHeadedText plant part judged sums units derivations rows tree own (bytes ++ rest) × IsWritable rows true tree)
 
 -- what an attempt leaves that did not end: the files are as they were, or the file of this name is a log that was begun
-abbrev pub LeavesSomeBegun : Program → List Domain → List ℕ → Option FileMap → Option FileMap → Type 0
-LeavesSomeBegun part judged name old new = (new ≡ old) ⊎ IfSome (bytes_in name new) (IsSomeLogBegun part judged)
+abbrev pub LeavesSomeBegun : Plant → Program → List Domain → List ℕ → Option FileMap → Option FileMap → Type 0
+LeavesSomeBegun plant part judged name old new = (new ≡ old) ⊎ IfSome (bytes_in name new) (IsSomeLogBegun plant part judged)
 
 -- a proof of an outcome over the whole program of a plant
 pub record IsPlantProof (plant : Plant) (outcome : Outcome) (tree : RowTree) : Type 0 where
@@ -144,4 +148,4 @@ pub record HasPlantProof (plant : Plant) (log : Option (List ℕ)) (outcome : Ou
 
 -- what an attempt leaves that did not end: the files are as they were, or the file of this name is a log over the plant's program that was begun
 abbrev pub IsLeftOf : Plant → List ℕ → Option FileMap → Option FileMap → Type 0
-IsLeftOf plant name old new = (new ≡ old) ⊎ ((program : Program) × (IsMadeOf plant program × (IsProgramOf plant program × LeavesSomeBegun program (plant_root plant) name old new)))
+IsLeftOf plant name old new = (new ≡ old) ⊎ ((program : Program) × (IsMadeOf plant program × (IsProgramOf plant program × LeavesSomeBegun plant program (plant_root plant) name old new)))

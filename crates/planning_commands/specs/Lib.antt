@@ -4,3 +4,4 @@ pub mod Replanning
 pub mod Improving
 pub mod PlanningOn
 pub mod PartSolving
+pub mod Frames

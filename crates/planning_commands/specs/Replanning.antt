@@ -45,7 +45,7 @@ Replanned budget plant period start log Unchanged status text =
 -- what an attempt over a part leaves in the file of a log, the head of which is judged over domains: a log that was begun, if anything, or
 -- a whole one, of an outcome
 abbrev pub LeavesLog : Plant → Program → List Domain → List ℕ → Option FileMap → Option FileMap → Type 0
-LeavesLog plant part judged log old new = LeavesSomeBegun part judged log old new ⊎ ((outcome : Outcome) × HasProof plant part judged (bytes_in log new) outcome)
+LeavesLog plant part judged log old new = LeavesSomeBegun plant part judged log old new ⊎ ((outcome : Outcome) × HasProof plant part judged (bytes_in log new) outcome)
 
 -- what replanning leaves in the file of its log: a log over the program of the plans that keep the starts
 abbrev pub LeavesKept : Plant → ℕ → List Start → List ℕ → Option FileMap → Option FileMap → Type 0

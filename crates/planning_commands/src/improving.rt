@@ -1,10 +1,9 @@
 //! `improve`: planning that begins with a plan at hand.
 ghost use Rattle.std.specs.Prelude.{◌≡◌, ◌≢◌, ◌≤◌, ◌<◌, ◌^◌, length, None, Err, IsTrue, IfOk, IfSome};
-ghost use Rattle.stn_edge.specs.Count.{Rose};
-ghost use Rattle.stn_edge.specs.Files.{OthersStay};
 ghost use Rattle.stn_model.specs.Sound.{Sound};
 ghost use Rattle.command_words.specs.Words.{named_log};
 ghost use Rattle.command_replies.specs.Sources.{IfRefused};
+ghost use Rattle.planning_commands.specs.Frames.{OnlyWrites, OthersLeft, WritesLog};
 ghost use Rattle.planning_commands.specs.Improving.{Improved};
 ghost use Rattle.planning_commands.specs.NamedLog.{LogLeft, told_log};
 ghost use Rattle.planning_commands.specs.PlanningOn.{CanGoOn, LeftOn};
@@ -36,20 +35,12 @@ pub fn improve<A: Advisers, F: Shelf>(
         reply.status reply.text.items) }
     ensures none { IfRefused result (λ _. ⊥) }
     ensures no_fault { result ≢ Err Stopped.ReadFault }
-    ensures write_fault { result ≡ Err Stopped.WriteFault
-        → Rose (F.write_faults files.old) (F.write_faults files.new) }
-    ensures named { result ≡ Err Stopped.WriteFault → named_log log.entry ≢ None }
+    ensures writing { WritesLog F.Shelf (named_log log.entry) files.old files.new result }
     ensures begun { result ≡ Err Stopped.WriteFault → CanGoOn None plant.now plan.now }
     ensures left { LeftOn None plant.now plan.now (named_log log.entry) (F.files files.old)
         (F.files files.new) }
-    ensures others { LogLeft (named_log log.entry) (λ name. OthersStay name (F.files files.old)
-        (F.files files.new)) (F.files files.old) (F.files files.new) }
-    ensures readable { F.may_read files.new ≡ F.may_read files.old }
-    ensures writable { F.may_write files.new ≡ F.may_write files.old }
-    ensures no_read { F.read_faults files.new ≡ F.read_faults files.old }
-    ensures writes { F.write_faults files.old ≤ F.write_faults files.new }
-    ensures no_write { named_log log.entry ≡ None
-        → F.write_faults files.new ≡ F.write_faults files.old }
+    ensures others { OthersLeft (named_log log.entry) (F.files files.old) (F.files files.new) }
+    ensures kept { OnlyWrites F.Shelf files.old files.new }
 {
     let simulated = simulate_plan(alloc, PlanUse::Simulate, plant, plan)?;
     if simulated.status == 0 {

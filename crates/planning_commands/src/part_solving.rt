@@ -1,15 +1,16 @@
 //! `solve-part PLANT LEVELS PART BUDGET LOG`: planning a part of a plant.
 ghost use Rattle.std.specs.Prelude.{◌≡◌, ◌≢◌, ◌≤◌, ◌⊎◌, [], length, Ok, Err, IsTrue, IfOk};
-ghost use Rattle.stn_edge.specs.Count.{Rose};
 ghost use Rattle.stn_edge.specs.Files.{OthersStay};
 ghost use Rattle.stn_model.specs.Sound.{Sound};
 ghost use Rattle.stn_model.specs.declared.plant.Plant.{Plant};
 ghost use Rattle.plant_text.specs.Reading.{reading};
 ghost use Rattle.time_grid.specs.Slots.{slots};
 ghost use Rattle.plan_told.specs.Proofs.{bytes_in};
+ghost use Rattle.command_replies.specs.Frames.{HadReadFault, HadWriteFault, ReadsAndWrites};
 ghost use Rattle.command_replies.specs.Answers.{IsPlantAnswer, IsUnwritten};
 ghost use Rattle.command_replies.specs.Sources.{IfReplied, IfRefused, IsReadOf};
 ghost use Rattle.answer_texts.specs.Levels.{OnLevels};
+ghost use Rattle.planning_commands.specs.Frames.{OnlyWrites};
 ghost use Rattle.planning_commands.specs.PartSolving.{HoldsPart, LeavesPart, PartSolved};
 
 use crate::planning::plan_part;
@@ -42,21 +43,16 @@ pub fn solve_part_file<A: Advisers, F: Shelf>(
         reply.status reply.text.items) }
     ensures refused { IfReplied result (λ reply. IsUnwritten reply.status
         → F.files files.new ≡ F.files files.old) }
-    ensures fault { result ≡ Err Stopped.ReadFault
-        → Rose (F.read_faults files.old) (F.read_faults files.new) }
+    ensures fault { HadReadFault F.Shelf files.old files.new result }
     ensures unread { result ≡ Err Stopped.ReadFault → F.files files.new ≡ F.files files.old }
-    ensures write_fault { result ≡ Err Stopped.WriteFault
-        → Rose (F.write_faults files.old) (F.write_faults files.new) }
+    ensures write_fault { HadWriteFault F.Shelf files.old files.new result }
     ensures begun { result ≡ Err Stopped.WriteFault
         → (plant : Plant) × (IsReadOf reading (F.files files.old) name.now (Ok plant)
         × (part.levels.number ≤ length (slots plant))) }
     ensures left { (F.files files.new ≡ F.files files.old) ⊎ HoldsPart (F.files files.old)
         (F.files files.new) name.now part.levels.number part.number log.now }
     ensures others { OthersStay log.now (F.files files.old) (F.files files.new) }
-    ensures readable { F.may_read files.new ≡ F.may_read files.old }
-    ensures writable { F.may_write files.new ≡ F.may_write files.old }
-    ensures later { F.read_faults files.old ≤ F.read_faults files.new }
-    ensures writes { F.write_faults files.old ≤ F.write_faults files.new }
+    ensures kept { ReadsAndWrites F.Shelf files.old files.new }
 {
     let plant = plant_in(alloc, files, name)?;
     solve_part::<A, _>(alloc, files, &plant, part, budget, log)
@@ -80,17 +76,13 @@ fn solve_part<A: Advisers, F: Shelf>(
         → F.files files.new ≡ F.files files.old) }
     ensures none { IfRefused result (λ _. ⊥) }
     ensures no_fault { result ≢ Err Stopped.ReadFault }
-    ensures write_fault { result ≡ Err Stopped.WriteFault
-        → Rose (F.write_faults files.old) (F.write_faults files.new) }
+    ensures write_fault { HadWriteFault F.Shelf files.old files.new result }
     ensures begun { result ≡ Err Stopped.WriteFault
         → part.levels.number ≤ length (slots plant.now) }
     ensures left { LeavesPart plant.now part.levels.number part.number log.now
         (F.files files.old) (F.files files.new) }
     ensures others { OthersStay log.now (F.files files.old) (F.files files.new) }
-    ensures readable { F.may_read files.new ≡ F.may_read files.old }
-    ensures writable { F.may_write files.new ≡ F.may_write files.old }
-    ensures no_read { F.read_faults files.new ≡ F.read_faults files.old }
-    ensures writes { F.write_faults files.old ≤ F.write_faults files.new }
+    ensures kept { OnlyWrites F.Shelf files.old files.new }
 {
     if has_slots(alloc, plant, part.levels)? {
         log_rows_of_part::<A, _>(alloc, files, plant, part, budget, log)
@@ -115,15 +107,11 @@ fn log_rows_of_part<A: Advisers, F: Shelf>(
         part.number (bytes_in log.now (F.files files.new)) reply.status reply.text.items) }
     ensures none { IfRefused result (λ _. ⊥) }
     ensures no_fault { result ≢ Err Stopped.ReadFault }
-    ensures write_fault { result ≡ Err Stopped.WriteFault
-        → Rose (F.write_faults files.old) (F.write_faults files.new) }
+    ensures write_fault { HadWriteFault F.Shelf files.old files.new result }
     ensures left { LeavesPart plant.now part.levels.number part.number log.now
         (F.files files.old) (F.files files.new) }
     ensures others { OthersStay log.now (F.files files.old) (F.files files.new) }
-    ensures readable { F.may_read files.new ≡ F.may_read files.old }
-    ensures writable { F.may_write files.new ≡ F.may_write files.old }
-    ensures no_read { F.read_faults files.new ≡ F.read_faults files.old }
-    ensures writes { F.write_faults files.old ≤ F.write_faults files.new }
+    ensures kept { OnlyWrites F.Shelf files.old files.new }
 {
     let levels = part.levels.number;
     let rows = part_rows(alloc, plant, levels, part.number)?;

@@ -1,7 +1,5 @@
 //! The one path of planning: over a part of a plant's choices, beginning with a plan, with a log or without one.
 ghost use Rattle.std.specs.Prelude.{◌≡◌, ◌≢◌, ◌≤◌, ◌<◌, ◌^◌, length, None, Err, IsTrue, IfOk, IfSome};
-ghost use Rattle.stn_edge.specs.Count.{Rose};
-ghost use Rattle.stn_edge.specs.Files.{OthersStay};
 ghost use Rattle.stn_model.specs.Sound.{Sound};
 ghost use Rattle.row_set.specs.Parts.{IsPartOf};
 ghost use Rattle.sum_slots.specs.Shown.{AreRanges};
@@ -18,6 +16,7 @@ ghost use Rattle.answer_texts.specs.Planning.{
   answer_text,
   status_of,
 };
+ghost use Rattle.planning_commands.specs.Frames.{OnlyWrites, OthersLeft, WritesLog};
 ghost use Rattle.planning_commands.specs.Improving.{IsGivenOutcome};
 ghost use Rattle.planning_commands.specs.NamedLog.{LogLeft, told_log};
 ghost use Rattle.planning_commands.specs.Replanning.{IsBegunOutcome, LeavesLog};
@@ -54,20 +53,12 @@ pub fn plan_plant<A: Advisers, F: Shelf>(
         reply.status reply.text.items) }
     ensures none { IfRefused result (λ _. ⊥) }
     ensures no_fault { result ≢ Err Stopped.ReadFault }
-    ensures write_fault { result ≡ Err Stopped.WriteFault
-        → Rose (F.write_faults files.old) (F.write_faults files.new) }
-    ensures named { result ≡ Err Stopped.WriteFault → named_log log.entry ≢ None }
+    ensures writing { WritesLog F.Shelf (named_log log.entry) files.old files.new result }
     ensures left { LogLeft (named_log log.entry)
         (λ name. LeavesPlant plant.now name (F.files files.old)
         (F.files files.new)) (F.files files.old) (F.files files.new) }
-    ensures others { LogLeft (named_log log.entry) (λ name. OthersStay name (F.files files.old)
-        (F.files files.new)) (F.files files.old) (F.files files.new) }
-    ensures readable { F.may_read files.new ≡ F.may_read files.old }
-    ensures writable { F.may_write files.new ≡ F.may_write files.old }
-    ensures no_read { F.read_faults files.new ≡ F.read_faults files.old }
-    ensures writes { F.write_faults files.old ≤ F.write_faults files.new }
-    ensures no_write { named_log log.entry ≡ None
-        → F.write_faults files.new ≡ F.write_faults files.old }
+    ensures others { OthersLeft (named_log log.entry) (F.files files.old) (F.files files.new) }
+    ensures kept { OnlyWrites F.Shelf files.old files.new }
 {
     let program = program_of(alloc, plant)?;
     let judged = plant_root(alloc, plant)?;
@@ -102,20 +93,12 @@ pub fn plan_part<A: Advisers, F: Shelf>(
         reply.status reply.text.items) }
     ensures none { IfRefused result (λ _. ⊥) }
     ensures no_fault { result ≢ Err Stopped.ReadFault }
-    ensures write_fault { result ≡ Err Stopped.WriteFault
-        → Rose (F.write_faults files.old) (F.write_faults files.new) }
-    ensures named { result ≡ Err Stopped.WriteFault → named_log log.entry ≢ None }
+    ensures writing { WritesLog F.Shelf (named_log log.entry) files.old files.new result }
     ensures left { LogLeft (named_log log.entry)
         (λ name. LeavesLog plant.now part judged name (F.files files.old)
         (F.files files.new)) (F.files files.old) (F.files files.new) }
-    ensures others { LogLeft (named_log log.entry) (λ name. OthersStay name (F.files files.old)
-        (F.files files.new)) (F.files files.old) (F.files files.new) }
-    ensures readable { F.may_read files.new ≡ F.may_read files.old }
-    ensures writable { F.may_write files.new ≡ F.may_write files.old }
-    ensures no_read { F.read_faults files.new ≡ F.read_faults files.old }
-    ensures writes { F.write_faults files.old ≤ F.write_faults files.new }
-    ensures no_write { named_log log.entry ≡ None
-        → F.write_faults files.new ≡ F.write_faults files.old }
+    ensures others { OthersLeft (named_log log.entry) (F.files files.old) (F.files files.new) }
+    ensures kept { OnlyWrites F.Shelf files.old files.new }
 {
     let point = point_of(alloc, plant, start)?;
     let outcome = outcome_of::<A, _>(
@@ -146,20 +129,12 @@ fn outcome_of<A: Advisers, F: Shelf>(
     ensures begun { IfOk result (λ outcome. EarnsPoint part point.now outcome.answer) }
     ensures none { IfRefused result (λ _. ⊥) }
     ensures no_fault { result ≢ Err Stopped.ReadFault }
-    ensures write_fault { result ≡ Err Stopped.WriteFault
-        → Rose (F.write_faults files.old) (F.write_faults files.new) }
-    ensures named { result ≡ Err Stopped.WriteFault → named_log log.entry ≢ None }
+    ensures writing { WritesLog F.Shelf (named_log log.entry) files.old files.new result }
     ensures left { LogLeft (named_log log.entry)
         (λ name. LeavesLog plant.now part judged name (F.files files.old)
         (F.files files.new)) (F.files files.old) (F.files files.new) }
-    ensures others { LogLeft (named_log log.entry) (λ name. OthersStay name (F.files files.old)
-        (F.files files.new)) (F.files files.old) (F.files files.new) }
-    ensures readable { F.may_read files.new ≡ F.may_read files.old }
-    ensures writable { F.may_write files.new ≡ F.may_write files.old }
-    ensures no_read { F.read_faults files.new ≡ F.read_faults files.old }
-    ensures writes { F.write_faults files.old ≤ F.write_faults files.new }
-    ensures no_write { named_log log.entry ≡ None
-        → F.write_faults files.new ≡ F.write_faults files.old }
+    ensures others { OthersLeft (named_log log.entry) (F.files files.old) (F.files files.new) }
+    ensures kept { OnlyWrites F.Shelf files.old files.new }
 {
     let Some(name) = log else {
         return Ok(plan_rows::<A>(alloc, plant, part, judged, levels, budget.boxes, point)?);

@@ -1,14 +1,14 @@
 //! `replan` and `improve`, with a log or without one: planning that goes on from the plan in a file.
 ghost use Rattle.std.specs.Prelude.{◌≡◌, ◌≢◌, ◌≤◌, ◌<◌, ◌^◌, ◌⊎◌, [], ℕ, List, length, None, Ok, Err, IsTrue, IfOk, IfSome};
-ghost use Rattle.stn_edge.specs.Count.{Rose};
-ghost use Rattle.stn_edge.specs.Files.{OthersStay};
 ghost use Rattle.stn_model.specs.Sound.{Sound};
 ghost use Rattle.stn_model.specs.declared.start.Start.{Start};
 ghost use Rattle.plan_text.specs.PlanText.{plan_of_text};
 ghost use Rattle.plant_text.specs.Reading.{reading};
 ghost use Rattle.command_words.specs.Words.{named_log};
+ghost use Rattle.command_replies.specs.Frames.{HadReadFault, ReadsAndWrites};
 ghost use Rattle.command_replies.specs.Answers.{IsPlanAnswer, IsUnwritten};
 ghost use Rattle.command_replies.specs.Sources.{IfReplied, IfRefused, IsReadOf};
+ghost use Rattle.planning_commands.specs.Frames.{OnlyWrites, OthersLeft, WritesLog};
 ghost use Rattle.planning_commands.specs.NamedLog.{LogLeft, told_log};
 ghost use Rattle.planning_commands.specs.PlanningOn.{CanGoOn, GoesOn, HoldsOn, LeftOn, PlannedOn};
 
@@ -43,25 +43,16 @@ pub fn plan_on_file<A: Advisers, F: Shelf>(
         reply.status reply.text.items) }
     ensures refused { IfReplied result (λ reply. IsUnwritten reply.status
         → F.files files.new ≡ F.files files.old) }
-    ensures fault { result ≡ Err Stopped.ReadFault
-        → Rose (F.read_faults files.old) (F.read_faults files.new) }
+    ensures fault { HadReadFault F.Shelf files.old files.new result }
     ensures unread { result ≡ Err Stopped.ReadFault → F.files files.new ≡ F.files files.old }
-    ensures write_fault { result ≡ Err Stopped.WriteFault
-        → Rose (F.write_faults files.old) (F.write_faults files.new) }
-    ensures named { result ≡ Err Stopped.WriteFault → named_log log.entry ≢ None }
+    ensures writing { WritesLog F.Shelf (named_log log.entry) files.old files.new result }
     ensures begun { result ≡ Err Stopped.WriteFault
         → GoesOn (F.files files.old) plant.now plan.now kept }
     ensures left { LogLeft (named_log log.entry) (λ name. (F.files files.new ≡ F.files files.old)
         ⊎ HoldsOn (F.files files.old) (F.files files.new) plant.now plan.now kept name)
         (F.files files.old) (F.files files.new) }
-    ensures others { LogLeft (named_log log.entry) (λ name. OthersStay name (F.files files.old)
-        (F.files files.new)) (F.files files.old) (F.files files.new) }
-    ensures readable { F.may_read files.new ≡ F.may_read files.old }
-    ensures writable { F.may_write files.new ≡ F.may_write files.old }
-    ensures later { F.read_faults files.old ≤ F.read_faults files.new }
-    ensures writes { F.write_faults files.old ≤ F.write_faults files.new }
-    ensures no_write { named_log log.entry ≡ None
-        → F.write_faults files.new ≡ F.write_faults files.old }
+    ensures others { OthersLeft (named_log log.entry) (F.files files.old) (F.files files.new) }
+    ensures kept { ReadsAndWrites F.Shelf files.old files.new }
 {
     let plant = plant_in(alloc, files, plant)?;
     plan_on::<A, _>(alloc, files, &plant, plan, kept, budget, log)
@@ -88,12 +79,9 @@ fn plan_on<A: Advisers, F: Shelf>(
         reply.status reply.text.items) }
     ensures refused { IfReplied result (λ reply. IsUnwritten reply.status
         → F.files files.new ≡ F.files files.old) }
-    ensures fault { result ≡ Err Stopped.ReadFault
-        → Rose (F.read_faults files.old) (F.read_faults files.new) }
+    ensures fault { HadReadFault F.Shelf files.old files.new result }
     ensures unread { result ≡ Err Stopped.ReadFault → F.files files.new ≡ F.files files.old }
-    ensures write_fault { result ≡ Err Stopped.WriteFault
-        → Rose (F.write_faults files.old) (F.write_faults files.new) }
-    ensures named { result ≡ Err Stopped.WriteFault → named_log log.entry ≢ None }
+    ensures writing { WritesLog F.Shelf (named_log log.entry) files.old files.new result }
     ensures begun { result ≡ Err Stopped.WriteFault → (starts : List Start)
         × (IsReadOf (plan_of_text plant.now) (F.files files.old) plan.now (Ok starts)
         × CanGoOn kept plant.now starts) }
@@ -101,14 +89,8 @@ fn plan_on<A: Advisers, F: Shelf>(
         × (IsReadOf (plan_of_text plant.now) (F.files files.old) plan.now (Ok starts)
         × LeftOn kept plant.now starts (named_log log.entry) (F.files files.old)
         (F.files files.new))) }
-    ensures others { LogLeft (named_log log.entry) (λ name. OthersStay name (F.files files.old)
-        (F.files files.new)) (F.files files.old) (F.files files.new) }
-    ensures readable { F.may_read files.new ≡ F.may_read files.old }
-    ensures writable { F.may_write files.new ≡ F.may_write files.old }
-    ensures later { F.read_faults files.old ≤ F.read_faults files.new }
-    ensures writes { F.write_faults files.old ≤ F.write_faults files.new }
-    ensures no_write { named_log log.entry ≡ None
-        → F.write_faults files.new ≡ F.write_faults files.old }
+    ensures others { OthersLeft (named_log log.entry) (F.files files.old) (F.files files.new) }
+    ensures kept { ReadsAndWrites F.Shelf files.old files.new }
 {
     let plan = plan_in(alloc, files, plant, plan)?;
     go_on::<A, _>(alloc, files, plant, plan.as_slice(), kept, budget, log)
@@ -132,20 +114,12 @@ fn go_on<A: Advisers, F: Shelf>(
         reply.status reply.text.items) }
     ensures none { IfRefused result (λ _. ⊥) }
     ensures no_fault { result ≢ Err Stopped.ReadFault }
-    ensures write_fault { result ≡ Err Stopped.WriteFault
-        → Rose (F.write_faults files.old) (F.write_faults files.new) }
-    ensures named { result ≡ Err Stopped.WriteFault → named_log log.entry ≢ None }
+    ensures writing { WritesLog F.Shelf (named_log log.entry) files.old files.new result }
     ensures begun { result ≡ Err Stopped.WriteFault → CanGoOn kept plant.now plan.now }
     ensures left { LeftOn kept plant.now plan.now (named_log log.entry) (F.files files.old)
         (F.files files.new) }
-    ensures others { LogLeft (named_log log.entry) (λ name. OthersStay name (F.files files.old)
-        (F.files files.new)) (F.files files.old) (F.files files.new) }
-    ensures readable { F.may_read files.new ≡ F.may_read files.old }
-    ensures writable { F.may_write files.new ≡ F.may_write files.old }
-    ensures no_read { F.read_faults files.new ≡ F.read_faults files.old }
-    ensures writes { F.write_faults files.old ≤ F.write_faults files.new }
-    ensures no_write { named_log log.entry ≡ None
-        → F.write_faults files.new ≡ F.write_faults files.old }
+    ensures others { OthersLeft (named_log log.entry) (F.files files.old) (F.files files.new) }
+    ensures kept { OnlyWrites F.Shelf files.old files.new }
 {
     match kept {
         Some(period) => replan::<A, _>(alloc, files, plant, plan, period, budget, log),

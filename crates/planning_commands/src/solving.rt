@@ -1,12 +1,12 @@
 //! `solve PLANT BUDGET` and `solve PLANT BUDGET LOG`: planning.
 ghost use Rattle.std.specs.Prelude.{◌≡◌, ◌≢◌, ◌≤◌, ◌⊎◌, [], None, Ok, Err, IsTrue, IfSome};
-ghost use Rattle.stn_edge.specs.Count.{Rose};
-ghost use Rattle.stn_edge.specs.Files.{OthersStay};
 ghost use Rattle.stn_model.specs.declared.plant.Plant.{Plant};
 ghost use Rattle.plant_text.specs.Reading.{reading};
 ghost use Rattle.command_words.specs.Words.{named_log};
+ghost use Rattle.command_replies.specs.Frames.{HadReadFault, ReadsAndWrites};
 ghost use Rattle.command_replies.specs.Answers.{IsPlantAnswer, IsUnwritten};
 ghost use Rattle.command_replies.specs.Sources.{IfReplied, IsReadOf};
+ghost use Rattle.planning_commands.specs.Frames.{OthersLeft, WritesLog};
 ghost use Rattle.planning_commands.specs.NamedLog.{LogLeft, told_log};
 ghost use Rattle.planning_commands.specs.Solving.{HoldsLog, Solved};
 
@@ -34,25 +34,16 @@ pub fn solve_file<A: Advisers, F: Shelf>(
         (told_log (named_log log.entry) (F.files files.new))) reply.status reply.text.items) }
     ensures refused { IfReplied result (λ reply. IsUnwritten reply.status
         → F.files files.new ≡ F.files files.old) }
-    ensures fault { result ≡ Err Stopped.ReadFault
-        → Rose (F.read_faults files.old) (F.read_faults files.new) }
+    ensures fault { HadReadFault F.Shelf files.old files.new result }
     ensures unread { result ≡ Err Stopped.ReadFault → F.files files.new ≡ F.files files.old }
-    ensures write_fault { result ≡ Err Stopped.WriteFault
-        → Rose (F.write_faults files.old) (F.write_faults files.new) }
-    ensures named { result ≡ Err Stopped.WriteFault → named_log log.entry ≢ None }
+    ensures writing { WritesLog F.Shelf (named_log log.entry) files.old files.new result }
     ensures begun { result ≡ Err Stopped.WriteFault
         → (plant : Plant) × IsReadOf reading (F.files files.old) name.now (Ok plant) }
     ensures left { LogLeft (named_log log.entry) (λ log. (F.files files.new ≡ F.files files.old)
         ⊎ HoldsLog (F.files files.old) (F.files files.new) name.now log)
         (F.files files.old) (F.files files.new) }
-    ensures others { LogLeft (named_log log.entry) (λ name. OthersStay name (F.files files.old)
-        (F.files files.new)) (F.files files.old) (F.files files.new) }
-    ensures readable { F.may_read files.new ≡ F.may_read files.old }
-    ensures writable { F.may_write files.new ≡ F.may_write files.old }
-    ensures later { F.read_faults files.old ≤ F.read_faults files.new }
-    ensures writes { F.write_faults files.old ≤ F.write_faults files.new }
-    ensures no_write { named_log log.entry ≡ None
-        → F.write_faults files.new ≡ F.write_faults files.old }
+    ensures others { OthersLeft (named_log log.entry) (F.files files.old) (F.files files.new) }
+    ensures kept { ReadsAndWrites F.Shelf files.old files.new }
 {
     let plant = plant_in(alloc, files, name)?;
     plan_plant::<A, _>(alloc, files, &plant, &[], None, budget, log)

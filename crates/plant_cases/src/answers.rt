@@ -3,7 +3,8 @@ ghost use Rattle.std.specs.List.{All};
 ghost use Rattle.stn_model.specs.Sound.{Sound};
 ghost use Rattle.plan_text.specs.PlanLines.{IsNamed};
 
-use case_tables::Sheet;
+use crate::setups;
+use case_tables::{Sheet, Tried};
 use plan_text::{PlanFault, PlanStop, put_plan, read_plan};
 use plant_make::put_plant;
 use std::alloc::{AllocError, Global};
@@ -11,12 +12,7 @@ use stn_model::limits::{MAX_TASKS, MAX_UNITS};
 use stn_model::{Plant, Run, Start, State};
 
 /// Prints what a step over a plant gives.
-pub fn answer_step(
-    alloc: Global,
-    plant: &Plant,
-    verb: &str,
-    sheet: &mut Sheet,
-) -> Result<(), AllocError>
+pub fn answer_step(alloc: Global, plant: &Plant, verb: &str, sheet: &mut Sheet) -> Tried
     requires { Sound plant.now }
 {
     match verb {
@@ -24,6 +20,8 @@ pub fn answer_step(
         "runs" => put_runs(plant.runs.as_slice(), sheet),
         "print" => print(alloc, plant, sheet)?,
         "plan" => plan(alloc, plant, sheet)?,
+        "setups" => setups::answer(alloc, plant, sheet)?,
+        "size" => setups::size(alloc, plant, sheet)?,
         _ => sheet.refuse(),
     }
     Ok(())
@@ -62,7 +60,7 @@ fn put_run(run: &Run, sheet: &mut Sheet) {
 }
 
 // `print`: what is printed of the plant.
-fn print(alloc: Global, plant: &Plant, sheet: &mut Sheet) -> Result<(), AllocError>
+fn print(alloc: Global, plant: &Plant, sheet: &mut Sheet) -> Tried
     requires { Sound plant.now }
 {
     let mut text = Vec::new(alloc);
@@ -72,7 +70,7 @@ fn print(alloc: Global, plant: &Plant, sheet: &mut Sheet) -> Result<(), AllocErr
 }
 
 // `plan`, over a plan file: its starts, and what is printed of them; or the kind and the line of its first fault.
-fn plan(alloc: Global, plant: &Plant, sheet: &mut Sheet) -> Result<(), AllocError> {
+fn plan(alloc: Global, plant: &Plant, sheet: &mut Sheet) -> Tried {
     if plant.units.len() > MAX_UNITS || plant.tasks.len() > MAX_TASKS {
         sheet.refuse();
         return Ok(());
@@ -95,12 +93,7 @@ fn put_fault(fault: PlanFault, sheet: &mut Sheet) {
     sheet.line("");
 }
 
-fn put_again(
-    alloc: Global,
-    plant: &Plant,
-    plan: &[Start],
-    sheet: &mut Sheet,
-) -> Result<(), AllocError>
+fn put_again(alloc: Global, plant: &Plant, plan: &[Start], sheet: &mut Sheet) -> Tried
     requires { All (IsNamed plant.now) plan.now }
 {
     put_starts(plan, sheet);

@@ -1,11 +1,12 @@
-//! The cases of plants that are read, made and printed, and of their plan files.
+//! The cases of plants that are read, made and printed, of their plan files, and of the setups of their units.
 #![tactic(auto)]
 
 mod answers;
 mod plants;
+mod setups;
 
-use case_tables::{Kinds, Sheet, Step, judge};
-use std::alloc::{AllocError, Global};
+use case_tables::{Kinds, Sheet, Step, Tried, judge};
+use std::alloc::Global;
 use std::process::ExitCode;
 
 /// The kinds of cases of this program.
@@ -18,7 +19,7 @@ impl Kinds for PlantKinds {
         kind: &str,
         steps: &'a [Step<'a>],
         sheet: &mut Sheet<'a>,
-    ) -> Result<(), AllocError> {
+    ) -> Tried {
         if kind == "plants" {
             plants::answer(alloc, steps, sheet)
         } else {

@@ -3,18 +3,14 @@ ghost use Rattle.std.specs.Prelude.{IfOk};
 ghost use Rattle.stn_model.specs.Sound.{Sound};
 
 use crate::answers::answer_step;
-use case_tables::{Sheet, Step};
+use case_tables::{Sheet, Step, Tried};
 use plant_make::{make, put_plant};
 use plant_text::{PlantFault, PlantStop, read_plant};
 use std::alloc::{AllocError, Global};
 use stn_model::Plant;
 
 /// Prints what the steps give over the plant of the first one, or the fault of its file.
-pub fn answer<'a>(
-    alloc: Global,
-    steps: &'a [Step<'a>],
-    sheet: &mut Sheet<'a>,
-) -> Result<(), AllocError> {
+pub fn answer<'a>(alloc: Global, steps: &'a [Step<'a>], sheet: &mut Sheet<'a>) -> Tried {
     match steps {
         [] => Ok(()),
         [first, rest @ ..] => {
@@ -30,7 +26,7 @@ fn answer_first<'a>(
     verb: &str,
     rest: &'a [Step<'a>],
     sheet: &mut Sheet<'a>,
-) -> Result<(), AllocError> {
+) -> Tried {
     match verb {
         "plant" => answer_text(alloc, sheet.bytes(), rest, sheet),
         "make" => answer_made(alloc, rest, sheet),
@@ -50,7 +46,7 @@ fn answer_text<'a>(
     text: &[u8],
     rest: &'a [Step<'a>],
     sheet: &mut Sheet<'a>,
-) -> Result<(), AllocError> {
+) -> Tried {
     match read_plant(alloc, text) {
         Ok(plant) => answer_over(alloc, &plant, rest, sheet),
         Err(PlantStop::Fault(fault)) => {
@@ -61,11 +57,7 @@ fn answer_text<'a>(
     }
 }
 
-fn answer_made<'a>(
-    alloc: Global,
-    rest: &'a [Step<'a>],
-    sheet: &mut Sheet<'a>,
-) -> Result<(), AllocError> {
+fn answer_made<'a>(alloc: Global, rest: &'a [Step<'a>], sheet: &mut Sheet<'a>) -> Tried {
     let plant = made(alloc, sheet)?;
     answer_over(alloc, &plant, rest, sheet)
 }
@@ -97,7 +89,7 @@ fn answer_over<'a>(
     plant: &Plant,
     steps: &'a [Step<'a>],
     sheet: &mut Sheet<'a>,
-) -> Result<(), AllocError>
+) -> Tried
     requires { Sound plant.now }
 {
     for step in steps {

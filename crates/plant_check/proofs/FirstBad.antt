@@ -8,7 +8,7 @@ use Rattle.row_kit.specs.declared.domain.Domain.{Domain}
 use Rattle.row_kit.specs.declared.program.Program.{Program}
 use Rattle.sum_slots.specs.declared.sum.Sum.{Sum}
 use Rattle.sum_slots.specs.Shown.{IsShown}
-use Rattle.valid_log.specs.AnyVersion.{IsUnshown}
+use Rattle.valid_log.specs.Heads.{IsUnshown}
 
 -- a sum before which each one is shown is the first that is not, and begins on the line at its place
 pub first_bad : (program : Program) (ranges : List Domain) (sums : List Sum) (lines : List ℕ) (place line : ℕ) (sum : Sum) → place < length sums → length lines ≡ length sums → All (IsShown program ranges) (take place sums)

@@ -3,3 +3,4 @@ pub mod HeadJudged
 pub mod OwnSaying
 pub mod PlantSaying
 pub mod ShownVerdicts
+pub mod SetupsRead

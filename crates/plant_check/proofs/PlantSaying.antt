@@ -14,7 +14,7 @@ use Rattle.valid_log.proofs.Saying.{of_plant}
 
 -- what a check over the plant's program answers is right of the plant, where the files are told
 pub any_checked : {E : Type 0} (plant : Plant) (program : Program) (files : Option FileMap) (name : List ℕ) (r : Result LogVerdict E) → Sound plant → IsMadeOf plant program → IsProgramOf plant program
-    → IfOk r (λ verdict. IfSome files (λ m. IsAnyVerdict program (plant_root plant) (plant_root plant) 4608 (file_of m name) verdict)) → IfOk r (YesSays plant)
+    → IfOk r (λ verdict. IfSome files (λ m. IsAnyVerdict plant program (plant_root plant) (plant_root plant) 4608 (file_of m name) verdict)) → IfOk r (YesSays plant)
     → IfOk r (λ verdict. IfSome files (λ m. IsAnyChecked plant (file_of m name) verdict))
 any_checked plant program None name (Ok verdict) sound made means right says = tt
 any_checked plant program (Some m) name (Ok verdict) sound made means right says =
@@ -23,7 +23,7 @@ any_checked plant program files name (Err e) sound made means right says = tt
 
 -- what a check over a part's program answers is right of the part, where the files are told
 pub part_checked : {E : Type 0} (plant : Plant) (part : Program) (depth : ℕ) (files : Option FileMap) (name : List ℕ) (r : Result LogVerdict E)
-    → IfOk r (λ verdict. IfSome files (λ m. IsAnyVerdict part (plant_root plant) (plant_root plant) depth (file_of m name) verdict)) → IfOk r (YesSaysOf plant part)
+    → IfOk r (λ verdict. IfSome files (λ m. IsAnyVerdict plant part (plant_root plant) (plant_root plant) depth (file_of m name) verdict)) → IfOk r (YesSaysOf plant part)
     → IfOk r (λ verdict. IfSome files (λ m. IsAnyPartChecked plant part depth (file_of m name) verdict))
 part_checked plant part depth None name (Ok verdict) right says = tt
 part_checked plant part depth (Some m) name (Ok verdict) right says = record { right = right; holds = says }
@@ -31,7 +31,7 @@ part_checked plant part depth files name (Err e) right says = tt
 
 -- the same where the head is judged over what kept starts leave
 pub kept_checked : {E : Type 0} (plant : Plant) (part : Program) (depth : ℕ) (files : Option FileMap) (name : List ℕ) (r : Result LogVerdict E)
-    → IfOk r (λ verdict. IfSome files (λ m. IsAnyVerdict part (plant_root plant) part.root depth (file_of m name) verdict)) → IfOk r (YesSaysOf plant part)
+    → IfOk r (λ verdict. IfSome files (λ m. IsAnyVerdict plant part (plant_root plant) part.root depth (file_of m name) verdict)) → IfOk r (YesSaysOf plant part)
     → IfOk r (λ verdict. IfSome files (λ m. IsAnyKeptChecked plant part depth (file_of m name) verdict))
 kept_checked plant part depth None name (Ok verdict) right says = tt
 kept_checked plant part depth (Some m) name (Ok verdict) right says = record { right = right; holds = says }

@@ -2,6 +2,7 @@
 use Rattle.std.specs.Prelude.{ℕ, List}
 use Rattle.stn_model.specs.declared.plant.Plant.{Plant}
 use Rattle.row_kit.specs.declared.program.Program.{Program}
+use Rattle.row_relax.specs.Choices.{plain}
 use Rattle.valid_log.specs.declared.verdict.LogVerdict.{LogVerdict}
 use Rattle.valid_log.specs.Verdict.{IsVerdict}
 use Rattle.valid_log.specs.Claims.{IsOfPlant, YesSays}
@@ -11,5 +12,5 @@ use Rattle.valid_log.specs.Claims.{IsOfPlant, YesSays}
 pub record IsChecked (plant : Plant) (log : List ℕ) (verdict : LogVerdict) : Type 0 where
   pub program : Program
   pub of_plant : IsOfPlant plant program
-  pub right : IsVerdict program 4608 log verdict
+  pub right : IsVerdict (plain program) 4608 log verdict
   pub holds : YesSays plant verdict

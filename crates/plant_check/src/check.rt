@@ -2,19 +2,25 @@
 ghost use Rattle.std.specs.Prelude.{◌≡◌, ◌≤◌, Err, IsTrue, IfOk, IfSome, length};
 ghost use Rattle.stn_edge.specs.Count.{Rose};
 ghost use Rattle.stn_edge.specs.Files.{file_of};
+ghost use Rattle.stn_model.specs.Sound.{Sound};
+ghost use Rattle.row_set.specs.Parts.{IsPartOf};
 ghost use Rattle.sum_slots.specs.Shown.{AreRanges};
 ghost use Rattle.sum_lines.specs.Head.{IsKeptHead};
 ghost use Rattle.derivation_lines.specs.declared.tail.TailFront.TheVariants.{Whole};
-ghost use Rattle.valid_log.specs.Verdict.{YesHolds};
 ghost use Rattle.log_lines.specs.TextDefect.{log_text_defect};
 ghost use Rattle.proof_log.specs.Behind.{behind};
 ghost use Rattle.valid_log.specs.declared.verdict.LogVerdict.TheVariants.{No};
-ghost use Rattle.valid_log.specs.AnyVersion.{IsAnyVerdict, IsHeadVerdict, IsTailVerdict, judged_over, limits_with, unshown_defect};
-ghost use Rattle.plant_check.specs.Heads.{IsTailHeld};
+ghost use Rattle.row_relax.specs.Choices.{plain};
+ghost use Rattle.valid_log.specs.Claims.{YesSaysOf};
+ghost use Rattle.valid_log.specs.Verdict.{IsVerdict};
+ghost use Rattle.valid_log.specs.Heads.{judged_over, limits_with};
+ghost use Rattle.valid_log.specs.AnyVersion.{IsAnyVerdict, IsHeadVerdict, IsSetUpVerdict, IsTailVerdict, unshown_defect};
+ghost use Rattle.plant_check.specs.Heads.{IsHeadHeld, IsTailHeld};
 
 use crate::given::{given_verdict, in_file};
 use crate::head::judge_head;
 use crate::limits::{limits_behind, limits_with};
+use crate::setups::read_setups;
 use crate::tail::read_tail;
 use derivation_lines::{Tail, TailFront};
 use log_check::{CheckStop, check_behind, check_rows};
@@ -22,24 +28,27 @@ use log_lines::{Defect, Limits};
 use proof_log::first_defect;
 use row_kit::{Domain, Program};
 use row_relax::Rows;
+use setup_lines::{SetupFront, Setups};
 use std::alloc::Global;
 use stn_edge::Shelf;
+use stn_model::Plant;
 use sum_lines::{Front, Head, read_head};
 use valid_log::LogVerdict;
 
-/// Checks the log of any version that lies in a file of the shelf, over the program, with at most so many splits one in another.
-/// In version 3 its sums are to be shown by `ranges`, in version 4 its head is judged over `root`: both are domains in which the
-/// program's points lie.
+/// Checks the log of any version that lies in a file of the shelf, over the program of a part of a plant's choices, with at most so many
+/// splits one in another. In version 3 its sums are to be shown by `ranges`, in version 4 its head is judged over `root`: both are
+/// domains in which the program's points lie.
 ///
 /// A log with a head is read in two passes: its head, and what follows. It takes memory as `check_rows` does, and for the declared
-/// sums, the derivations and the larger program.
+/// sums, the derivations and the larger program, and where it has setups for the program without them, too.
 ///
 /// The answer is the first text defect of the log; where there is none, kind 20 at the first sum that is not shown, or where all
 /// are, kind 23 at the first derived row that is not shown; where there is none, the first meaning defect; and where there is
-/// none, the claim, its point cut back to the slots of the given program: then what it says holds of all points. `Fault` comes
-/// only where a read failed.
+/// none, the claim, its point cut back to the slots of the given program: then what it says holds of all plans that the part
+/// admits. `Fault` comes only where a read failed.
 pub fn check_any<F: Shelf>(
     alloc: Global,
+    plant: &Plant,
     program: Program,
     ranges: &[Domain],
     root: &[Domain],
@@ -47,12 +56,14 @@ pub fn check_any<F: Shelf>(
     files: &mut F,
     name: &str,
 ) -> Result<LogVerdict, CheckStop>
+    requires sound { Sound plant.now }
+    requires part { IsPartOf plant.now program }
     requires ranges { AreRanges program ranges.now }
     requires root { AreRanges program root.now }
     requires allowed { IsTrue (F.may_read files.old name.now) }
     ensures verdict { IfOk result (λ verdict. IfSome (F.files files.old)
-        (λ m. IsAnyVerdict program ranges.now root.now depth (file_of m name.now) verdict)) }
-    ensures holds { IfOk result (YesHolds program) }
+        (λ m. IsAnyVerdict plant.now program ranges.now root.now depth (file_of m name.now) verdict)) }
+    ensures says { IfOk result (YesSaysOf plant.now program) }
     ensures fault { result ≡ Err CheckStop.Fault → Rose (F.read_faults files.old) (F.read_faults files.new) }
     ensures same { F.files files.new ≡ F.files files.old }
     ensures readable { F.may_read files.new ≡ F.may_read files.old }
@@ -62,16 +73,42 @@ pub fn check_any<F: Shelf>(
 {
     let limits = limits_with(&program, depth, 0);
     match read_head(alloc, &limits, files, name)? {
-        Front::Plain => {
-            let rows = Rows { program };
-            check_rows(alloc, &rows, depth, files, name)
-        }
+        Front::Plain => check_plain(alloc, plant, program, depth, files, name),
         Front::Bad(defect) => Ok(LogVerdict::No(defect)),
         Front::Headed(head) => {
             let judged = judged_over(ranges, root, head.version);
-            check_headed(alloc, program, judged, depth, &head, files, name)
+            check_headed(alloc, plant, program, judged, depth, head, files, name)
         }
     }
+}
+
+// Checks a log without a head.
+fn check_plain<F: Shelf>(
+    alloc: Global,
+    plant: &Plant,
+    program: Program,
+    depth: u32,
+    files: &mut F,
+    name: &str,
+) -> Result<LogVerdict, CheckStop>
+    requires sound { Sound plant.now }
+    requires part { IsPartOf plant.now program }
+    requires allowed { IsTrue (F.may_read files.old name.now) }
+    ensures verdict { IfOk result (λ verdict. IfSome (F.files files.old)
+        (λ m. IsVerdict (plain program) depth (file_of m name.now) verdict)) }
+    ensures says { IfOk result (YesSaysOf plant.now program) }
+    ensures fault { result ≡ Err CheckStop.Fault → Rose (F.read_faults files.old) (F.read_faults files.new) }
+    ensures same { F.files files.new ≡ F.files files.old }
+    ensures readable { F.may_read files.new ≡ F.may_read files.old }
+    ensures writable { F.may_write files.new ≡ F.may_write files.old }
+    ensures later { F.read_faults files.old ≤ F.read_faults files.new }
+    ensures no_write { F.write_faults files.new ≡ F.write_faults files.old }
+{
+    let rows = Rows {
+        program,
+        choices: None,
+    };
+    check_rows(alloc, &rows, depth, files, name)
 }
 
 // The domains over which a head of a version is judged.
@@ -86,19 +123,22 @@ fn judged_over<'a>(ranges: &'a [Domain], root: &'a [Domain], version: u8) -> &'a
 // Checks what follows the sums of a head.
 fn check_headed<F: Shelf>(
     alloc: Global,
+    plant: &Plant,
     program: Program,
     judged: &[Domain],
     depth: u32,
-    head: &Head,
+    head: Head,
     files: &mut F,
     name: &str,
 ) -> Result<LogVerdict, CheckStop>
-    requires allowed { IsTrue (F.may_read files.old name.now) }
+    requires sound { Sound plant.now }
+    requires part { IsPartOf plant.now program }
     requires ranges { AreRanges program judged.now }
-    requires kept { IsKeptHead (limits_with program depth 0) head.now }
+    requires kept { IsKeptHead (limits_with program depth 0) head }
+    requires allowed { IsTrue (F.may_read files.old name.now) }
     ensures verdict { IfOk result (λ verdict. IfSome (F.files files.old)
-        (λ m. IsHeadVerdict program judged.now depth (file_of m name.now) head.now verdict)) }
-    ensures holds { IfOk result (YesHolds program) }
+        (λ m. IsHeadVerdict plant.now program judged.now depth (file_of m name.now) head verdict)) }
+    ensures says { IfOk result (YesSaysOf plant.now program) }
     ensures fault { result ≡ Err CheckStop.Fault → Rose (F.read_faults files.old) (F.read_faults files.new) }
     ensures same { F.files files.new ≡ F.files files.old }
     ensures readable { F.may_read files.new ≡ F.may_read files.old }
@@ -107,33 +147,72 @@ fn check_headed<F: Shelf>(
     ensures no_write { F.write_faults files.new ≡ F.write_faults files.old }
 {
     let limits = limits_with(&program, depth, head.sums.len());
-    match read_tail(alloc, &limits, head, files, name)? {
-        TailFront::Bad(defect) => Ok(LogVerdict::No(defect)),
-        TailFront::Whole(tail) => {
-            check_tailed(alloc, program, judged, depth, head, &tail, files, name)
+    match read_setups(alloc, plant, &limits, head, files, name)? {
+        SetupFront::Bad(defect) => Ok(LogVerdict::No(defect)),
+        SetupFront::Whole(setups) => {
+            check_set_up(alloc, plant, program, judged, depth, &setups, files, name)
         }
     }
 }
 
-// Checks what follows a head and its derivations.
-fn check_tailed<F: Shelf>(
+// Checks what follows the setups of a head.
+fn check_set_up<F: Shelf>(
     alloc: Global,
+    plant: &Plant,
     program: Program,
     judged: &[Domain],
     depth: u32,
-    head: &Head,
+    setups: &Setups,
+    files: &mut F,
+    name: &str,
+) -> Result<LogVerdict, CheckStop>
+    requires sound { Sound plant.now }
+    requires part { IsPartOf plant.now program }
+    requires ranges { AreRanges program judged.now }
+    requires held { IsHeadHeld plant.now program depth setups.now }
+    requires allowed { IsTrue (F.may_read files.old name.now) }
+    ensures verdict { IfOk result (λ verdict. IfSome (F.files files.old)
+        (λ m. IsSetUpVerdict plant.now program judged.now depth (file_of m name.now) setups.now verdict)) }
+    ensures says { IfOk result (YesSaysOf plant.now program) }
+    ensures fault { result ≡ Err CheckStop.Fault → Rose (F.read_faults files.old) (F.read_faults files.new) }
+    ensures same { F.files files.new ≡ F.files files.old }
+    ensures readable { F.may_read files.new ≡ F.may_read files.old }
+    ensures writable { F.may_write files.new ≡ F.may_write files.old }
+    ensures later { F.read_faults files.old ≤ F.read_faults files.new }
+    ensures no_write { F.write_faults files.new ≡ F.write_faults files.old }
+{
+    match read_tail(alloc, &setups.limits, &setups.head, files, name)? {
+        TailFront::Bad(defect) => Ok(LogVerdict::No(defect)),
+        TailFront::Whole(tail) => {
+            check_tailed(
+                alloc, plant, program, judged, depth, setups, &tail, files, name,
+            )
+        }
+    }
+}
+
+// Checks what follows a head, its setups and its derivations.
+fn check_tailed<F: Shelf>(
+    alloc: Global,
+    plant: &Plant,
+    program: Program,
+    judged: &[Domain],
+    depth: u32,
+    setups: &Setups,
     tail: &Tail,
     files: &mut F,
     name: &str,
 ) -> Result<LogVerdict, CheckStop>
-    requires allowed { IsTrue (F.may_read files.old name.now) }
+    requires sound { Sound plant.now }
+    requires part { IsPartOf plant.now program }
     requires ranges { AreRanges program judged.now }
-    requires kept { IsKeptHead (limits_with program depth 0) head.now }
-    requires held { IsTailHeld (limits_with program depth (length head.now.sums)) head.now tail.now }
+    requires held { IsHeadHeld plant.now program depth setups.now }
+    requires tailed { IsTailHeld setups.now.limits setups.now.head tail.now }
+    requires allowed { IsTrue (F.may_read files.old name.now) }
     ensures verdict { IfOk result (λ verdict. IfSome (F.files files.old)
-        (λ m. IsTailVerdict program judged.now depth (file_of m name.now) head.now (Whole tail.now)
-        verdict)) }
-    ensures holds { IfOk result (YesHolds program) }
+        (λ m. IsTailVerdict plant.now program judged.now depth (file_of m name.now) setups.now
+        (Whole tail.now) verdict)) }
+    ensures says { IfOk result (YesSaysOf plant.now program) }
     ensures fault { result ≡ Err CheckStop.Fault → Rose (F.read_faults files.old) (F.read_faults files.new) }
     ensures same { F.files files.new ≡ F.files files.old }
     ensures readable { F.may_read files.new ≡ F.may_read files.old }
@@ -142,18 +221,18 @@ fn check_tailed<F: Shelf>(
     ensures no_write { F.write_faults files.new ≡ F.write_faults files.old }
 {
     let slots = program.root.len();
-    let limits = limits_behind(&program, depth, head, tail);
-    match judge_head(alloc, program, depth, judged, head, tail)? {
-        Ok(program) => {
-            let rows = Rows { program };
-            let own = check_behind(alloc, &rows, depth, head.version, tail.bytes, files, name)?;
+    let limits = limits_behind(setups, tail);
+    let version = setups.head.version;
+    match judge_head(alloc, plant, program, depth, judged, setups, tail)? {
+        Ok(rows) => {
+            let own = check_behind(alloc, &rows, depth, version, tail.bytes, files, name)?;
             given_verdict(alloc, slots, tail.count, own)
         }
-        Err(defect) => check_text(alloc, limits, head.version, tail, defect, files, name),
+        Err(defect) => check_text(alloc, limits, version, tail, defect, files, name),
     }
 }
 
-// Looks for a text defect behind a head with a defect in its meaning.
+// Looks for a text defect behind a head with a defect in its meaning. It never answers yes.
 fn check_text<F: Shelf>(
     alloc: Global,
     limits: Limits,
@@ -163,12 +242,12 @@ fn check_text<F: Shelf>(
     files: &mut F,
     name: &str,
 ) -> Result<LogVerdict, CheckStop>
-    requires allowed { IsTrue (F.may_read files.old name.now) }
     requires count { 1 ≤ tail.now.count }
+    requires allowed { IsTrue (F.may_read files.old name.now) }
     ensures verdict { IfOk result (λ verdict. IfSome (F.files files.old)
         (λ m. verdict ≡ No (unshown_defect tail.now.count unshown.line unshown.kind
         (log_text_defect limits (behind version tail.now.bytes (file_of m name.now)))))) }
-    ensures holds { (program : Program) → IfOk result (YesHolds program) }
+    ensures says { (plant : Plant) (program : Program) → IfOk result (YesSaysOf plant program) }
     ensures fault { result ≡ Err CheckStop.Fault → Rose (F.read_faults files.old) (F.read_faults files.new) }
     ensures same { F.files files.new ≡ F.files files.old }
     ensures readable { F.may_read files.new ≡ F.may_read files.old }

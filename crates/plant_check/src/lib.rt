@@ -1,9 +1,10 @@
 //! The auditor's check of a proof log, of any version, against a plant.
 //!
 //! `check_stream` says yes exactly to a valid log, whose claim then holds of all plans of the plant, and else names the
-//! log's first defect. `check_part` says the same of the plans that a part of the plant's choices admits, and `check_any` of the
-//! points of any program. `check_bytes` takes the log as bytes, and `check_log` as a proof and a claim. A log of versions
-//! 3 and 4 declares sums in its head, one of version 4 derived rows besides: what follows is checked over the program with them.
+//! log's first defect. `check_part` says the same of the plans that a part of the plant's choices admits, and `check_any` whatever
+//! domains its head is judged over. `check_bytes` takes the log as bytes, and `check_log` as a proof and a claim. A log of versions
+//! 3 and 4 declares sums in its head, one of version 4 setups and derived rows besides: what follows is checked over the rows with
+//! them, and where there are setups points are judged by the program without these and the derived rows.
 #![tactic(auto)]
 
 mod bytes;
@@ -13,6 +14,7 @@ mod head;
 mod limits;
 mod log;
 mod plant;
+mod setups;
 mod tail;
 mod unshown;
 
@@ -23,5 +25,6 @@ pub use head::judge_head;
 pub use limits::{limits_behind, limits_with};
 pub use log::check_log;
 pub use plant::{MOST_DEPTH, check_kept, check_part, check_stream};
+pub use setups::{read_setups, setup_sizes};
 pub use tail::read_tail;
 pub use unshown::first_unshown;

@@ -28,15 +28,16 @@ pub fn check_log(
     requires sound { Sound plant.now }
     requires made { IsMadeOf plant.now rows.now.program }
     requires means { IsProgramOf plant.now rows.now.program }
+    requires plain { rows.now.choices ≡ None }
     ensures checked { IfOk result (IsChecked plant.now
         (log_text log.now.version (tree_items (tree_of log.now.tree)) log.now.claim)) }
 
     // Over the rows' slots, and without a text defect, the answer is that on this very proof and claim.
     ensures meant { IsLogOver (length rows.now.program.root) log.now.version
         (tree_of log.now.tree) log.now.claim
-        → log_text_defect (limits_of rows.now.program 4608)
+        → log_text_defect (limits_of rows.now 4608)
         (log_text log.now.version (tree_items (tree_of log.now.tree)) log.now.claim) ≡ None
-        → IfOk result (IsVerdictOn rows.now.program (tree_of log.now.tree) log.now.claim) }
+        → IfOk result (IsVerdictOn rows.now (tree_of log.now.tree) log.now.claim) }
 {
     log_check::check_log(alloc, rows, MOST_DEPTH, log)
 }

@@ -47,7 +47,9 @@ pub fn check_stream<F: Shelf>(
     let program = whole_program(alloc, plant)?;
     let ranges = plant_root(alloc, plant)?;
     let ranges = ranges.as_slice();
-    check_any(alloc, program, ranges, ranges, MOST_DEPTH, files, name)
+    check_any(
+        alloc, plant, program, ranges, ranges, MOST_DEPTH, files, name,
+    )
 }
 
 // The program of a plant.
@@ -88,7 +90,7 @@ pub fn check_part<F: Shelf>(
 {
     let whole = plant_root(alloc, plant)?;
     let ranges = whole.as_slice();
-    check_any(alloc, part, ranges, ranges, depth, files, name)
+    check_any(alloc, plant, part, ranges, ranges, depth, files, name)
 }
 
 /// Checks the log of any version in a file against the choices that kept starts leave, as `check_part` checks one against a part:
@@ -121,6 +123,7 @@ pub fn check_kept<F: Shelf>(
     let root = List::from_slice(alloc, part.root.as_slice())?;
     check_any(
         alloc,
+        plant,
         part,
         ranges.as_slice(),
         root.as_slice(),

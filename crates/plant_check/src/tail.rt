@@ -1,10 +1,10 @@
-//! What stands between the sums of a head and the nodes.
+//! What stands between the setups of a head and the nodes.
 ghost use Rattle.std.specs.Prelude.{◌≡◌, ◌^◌, ◌<◌, ◌≤◌, Err, IsTrue, IfOk, IfSome, []};
 ghost use Rattle.stn_edge.specs.Count.{Rose};
 ghost use Rattle.stn_edge.specs.Files.{file_of};
 ghost use Rattle.sum_lines.specs.Head.{IsHeadVersion};
 ghost use Rattle.derivation_lines.specs.Tail.{tail_of};
-ghost use Rattle.valid_log.specs.AnyVersion.{IsTail};
+ghost use Rattle.valid_log.specs.Heads.{IsTail};
 ghost use Rattle.plant_check.specs.Heads.{IsFrontHeld};
 
 use derivation_lines::{Tail, TailFront, read_derivations};
@@ -15,8 +15,8 @@ use std::alloc::Global;
 use stn_edge::Shelf;
 use sum_lines::Head;
 
-/// Reads what stands behind the sums of a head: the derivations of version 4, and nothing in version 3. The limits are those of the
-/// program with the sums. It takes memory for the derivations. `Fault` comes only where a read failed.
+/// Reads what stands behind the setups of a head: the derivations of version 4, and nothing in version 3. The limits are those of the
+/// program with the sums and the setups. It takes memory for the derivations. `Fault` comes only where a read failed.
 pub fn read_tail<F: Shelf>(
     alloc: Global,
     limits: &Limits,

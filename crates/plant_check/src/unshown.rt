@@ -3,7 +3,7 @@ ghost use Rattle.std.specs.Prelude.{◌≡◌, length, MatchOption};
 ghost use Rattle.std.specs.List.{All};
 ghost use Rattle.sum_slots.specs.Shown.{IsShown};
 ghost use Rattle.sum_slots.specs.Sum.{IsDeclared};
-ghost use Rattle.valid_log.specs.AnyVersion.{IsUnshown};
+ghost use Rattle.valid_log.specs.Heads.{IsUnshown};
 
 use row_kit::{Domain, Program};
 use sum_slots::{Sum, is_shown};

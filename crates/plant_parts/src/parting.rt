@@ -1,5 +1,5 @@
 //! The rows of one part of a plant.
-ghost use Rattle.std.specs.Prelude.{◌≡◌, ◌↔◌, ℕ, ◌^◌, ◌<◌, ◌≤◌, List as Items, length, IfOk};
+ghost use Rattle.std.specs.Prelude.{◌≡◌, ◌↔◌, ℕ, ◌^◌, ◌<◌, ◌≤◌, List as Items, length, None, IfOk};
 ghost use Rattle.stn_model.specs.declared.plant.Plant.{Plant};
 ghost use Rattle.stn_model.specs.declared.start.Start.{Start};
 ghost use Rattle.stn_model.specs.Feasible.{Feasible};
@@ -24,6 +24,7 @@ pub fn part_rows(alloc: Global, plant: &Plant, levels: u32, part: u32) -> Result
     requires most { levels ≤ 8 }
     requires slots { levels ≤ length (slots plant.now) }
     requires part { part < 2 ^ levels }
+    ensures plain { IfOk result (λ rows. rows.choices ≡ None) }
     ensures part { IfOk result (λ rows. IsPartOf plant.now rows.program) }
     ensures root { IfOk result (λ rows. rows.program.root ≡ part_root plant.now levels part) }
 
@@ -33,7 +34,10 @@ pub fn part_rows(alloc: Global, plant: &Plant, levels: u32, part: u32) -> Result
 {
     let mut program = program_of(alloc, plant)?;
     program.root = cut_root(alloc, &program.root, levels, part)?;
-    Ok(Rows { program })
+    Ok(Rows {
+        program,
+        choices: None,
+    })
 }
 
 // What the slots may have in the part, from what they may have in the plant.

@@ -142,10 +142,10 @@ not_zero : (a : ℕ) → (a == 0) ≡ false → 0 < a
 not_zero a is = grind (arith, nat_tests)
 
 -- a group of values agrees with what is left of it
-values_agree : (limits : Limits) (place : Place) (head : ValueHead) (left : ℕ) (above : Option ℕ) (claim : Bool) (point : List ℕ) → is_claim head ≡ claim → length point ≡ least_after above → ((n : ℕ) (m : Option ℕ) → StaysAt place (AtValues n m claim)) → GrownAgrees limits place (Whole (value_piece head (padded limits.slots point))) (At (if claim then End else Ending)) → GrownAgrees limits place (grown_values limits.slots head left point) (values_step left above claim)
+values_agree : (limits : Limits) (place : Place) (head : ValueHead) (left : ℕ) (above : Option ℕ) (claim : Bool) (point : List ℕ) → is_claim head ≡ claim → length point ≡ least_after above → ((n : ℕ) (m : Option ℕ) → StaysAt place (AtValues n m claim)) → GrownAgrees limits place (Whole (value_piece head (padded limits.points point))) (At (if claim then End else Ending)) → GrownAgrees limits place (grown_values limits.points head left point) (values_step left above claim)
 values_agree limits place head left above claim point is_head long stays whole = at (left == 0) refl
   where
-    at : (none : Bool) → (left == 0) ≡ none → GrownAgrees limits place (if none then Whole (value_piece head (padded limits.slots point)) else More (Values head left point)) (At (if none then (if claim then End else Ending) else AtValues left above claim))
+    at : (none : Bool) → (left == 0) ≡ none → GrownAgrees limits place (if none then Whole (value_piece head (padded limits.points point)) else More (Values head left point)) (At (if none then (if claim then End else Ending) else AtValues left above claim))
     at true is = whole
     at false is = ((not_zero left is, refl, long, is_head), stays left above)
 
@@ -159,7 +159,7 @@ mults_agree limits place head left above split mults is_head inside stays whole 
 
 -- a line that may come begins a group or is whole, and agrees with where it leads
 abbrev Begins_at : Limits → Place → Line → Step → Type 0
-Begins_at limits place line step = MayBegin line × GrownAgrees limits place (begun limits.slots line) step
+Begins_at limits place line step = MayBegin line × GrownAgrees limits place (begun limits.points line) step
 
 module _ (limits : Limits) (few_rows : limits.rows < 2 ^ 32) (few_slots : limits.slots < 2 ^ 32) where
   -- a certificate keeps its limits, and leads to its multipliers
@@ -201,7 +201,7 @@ module _ (limits : Limits) (few_rows : limits.rows < 2 ^ 32) (few_slots : limits
       let slot_in : slot < limits.slots = not_at_least limits.slots slot second.0 in
       ((omega arith, omega arith), (inside_item (Cut (record { row = row; slot = slot })) refl, (row_in, slot_in), sym (some_same (At Inside) step is)))
   inside_begins version opened (FoundLine value count) step is tests =
-      (tt, subst (GrownAgrees limits Inside (grown_values limits.slots (Found value) count [])) (some_same (values_step count None false) step is) (values_agree limits Inside (Found value) count None false [] refl refl (λ n m. record { middle = tt; middle_later = tt; stands = record { expects = λ expected is. (refl, is); past = λ past. absurd past } }) (inside_item (FoundItem (record { value = value; point = padded limits.slots [] })) refl, tt, refl)))
+      (tt, subst (GrownAgrees limits Inside (grown_values limits.points (Found value) count [])) (some_same (values_step count None false) step is) (values_agree limits Inside (Found value) count None false [] refl refl (λ n m. record { middle = tt; middle_later = tt; stands = record { expects = λ expected is. (refl, is); past = λ past. absurd past } }) (inside_item (FoundItem (record { value = value; point = padded limits.points [] })) refl, tt, refl)))
   inside_begins version opened line step is tests = ending_begins Inside ends stays (record { middle = tt; middle_later = tt; stands = record { expects = λ expected is. inl is; past = λ past. absurd past } }) version opened line step is tests
     where
       ends : (item : RowItem) → IsTrue (may_come ExpectEnd item) → ItemAt Inside item
@@ -213,10 +213,10 @@ module _ (limits : Limits) (few_rows : limits.rows < 2 ^ 32) (few_slots : limits
 
   claim_begins : (line : Line) (step : Step) → claim_step line ≡ Some step → Begins_at limits AtClaim line step
   claim_begins (ClaimOptimal profit count) step is =
-      (tt, subst (GrownAgrees limits AtClaim (grown_values limits.slots (Optimal profit) count [])) (some_same (values_step count None true) step is) (values_agree limits AtClaim (Optimal profit) count None true [] refl refl claim_values (claim_claim, refl)))
+      (tt, subst (GrownAgrees limits AtClaim (grown_values limits.points (Optimal profit) count [])) (some_same (values_step count None true) step is) (values_agree limits AtClaim (Optimal profit) count None true [] refl refl claim_values (claim_claim, refl)))
   claim_begins ClaimInfeasible step is = (tt, (claim_claim, sym (some_same (At End) step is)))
   claim_begins (ClaimBetween profit most count) step is =
-      (tt, subst (GrownAgrees limits AtClaim (grown_values limits.slots (Between profit most) count [])) (some_same (values_step count None true) step is) (values_agree limits AtClaim (Between profit most) count None true [] refl refl claim_values (claim_claim, refl)))
+      (tt, subst (GrownAgrees limits AtClaim (grown_values limits.points (Between profit most) count [])) (some_same (values_step count None true) step is) (values_agree limits AtClaim (Between profit most) count None true [] refl refl claim_values (claim_claim, refl)))
   claim_begins (ClaimBelow most) step is = (tt, (claim_claim, sym (some_same (At End) step is)))
   claim_begins _ step is = cc
 
@@ -226,19 +226,19 @@ module _ (limits : Limits) (few_rows : limits.rows < 2 ^ 32) (few_slots : limits
 
   values_follow : (left remaining slot quanta opened : ℕ) (above : Option ℕ) (claim : Bool) (head : ValueHead) (point : List ℕ) (step : Step) → 0 < quanta → 0 < left → remaining ≡ left → length point ≡ least_after above → is_claim head ≡ claim
       → ◌≡◌ {A = Option Step} (if follows above slot then Some (values_step (left - 1) (Some slot) claim) else None) (Some step) → over_at limits opened (ValueLine slot quanta) ≡ None
-      → MayValue limits.slots remaining point (ValueLine slot quanta) × GrownAgrees limits (AtValues left above claim) (grown_values limits.slots head (remaining - 1) (padded slot point ++ quanta ∷ [])) step
+      → MayValue limits.points remaining point (ValueLine slot quanta) × GrownAgrees limits (AtValues left above claim) (grown_values limits.points head (remaining - 1) (padded slot point ++ quanta ∷ [])) step
   values_follow left remaining slot quanta opened above claim head point step some more same long is_head is tests =
       let first = where_true (follows above slot) (values_step (left - 1) (Some slot) claim) step is in
-      let second = passed (nat_le limits.slots slot) 5 [] tests in
+      let second = passed (nat_le limits.points slot) 5 [] tests in
       let least : least_after above ≤ slot = follows-least above slot first.0 in
-      let inside : slot < limits.slots = not_at_least limits.slots slot second.0 in
+      let inside : slot < limits.points = not_at_least limits.points slot second.0 in
       let later = padded slot point ++ quanta ∷ [] in
       let grown : length later ≡ slot + 1 = grind (arith, common_steps, length-replicate) in
       let agree = values_agree limits (AtValues left above claim) head (left - 1) (Some slot) claim later is_head grown (λ n m. record { middle = tt; middle_later = tt; stands = record { expects = λ expected is. is; past = λ past. past } }) (whole head is_head) in
-      ((omega arith, (omega arith), (omega arith), some), rw same (subst (GrownAgrees limits (AtValues left above claim) (grown_values limits.slots head (left - 1) later)) first.1 agree))
+      ((omega arith, (omega arith), (omega arith), some), rw same (subst (GrownAgrees limits (AtValues left above claim) (grown_values limits.points head (left - 1) later)) first.1 agree))
     where
-      whole : (head : ValueHead) → is_claim head ≡ claim → GrownAgrees limits (AtValues left above claim) (Whole (value_piece head (padded limits.slots (padded slot point ++ quanta ∷ [])))) (At (if claim then End else Ending))
-      whole (Found value) is = (values_item left above claim (record { value = value; point = padded limits.slots (padded slot point ++ quanta ∷ []) }) (sym is), tt, rw (← is) refl)
+      whole : (head : ValueHead) → is_claim head ≡ claim → GrownAgrees limits (AtValues left above claim) (Whole (value_piece head (padded limits.points (padded slot point ++ quanta ∷ [])))) (At (if claim then End else Ending))
+      whole (Found value) is = (values_item left above claim (record { value = value; point = padded limits.points (padded slot point ++ quanta ∷ []) }) (sym is), tt, rw (← is) refl)
       whole (Optimal profit) is = (values_claim left above claim (sym is), rw (← is) refl)
       whole (Between profit most) is = (values_claim left above claim (sym is), rw (← is) refl)
 
@@ -262,7 +262,7 @@ module _ (limits : Limits) (few_rows : limits.rows < 2 ^ 32) (few_slots : limits
 
   -- a line that may come, other than the header and the end, may follow the group, and what it makes of it agrees with where it leads
   Follows : Place → Group → Line → Step → Type 0
-  Follows place group line step = MayFollow limits.slots group line × GrownAgrees limits place (followed limits.slots group line) step
+  Follows place group line step = MayFollow limits.points group line × GrownAgrees limits place (followed limits.points group line) step
 
   values_lines : (version left remaining opened : ℕ) (above : Option ℕ) (claim : Bool) (head : ValueHead) (point : List ℕ) (line : Line) (step : Step) → IsInRange line → 0 < left → remaining ≡ left → length point ≡ least_after above → is_claim head ≡ claim → step_of version (AtValues left above claim) line ≡ Some step → over_at limits opened line ≡ None → Follows (AtValues left above claim) (Values head remaining point) line step
   unfolding Follows
@@ -283,7 +283,7 @@ module _ (limits : Limits) (few_rows : limits.rows < 2 ^ 32) (few_slots : limits
   end_only version _ step is body = cc
 
   -- by places and groups
-  pub line_follows : (version opened : ℕ) (place : Place) (group : Group) (line : Line) (step : Step) → IsInRange line → IsBody line → GroupAgrees limits place group → step_of version place line ≡ Some step → over_at limits opened line ≡ None → MayFollow limits.slots group line × GrownAgrees limits place (followed limits.slots group line) step
+  pub line_follows : (version opened : ℕ) (place : Place) (group : Group) (line : Line) (step : Step) → IsInRange line → IsBody line → GroupAgrees limits place group → step_of version place line ≡ Some step → over_at limits opened line ≡ None → MayFollow limits.points group line × GrownAgrees limits place (followed limits.points group line) step
   unfolding Follows
   line_follows version opened AtHeader Nothing line step range body agree is tests = absurd (header_only version line step is body)
   line_follows version opened AtNode Nothing line step range body agree is tests = node_begins version line step is

@@ -56,9 +56,9 @@ body_or_edge _ = inl tt
 
 -- a line of an item or of the claim
 body_step : (before : Standing) (lines : List Line) (items : List RowItem) (claim : Option Claim) (line : Line) (g : Gatherer) → BodyComes before lines items claim line g → Stepped lines line g.limits g.grammar
-body_step before lines items claim line g comes = at (followed g.limits.slots g.group line) refl
+body_step before lines items claim line g comes = at (followed g.limits.points g.group line) refl
   where
-    at : (grown : Grown) → grown ≡ followed g.limits.slots g.group line → Stepped lines line g.limits g.grammar
+    at : (grown : Grown) → grown ≡ followed g.limits.points g.group line → Stepped lines line g.limits g.grammar
     at (More group) is = record { items = items; claim = claim; g = record g { group = group }; gathered = made_more before lines items claim line g group comes is; limited = refl; at = refl }
     at (Whole (Item item)) is =
         let made = made_item before lines items claim line g item (g.number + 1) comes is refl in
@@ -260,7 +260,7 @@ at_first limits = record {
   listed = refl;
   written = All-nil IsLine;
   number = refl;
-  over = All-nil (IsOver limits.slots);
+  over = All-nil (IsOver limits.points);
   claim_over = tt;
   fresh = refl;
   began = refl;

@@ -175,8 +175,8 @@ module _ (before : Standing) (lines : List Line) (items : List RowItem) (claim :
   record Leads : Type 0 where
     led : Step
     to : after_step before led ≡ g.grammar
-    may : MayFollow g.limits.slots g.group line
-    agrees : GrownAgrees g.limits before.place (followed g.limits.slots g.group line) led
+    may : MayFollow g.limits.points g.group line
+    agrees : GrownAgrees g.limits before.place (followed g.limits.points g.group line) led
 
   leads : BodyComes → Leads
   leads comes =
@@ -184,11 +184,11 @@ module _ (before : Standing) (lines : List Line) (items : List RowItem) (claim :
       let both = line_follows g.limits comes.few_rows comes.few_slots before.version (length before.sides) before.place g.group line to.0 comes.comes.written.in_range comes.body comes.comes.gathered.group to.1 comes.comes.fine in
       record { led = to.0; to = to.2; may = both.0; agrees = both.1 }
 
-  pub may_follow : BodyComes → MayFollow g.limits.slots g.group line
+  pub may_follow : BodyComes → MayFollow g.limits.points g.group line
   may_follow comes = (leads comes).may
 
-  has_lines : BodyComes → HasLines g.limits.slots (group_lines g.group ++ line ∷ []) (followed g.limits.slots g.group line)
-  has_lines comes = followed-lines g.limits.slots g.group line (may_follow comes)
+  has_lines : BodyComes → HasLines g.limits.points (group_lines g.group ++ line ∷ []) (followed g.limits.points g.group line)
+  has_lines comes = followed-lines g.limits.points g.group line (may_follow comes)
 
   unclaimed : BodyComes → IsMiddle before.place → claim ≡ None
   unclaimed comes middle = middle_claim before.place claim middle comes.comes.gathered.claimed
@@ -197,7 +197,7 @@ module _ (before : Standing) (lines : List Line) (items : List RowItem) (claim :
   listed comes middle = subst (λ c. lines ≡ lines_at before.version before.place items g.group c) (unclaimed comes middle) comes.comes.gathered.listed
 
   -- where more lines of the group have to come
-  more_leads : (group : Group) → BodyComes → More group ≡ followed g.limits.slots g.group line → (later : Place) × GroupAgrees g.limits later group × StaysAt before.place later × ((record before { place = later }) ≡ g.grammar)
+  more_leads : (group : Group) → BodyComes → More group ≡ followed g.limits.points g.group line → (later : Place) × GroupAgrees g.limits later group × StaysAt before.place later × ((record before { place = later }) ≡ g.grammar)
   more_leads group comes is = at (leads comes).led (subst (λ grown. GrownAgrees g.limits before.place grown (leads comes).led) (sym is) (leads comes).agrees) (leads comes).to
     where
       at : (step : Step) → GrownAgrees g.limits before.place (More group) step → after_step before step ≡ g.grammar → (later : Place) × GroupAgrees g.limits later group × StaysAt before.place later × ((record before { place = later }) ≡ g.grammar)
@@ -206,12 +206,12 @@ module _ (before : Standing) (lines : List Line) (items : List RowItem) (claim :
       at Opens agree to = absurd agree
       at Ends agree to = absurd agree
 
-  pub made_more : (group : Group) → BodyComes → More group ≡ followed g.limits.slots g.group line → HasGathered (lines ++ line ∷ []) items claim (record g { group = group })
+  pub made_more : (group : Group) → BodyComes → More group ≡ followed g.limits.points g.group line → HasGathered (lines ++ line ∷ []) items claim (record g { group = group })
   made_more group comes is =
       let to = more_leads group comes is in
       let stays : StaysAt before.place to.0 = to.2 in
       let more = one_more before.version before.place items g.group lines line stays.middle (listed comes stays.middle) in
-      let own = lines_of_group g.limits.slots (group_lines g.group ++ line ∷ []) group (followed g.limits.slots g.group line) is (has_lines comes) in
+      let own = lines_of_group g.limits.points (group_lines g.group ++ line ∷ []) group (followed g.limits.points g.group line) is (has_lines comes) in
       let later : HasGathered (lines ++ line ∷ []) items None (record g { group = group; grammar = record before { place = to.0 } }) = record {
         listed = more ∙ (ap (λ t. HeaderLine before.version ∷ (flat_map item_lines items ++ t)) (sym own) ∙ sym (middle_lines before.version to.0 items group stays.middle_later));
         written = written comes.comes;
@@ -227,7 +227,7 @@ module _ (before : Standing) (lines : List Line) (items : List RowItem) (claim :
       subst (λ c. HasGathered (lines ++ line ∷ []) items c (record g { group = group })) (sym (unclaimed comes stays.middle)) (subst (λ st. HasGathered (lines ++ line ∷ []) items None (record g { group = group; grammar = st })) to.3 later)
 
   -- where the lines are an item
-  pub made_item : (item : RowItem) (began : ℕ) → BodyComes → Whole (Item item) ≡ followed g.limits.slots g.group line → began ≡ g.number + 1 → HasMade (lines ++ line ∷ []) items claim (record g { group = Nothing; began = began }) (ItemGathered g.began item)
+  pub made_item : (item : RowItem) (began : ℕ) → BodyComes → Whole (Item item) ≡ followed g.limits.points g.group line → began ≡ g.number + 1 → HasMade (lines ++ line ∷ []) items claim (record g { group = Nothing; began = began }) (ItemGathered g.began item)
   made_item item began comes is begins =
       let agree = subst (λ grown. GrownAgrees g.limits before.place grown (leads comes).led) (sym is) (leads comes).agrees in
       let to : after_step before (item_step item) ≡ g.grammar = subst (λ st. after_step before st ≡ g.grammar) agree.2 (leads comes).to in
@@ -236,7 +236,7 @@ module _ (before : Standing) (lines : List Line) (items : List RowItem) (claim :
       let next = after_item g.limits before item in
       let form : FormAgrees later_st (form_of (items ++ item ∷ [])) = item_form before items item at comes.comes.gathered.form in
       let more = one_more before.version before.place items g.group lines line at.middle (listed comes at.middle) in
-      let own = lines_of_piece g.limits.slots (group_lines g.group ++ line ∷ []) (Item item) (followed g.limits.slots g.group line) is (has_lines comes) in
+      let own = lines_of_piece g.limits.points (group_lines g.group ++ line ∷ []) (Item item) (followed g.limits.points g.group line) is (has_lines comes) in
       let all : lines ++ line ∷ [] ≡ lines_at later_st.version later_st.place (items ++ item ∷ []) Nothing None =
       more ∙ (ap (λ t. HeaderLine before.version ∷ (flat_map item_lines items ++ t)) (sym own.0) ∙ (ap (λ t. HeaderLine before.version ∷ t) (sym flat)
       ∙ (ap (λ v. HeaderLine v ∷ (flat_map item_lines (items ++ item ∷ []) ++ [])) (sym next.version) ∙ sym (middle_lines later_st.version later_st.place (items ++ item ∷ []) Nothing next.middle)))) in
@@ -245,7 +245,7 @@ module _ (before : Standing) (lines : List Line) (items : List RowItem) (claim :
         listed = all;
         written = written comes.comes;
         number = count;
-        over = All-next (IsOver g.limits.slots) items item comes.comes.gathered.over own.1;
+        over = All-next (IsOver g.limits.points) items item comes.comes.gathered.over own.1;
         claim_over = tt;
         fresh = middle_fresh later_st.place (items ++ item ∷ []) next.middle;
         began = begins ∙ (ap (λ n. n + 1) count ∙ next_line later_st.version later_st.place (items ++ item ∷ []) (lines ++ line ∷ []) next.middle all);
@@ -264,14 +264,14 @@ module _ (before : Standing) (lines : List Line) (items : List RowItem) (claim :
       flat = rw (flat_map-append item_lines items (item ∷ [])) (grind (arith, common_steps))
 
   -- where the lines are the claim
-  pub made_claim : (made : Claim) → BodyComes → Whole (ClaimPiece made) ≡ followed g.limits.slots g.group line → HasMade (lines ++ line ∷ []) items claim (record g { group = Nothing }) (ClaimGathered g.began made)
+  pub made_claim : (made : Claim) → BodyComes → Whole (ClaimPiece made) ≡ followed g.limits.points g.group line → HasMade (lines ++ line ∷ []) items claim (record g { group = Nothing }) (ClaimGathered g.began made)
   made_claim made comes is =
       let agree = subst (λ grown. GrownAgrees g.limits before.place grown (leads comes).led) (sym is) (leads comes).agrees in
       let to : (record before { place = End }) ≡ g.grammar = subst (λ st. after_step before st ≡ g.grammar) agree.1 (leads comes).to in
       let at : ClaimAt before.place = agree.0 in
       let whole = claim_whole before items at comes.comes.gathered.form in
       let more = one_more before.version before.place items g.group lines line at.middle (listed comes at.middle) in
-      let own = lines_of_piece g.limits.slots (group_lines g.group ++ line ∷ []) (ClaimPiece made) (followed g.limits.slots g.group line) is (has_lines comes) in
+      let own = lines_of_piece g.limits.points (group_lines g.group ++ line ∷ []) (ClaimPiece made) (followed g.limits.points g.group line) is (has_lines comes) in
       let bare : claim_lines made ++ [] ≡ claim_lines made = grind (arith, common_steps) in
       let later : HasGathered (lines ++ line ∷ []) items (Some made) (record g { group = Nothing; grammar = record before { place = End } }) = record {
         listed = more ∙ ap (λ t. HeaderLine before.version ∷ (flat_map item_lines items ++ t)) (sym (bare ∙ own.0));

@@ -144,13 +144,13 @@ module _ (limits : Limits) where
   leads-cons standing later x xs is = ap (option_and_then (λ later. leads limits later xs)) is
 
   -- the lines of values
-  value_step : (version left : ℕ) (above : Option ℕ) (slot quanta : ℕ) (of_claim : Bool) (sides : List Bool) → follows above slot ≡ true → slot < limits.slots → on (at version (Values left above of_claim) sides) (ValueLine slot quanta) ≡ Some (after_step (at version (Values left above of_claim) sides) (values_step (left - 1) (Some slot) of_claim))
+  value_step : (version left : ℕ) (above : Option ℕ) (slot quanta : ℕ) (of_claim : Bool) (sides : List Bool) → follows above slot ≡ true → slot < limits.points → on (at version (Values left above of_claim) sides) (ValueLine slot quanta) ≡ Some (after_step (at version (Values left above of_claim) sides) (values_step (left - 1) (Some slot) of_claim))
   value_step version left above slot quanta of_claim sides later low =
       on-step (at version (Values left above of_claim) sides) (ValueLine slot quanta) (values_step (left - 1) (Some slot) of_claim)
       (ap (λ (b : Bool). if b then Some (values_step (left - 1) (Some slot) of_claim) else None) later)
-      (passes (leb limits.slots slot) 5 [] (not_below limits.slots slot low) refl)
+      (passes (leb limits.points slot) 5 [] (not_below limits.points slot low) refl)
 
-  value_more : (version n : ℕ) (above : Option ℕ) (slot value : ℕ) (of_claim : Bool) (sides : List Bool) (lines : List Line) (place : Place) (end : Standing) → follows above slot ≡ true → slot < limits.slots → leads limits (after_step (at version (Values (n + 1) above of_claim) sides) (values_step n (Some slot) of_claim)) lines ≡ Some end → leads limits (after_step (at version place sides) (values_step (n + 1) above of_claim)) (ValueLine slot value ∷ lines) ≡ Some end
+  value_more : (version n : ℕ) (above : Option ℕ) (slot value : ℕ) (of_claim : Bool) (sides : List Bool) (lines : List Line) (place : Place) (end : Standing) → follows above slot ≡ true → slot < limits.points → leads limits (after_step (at version (Values (n + 1) above of_claim) sides) (values_step n (Some slot) of_claim)) lines ≡ Some end → leads limits (after_step (at version place sides) (values_step (n + 1) above of_claim)) (ValueLine slot value ∷ lines) ≡ Some end
   value_more version n above slot value of_claim sides lines place end later low rest =
       let one_less : n + 1 - 1 ≡ n = omega arith in
       let here = at version (Values (n + 1) above of_claim) sides in
@@ -159,11 +159,11 @@ module _ (limits : Limits) where
       ∙ ap (λ (m : ℕ). leads limits (after_step here (values_step m (Some slot) of_claim)) lines) one_less
       ∙ rest
 
-  values_lead : (version slot : ℕ) (above : Option ℕ) (place : Place) (point : List ℕ) (of_claim : Bool) (sides : List Bool) → IsAbove above slot → slot + length point ≤ limits.slots → leads limits (after_step (at version place sides) (values_step (started point) above of_claim)) (value_lines slot point) ≡ Some (at version (if of_claim then AtEnd else Ending) sides)
+  values_lead : (version slot : ℕ) (above : Option ℕ) (place : Place) (point : List ℕ) (of_claim : Bool) (sides : List Bool) → IsAbove above slot → slot + length point ≤ limits.points → leads limits (after_step (at version place sides) (values_step (started point) above of_claim)) (value_lines slot point) ≡ Some (at version (if of_claim then AtEnd else Ending) sides)
   unfolding IsAbove
   values_lead version slot above place [] of_claim sides later low = refl
   values_lead version slot above place (value ∷ point) of_claim sides later low =
-      let within : slot + 1 + length point ≤ limits.slots = omega arith in
+      let within : slot + 1 + length point ≤ limits.points = omega arith in
       ⊎_elim
       (λ (is : value ≡ 0).
       ap (λ (n : ℕ). leads limits (after_step (at version place sides) (values_step n above of_claim)) (value_lines slot (value ∷ point))) (started-zero value point is)

@@ -73,8 +73,8 @@ clean limits bytes lines items made g is limited done text none =
     let whole : lines ≡ log_lines g.grammar.version items made = is.listed ∙ lines_whole g.grammar.version g.grammar.place items g.group (Some made) made done refl in
     record {
       text = text ∙ ap lines_text whole;
-      over = subst (λ (l : Limits). All (IsOver l.slots) items) limited is.over;
-      claim_over = subst (λ (l : Limits). IsClaimOver l.slots made) limited is.claim_over;
+      over = subst (λ (l : Limits). All (IsOver l.points) items) limited is.over;
+      claim_over = subst (λ (l : Limits). IsClaimOver l.points made) limited is.claim_over;
       lines = subst (λ ls. All IsLine ls) whole is.written;
       clean = none;
     }

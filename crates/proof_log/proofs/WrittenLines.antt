@@ -87,30 +87,30 @@ floor_written : (floor : Option ℤ) → IfSome floor IsShort → All IsLine (fl
 floor_written None short = All-nil IsLine
 floor_written (Some profit) short = one_line_of (FloorLine profit) (record { short = more profit [] short none; in_range = tt })
 
-item_written : (limits : Limits) (version : ℕ) (item : RowItem) → limits.rows < 2 ^ 32 → limits.slots < 2 ^ 32 → IsFitItem limits version item → IsShortItem item → All IsLine (item_lines item)
+item_written : (limits : Limits) (version : ℕ) (item : RowItem) → limits.rows < 2 ^ 32 → limits.slots < 2 ^ 32 → limits.points < 2 ^ 32 → IsFitItem limits version item → IsShortItem item → All IsLine (item_lines item)
 unfolding item_lines
-item_written limits version Node rows slots fit short = one_line_of _ (record { short = none; in_range = tt })
-item_written limits version (Cut cut) rows slots fit short =
+item_written limits version Node rows slots points fit short = one_line_of _ (record { short = none; in_range = tt })
+item_written limits version (Cut cut) rows slots points fit short =
     let row : cut.row < limits.rows = fit.0 in
     let slot : cut.slot < limits.slots = fit.1 in
     one_line_of _ (record { short = more (pos cut.row) (pos cut.slot ∷ []) (natural cut.row (omega arith)) (more (pos cut.slot) [] (natural cut.slot (omega arith)) none); in_range = tt })
-item_written limits version (FoundItem found) rows slots fit short =
+item_written limits version (FoundItem found) rows slots points fit short =
     All-cons IsLine _ (value_lines 0 found.point)
-    (record { short = more found.value (pos (started found.point) ∷ []) short.0 (more (pos (started found.point)) [] (natural (started found.point) (started_small limits.slots found.point fit slots)) none); in_range = tt })
+    (record { short = more found.value (pos (started found.point) ∷ []) short.0 (more (pos (started found.point)) [] (natural (started found.point) (started_small limits.points found.point fit points)) none); in_range = tt })
     (values_written 0 found.point short.1 (omega arith))
-item_written limits version Empty rows slots fit short = one_line_of _ (record { short = none; in_range = tt })
-item_written limits version (Dual cert) rows slots fit short =
+item_written limits version Empty rows slots points fit short = one_line_of _ (record { short = none; in_range = tt })
+item_written limits version (Dual cert) rows slots points fit short =
     let sizes = cert_sizes limits.rows cert fit in
     All-cons IsLine _ (map mult_line cert.mults)
     (record { short = more (pos cert.scale) (pos (length cert.mults) ∷ []) sizes.scale (more (pos (length cert.mults)) [] sizes.count none); in_range = tt })
     (mults_written limits.rows 0 cert.mults rows sizes.mults)
-item_written limits version Point rows slots fit short = one_line_of _ (record { short = none; in_range = tt })
-item_written limits version (Pending cert) rows slots fit short =
+item_written limits version Point rows slots points fit short = one_line_of _ (record { short = none; in_range = tt })
+item_written limits version (Pending cert) rows slots points fit short =
     let sizes = cert_sizes limits.rows cert fit in
     All-cons IsLine _ (map mult_line cert.mults)
     (record { short = more (pos cert.scale) (pos (length cert.mults) ∷ []) sizes.scale (more (pos (length cert.mults)) [] sizes.count none); in_range = tt })
     (mults_written limits.rows 0 cert.mults rows sizes.mults)
-item_written limits version (Split pick cert) rows slots fit short =
+item_written limits version (Split pick cert) rows slots points fit short =
     let sizes = cert_sizes limits.rows cert fit.1 in
     let slot : pick.slot < limits.slots = fit.0 in
     All-append IsLine (floor_lines pick.floor) _ (floor_written pick.floor short.1)
@@ -123,38 +123,38 @@ item_written limits version (Split pick cert) rows slots fit short =
     })
     (mults_written limits.rows 0 cert.mults rows sizes.mults))
 
-items_written : (limits : Limits) (version : ℕ) (items : List RowItem) → limits.rows < 2 ^ 32 → limits.slots < 2 ^ 32 → All (IsFitItem limits version) items → All IsShortItem items → All IsLine (flat_map item_lines items)
-items_written limits version [] rows slots fit short = All-nil IsLine
-items_written limits version (item ∷ items) rows slots fit short =
+items_written : (limits : Limits) (version : ℕ) (items : List RowItem) → limits.rows < 2 ^ 32 → limits.slots < 2 ^ 32 → limits.points < 2 ^ 32 → All (IsFitItem limits version) items → All IsShortItem items → All IsLine (flat_map item_lines items)
+items_written limits version [] rows slots points fit short = All-nil IsLine
+items_written limits version (item ∷ items) rows slots points fit short =
     All-append IsLine (item_lines item) (flat_map item_lines items)
-    (item_written limits version item rows slots (All-head (IsFitItem limits version) item items fit) (All-head IsShortItem item items short))
-    (items_written limits version items rows slots (All-tail (IsFitItem limits version) item items fit) (All-tail IsShortItem item items short))
+    (item_written limits version item rows slots points (All-head (IsFitItem limits version) item items fit) (All-head IsShortItem item items short))
+    (items_written limits version items rows slots points (All-tail (IsFitItem limits version) item items fit) (All-tail IsShortItem item items short))
 
--- a claim over the slots is fit
-pub claim_fits : (limits : Limits) (claim : Claim) → IsClaimOver limits.slots claim → IsFitClaim limits claim
+-- a claim over the slots of points is fit
+pub claim_fits : (limits : Limits) (claim : Claim) → IsClaimOver limits.points claim → IsFitClaim limits claim
 claim_fits limits (Optimal profit point) over = omega (arith, over)
 claim_fits limits Infeasible over = tt
 claim_fits limits (Between profit most point) over = omega (arith, over)
 claim_fits limits (Below most) over = tt
 
-claim_written : (limits : Limits) (claim : Claim) → limits.slots < 2 ^ 32 → IsFitClaim limits claim → IsShortClaim claim → All IsLine (claim_lines claim)
+claim_written : (limits : Limits) (claim : Claim) → limits.points < 2 ^ 32 → IsFitClaim limits claim → IsShortClaim claim → All IsLine (claim_lines claim)
 unfolding claim_lines
-claim_written limits (Optimal profit point) slots fit short =
+claim_written limits (Optimal profit point) points fit short =
     All-cons IsLine _ (value_lines 0 point)
-    (record { short = more profit (pos (started point) ∷ []) short.0 (more (pos (started point)) [] (natural (started point) (started_small limits.slots point fit slots)) none); in_range = tt })
+    (record { short = more profit (pos (started point) ∷ []) short.0 (more (pos (started point)) [] (natural (started point) (started_small limits.points point fit points)) none); in_range = tt })
     (values_written 0 point short.1 (omega arith))
-claim_written limits Infeasible slots fit short = one_line_of _ (record { short = none; in_range = tt })
-claim_written limits (Between profit most point) slots fit short =
+claim_written limits Infeasible points fit short = one_line_of _ (record { short = none; in_range = tt })
+claim_written limits (Between profit most point) points fit short =
     All-cons IsLine _ (value_lines 0 point)
-    (record { short = more profit (most ∷ (pos (started point) ∷ [])) short.0 (more most (pos (started point) ∷ []) short.1 (more (pos (started point)) [] (natural (started point) (started_small limits.slots point fit slots)) none)); in_range = tt })
+    (record { short = more profit (most ∷ (pos (started point) ∷ [])) short.0 (more most (pos (started point) ∷ []) short.1 (more (pos (started point)) [] (natural (started point) (started_small limits.points point fit points)) none)); in_range = tt })
     (values_written 0 point short.2 (omega arith))
-claim_written limits (Below most) slots fit short = one_line_of _ (record { short = more most [] short none; in_range = tt })
+claim_written limits (Below most) points fit short = one_line_of _ (record { short = more most [] short none; in_range = tt })
 
 -- the lines of a log may be written
 pub logs_written : LogsMayBeWritten
 unfolding log_lines
-logs_written limits version tree claim rows slots known fit claim_fits short claim_short =
+logs_written limits version tree claim rows slots points known fit claim_fits short claim_short =
     let low : version ≤ 4 = known.1 in
     All-cons IsLine (Header version) _ (record { short = more (pos version) [] (natural version (omega arith)) none; in_range = known })
-    (All-append IsLine (flat_map item_lines (tree_items tree)) (claim_lines claim ++ EndLine ∷ []) (items_written limits version (tree_items tree) rows slots fit short)
-    (All-append IsLine (claim_lines claim) (EndLine ∷ []) (claim_written limits claim slots claim_fits claim_short) (one_line_of EndLine (record { short = none; in_range = tt }))))
+    (All-append IsLine (flat_map item_lines (tree_items tree)) (claim_lines claim ++ EndLine ∷ []) (items_written limits version (tree_items tree) rows slots points fit short)
+    (All-append IsLine (claim_lines claim) (EndLine ∷ []) (claim_written limits claim points claim_fits claim_short) (one_line_of EndLine (record { short = none; in_range = tt }))))

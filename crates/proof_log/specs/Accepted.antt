@@ -34,18 +34,18 @@ MayFloor version (Some profit) = version ≡ 4
 abbrev pub IsFitItem : Limits → ℕ → RowItem → Type 0
 IsFitItem limits version Node = ⊤
 IsFitItem limits version (Cut cut) = (cut.row < limits.rows) × (cut.slot < limits.slots)
-IsFitItem limits version (Found found) = length found.point ≤ limits.slots
+IsFitItem limits version (Found found) = length found.point ≤ limits.points
 IsFitItem limits version Empty = ⊤
 IsFitItem limits version (Dual cert) = is_fit limits.rows cert ≡ true
 IsFitItem limits version Point = 2 ≤ version
 IsFitItem limits version (Pending cert) = is_fit limits.rows cert ≡ true
 IsFitItem limits version (Split pick cert) = (pick.slot < limits.slots) × (is_fit limits.rows cert ≡ true) × MayFloor version pick.floor
 
--- a claim that a log may have: its slots are there
+-- a claim that a log may have: the slots of its point are there
 abbrev pub IsFitClaim : Limits → Claim → Type 0
-IsFitClaim limits (Optimal profit point) = length point ≤ limits.slots
+IsFitClaim limits (Optimal profit point) = length point ≤ limits.points
 IsFitClaim limits Infeasible = ⊤
-IsFitClaim limits (Between profit cap point) = length point ≤ limits.slots
+IsFitClaim limits (Between profit cap point) = length point ≤ limits.points
 IsFitClaim limits (Below cap) = ⊤
 
 -- the lines of a log may come one after another to the last, where its items and its claim are fit and its proof is not too deep
@@ -85,5 +85,5 @@ IsShortClaim (Below cap) = IsShort cap
 -- the lines of such a log may be written, where its numbers have at most 30 digits and keep their ranges
 abbrev pub LogsMayBeWritten : Type 0
 LogsMayBeWritten =
-    (limits : Limits) (version : ℕ) (tree : RowTree) (claim : Claim) → limits.rows < 2 ^ 32 → limits.slots < 2 ^ 32 → IsVersion version
+    (limits : Limits) (version : ℕ) (tree : RowTree) (claim : Claim) → limits.rows < 2 ^ 32 → limits.slots < 2 ^ 32 → limits.points < 2 ^ 32 → IsVersion version
     → All (IsFitItem limits version) (tree_items tree) → IsFitClaim limits claim → All IsShortItem (tree_items tree) → IsShortClaim claim → All IsLine (log_lines version (tree_items tree) claim)

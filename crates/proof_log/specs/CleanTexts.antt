@@ -11,14 +11,14 @@ use Rattle.row_relax.specs.RowProofs.{RowTree}
 use Rattle.proof_log.specs.Log.{log_lines, log_text}
 use Rattle.proof_log.specs.OneText.{IsLogOver}
 
--- the bytes are the text of a log: its points have a value for each slot, its lines may be written, and the grammar takes them under
+-- the bytes are the text of a log: its points have as many values as the limits say, its lines may be written, and the grammar takes them under
 -- these limits, one after another, to the last
 pub record IsTextOfLog (limits : Limits) (bytes : List ℕ) : Type 0 where
   pub version : ℕ
   pub tree : RowTree
   pub claim : Claim
   pub text : bytes ≡ log_text version (tree_items tree) claim
-  pub over : IsLogOver limits.slots version tree claim
+  pub over : IsLogOver limits.points version tree claim
   pub accepted : IsSomeAnd (leads limits new_standing (log_lines version (tree_items tree) claim)) (λ last. last.place ≡ Done)
 
 -- bytes without a text defect are the text of a log

@@ -46,8 +46,8 @@ pub record HasGathered (lines : List Line) (items : List RowItem) (claim : Optio
   pub listed : lines ≡ lines_at g.grammar.version g.grammar.place items g.group claim
   pub written : All IsLine lines
   pub number : g.number ≡ length lines
-  pub over : All (IsOver g.limits.slots) items
-  pub claim_over : IfSome claim (IsClaimOver g.limits.slots)
+  pub over : All (IsOver g.limits.points) items
+  pub claim_over : IfSome claim (IsClaimOver g.limits.points)
   pub fresh : IsFresh g.grammar.place items
   pub began : g.began ≡ line_after items
   pub group : GroupAgrees g.limits g.grammar.place g.group

@@ -45,8 +45,8 @@ pub record HasRead (told : Option FileMap) (name : List ℕ) (version head : ℕ
 -- the bytes are the text of the log of these items and this claim in the lines of a version, and have no text defect
 pub record IsClean (limits : Limits) (bytes : List ℕ) (version : ℕ) (items : List RowItem) (claim : Claim) : Type 0 where
   pub text : bytes ≡ log_text version items claim
-  pub over : All (IsOver limits.slots) items
-  pub claim_over : IsClaimOver limits.slots claim
+  pub over : All (IsOver limits.points) items
+  pub claim_over : IsClaimOver limits.points claim
   pub lines : All IsLine (log_lines version items claim)
   pub clean : log_text_defect limits bytes ≡ None
 
@@ -61,8 +61,8 @@ IsPartAfter told name version head limits items claim r (EndPart own) =
 IsPartAfter told name version head limits items claim r (BadPart defect) =
     IfSome told (λ m. log_text_defect limits (behind version head (file_of m name)) ≡ Some (defect.line, defect.kind))
 
--- the bytes are the text of the log, whose points have a value for each slot, and have no text defect
+-- the bytes are the text of the log, whose points have as many values as the limits say, and have no text defect
 pub record IsRead (limits : Limits) (bytes : List ℕ) (log : Log) : Type 0 where
   pub text : bytes ≡ log_text log.version (tree_items (tree_of log.tree)) log.claim
-  pub over : IsLogOver limits.slots log.version (tree_of log.tree) log.claim
+  pub over : IsLogOver limits.points log.version (tree_of log.tree) log.claim
   pub clean : log_text_defect limits bytes ≡ None

@@ -164,13 +164,13 @@ impl Gatherer {
 
     // What a line makes of the open group. After it none is open.
     fn grow(&mut self, alloc: Global, line: Line) -> Result<Grown, AllocError>
-        requires { MayFollow self.old.limits.slots self.old.group line }
+        requires { MayFollow self.old.limits.points self.old.group line }
         ensures same { self.new ≡ record self.old { group = Group.Nothing } }
         ensures grown { IfOk result
-            (λ grown. grown ≡ followed self.old.limits.slots self.old.group line) }
+            (λ grown. grown ≡ followed self.old.limits.points self.old.group line) }
     {
         let group = std::mem::replace(&mut self.group, Group::Nothing);
-        follow(alloc, self.limits.slots as usize, group, line)
+        follow(alloc, self.limits.points as usize, group, line)
     }
 }
 

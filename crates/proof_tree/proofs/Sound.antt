@@ -1,9 +1,8 @@
 -- The cap of a tree bounds the worth of every lawful point, whatever the relaxation.
 use Rattle.std.proofs.Common.{◌≡◌, ℤ, ◌≤ℤ◌, ◌⊎◌, Bool, true, false, cond, List, [], ◌∷◌, Option, Some, None, option_and_then, inl, inr, refl, ap, sym, ◌∙◌, subst, ⊎_elim}
-use Rattle.std.specs.Int.Signed.{≤ℤ_refl}
 use Rattle.proof_tree.specs.declared.capped.Capped.{Capped}
 use Rattle.proof_tree.specs.declared.capped.Capped.TheVariants.{AtMost, NoPoint, Bad}
-use Rattle.proof_tree.specs.Cap.{Bounds, Settles, IsWithinFloor, greater, floor_cap}
+use Rattle.proof_tree.specs.Cap.{Bounds, IsWithinFloor, greater, floor_cap}
 use Rattle.proof_tree.specs.Relaxation.{Steps, IsSound}
 use Rattle.proof_tree.specs.Tree.{Leaf, no_point, dual, one_point, pending, Tree, leaf, split, tree_cap, split_cap, leaf_cap, after_cuts, cap_if}
 use Rattle.proof_tree.specs.Views.{View, Point}
@@ -14,16 +13,6 @@ Bounds-fewer : (P Q L : Point → Type 0) (worth : Point → ℤ) (cap : Capped)
 Bounds-fewer P Q L worth (AtMost n) within bound = λ p q l. bound p (within p q l) l
 Bounds-fewer P Q L worth NoPoint within bound = λ p q l. bound p (within p q l) l
 Bounds-fewer P Q L worth Bad within bound = tt
-
--- what settling an area answers is a cap of its points
-Bounds-Settles : (P L : Point → Type 0) (worth : Point → ℤ) (cap : Capped) → Settles P L worth cap → Bounds P L worth cap
-Bounds-Settles P L worth (AtMost n) one =
-    λ p in_view lawful.
-    let only : p ≡ one.0 = one.1.1 p in_view in
-    let same : worth p ≡ n = ap worth only ∙ one.3 in
-    subst (λ z. worth p ≤ℤ z) same (≤ℤ_refl (worth p))
-Bounds-Settles P L worth NoPoint one = λ p in_view lawful. one.2 (subst L (one.1.1 p in_view) lawful)
-Bounds-Settles P L worth Bad one = tt
 
 some_same : (v w : View) → Some v ≡ Some w → v ≡ w
 some_same v w eq = cc
@@ -58,7 +47,7 @@ module _ {U C P : Type 0} (s : Steps U C P) (fits : View → Type 0) (is_point :
       ask true is = λ p in_view lawful. sound.empty_holds v fit is p in_view
       ask false is = tt
   leaf_cap-bounds v (dual cert) fit = sound.cap_bounds v cert fit
-  leaf_cap-bounds v one_point fit = Bounds-Settles (is_point v) is_lawful worth (s.settle v) (sound.settles v fit)
+  leaf_cap-bounds v one_point fit = sound.settles v fit
   leaf_cap-bounds v (pending cert) fit = sound.cap_bounds v cert fit
 
   -- a point that a split has not forgotten is in one of the parts

@@ -1,5 +1,5 @@
 -- What caps say of points.
-use Rattle.std.specs.Prelude.{◌≡◌, ℤ, ◌≤ℤ◌, ⊤, Option, Some, None}
+use Rattle.std.specs.Prelude.{ℤ, ◌≤ℤ◌, ⊤, Option, Some, None}
 use Rattle.std.specs.Int.{int_max}
 use Rattle.proof_tree.specs.declared.capped.Capped.{Capped}
 use Rattle.proof_tree.specs.declared.capped.Capped.TheVariants.{AtMost, NoPoint, Bad}
@@ -28,13 +28,3 @@ abbrev pub Bounds : (Point → Type 0) → (Point → Type 0) → (Point → ℤ
 Bounds is_point is_lawful worth (AtMost n) = (p : Point) → is_point p → is_lawful p → worth p ≤ℤ n
 Bounds is_point is_lawful worth NoPoint = (p : Point) → is_point p → ¬ is_lawful p
 Bounds is_point is_lawful worth Bad = ⊤
-
--- one point, and no other
-abbrev pub IsOnly : (Point → Type 0) → Point → Type 0
-IsOnly is_point p = is_point p × ((q : Point) → is_point q → q ≡ p)
-
--- what settling an area claims: the worth of its only point, that its only point is not lawful, or that it has no only point
-abbrev pub Settles : (Point → Type 0) → (Point → Type 0) → (Point → ℤ) → Capped → Type 0
-Settles is_point is_lawful worth (AtMost n) = (p : Point) × IsOnly is_point p × is_lawful p × (worth p ≡ n)
-Settles is_point is_lawful worth NoPoint = (p : Point) × IsOnly is_point p × (¬ is_lawful p)
-Settles is_point is_lawful worth Bad = (p : Point) → ¬ IsOnly is_point p

@@ -1,7 +1,7 @@
 -- What the calls of a relaxation answer, and the laws that they keep.
 use Rattle.std.specs.Prelude.{◌≡◌, ◌≢◌, ◌⊎◌, Bool, true, ℤ, Option, Some, None}
 use Rattle.proof_tree.specs.declared.capped.Capped.{Capped}
-use Rattle.proof_tree.specs.Cap.{Bounds, Settles, IsWithinFloor}
+use Rattle.proof_tree.specs.Cap.{Bounds, IsWithinFloor}
 use Rattle.proof_tree.specs.Views.{View, Point}
 
 -- what the calls of a relaxation answer on a view; none says that the cut or the pick names nothing that is there
@@ -33,8 +33,8 @@ pub record IsSound {U C P : Type 0} (s : Steps U C P) (fits : View → Type 0) (
   pub empty_holds : (v : View) → fits v → s.empty v ≡ true → (p : Point) → ¬ is_point v p
   -- the cap of a certificate bounds the worth of every lawful point
   pub cap_bounds : (v : View) (c : C) → fits v → Bounds (is_point v) is_lawful worth (s.cap v c)
-  -- a view that is settled has one point, and its worth
-  pub settles : (v : View) → fits v → Settles (is_point v) is_lawful worth (s.settle v)
+  -- what a view settles to bounds the worth of every lawful point
+  pub settles : (v : View) → fits v → Bounds (is_point v) is_lawful worth (s.settle v)
   -- what is left once a split has forgotten points fits
   pub trim_fits : (v : View) (k : P) (c : C) → fits v → fits (s.trim v k c)
   -- what a split forgets is worth at most its floor

@@ -60,8 +60,8 @@ pub trait Relaxation {
         requires { fits self.now (present (views area.now)) }
         ensures { result ≡ (steps self.now).cap (present (views area.now)) cert.now };
 
-    /// The worth of the area's only point, in money units: `Bad` exactly where the area does not have
-    /// exactly one point, and `NoPoint` exactly where that point is not lawful.
+    /// What the area settles to, in money units: a number that no lawful point of it is worth more than, or
+    /// `NoPoint` where no point of it is lawful. `Bad` says nothing of the area.
     fn settle(&self, area: &Self::Area) -> Capped
         requires { fits self.now (present (views area.now)) }
         ensures { result ≡ (steps self.now).settle (present (views area.now)) };

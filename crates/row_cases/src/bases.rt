@@ -6,7 +6,7 @@ use crate::caps::aim_of;
 use crate::sums::has_room;
 use crate::tried::{put_outcome, round, trial};
 use case_programs::{is_part, program_of};
-use case_tables::{Sheet, Step};
+use case_tables::{Sheet, Step, Tried};
 use dual_simplex::{Basis, Workspace};
 use row_kit::{Area, List, Program};
 use std::alloc::{AllocError, Global};
@@ -19,7 +19,7 @@ pub fn answer<'a>(
     wants_sums: bool,
     steps: &'a [Step<'a>],
     sheet: &mut Sheet<'a>,
-) -> Result<(), AllocError> {
+) -> Tried {
     match program_of(alloc, steps, sheet)? {
         Some(program) if wants_sums => answer_larger(alloc, program, steps, sheet),
         Some(program) => answer_over(alloc, &program, slot_count(&program), steps, sheet),
@@ -39,7 +39,7 @@ fn answer_larger<'a>(
     program: Program,
     steps: &'a [Step<'a>],
     sheet: &mut Sheet<'a>,
-) -> Result<(), AllocError> {
+) -> Tried {
     if !has_room(&program) {
         sheet.refuse();
         return Ok(());
@@ -65,7 +65,7 @@ fn answer_over<'a>(
     given: u32,
     steps: &'a [Step<'a>],
     sheet: &mut Sheet<'a>,
-) -> Result<(), AllocError> {
+) -> Tried {
     let mut area = Area::new(alloc, program)?;
     let mut workspace = Workspace::new(alloc, program, given)?;
     let mut basis = Basis::new(alloc, program)?;

@@ -4,7 +4,7 @@ ghost use Rattle.row_kit.specs.Area.{present};
 
 use crate::certs::cert_of;
 use case_programs::put_cap;
-use case_tables::Sheet;
+use case_tables::{Sheet, Tried};
 use dual_bound::{Cert, MOST_MULTS, cap, total};
 use dual_climb::{climb, polish};
 use dual_simplex::solve_dual;
@@ -19,7 +19,7 @@ pub fn answer(
     area: &Area,
     verb: &str,
     sheet: &mut Sheet,
-) -> Result<(), AllocError> {
+) -> Tried {
     if area.slot_count() as usize != program.root.len() {
         sheet.refuse();
         return Ok(());
@@ -38,12 +38,7 @@ pub fn answer(
 }
 
 // `total CERTIFICATE`: its total over the area, or none.
-fn put_total(
-    alloc: Global,
-    program: &Program,
-    area: &Area,
-    sheet: &mut Sheet,
-) -> Result<(), AllocError>
+fn put_total(alloc: Global, program: &Program, area: &Area, sheet: &mut Sheet) -> Tried
     requires { length (present area.now) ≡ length program.now.root }
 {
     let cert = cert_of(alloc, sheet)?;
@@ -52,12 +47,7 @@ fn put_total(
 }
 
 // `cap CERTIFICATE`: the cap that it gives for the area.
-fn put_given(
-    alloc: Global,
-    program: &Program,
-    area: &Area,
-    sheet: &mut Sheet,
-) -> Result<(), AllocError>
+fn put_given(alloc: Global, program: &Program, area: &Area, sheet: &mut Sheet) -> Tried
     requires { length (present area.now) ≡ length program.now.root }
 {
     let cert = cert_of(alloc, sheet)?;
@@ -66,12 +56,7 @@ fn put_given(
 }
 
 // `polish STOP CERTIFICATE`: the cap of the certificate once it is polished, until its cap is at most STOP where that is a number.
-fn put_polished(
-    alloc: Global,
-    program: &Program,
-    area: &Area,
-    sheet: &mut Sheet,
-) -> Result<(), AllocError>
+fn put_polished(alloc: Global, program: &Program, area: &Area, sheet: &mut Sheet) -> Tried
     requires { length (present area.now) ≡ length program.now.root }
 {
     let stop = aim_of(sheet);
@@ -107,12 +92,7 @@ fn polished(
 }
 
 // `climb LEAST MOST CERTIFICATE`: whether the cap of what a climb from the certificate gives lies between the two, or the cap.
-fn put_climbed(
-    alloc: Global,
-    program: &Program,
-    area: &Area,
-    sheet: &mut Sheet,
-) -> Result<(), AllocError>
+fn put_climbed(alloc: Global, program: &Program, area: &Area, sheet: &mut Sheet) -> Tried
     requires { length (present area.now) ≡ length program.now.root }
 {
     let least: i128 = sheet.number();
@@ -145,12 +125,7 @@ fn climbed(alloc: Global, program: &Program, area: &Area, cert: &Cert) -> Result
 }
 
 // `simplex`: the cap of the certificate that the dual simplex gives for the area.
-fn put_solved(
-    alloc: Global,
-    program: &Program,
-    area: &Area,
-    sheet: &mut Sheet,
-) -> Result<(), AllocError>
+fn put_solved(alloc: Global, program: &Program, area: &Area, sheet: &mut Sheet) -> Tried
     requires { length (present area.now) ≡ length program.now.root }
 {
     if area.has_empty() {

@@ -2,10 +2,10 @@
 ghost use Rattle.std.specs.Prelude.{◌≡◌, length};
 ghost use Rattle.row_kit.specs.Area.{present};
 
-use case_tables::Sheet;
+use case_tables::{Sheet, Tried};
 use range_prop::{RowCut, RowIndex, cut, cut_all, cut_by_index};
 use row_kit::{Area, Program};
-use std::alloc::{AllocError, Global};
+use std::alloc::Global;
 
 /// Takes a step that cuts, and prints what it did.
 pub fn answer(
@@ -14,7 +14,7 @@ pub fn answer(
     area: &mut Area,
     verb: &str,
     sheet: &mut Sheet,
-) -> Result<(), AllocError> {
+) -> Tried {
     if area.slot_count() as usize != program.root.len() {
         sheet.refuse();
         return Ok(());
@@ -49,12 +49,7 @@ fn one(program: &Program, area: &mut Area, sheet: &mut Sheet)
 }
 
 // `cuts`: the cuts that are made until none shrinks a domain, by the rows of each slot. `plain_cuts` has no such rows at hand.
-fn by_index(
-    alloc: Global,
-    program: &Program,
-    area: &mut Area,
-    cuts: &mut Vec<RowCut>,
-) -> Result<(), AllocError>
+fn by_index(alloc: Global, program: &Program, area: &mut Area, cuts: &mut Vec<RowCut>) -> Tried
     requires { length (present area.old) ≡ length program.now.root }
 {
     let index = RowIndex::new(alloc, program)?;

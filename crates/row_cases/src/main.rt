@@ -13,8 +13,8 @@ mod sums;
 mod systems;
 mod tried;
 
-use case_tables::{Kinds, Sheet, Step, judge};
-use std::alloc::{AllocError, Global};
+use case_tables::{Kinds, Sheet, Step, Tried, judge};
+use std::alloc::Global;
 use std::process::ExitCode;
 
 /// The kinds of cases of this program.
@@ -27,7 +27,7 @@ impl Kinds for RowKinds {
         kind: &str,
         steps: &'a [Step<'a>],
         sheet: &mut Sheet<'a>,
-    ) -> Result<(), AllocError> {
+    ) -> Tried {
         match kind {
             "programs" => programs::answer(alloc, steps, sheet),
             "bases" => bases::answer(alloc, false, steps, sheet),

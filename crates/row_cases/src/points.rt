@@ -1,16 +1,11 @@
 //! Points of a program.
 use case_programs::{bytes_of, domain_of};
-use case_tables::Sheet;
+use case_tables::{Sheet, Tried};
 use row_kit::{Entry, List, Program, entries_of, is_lawful, lies_in, value, worth};
-use std::alloc::{AllocError, Global};
+use std::alloc::Global;
 
 /// Prints what a step on points gives.
-pub fn answer(
-    alloc: Global,
-    program: &Program,
-    verb: &str,
-    sheet: &mut Sheet,
-) -> Result<(), AllocError> {
+pub fn answer(alloc: Global, program: &Program, verb: &str, sheet: &mut Sheet) -> Tried {
     match verb {
         "size" => size(program, sheet),
         "point" => point(alloc, program, sheet)?,
@@ -30,7 +25,7 @@ fn size(program: &Program, sheet: &mut Sheet) {
 }
 
 // `point VALUE ..`: whether the point is lawful, what it earns, and its worth.
-fn point(alloc: Global, program: &Program, sheet: &mut Sheet) -> Result<(), AllocError> {
+fn point(alloc: Global, program: &Program, sheet: &mut Sheet) -> Tried {
     let point = bytes_of(alloc, sheet)?;
     put_point(program, point.as_slice(), sheet);
     Ok(())
@@ -53,7 +48,7 @@ fn put_point(program: &Program, point: &[u8], sheet: &mut Sheet) {
 }
 
 // `lies | VALUE DOMAIN | VALUE DOMAIN ..`: whether the values lie in the domains.
-fn lies(alloc: Global, sheet: &mut Sheet) -> Result<(), AllocError> {
+fn lies(alloc: Global, sheet: &mut Sheet) -> Tried {
     let mut bytes = Vec::new(alloc);
     let mut domains = Vec::new(alloc);
     for _ in 0..sheet.words_left() / 5 {
@@ -67,7 +62,7 @@ fn lies(alloc: Global, sheet: &mut Sheet) -> Result<(), AllocError> {
 }
 
 // `list VALUE ..`: a list that grows by these values: how many it has, and each.
-fn list(alloc: Global, sheet: &mut Sheet) -> Result<(), AllocError> {
+fn list(alloc: Global, sheet: &mut Sheet) -> Tried {
     let mut list: List<u8> = List::new(alloc);
     for _ in 0..sheet.words_left() {
         list.push(sheet.number())?;
@@ -88,7 +83,7 @@ fn put_list(list: &List<u8>, sheet: &mut Sheet) {
 }
 
 // `entries | FIXED PER | ..`: the entries of the slots with these parts.
-fn gathered(alloc: Global, sheet: &mut Sheet) -> Result<(), AllocError> {
+fn gathered(alloc: Global, sheet: &mut Sheet) -> Tried {
     let mut parts = Vec::new(alloc);
     for _ in 0..sheet.words_left() / 3 {
         parts.push(part_of(sheet))?;
@@ -104,7 +99,7 @@ fn part_of(sheet: &mut Sheet) -> (i64, i64) {
     (fixed, per)
 }
 
-fn put_gathered(alloc: Global, parts: &[(i64, i64)], sheet: &mut Sheet) -> Result<(), AllocError> {
+fn put_gathered(alloc: Global, parts: &[(i64, i64)], sheet: &mut Sheet) -> Tried {
     if parts.len() > 100_000 {
         sheet.refuse();
         return Ok(());

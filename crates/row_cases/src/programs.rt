@@ -1,16 +1,12 @@
 //! The program of a case, and the area that its steps narrow.
 use crate::{areas, caps, cuts, points, sums};
 use case_programs::{is_part, program_of};
-use case_tables::{Sheet, Step};
+use case_tables::{Sheet, Step, Tried};
 use row_kit::{Area, Program};
-use std::alloc::{AllocError, Global};
+use std::alloc::Global;
 
 /// Prints what the steps give over the program that they say, or that it is out of bounds.
-pub fn answer<'a>(
-    alloc: Global,
-    steps: &'a [Step<'a>],
-    sheet: &mut Sheet<'a>,
-) -> Result<(), AllocError> {
+pub fn answer<'a>(alloc: Global, steps: &'a [Step<'a>], sheet: &mut Sheet<'a>) -> Tried {
     match program_of(alloc, steps, sheet)? {
         Some(program) => answer_over(alloc, &program, steps, sheet),
         None => {
@@ -25,7 +21,7 @@ fn answer_over<'a>(
     program: &Program,
     steps: &'a [Step<'a>],
     sheet: &mut Sheet<'a>,
-) -> Result<(), AllocError> {
+) -> Tried {
     let mut area = Area::new(alloc, program)?;
     for step in steps {
         if !is_part(step.verb) {
@@ -42,7 +38,7 @@ fn answer_step(
     area: &mut Area,
     verb: &str,
     sheet: &mut Sheet,
-) -> Result<(), AllocError> {
+) -> Tried {
     match verb {
         "size" | "point" | "lies" | "list" | "entries" => points::answer(
             alloc, program, verb, sheet,

@@ -2,14 +2,14 @@
 ghost use Rattle.std.specs.Prelude.{◌≤◌, length, IsTrue};
 
 use crate::points::put_entries;
-use case_tables::Sheet;
+use case_tables::{Sheet, Tried};
 use row_kit::Program;
-use std::alloc::{AllocError, Global};
+use std::alloc::Global;
 use sum_choice::choose_sums;
 use sum_slots::Sum;
 
 /// `sums`: the sums that are chosen over the program's domains, a line each.
-pub fn answer(alloc: Global, program: &Program, sheet: &mut Sheet) -> Result<(), AllocError> {
+pub fn answer(alloc: Global, program: &Program, sheet: &mut Sheet) -> Tried {
     if !has_room(program) {
         sheet.refuse();
         return Ok(());

@@ -1,5 +1,5 @@
 //! Systems of equations by the sparse factors of their matrix, and numbers in fixed point.
-use case_tables::{Sheet, Step};
+use case_tables::{Sheet, Step, Tried};
 use fixed_point::{GROWTH, NONE, at, less_times, of_whole, put, quotient, times, whole_of};
 use sparse_basis::Lu;
 use std::alloc::{AllocError, Global};
@@ -52,7 +52,7 @@ impl System {
     }
 
     // `solve VALUE ..`: what times the matrix is these whole numbers by row, rounded, by column.
-    fn solve(&self, alloc: Global, sheet: &mut Sheet) -> Result<(), AllocError> {
+    fn solve(&self, alloc: Global, sheet: &mut Sheet) -> Tried {
         let mut numbers = wholes_of(alloc, sheet)?;
         self.lu.ftran(numbers.as_mut_slice());
         for column in 0..self.columns {
@@ -63,7 +63,7 @@ impl System {
     }
 
     // `solve_back VALUE ..`: what the matrix times is these whole numbers by column, rounded, by row.
-    fn solve_back(&self, alloc: Global, sheet: &mut Sheet) -> Result<(), AllocError> {
+    fn solve_back(&self, alloc: Global, sheet: &mut Sheet) -> Tried {
         let wanted = wholes_of(alloc, sheet)?;
         let mut numbers = vec![in alloc; 0; self.rows as usize]?;
         for column in 0..self.columns {
@@ -80,11 +80,7 @@ impl System {
 }
 
 /// Prints what the steps on a system give.
-pub fn answer<'a>(
-    alloc: Global,
-    steps: &'a [Step<'a>],
-    sheet: &mut Sheet<'a>,
-) -> Result<(), AllocError> {
+pub fn answer<'a>(alloc: Global, steps: &'a [Step<'a>], sheet: &mut Sheet<'a>) -> Tried {
     let mut system = System::new(alloc, 16, 16, 64)?;
     for step in steps {
         sheet.begin(step);

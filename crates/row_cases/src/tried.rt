@@ -1,8 +1,8 @@
 //! What is printed of bounds, of the sides of a split that are tried, and of points that are rounded.
-use case_tables::Sheet;
+use case_tables::{Sheet, Tried};
 use dual_simplex::{Outcome, Side, Trial, Workspace};
 use row_kit::{Area, Program};
-use std::alloc::{AllocError, Global};
+use std::alloc::Global;
 
 /// Prints how a bound ended.
 pub fn put_outcome(outcome: Outcome, sheet: &mut Sheet) {
@@ -62,12 +62,7 @@ fn put_trial(tried: Option<Trial>, sheet: &mut Sheet) {
 }
 
 /// `round`: the point of the area that is nearest to what the last bound came to.
-pub fn round(
-    alloc: Global,
-    area: &Area,
-    workspace: &Workspace,
-    sheet: &mut Sheet,
-) -> Result<(), AllocError> {
+pub fn round(alloc: Global, area: &Area, workspace: &Workspace, sheet: &mut Sheet) -> Tried {
     let mut point = Vec::new(alloc);
     for _ in 0..area.slot_count() {
         point.push(0u8)?;

@@ -96,15 +96,9 @@ impl Finder {
             return Ok(());
         }
         let slacks = &mut self.slacks;
-        match made(
-            alloc,
-            rows,
-            &case,
-            &self.groups,
-            slacks,
-            found.divisor,
-            work,
-        )? {
+        let divisor = found.divisor;
+        let row = made(alloc, rows, &case, &self.groups, slacks, divisor, work)?;
+        match row {
             Some(candidate) if candidate.merit > LEAST_MERIT => {
                 self.candidates.push(candidate)?;
             }

@@ -1,3 +1,4 @@
+pub mod Choosing
 pub mod Marks
 pub mod OnlyPoints
 pub mod PointCounts

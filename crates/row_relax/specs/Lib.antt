@@ -1,3 +1,4 @@
+pub mod Choices
 pub mod RowProofs
 pub mod Settle
 pub mod Steps

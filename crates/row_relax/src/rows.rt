@@ -1,10 +1,9 @@
 //! Rows as a relaxation.
-ghost use Rattle.std.specs.Prelude.{◌≡◌, ◌∷◌, [], map, IfOk};
-ghost use Rattle.row_kit.specs.Point.{IsLawful, worth_of};
+ghost use Rattle.std.specs.Prelude.{◌≡◌, ◌∷◌, [], map, take, length, IfOk};
 ghost use Rattle.proof_tree.specs.Views.{present as shown_last};
+ghost use Rattle.row_relax.specs.Choices.{choices_of, steps_of, IsLawfulIn, worth_in};
 ghost use Rattle.row_relax.specs.View.{view_of, Fits, IsIn};
-ghost use Rattle.row_relax.specs.Steps.{row_steps};
-ghost use Rattle.row_relax.specs.laws.Laws.{rows_sound};
+ghost use Rattle.row_relax.specs.laws.Laws.{steps_sound};
 
 use crate::forgetting::forget;
 use crate::pick::RowPick;
@@ -19,6 +18,9 @@ use std::alloc::{AllocError, Global};
 #[derive(Drop)]
 pub struct Rows {
     pub program: Program,
+    /// By what points are judged: by the program that this one was made from, with fewer slots, which are the first here; where there
+    /// is none, by this one.
+    pub choices: Option<Program>,
 }
 
 impl Rows {
@@ -29,6 +31,28 @@ impl Rows {
     {
         let area = Area::new(alloc, &self.program)?;
         Ok(area)
+    }
+
+    /// The values of the slots that points have: the first of the values of all slots.
+    pub fn chosen<'a>(&self, values: &'a [u8]) -> &'a [u8]
+        ensures { result.now ≡ take (length (choices_of self.now).root) values.now }
+    {
+        let slots = choices_of(self).root.len();
+        if slots < values.len() {
+            &values[..slots]
+        } else {
+            values
+        }
+    }
+}
+
+/// The program by which points are judged: the choices, where there are any, else the program of the rows.
+pub fn choices_of(rows: &Rows) -> &Program
+    ensures { result.now ≡ choices_of rows.now }
+{
+    match &rows.choices {
+        None => &rows.program,
+        Some(choices) => choices,
     }
 }
 
@@ -48,17 +72,17 @@ impl Relaxation for Rows {
 
     ghost views = { λ area. map view_of area };
 
-    ghost steps = { λ rows. row_steps rows.program };
+    ghost steps = { λ rows. steps_of rows };
 
     ghost fits = { λ rows. Fits rows.program };
 
     ghost is_point = { λ _. IsIn };
 
-    ghost is_lawful = { λ rows. IsLawful rows.program };
+    ghost is_lawful = { λ rows. IsLawfulIn rows };
 
-    ghost worth = { λ rows. worth_of rows.program };
+    ghost worth = { λ rows. worth_in rows };
 
-    ghost sound = { λ rows. rows_sound rows.program };
+    ghost sound = { λ rows. steps_sound rows };
 
     fn cut(&self, area: &mut Area, trim: &RowCut) -> bool {
         if trim.row as usize >= self.program.rows.len() {
@@ -80,7 +104,7 @@ impl Relaxation for Rows {
     }
 
     fn settle(&self, area: &Area) -> Capped {
-        settle(&self.program, area)
+        settle(choices_of(self), area)
     }
 
     fn left(&self, area: &mut Area, pick: &RowPick) -> bool {

@@ -1,9 +1,9 @@
 //! Searches with a hinter that counts, a taker that refuses, and a guide that dives.
 ghost use Rattle.std.specs.Prelude.{IfSome};
-ghost use Rattle.branch_tree.specs.Searched.{IsSearchable};
+ghost use Rattle.branch_tree.specs.Searched.{AreSearchable};
 
 use crate::tables::{CHAIN, CHAIN_ROWS, WIDE, over_rows, program};
-use branch_tree::{Advice, Guide, Hinter, is_searchable, search_guided, search_to};
+use branch_tree::{Advice, Guide, Hinter, are_plain_searchable, search_guided, search_to};
 use dual_bound::{Cert, Mult};
 use proof_tree::{Capped, Item, NodeTaker, TakeStop};
 use row_kit::{Area, Entry, List, Program, Row};
@@ -96,17 +96,25 @@ fn slot_count(rows: &Rows) -> u32 {
 
 // The rows of a program that can be searched.
 fn searchable(program: Option<Program>) -> Option<Rows>
-    ensures { IfSome result (λ rows. IsSearchable rows.program) }
+    ensures { IfSome result AreSearchable }
 {
-    match program {
-        Some(program) if is_searchable(&program) => Some(Rows { program }),
-        _ => None,
+    let Some(program) = program else {
+        return None;
+    };
+    let rows = Rows {
+        program,
+        choices: None,
+    };
+    if are_plain_searchable(&rows) {
+        Some(rows)
+    } else {
+        None
     }
 }
 
 // Searches a chain with a taker that takes so many items: why it broke off, and how often the hinter was asked.
 fn searched(alloc: Global, rows: &Rows, left: u32) -> (Option<TakeStop>, u32)
-    requires { IsSearchable rows.now.program }
+    requires { AreSearchable rows.now }
 {
     let mut hinter = Silent { asked: 0 };
     let mut taker = Cutoff { left };
@@ -161,7 +169,7 @@ fn wide_program(alloc: Global) -> Result<Option<Program>, AllocError> {
 
 // Dives: whether a box is left open and the count is not exact, the cap, and the boxes that were counted.
 fn dived(alloc: Global, rows: &Rows) -> Result<(bool, Capped, u32), AllocError>
-    requires { IsSearchable rows.now.program }
+    requires { AreSearchable rows.now }
 {
     let mut hinter = Silent { asked: 0 };
     let given = slot_count(rows);

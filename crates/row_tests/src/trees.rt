@@ -74,6 +74,7 @@ fn the_deepest_proof_fits_the_stack(rt: HostRuntime) -> Result<(), Fail> {
     let alloc = rt.alloc();
     let rows = Rows {
         program: over_rows(alloc, WIDE, List::new(alloc))?.ok_or("bounds")?,
+        choices: None,
     };
     let (cap, mark) = deepest_cap(alloc, &rows)?;
     assert!(rt; cap == Capped::AtMost(130_560) && mark == 0);

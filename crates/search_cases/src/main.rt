@@ -6,8 +6,8 @@ mod programs;
 mod searches;
 mod told;
 
-use case_tables::{Kinds, Sheet, Step, judge};
-use std::alloc::{AllocError, Global};
+use case_tables::{Kinds, Sheet, Step, Tried, judge};
+use std::alloc::Global;
 use std::process::ExitCode;
 
 /// The kinds of cases of this program.
@@ -20,7 +20,7 @@ impl Kinds for SearchKinds {
         kind: &str,
         steps: &'a [Step<'a>],
         sheet: &mut Sheet<'a>,
-    ) -> Result<(), AllocError> {
+    ) -> Tried {
         if kind == "programs" {
             programs::answer(alloc, steps, sheet)
         } else {

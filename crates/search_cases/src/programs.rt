@@ -1,36 +1,33 @@
 //! The program of a case, and the searches that its steps make.
 use crate::searches::answer_step;
-use case_programs::{is_part, program_of};
-use case_tables::{Sheet, Step};
+use case_programs::{Trial, answer_over, program_of};
+use case_tables::{Sheet, Step, Tried};
 use row_relax::Rows;
-use std::alloc::{AllocError, Global};
+use std::alloc::Global;
 
-/// Prints what the steps give over the program that they say, or that it is out of bounds.
-pub fn answer<'a>(
-    alloc: Global,
-    steps: &'a [Step<'a>],
-    sheet: &mut Sheet<'a>,
-) -> Result<(), AllocError> {
-    match program_of(alloc, steps, sheet)? {
-        Some(program) => answer_over(alloc, &Rows { program }, steps, sheet),
-        None => {
-            sheet.line("out of bounds");
-            Ok(())
-        }
+/// The rows that are searched.
+#[derive(Drop)]
+struct Ground {
+    rows: Rows,
+}
+
+impl Trial for Ground {
+    fn answer_step<'a>(&self, alloc: Global, verb: &str, sheet: &mut Sheet<'a>) -> Tried {
+        answer_step(alloc, &self.rows, verb, sheet)
     }
 }
 
-fn answer_over<'a>(
-    alloc: Global,
-    rows: &Rows,
-    steps: &'a [Step<'a>],
-    sheet: &mut Sheet<'a>,
-) -> Result<(), AllocError> {
-    for step in steps {
-        if !is_part(step.verb) {
-            sheet.begin(step);
-            answer_step(alloc, rows, step.verb, sheet)?;
-        }
-    }
-    Ok(())
+/// Prints what the steps give over the program that they say, or that it is out of bounds.
+pub fn answer<'a>(alloc: Global, steps: &'a [Step<'a>], sheet: &mut Sheet<'a>) -> Tried {
+    let Some(program) = program_of(alloc, steps, sheet)? else {
+        sheet.line("out of bounds");
+        return Ok(());
+    };
+    let ground = Ground {
+        rows: Rows {
+            program,
+            choices: None,
+        },
+    };
+    answer_over(alloc, &ground, steps, sheet)
 }

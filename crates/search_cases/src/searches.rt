@@ -1,24 +1,19 @@
 //! Searches of a small program.
 ghost use Rattle.std.specs.Prelude.{◌≤◌};
-ghost use Rattle.branch_tree.specs.Searched.{IsSearchable};
+ghost use Rattle.branch_tree.specs.Searched.{AreSearchable};
 
 use crate::advisers::{Liar, Silent, Splitter, Teller};
 use crate::told::{put_best, put_floor, put_search, put_split};
-use branch_tree::{Hinter, Searched, is_searchable, search, search_guided};
+use branch_tree::{Hinter, Searched, are_plain_searchable, search, search_guided};
 use case_programs::{bytes_of, put_cap};
-use case_tables::Sheet;
+use case_tables::{Sheet, Tried};
 use row_relax::Rows;
 use split_advice::PlainGuide;
 use std::alloc::{AllocError, Global};
 
 /// Prints what a search gives.
-pub fn answer_step(
-    alloc: Global,
-    rows: &Rows,
-    verb: &str,
-    sheet: &mut Sheet,
-) -> Result<(), AllocError> {
-    if !is_searchable(&rows.program) {
+pub fn answer_step(alloc: Global, rows: &Rows, verb: &str, sheet: &mut Sheet) -> Tried {
+    if !are_plain_searchable(rows) {
         sheet.refuse();
         return Ok(());
     }
@@ -55,8 +50,8 @@ fn slot_count(rows: &Rows) -> u32 {
 
 // `search BUDGET` with a hinter that says of points outside of every box that they are lawful, and `hint BUDGET VALUE ..` with
 // one that tells this point: the cap, the worth of the best point, and whether a box is left open.
-fn plain(alloc: Global, rows: &Rows, sheet: &mut Sheet) -> Result<(), AllocError>
-    requires { IsSearchable rows.now.program }
+fn plain(alloc: Global, rows: &Rows, sheet: &mut Sheet) -> Tried
+    requires { AreSearchable rows.now }
 {
     let budget = budget_of(sheet);
     let mut hinter = Teller {
@@ -75,7 +70,7 @@ fn search_plain<H: Hinter>(
     start: &[u8],
     hinter: &mut H,
 ) -> Result<Searched, AllocError>
-    requires searchable { IsSearchable rows.now.program }
+    requires searchable { AreSearchable rows.now }
     requires budget { (1 ≤ budget) × (budget ≤ 100000) }
 {
     let given = slot_count(rows);
@@ -92,8 +87,8 @@ fn search_plain<H: Hinter>(
 }
 
 // `begin BUDGET VALUE ..`, without plans that are offered: a search that begins with this point, which may not be lawful.
-fn begun(alloc: Global, rows: &Rows, sheet: &mut Sheet) -> Result<(), AllocError>
-    requires { IsSearchable rows.now.program }
+fn begun(alloc: Global, rows: &Rows, sheet: &mut Sheet) -> Tried
+    requires { AreSearchable rows.now }
 {
     let budget = budget_of(sheet);
     let start = bytes_of(alloc, sheet)?;
@@ -103,8 +98,8 @@ fn begun(alloc: Global, rows: &Rows, sheet: &mut Sheet) -> Result<(), AllocError
 }
 
 // `floor BUDGET VALUE ..`: as `begin`, where splits may have floors, and the floor of the root's split.
-fn floored(alloc: Global, rows: &Rows, sheet: &mut Sheet) -> Result<(), AllocError>
-    requires { IsSearchable rows.now.program }
+fn floored(alloc: Global, rows: &Rows, sheet: &mut Sheet) -> Tried
+    requires { AreSearchable rows.now }
 {
     let budget = budget_of(sheet);
     let start = bytes_of(alloc, sheet)?;
@@ -120,7 +115,7 @@ fn search_floored(
     budget: u32,
     start: &[u8],
 ) -> Result<Searched, AllocError>
-    requires searchable { IsSearchable rows.now.program }
+    requires searchable { AreSearchable rows.now }
     requires budget { (1 ≤ budget) × (budget ≤ 100000) }
 {
     let given = slot_count(rows);
@@ -138,8 +133,8 @@ fn search_floored(
 
 // `lie BUDGET` and `leave BUDGET`, with a guide that advises what is not there, and may leave every part open: the best point,
 // whether a box is left open, whether the count is exact, and the cap where none is open.
-fn guided(alloc: Global, rows: &Rows, leaves: bool, sheet: &mut Sheet) -> Result<(), AllocError>
-    requires { IsSearchable rows.now.program }
+fn guided(alloc: Global, rows: &Rows, leaves: bool, sheet: &mut Sheet) -> Tried
+    requires { AreSearchable rows.now }
 {
     let budget = budget_of(sheet);
     let (found, exact) = search_lying(alloc, rows, budget, leaves)?;
@@ -153,7 +148,7 @@ fn search_lying(
     budget: u32,
     leaves: bool,
 ) -> Result<(Searched, bool), AllocError>
-    requires searchable { IsSearchable rows.now.program }
+    requires searchable { AreSearchable rows.now }
     requires budget { (1 ≤ budget) × (budget ≤ 100000) }
 {
     let mut hinter = Teller {
@@ -182,8 +177,8 @@ fn put_guided(found: &Searched, exact: bool, sheet: &mut Sheet) {
 
 // `split GIVEN VALUE`, with a guide that advises to split the first slot there, where the slots from GIVEN on are sums: the cap,
 // the best point, and where the root is split.
-fn split(alloc: Global, rows: &Rows, sheet: &mut Sheet) -> Result<(), AllocError>
-    requires { IsSearchable rows.now.program }
+fn split(alloc: Global, rows: &Rows, sheet: &mut Sheet) -> Tried
+    requires { AreSearchable rows.now }
 {
     let given = sheet.number();
     let max = sheet.number();
@@ -199,7 +194,7 @@ fn search_splitting(
     given: u32,
     max: u8,
 ) -> Result<(Searched, bool), AllocError>
-    requires { IsSearchable rows.now.program }
+    requires { AreSearchable rows.now }
 {
     search_guided(
         alloc,

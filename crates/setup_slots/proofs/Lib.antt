@@ -10,3 +10,6 @@ pub mod Images
 pub mod Bounds
 pub mod Plans
 pub mod Growing
+pub mod ManyUnits
+pub mod Counts
+pub mod SameParts

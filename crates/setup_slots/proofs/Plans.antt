@@ -22,7 +22,7 @@ use Rattle.setup_slots.specs.Slots.{task_slot}
 use Rattle.setup_slots.proofs.Images.{costs-less, law}
 
 -- the plant's program has its slots
-has_slots : (plant : Plant) (program : Program) → IsMadeOf plant program → HasPlantSlots plant program
+pub has_slots : (plant : Plant) (program : Program) → IsMadeOf plant program → HasPlantSlots plant program
 has_slots plant program made = omega (arith, ap length made.root_is, length-map (slots plant) (slot_domain plant), length-map (slots plant) (task_slot plant))
 
 -- the point of a plan begins with itself

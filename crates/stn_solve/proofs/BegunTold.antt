@@ -19,6 +19,9 @@ use Rattle.row_kit.specs.Point.{IsLawful, worth_of}
 use Rattle.row_set.specs.Parts.{IsAdmitted, IsPartOf}
 use Rattle.row_set.specs.PlantProgram.{IsProgramOf}
 use Rattle.row_set.proofs.PartPoints.{admitted-lawful, admitted-worth}
+use Rattle.row_relax.specs.declared.rows.Rows.{Rows}
+use Rattle.row_relax.specs.Choices.{choices_of}
+use Rattle.row_relax.proofs.Choosing.{plain-rows}
 use Rattle.sum_slots.specs.Larger.{completed}
 use Rattle.sum_slots.specs.Shown.{AreRanges}
 use Rattle.branch_tree.specs.declared.ended.Ended.{Ended}
@@ -62,6 +65,10 @@ pub told-if : {E : Type 0} (plant : Plant) (program : Program) (point : List ℕ
 told-if plant program point ended (Ok told) worth says = told-earns plant program point ended told worth says
 told-if plant program point ended (Err e) worth says = tt
 
+-- where points are judged by the program of the rows, so is a worth
+pub worth-plain : (rows : Rows) (point : List ℕ) (best : Option Found) → rows.choices ≡ None → IsWorth (choices_of rows) point best → IsWorth rows.program point best
+worth-plain rows point best none worth = subst (λ (r : Rows). IsWorth (choices_of r) point best) (plain-rows rows none) worth
+
 -- what is below a worth is below more
 rises : (least value : ℤ) (best : Option Found) → least ≤ℤ value → IsSomeAnd best (λ b. value ≤ℤ b.value) → IsSomeAnd best (λ b. least ≤ℤ b.value)
 rises least value None low more = more
@@ -72,19 +79,20 @@ given-worth : (least : ℤ) (slots : ℕ) (other best : Option Found) → IsSome
 given-worth least slots other None low = absurd low
 given-worth least slots other (Some f) low = rises least f.value (better_of (Some (cut_found slots f)) other) low (better-first (Some (cut_found slots f)) other)
 
-module _ (part : Program) (judged : List Domain) (headed : Headed) (wide : AreRanges part judged) (with_head : IsHeaded part judged headed) where
+module _ (plant : Plant) (part : Program) (judged : List Domain) (headed : Headed) (ranges : AreRanges part judged) (with_head : IsHeaded plant part judged headed) where
   -- at a lawful point the sums have values that are bytes
   pub begun-bytes : (point : List ℕ) → IsLawful part point → HaveBytes headed.sums point
-  begun-bytes point lawful = claim-bytes part headed.rows.program judged headed.sums with_head.derivations wide with_head.can (claim.Optimal (pos 0) point) lawful
+  begun-bytes point lawful = claim-bytes plant part headed.rows judged headed.sums with_head.units with_head.derivations ranges with_head.can (claim.Optimal (pos 0) point) lawful
 
   -- a search that began with the completed point has as of the part a best point that is worth as much as the point
-  pub begun-given : (point whole : List ℕ) (ended own : Ended) → (IsLawful part point → whole ≡ completed headed.sums point) → IsWorth headed.rows.program whole ended.best
+  pub begun-given : (point whole : List ℕ) (ended own : Ended) → (IsLawful part point → whole ≡ completed headed.sums point) → IsWorth (choices_of headed.rows) whole ended.best
       → own ≡ given_end headed.given headed.least ended → IsWorth part point own.best
   begun-given point whole ended own same worth as_given lawful =
-      let points = head-same part headed.rows.program judged headed.sums with_head.derivations wide with_head.can in
+      let choices = choices_of headed.rows in
+      let points = head-same plant part headed.rows judged headed.sums with_head.units with_head.derivations ranges with_head.can in
       let larger = points.there_is point lawful in
-      let there : IsLawful headed.rows.program whole = subst (IsLawful headed.rows.program) (sym (same lawful)) larger.0 in
-      let value : worth_of headed.rows.program whole ≡ worth_of part point = ap (worth_of headed.rows.program) (same lawful) ∙ larger.1 in
+      let there : IsLawful choices whole = subst (IsLawful choices) (sym (same lawful)) larger.0 in
+      let value : worth_of choices whole ≡ worth_of part point = ap (worth_of choices) (same lawful) ∙ larger.1 in
       let low : IsSomeAnd ended.best (λ f. worth_of part point ≤ℤ f.value) = subst (λ (z : ℤ). IsSomeAnd ended.best (λ f. z ≤ℤ f.value)) value (worth there) in
       subst (λ (o : Ended). IsSomeAnd o.best (λ b. worth_of part point ≤ℤ b.value)) (sym as_given) (given-worth (worth_of part point) headed.given headed.least ended.best low)
 

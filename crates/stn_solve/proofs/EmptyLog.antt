@@ -4,7 +4,7 @@ use Rattle.std.specs.Option.{option_map}
 use Rattle.std.specs.List.{All}
 use Rattle.stn_edge.specs.Files.{FileMap, cleared, file_of}
 use Rattle.stn_edge.proofs.FileLemmas.{file_of-cleared}
-use Rattle.row_kit.specs.declared.program.Program.{Program}
+use Rattle.row_relax.specs.declared.rows.Rows.{Rows}
 use Rattle.row_kit.specs.Domain.{IsOpen}
 use Rattle.proof_tree.specs.Items.{tree_items}
 use Rattle.branch_tree.specs.declared.ended.Ended.{Ended}
@@ -41,12 +41,12 @@ whole_head head name own old files rest named is =
     by_files (Some m) = ap (λ (n : List ℕ). file_of (cleared name m) n ++ head) named ∙ ap (λ (file : List ℕ). file ++ head) (file_of-cleared name m)
 
 -- a writer that holds back a head and the lines of one empty box has taken both
-pub empty-logged : (program : Program) (floors : Bool) (head name own text : List ℕ) (old files : Option FileMap) (rest : Rest) (ended : Ended) → (¬ All IsOpen program.root) → own ≡ name → text ≡ head ++ empty_lines → files ≡ option_map (cleared name) old → ended ≡ empty_end
-    → IsLogged (IsEmptyRoot program ended) program floors head name (at own text files rest)
-empty-logged program floors head name own text old files rest ended bare named is cleared_is end = record {
+pub empty-logged : (rows : Rows) (floors : Bool) (head name own text : List ℕ) (old files : Option FileMap) (rest : Rest) (ended : Ended) → (¬ All IsOpen rows.program.root) → own ≡ name → text ≡ head ++ empty_lines → files ≡ option_map (cleared name) old → ended ≡ empty_end
+    → IsLogged (IsEmptyRoot rows.program ended) rows floors head name (at own text files rest)
+empty-logged rows floors head name own text old files rest ended bare named is cleared_is end = record {
   tree = empty_tree;
   is = record { bare = bare; ended_is = end; tree_is = refl };
-  writable = empty-writable program floors;
+  writable = empty-writable rows floors;
   named = named;
   first = at own head files rest;
   header = whole_head head name own old files rest named cleared_is;

@@ -1,12 +1,15 @@
--- What the sums and derivations that are chosen for a part keep.
-use Rattle.std.proofs.Common.{◌≡◌, ℕ, ◌+◌, ◌-◌, ◌*◌, ◌^◌, ◌<◌, ◌≤◌, leb, true, List, [], ◌∷◌, ◌++◌, length, map, take, drop, Option, Some, None, ℤ, refl, sym, ap, ◌∙◌, subst, ⊎_elim, inr, arith}
+-- What the sums, the setups and the derivations that are chosen for a part keep.
+use Rattle.std.proofs.Common.{◌≡◌, ℕ, suc, ◌+◌, ◌-◌, ◌*◌, ◌^◌, ◌<◌, ◌≤◌, leb, true, List, [], ◌∷◌, ◌++◌, length, map, take, drop, Option, Some, None, ℤ, refl, sym, ap, ◌∙◌, subst, ⊎_elim, inr, append_assoc, arith}
 use Rattle.std.specs.Prelude.{MatchOption}
-use Rattle.std.specs.List.{All}
-use Rattle.std.proofs.lemmas.Bool.{cases_lt}
+use Rattle.std.specs.List.{All, AllZip, sum_by}
+use Rattle.std.proofs.lemmas.Bool.{and_from, cases_lt, le-leb}
 use Rattle.std.proofs.Math.Seq.{drop-append_seam}
 use Rattle.std.proofs.lemmas.Bool.Decides.{nat_tests}
 use Rattle.std.proofs.lemmas.List.{get_or_past, length-append, length-drop, length-map, take_all}
 use Rattle.std.proofs.lemmas.List.Elements.{All-head, All-tail, All-weaker}
+use Rattle.stn_model.specs.declared.plant.Plant.{Plant}
+use Rattle.stn_model.specs.Sound.{Sound}
+use Rattle.time_grid.specs.Slots.{slots}
 use Rattle.row_kit.specs.declared.domain.Domain.{Domain}
 use Rattle.row_kit.specs.declared.program.Program.{Program}
 use Rattle.row_kit.specs.declared.row.Entry.{Entry}
@@ -14,6 +17,10 @@ use Rattle.row_kit.specs.declared.row.Row.{Row}
 use Rattle.row_kit.specs.Domain.{IsNormal}
 use Rattle.row_kit.specs.Row.{no_row}
 use Rattle.row_kit.proofs.Ascending.{few_entries}
+use Rattle.row_set.specs.Parts.{IsPartOf, IsWithin}
+use Rattle.row_set.specs.PlantProgram.{slot_domain}
+use Rattle.branch_tree.specs.Searched.{spared}
+use Rattle.branch_tree.specs.Splits.{splits_of}
 use Rattle.log_lines.specs.declared.grammar.Limits.{Limits}
 use Rattle.sum_slots.specs.declared.sum.Sum.{Sum}
 use Rattle.sum_slots.specs.Larger.{IsWithSums, sum_domain, sum_rows}
@@ -21,6 +28,12 @@ use Rattle.sum_slots.specs.Shown.{AreRanges, IsShown, most_by_row, most_count, o
 use Rattle.sum_slots.specs.Sum.{IsDeclared}
 use Rattle.sum_slots.proofs.Bounds.{two_rows}
 use Rattle.sum_lines.specs.Head.{HasRows, IsThere}
+use Rattle.sum_lines.specs.Line.{IsShort}
+use Rattle.setup_slots.specs.Larger.{HasPlantSlots}
+use Rattle.setup_slots.specs.Several.{AreSetUp, choices_before, domains_with, rows_with, slots_with}
+use Rattle.setup_slots.specs.Slots.{task_slot}
+use Rattle.setup_slots.proofs.ManyUnits.{rows-several, slots-several}
+use Rattle.setup_lines.specs.Setups.{AreSetupsKept}
 use Rattle.derived_rows.specs.declared.derived.Derived.{Derived}
 use Rattle.derived_rows.specs.declared.derived.Group.{Group}
 use Rattle.derived_rows.specs.declared.derived.Members.{Members}
@@ -31,15 +44,15 @@ use Rattle.derivations.specs.declared.derivation.Derivation.{Derivation}
 use Rattle.derivations.specs.declared.derivation.Derivation.TheVariants as derivation
 use Rattle.derivations.specs.Anew.{IsWithAnew}
 use Rattle.derivations.specs.Growth.{AreShown, Growth, after, after_all, rows_of}
-use Rattle.derivations.specs.Larger.{IsWithDerivations, begun, grown_by}
+use Rattle.derivations.specs.Larger.{IsWithDerivations, begun, grown_by, met}
 use Rattle.derivations.proofs.Again.{shown-stand}
 use Rattle.derivations.proofs.Holding.{slots-after_all}
-use Rattle.derivations.proofs.Shares.{length-met}
 use Rattle.derivation_lines.specs.Tail.{AreKeptAfter, AreNamed, IsNamedGroup, IsRowKept, has_row_room}
-use Rattle.valid_log.specs.AnyVersion.{head_domains, limits_with}
-use Rattle.valid_log.proofs.Holding.{head-ranges}
-use Rattle.plan_told.specs.Heads.{CanHead, whole_head}
-use Rattle.stn_solve.specs.laws.Heading.{AreDeclared, HasForm}
+use Rattle.valid_log.specs.Heads.{head_domains, limits_with, setup_sizes, wide_domains}
+use Rattle.valid_log.proofs.Holding.{head-ranges, setup-ranges}
+use Rattle.plan_told.specs.Heads.{CanHead, limits_before, whole_head}
+use Rattle.stn_solve.specs.laws.Heading.{AreDeclared, CanSetUp, HasFewSplits, HasForm}
+use Rattle.stn_solve.proofs.UnitsSet.{domains-more, limits-rows, limits-slots, root-more, setups-all, sizes-long, splits-met}
 
 -- a row that is not there shows nothing
 shows_nothing : (terms : List Entry) (P : ℤ → Type 0) → MatchOption (most_by_row terms no_row) ⊥ P → ⊥
@@ -117,18 +130,33 @@ rows_after g (derivation.Row row ∷ ds) = omega (arith, rows_after (after g (de
 
 -- ---- heads
 
+-- what is left of a root behind a part's slots
+behind_part : (part between wide : Program) (plant : Plant) (judged : List Domain) (sums : List Sum) (units : List ℕ) → IsWithSums part judged sums between → AreSetUp plant units between wide
+    → drop (length part.root) wide.root ≡ map (sum_domain part judged) sums ++ domains_with plant units []
+behind_part part between wide plant judged sums units with' set =
+    let own = map (sum_domain part judged) sums in
+    let more = domains_with plant units [] in
+    ap (drop (length part.root)) (root-more plant units between wide set ∙ ap (λ (ds : List Domain). ds ++ more) with'.root ∙ append_assoc part.root own more) ∙ drop-append_seam part.root (own ++ more)
+
 -- the domains before any derivation, as they are put together
-pub domains-are : (part between : Program) (judged : List Domain) (sums : List Sum) (given : ℕ) (root domains : List Domain) → given ≡ length part.root → root ≡ between.root → IsWithSums part judged sums between
-    → domains ≡ judged ++ take (length root - given) (drop given root)
-    → domains ≡ head_domains part judged sums
-domains-are part between judged sums given root domains all same with' is =
+pub domains-are : (plant : Plant) (part between wide : Program) (judged : List Domain) (sums : List Sum) (units : List ℕ) (given : ℕ) (root domains : List Domain) → given ≡ length part.root → root ≡ wide.root → IsWithSums part judged sums between
+    → AreSetUp plant units between wide → domains ≡ judged ++ take (length root - given) (drop given root) → domains ≡ wide_domains plant part judged sums units
+domains-are plant part between wide judged sums units given root domains all same with' set is =
+    let own = map (sum_domain part judged) sums in
+    let more = domains_with plant units [] in
     let rest = take_all (length root - given) (drop given root) (omega (arith, length-drop given root)) in
-    is ∙ ap (λ (ds : List Domain). judged ++ ds) rest ∙ ap (λ (n : ℕ). judged ++ drop n root) all ∙ ap (λ (ds : List Domain). judged ++ drop (length part.root) ds) (same ∙ with'.root)
-    ∙ ap (λ (ds : List Domain). judged ++ ds) (drop-append_seam part.root (map (sum_domain part judged) sums))
+    is ∙ ap (λ (ds : List Domain). judged ++ ds) rest ∙ ap (λ (n : ℕ). judged ++ drop n root) all ∙ ap (λ (ds : List Domain). judged ++ drop (length part.root) ds) same
+    ∙ ap (λ (ds : List Domain). judged ++ ds) (behind_part part between wide plant judged sums units with' set) ∙ sym (append_assoc judged own more) ∙ sym (domains-more plant units (judged ++ own))
+
+-- a root with setups has the part's slots
+pub given-there : (plant : Plant) (part between wide : Program) (judged : List Domain) (sums : List Sum) (units : List ℕ) (given : ℕ) (root : List Domain) → given ≡ length part.root → root ≡ wide.root → IsWithSums part judged sums between
+    → AreSetUp plant units between wide → given ≤ length root
+given-there plant part between wide judged sums units given root all same with' set =
+    omega (arith, all, ap length same, ap length (root-more plant units between wide set), length-append between.root (domains_with plant units []), ap length with'.root, length-append part.root (map (sum_domain part judged) sums))
 
 -- what is chosen of sums for a part
 pub record AreChosen (part : Program) (judged : List Domain) (sums : List Sum) (between : Program) : Type 0 where
-  pub wide : AreRanges part judged
+  pub ranges : AreRanges part judged
   pub declared : All (IsDeclared (length part.root)) sums
   pub shown : All (IsShown part judged) sums
   pub few_slots : length part.root + length sums ≤ 512
@@ -138,8 +166,8 @@ pub record AreChosen (part : Program) (judged : List Domain) (sums : List Sum) (
 -- they are those that were chosen, whatever the lists by which they were passed on
 pub are-chosen : (part between : Program) (judged : List Domain) (sums : List Sum) (first second : List Domain) (passed : List Sum) → first ≡ judged → second ≡ judged → passed ≡ sums → AreRanges part judged
     → All (IsDeclared (length part.root)) sums → All (IsShown part first) sums → length part.root + length sums ≤ 512 → length part.rows + 2 * length sums ≤ 45904 → IsWithSums part second passed between → AreChosen part judged sums between
-are-chosen part between judged sums first second passed one two three wide declared shown slots rows made = record {
-  wide = wide;
+are-chosen part between judged sums first second passed one two three ranges declared shown slots rows made = record {
+  ranges = ranges;
   declared = declared;
   shown = subst (λ (ds : List Domain). All (IsShown part ds) sums) one shown;
   few_slots = slots;
@@ -147,7 +175,7 @@ are-chosen part between judged sums first second passed one two three wide decla
   with_sums = subst (λ (ds : List Domain). IsWithSums part ds sums between) two (subst (λ (ss : List Sum). IsWithSums part second ss between) three made);
 }
 
-module _ (part between : Program) (judged domains : List Domain) (sums : List Sum) (chosen : AreChosen part judged sums between) (are : domains ≡ head_domains part judged sums) where
+module _ (part between : Program) (judged : List Domain) (sums : List Sum) (chosen : AreChosen part judged sums between) where
   -- as many slots and rows as the sums add
   between_slots : length between.root ≡ length part.root + length sums
   between_slots = ap length chosen.with_sums.root ∙ length-append part.root (map (sum_domain part judged) sums) ∙ ap (λ (n : ℕ). length part.root + n) (length-map sums (sum_domain part judged))
@@ -155,56 +183,119 @@ module _ (part between : Program) (judged domains : List Domain) (sums : List Su
   between_rows : length between.rows ≡ length part.rows + 2 * length sums
   between_rows = omega (arith, ap length chosen.with_sums.rows, length-append part.rows (sum_rows (length part.root) sums), two_rows (length part.root) sums)
 
-  domains_slots : length domains ≡ length part.root + length sums
-  domains_slots = omega (arith, ap length are, length-append judged (map (sum_domain part judged) sums), length-map sums (sum_domain part judged), chosen.wide.same_length)
+  -- there are not too many for setups
+  pub between-slots : length between.root ≤ 512
+  between-slots = omega (arith, between_slots, chosen.few_slots)
 
-  -- there are not too many rows to derive others from
-  pub chosen-rows : length between.rows ≤ 50000
-  chosen-rows = omega (arith, between_rows, chosen.few_rows)
+  pub between-rows : length between.rows ≤ 45904
+  between-rows = omega (arith, between_rows, chosen.few_rows)
 
-  -- a domain for each slot
-  pub chosen-slots : length domains ≡ length between.root
-  chosen-slots = domains_slots ∙ sym between_slots
+  -- the program begins with the slots of the plant
+  pub plant-slots : (plant : Plant) → IsPartOf plant part → HasPlantSlots plant between
+  plant-slots plant is =
+      let own = length_within part.root is.whole.root is.within ∙ ap length is.made.root_is ∙ length-map (slots plant) (slot_domain plant) in
+      omega (arith, own, between_slots, length-map (slots plant) (task_slot plant))
+    where
+      length_within : (small large : List Domain) → AllZip IsWithin small large → length small ≡ length large
+      length_within [] [] within = refl
+      length_within [] (e ∷ large) within = absurd within
+      length_within (d ∷ small) [] within = absurd within
+      length_within (d ∷ small) (e ∷ large) within = ap suc (length_within small large within.1)
 
-  -- which is normal
-  pub chosen-normal : All IsNormal domains
-  chosen-normal = subst (All IsNormal) (sym are) (head-ranges part between judged sums chosen.wide chosen.with_sums).normal
+  module _ (plant : Plant) (wide : Program) (units : List ℕ) (domains : List Domain) (may : CanSetUp plant between units) (set : AreSetUp plant units between wide) (are : domains ≡ wide_domains plant part judged sums units) where
+    wide_slots : length wide.root ≡ slots_with plant units (length between.root)
+    wide_slots = slots-several plant units between wide set
 
-  module _ (larger : Program) (derivations : List Derivation) (made : AreDeclared between domains derivations) (anew : IsWithAnew between domains derivations larger) (few_bytes : length (whole_head sums derivations) < 2 ^ 64) where
-    grown : IsWithDerivations between domains derivations larger
-    grown = shown-stand between larger domains derivations made.shown anew
+    wide_rows : length wide.rows ≡ rows_with plant units (length between.rows)
+    wide_rows = rows-several plant units between wide set
 
-    -- a head can declare them
-    pub can-head : CanHead part judged sums derivations larger
-    can-head =
-        let limits = limits_with part 0 (length sums) in
-        let slots : length domains ≡ limits.slots = domains_slots in
-        let rows : length between.rows ≡ limits.rows + 0 = omega (arith, between_rows) in
-        let most : limits.rows + 0 + rows_of derivations ≤ 400000 = omega (arith, between_rows, made.few_rows) in
-        record {
-          sums_kept = record {
-            declared = chosen.declared;
-            rows_there = All-weaker (IsShown part judged) (HasRows (length part.rows)) (shown_there part judged) sums chosen.shown;
-            slots = λ some. omega (arith, chosen.few_slots);
-            rows = λ some. omega (arith, chosen.few_rows);
-          };
-          derivations_kept = kept_after limits 0 (begun between domains) derivations rows slots (omega (arith, chosen.few_slots)) most (omega (arith, made.few_derived)) made.shown made.formed;
-          few_bytes = few_bytes;
-          enlarged = record {
-            sums_shown = chosen.shown;
-            between = between;
-            with_sums = chosen.with_sums;
-            derivations_shown = subst (λ (ds : List Domain). AreShown (begun between ds) derivations) are made.shown;
-            grown = inr (refl, subst (λ (ds : List Domain). IsWithDerivations between ds derivations larger) are grown);
-          };
-        }
+    wide_ranges : AreRanges wide domains
+    wide_ranges = subst (AreRanges wide) (sym are) (setup-ranges plant units between wide (head_domains part judged sums) (head-ranges part between judged sums chosen.ranges chosen.with_sums) set)
 
-    -- no more slots and rows than a search takes up
-    pub head-slots : length larger.root ≤ 512
-    head-slots =
-        let left = (grown_by between domains derivations).domains in
-        let same : length left ≡ length between.root = slots-after_all (begun between domains) derivations ∙ chosen-slots in
-        omega (arith, ap length grown.root, length-met between.root left same, between_slots, chosen.few_slots)
+    -- there are not too many rows to derive others from
+    pub chosen-rows : length wide.rows ≤ 50000
+    chosen-rows = omega (arith, wide_rows, may.room.rows)
 
-    pub head-rows : length larger.rows ≤ 50000
-    head-rows = omega (arith, ap length grown.rows, rows_after (begun between domains) derivations, made.few_rows)
+    -- a domain for each slot
+    pub chosen-slots : length domains ≡ length wide.root
+    chosen-slots = wide_ranges.same_length
+
+    -- which is normal
+    pub chosen-normal : All IsNormal domains
+    chosen-normal = wide_ranges.normal
+
+    module _ (larger : Program) (derivations : List Derivation) (made : AreDeclared wide domains derivations) (anew : IsWithAnew wide domains derivations larger) where
+      grown : IsWithDerivations wide domains derivations larger
+      grown = shown-stand wide larger domains derivations made.shown anew
+
+      -- the units are there
+      there : All (λ unit. unit < length (setup_sizes plant)) units
+      there = All-weaker (λ (u : ℕ). u < length plant.units) (λ (u : ℕ). u < length (setup_sizes plant)) (λ u lt. omega (arith, lt, sizes-long plant)) units may.there
+
+      -- the limits of logs behind the setups are the program's slots and rows
+      limits_slots : (limits_before plant part 0 sums units).slots ≡ length wide.root
+      limits_slots = limits-slots plant (limits_with part 0 (length sums)) units there ∙ ap (slots_with plant units) (sym between_slots) ∙ sym wide_slots
+
+      limits_rows : (limits_before plant part 0 sums units).rows ≡ length wide.rows
+      limits_rows = limits-rows plant (limits_with part 0 (length sums)) units there ∙ ap (rows_with plant units) (sym between_rows) ∙ sym wide_rows
+
+      -- the setups keep the limits
+      units_kept : Sound plant → AreSetupsKept (limits_with part 0 (length sums)) (setup_sizes plant) units
+      units_kept sound = record {
+        short = All-weaker (λ (u : ℕ). u < length plant.units) IsShort (λ u lt. short_unit u lt) units may.there;
+        ascending = may.ascending;
+        there = there;
+        room = λ some.
+            let slots : leb (limits_before plant part 0 sums units).slots 4096 ≡ true = (let most = may.room.slots in le-leb (limits_before plant part 0 sums units).slots 4096 (omega (arith, limits_slots, wide_slots, most))) in
+            let rows : leb (limits_before plant part 0 sums units).rows 400000 ≡ true = (let most = may.room.rows in le-leb (limits_before plant part 0 sums units).rows 400000 (omega (arith, limits_rows, wide_rows, most))) in
+            and_from (leb (limits_before plant part 0 sums units).slots 4096) (leb (limits_before plant part 0 sums units).rows 400000) slots rows;
+      }
+        where
+          short_unit : (unit : ℕ) → unit < length plant.units → IsShort unit
+          short_unit unit lt = (let few = sound.counts.units in omega (arith, lt, few))
+
+      -- a head can declare them
+      pub can-head : Sound plant → (choices : Option Program) → choices ≡ choices_before units between → length (whole_head sums units derivations) < 2 ^ 64
+          → CanHead plant part judged sums units derivations (record { program = larger; choices = choices })
+      can-head sound choices judged_by few_bytes =
+          let limits = limits_before plant part 0 sums units in
+          let slots : length domains ≡ limits.slots = chosen-slots ∙ sym limits_slots in
+          let rows : length wide.rows ≡ limits.rows + 0 = omega (arith, limits_rows) in
+          let few : limits.slots ≤ 4096 = omega (arith, limits_slots, wide.few_slots) in
+          let most : limits.rows + 0 + rows_of derivations ≤ 400000 = omega (arith, limits_rows, made.few_rows) in
+          record {
+            sums_kept = record {
+              declared = chosen.declared;
+              rows_there = All-weaker (IsShown part judged) (HasRows (length part.rows)) (shown_there part judged) sums chosen.shown;
+              slots = λ some. omega (arith, chosen.few_slots);
+              rows = λ some. omega (arith, chosen.few_rows);
+            };
+            units_kept = units_kept sound;
+            derivations_kept = kept_after limits 0 (begun wide domains) derivations rows slots few most (omega (arith, made.few_derived)) made.shown made.formed;
+            few_bytes = few_bytes;
+            enlarged = record {
+              sums_shown = chosen.shown;
+              between = between;
+              with_sums = chosen.with_sums;
+              wide = wide;
+              with_setups = set;
+              derivations_shown = subst (λ (ds : List Domain). AreShown (begun wide ds) derivations) are made.shown;
+              grown = inr (refl, subst (λ (ds : List Domain). IsWithDerivations wide ds derivations larger) are grown);
+              choices = judged_by;
+            };
+          }
+
+      -- its slots can't be split more often than a search takes up
+      pub head-splits : HasFewSplits larger
+      head-splits =
+          let left = (grown_by wide domains derivations).domains in
+          let own = domains_with plant units [] in
+          let long : length wide.root ≡ length between.root + length own = ap length (root-more plant units between wide set) ∙ length-append between.root own in
+          let root : larger.root ≡ met (between.root ++ own) left = grown.root ∙ ap (λ (ds : List Domain). met ds left) (root-more plant units between wide set) in
+          let splits = may.room.splits in
+          let most : sum_by splits_of (met (between.root ++ own) left) + sum_by spared (met (between.root ++ own) left) ≤ 4608 = omega (arith, splits-met between.root own left (setups-all plant units), long, wide_slots, splits) in
+          subst (λ (ds : List Domain). sum_by splits_of ds + sum_by spared ds ≤ 4608) (sym root) most
+
+      -- nor are there more rows
+      pub head-rows : length larger.rows ≤ 50000
+      head-rows = omega (arith, ap length grown.rows, rows_after (begun wide domains) derivations, made.few_rows)

@@ -8,3 +8,5 @@ pub mod FactorsRise
 pub mod HeadChosen
 pub mod BegunTold
 pub mod Searchable
+pub mod UnitsRise
+pub mod UnitsSet

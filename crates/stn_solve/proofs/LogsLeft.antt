@@ -6,9 +6,13 @@ use Rattle.std.specs.FinMap.{get}
 use Rattle.std.proofs.lemmas.List.{append-nil}
 use Rattle.stn_edge.specs.Files.{FileMap, MayClear, OthersStay, cleared, file_of}
 use Rattle.stn_edge.proofs.FileLemmas.{get-cleared_other}
+use Rattle.stn_model.specs.declared.plant.Plant.{Plant}
 use Rattle.row_kit.specs.declared.domain.Domain.{Domain}
 use Rattle.row_kit.specs.declared.program.Program.{Program}
+use Rattle.row_relax.specs.declared.rows.Rows.{Rows}
+use Rattle.row_relax.specs.Choices.{plain}
 use Rattle.row_relax.specs.RowProofs.{RowItem, RowTree}
+use Rattle.row_relax.proofs.Choosing.{plain-rows}
 use Rattle.proof_tree.specs.Items.{tree_items}
 use Rattle.log_lines.specs.declared.line.Line.TheVariants.{Header, End}
 use Rattle.proof_log.specs.declared.claim.Claim.{Claim}
@@ -37,22 +41,22 @@ others-may_clear name old new (inl same) other apart = ap (option_map (λ (m : F
 others-may_clear name old new (inr is) other apart = others-clear name old new is other apart
 
 -- a log that was begun is begun after an attempt that did not end
-pub left-then : (program : Program) (floors : Bool) (head name : List ℕ) (mid new : Option FileMap) → IfSome (bytes_in name mid) (IsBegun program floors head) → LeavesBegun program floors head name mid new → IfSome (bytes_in name new) (IsBegun program floors head)
-left-then program floors head name mid new begun (inl same) = subst (λ (files : Option FileMap). IfSome (bytes_in name files) (IsBegun program floors head)) (sym same) begun
-left-then program floors head name mid new begun (inr is) = is
+pub left-then : (rows : Rows) (floors : Bool) (head name : List ℕ) (mid new : Option FileMap) → IfSome (bytes_in name mid) (IsBegun rows floors head) → LeavesBegun rows floors head name mid new → IfSome (bytes_in name new) (IsBegun rows floors head)
+left-then rows floors head name mid new begun (inl same) = subst (λ (files : Option FileMap). IfSome (bytes_in name files) (IsBegun rows floors head)) (sym same) begun
+left-then rows floors head name mid new begun (inr is) = is
 
 -- a log that lacks its claim is begun
-pub logged-begun : {Is : RowTree → Type 0} (program : Program) (floors : Bool) (head name : List ℕ) (at : Writing) → IsLogged Is program floors head name at → IfSome (bytes_in name at.files) (IsBegun program floors head)
-logged-begun program floors head name at is =
-    let begun = begun-took program floors head is.first at is.tree (tree_items is.tree) [] is.header (sym (append-nil (tree_items is.tree))) is.writable is.took in
-    subst (λ (own : List ℕ). IfSome (bytes_in own at.files) (IsBegun program floors head)) (sym is.took.keeps.name ∙ is.named) begun
+pub logged-begun : {Is : RowTree → Type 0} (rows : Rows) (floors : Bool) (head name : List ℕ) (at : Writing) → IsLogged Is rows floors head name at → IfSome (bytes_in name at.files) (IsBegun rows floors head)
+logged-begun rows floors head name at is =
+    let begun = begun-took rows floors head is.first at is.tree (tree_items is.tree) [] is.header (sym (append-nil (tree_items is.tree))) is.writable is.took in
+    subst (λ (own : List ℕ). IfSome (bytes_in own at.files) (IsBegun rows floors head)) (sym is.took.keeps.name ∙ is.named) begun
 
 -- a log whose claim was not written, or in part, is begun
-pub logged-broke : {Is : RowTree → Type 0} (program : Program) (floors : Bool) (head name : List ℕ) (at new : Writing) (claim : Claim) → IsLogged Is program floors head name at
-    → Broke at new (lines_text (claim_lines claim ++ End ∷ [])) → IfSome (bytes_in name new.files) (IsBegun program floors head)
-logged-broke program floors head name at new claim is broke =
-    let begun = begun-finish program floors head is.first at new is.tree claim is.header is.writable is.took broke in
-    subst (λ (own : List ℕ). IfSome (bytes_in own new.files) (IsBegun program floors head)) (sym is.took.keeps.name ∙ is.named) begun
+pub logged-broke : {Is : RowTree → Type 0} (rows : Rows) (floors : Bool) (head name : List ℕ) (at new : Writing) (claim : Claim) → IsLogged Is rows floors head name at
+    → Broke at new (lines_text (claim_lines claim ++ End ∷ [])) → IfSome (bytes_in name new.files) (IsBegun rows floors head)
+logged-broke rows floors head name at new claim is broke =
+    let begun = begun-finish rows floors head is.first at new is.tree claim is.header is.writable is.took broke in
+    subst (λ (own : List ℕ). IfSome (bytes_in own new.files) (IsBegun rows floors head)) (sym is.took.keeps.name ∙ is.named) begun
 
 -- what was taken or not wholly taken keeps the rest
 pub handed-keeps : (old new : Writing) (text : List ℕ) → Took old new text ⊎ Broke old new text → KeepsOthers old new
@@ -73,9 +77,9 @@ kept-handed files reads may_read may_write name writer writer_after before store
 }
 
 -- all items of the proof stand behind the head in the log that lacks its claim
-pub logged-whole : {Is : RowTree → Type 0} (program : Program) (floors : Bool) (head name : List ℕ) (at : Writing) → (is : IsLogged Is program floors head name at)
+pub logged-whole : {Is : RowTree → Type 0} (rows : Rows) (floors : Bool) (head name : List ℕ) (at : Writing) → (is : IsLogged Is rows floors head name at)
     → IsWhole at (head ++ lines_text (flat_map item_lines (tree_items is.tree)))
-logged-whole program floors head name at is = IsWhole-took is.first at head (lines_text (flat_map item_lines (tree_items is.tree))) is.header is.took
+logged-whole rows floors head name at is = IsWhole-took is.first at head (lines_text (flat_map item_lines (tree_items is.tree))) is.header is.took
 
 -- what is known of the bytes that are told, weaker
 told_weaker : (told : Option (List ℕ)) (P Q : List ℕ → Type 0) → ((bytes : List ℕ) → P bytes → Q bytes) → IfSome told P → IfSome told Q
@@ -88,43 +92,48 @@ unfolding log_lines log_text
 plain-text items claim = sym (lines_text-append (Header 2 ∷ []) (flat_map item_lines items ++ (claim_lines claim ++ End ∷ [])))
 
 -- the same of a log of which more is known
-pub logged-as : {Is Was : RowTree → Type 0} (program : Program) (floors : Bool) (head name : List ℕ) (at : Writing) → ((tree : RowTree) → Is tree → Was tree) → IsLogged Is program floors head name at → IsLogged Was program floors head name at
-logged-as program floors head name at then' is =
+pub logged-as : {Is Was : RowTree → Type 0} (rows : Rows) (floors : Bool) (head name : List ℕ) (at : Writing) → ((tree : RowTree) → Is tree → Was tree) → IsLogged Is rows floors head name at → IsLogged Was rows floors head name at
+logged-as rows floors head name at then' is =
     record { tree = is.tree; is = then' is.tree is.is; writable = is.writable; named = is.named; first = is.first; header = is.header; took = is.took }
 
 -- a log with the header that was begun is one of version 2
-plain_begun : (part : Program) (judged : List Domain) (bytes : List ℕ) → IsBegun part false (lines_text (Header 2 ∷ [])) bytes → IsSomeLogBegun part judged bytes
-plain_begun part judged bytes begun = record {
+plain_begun : (plant : Plant) (part : Program) (judged : List Domain) (bytes : List ℕ) → IsBegun (plain part) false (lines_text (Header 2 ∷ [])) bytes → IsSomeLogBegun plant part judged bytes
+plain_begun plant part judged bytes begun = record {
   sums = [];
+  units = [];
   derivations = [];
-  larger = part;
+  rows = plain part;
   tree = begun.tree;
   own = begun.claim;
   rest = begun.rest;
-  is = inl ((refl, refl, refl, begun.text ∙ plain-text (tree_items begun.tree) begun.claim), begun.writable);
+  is = inl ((refl, refl, refl, refl, begun.text ∙ plain-text (tree_items begun.tree) begun.claim), begun.writable);
 }
 
 -- so it is what an attempt leaves that did not end
-pub plain-told : (part : Program) (judged : List Domain) (head name : List ℕ) (files : Option FileMap) → head ≡ lines_text (Header 2 ∷ []) → IfSome (bytes_in name files) (IsBegun part false head) → IfSome (bytes_in name files) (IsSomeLogBegun part judged)
-plain-told part judged head name files is begun =
-    told_weaker (bytes_in name files) (IsBegun part false head) (IsSomeLogBegun part judged) (λ bytes b. plain_begun part judged bytes (subst (λ (h : List ℕ). IsBegun part false h bytes) is b)) begun
+pub plain-told : (plant : Plant) (rows : Rows) (judged : List Domain) (head name : List ℕ) (files : Option FileMap) → rows.choices ≡ None → head ≡ lines_text (Header 2 ∷ []) → IfSome (bytes_in name files) (IsBegun rows false head)
+    → IfSome (bytes_in name files) (IsSomeLogBegun plant rows.program judged)
+plain-told plant rows judged head name files none is begun =
+    told_weaker (bytes_in name files) (IsBegun rows false head) (IsSomeLogBegun plant rows.program judged)
+    (λ bytes b. plain_begun plant rows.program judged bytes (subst (λ (r : Rows). IsBegun r false (lines_text (Header 2 ∷ [])) bytes) (plain-rows rows none) (subst (λ (h : List ℕ). IsBegun rows false h bytes) is b))) begun
 
-pub plain-left : (part : Program) (judged : List Domain) (head name : List ℕ) (old new : Option FileMap) → head ≡ lines_text (Header 2 ∷ []) → LeavesBegun part false head name old new → LeavesSomeBegun part judged name old new
-plain-left part judged head name old new is (inl same) = inl same
-plain-left part judged head name old new is (inr begun) = inr (plain-told part judged head name new is begun)
+pub plain-left : (plant : Plant) (rows : Rows) (judged : List Domain) (head name : List ℕ) (old new : Option FileMap) → rows.choices ≡ None → head ≡ lines_text (Header 2 ∷ []) → LeavesBegun rows false head name old new
+    → LeavesSomeBegun plant rows.program judged name old new
+plain-left plant rows judged head name old new none is (inl same) = inl same
+plain-left plant rows judged head name old new none is (inr begun) = inr (plain-told plant rows judged head name new none is begun)
 
-module _ (part larger : Program) (judged : List Domain) (sums : List Sum) (derivations : List Derivation) (head name : List ℕ) (can : CanHead part judged sums derivations larger) (is : head ≡ whole_head sums derivations) where
+module _ (plant : Plant) (part : Program) (rows : Rows) (judged : List Domain) (sums : List Sum) (units : List ℕ) (derivations : List Derivation) (head name : List ℕ) (can : CanHead plant part judged sums units derivations rows)
+    (is : head ≡ whole_head sums units derivations) where
   -- a log with a head that was begun is one of version 4
-  headed_begun : (bytes : List ℕ) → IsBegun larger true head bytes → IsSomeLogBegun part judged bytes
+  headed_begun : (bytes : List ℕ) → IsBegun rows true head bytes → IsSomeLogBegun plant part judged bytes
   headed_begun bytes given =
-      let begun = subst (λ (h : List ℕ). IsBegun larger true h bytes) is given in
-      record { sums = sums; derivations = derivations; larger = larger; tree = begun.tree; own = begun.claim; rest = begun.rest; is = inr ((can.enlarged, begun.text), begun.writable) }
+      let begun = subst (λ (h : List ℕ). IsBegun rows true h bytes) is given in
+      record { sums = sums; units = units; derivations = derivations; rows = rows; tree = begun.tree; own = begun.claim; rest = begun.rest; is = inr ((can.enlarged, begun.text), begun.writable) }
 
   -- so it is what an attempt leaves that did not end
-  pub headed-told : (files : Option FileMap) → IfSome (bytes_in name files) (IsBegun larger true head) → IfSome (bytes_in name files) (IsSomeLogBegun part judged)
-  headed-told files begun = told_weaker (bytes_in name files) (IsBegun larger true head) (IsSomeLogBegun part judged) headed_begun begun
+  pub headed-told : (files : Option FileMap) → IfSome (bytes_in name files) (IsBegun rows true head) → IfSome (bytes_in name files) (IsSomeLogBegun plant part judged)
+  headed-told files begun = told_weaker (bytes_in name files) (IsBegun rows true head) (IsSomeLogBegun plant part judged) headed_begun begun
 
-  pub headed-left : (old new : Option FileMap) → LeavesBegun larger true head name old new → LeavesSomeBegun part judged name old new
+  pub headed-left : (old new : Option FileMap) → LeavesBegun rows true head name old new → LeavesSomeBegun plant part judged name old new
   headed-left old new (inl same) = inl same
   headed-left old new (inr begun) = inr (headed-told new begun)
 

@@ -1,5 +1,5 @@
--- What is told of searches over a part's own program, and over that with what a head declares.
-use Rattle.std.proofs.Common.{◌≡◌, ℕ, true, false, ◌<◌, ◌≤◌, length, ap₂, ◌∙◌, subst, inl, inr, List, Option, IfSome}
+-- What is told of searches over a part's own program, and over the rows with what a head declares.
+use Rattle.std.proofs.Common.{◌≡◌, ℕ, true, false, ◌<◌, ◌≤◌, length, ap₂, ◌∙◌, subst, inl, inr, List, Option, None, IfSome}
 use Rattle.stn_model.specs.declared.plant.Plant.{Plant}
 use Rattle.stn_model.specs.Sound.{Sound}
 use Rattle.time_grid.specs.Slots.{slots}
@@ -8,7 +8,10 @@ use Rattle.row_kit.specs.declared.found.Found.{Found}
 use Rattle.row_kit.specs.declared.program.Program.{Program}
 use Rattle.row_kit.specs.Points.{points_of}
 use Rattle.row_set.specs.Parts.{IsPartOf}
+use Rattle.row_relax.specs.declared.rows.Rows.{Rows}
+use Rattle.row_relax.specs.Choices.{HaveImages, plain}
 use Rattle.row_relax.specs.RowProofs.{RowTree}
+use Rattle.row_relax.proofs.Choosing.{plain-rows}
 use Rattle.sum_slots.specs.Shown.{AreRanges}
 use Rattle.branch_tree.specs.declared.ended.Ended.{Ended}
 use Rattle.plan_told.specs.Ended.{IsEnding, IsSearchOf}
@@ -16,22 +19,27 @@ use Rattle.plan_told.specs.Given.{IsGivenEnded, given_end}
 use Rattle.plan_told.specs.Law.{IsToldByHead}
 use Rattle.plan_told.specs.Telling.{IsTold}
 use Rattle.plan_told.specs.declared.telling.Told.{Told}
+use Rattle.plan_told.proofs.HeadImages.{head-images}
 use Rattle.plan_told.proofs.PlainTold.{IsToldRight, best-places, told-right}
 use Rattle.plan_told.proofs.ToldByHead.{given-places, told-by_head}
 use Rattle.stn_solve.specs.declared.heading.Headed.{Headed}
 use Rattle.stn_solve.specs.laws.Heading.{IsHeaded}
 
+-- a search over rows whose points are judged by their own program is one over that program
+pub as-plain : (rows : Rows) (given budget : ℕ) (ended : Ended) (tree : RowTree) → rows.choices ≡ None → IsSearchOf rows false given budget ended tree → IsSearchOf (plain rows.program) false given budget ended tree
+as-plain rows given budget ended tree none of = subst (λ (r : Rows). IsSearchOf r false given budget ended tree) (plain-rows rows none) of
+
 -- over a part's own program nothing but a search comes to an end: each slot of its root has a value
-pub plain-search : (plant : Plant) (part : Program) (given budget : ℕ) (ended : Ended) (tree : RowTree) → IsPartOf plant part → IsEnding part false given budget ended tree → IsSearchOf part false given budget ended tree
-plain-search plant part given budget ended tree is (inl of) = of
-plain-search plant part given budget ended tree is (inr of) = absurd (of.bare is.each_open)
+pub plain-search : (plant : Plant) (rows : Rows) (given budget : ℕ) (ended : Ended) (tree : RowTree) → rows.choices ≡ None → IsPartOf plant rows.program → IsEnding rows false given budget ended tree → IsSearchOf (plain rows.program) false given budget ended tree
+plain-search plant rows given budget ended tree none is (inl of) = as-plain rows given budget ended tree none of
+plain-search plant rows given budget ended tree none is (inr of) = absurd (of.bare is.each_open)
 
 -- a search is one by another name of the number from which on slots are sums
-from-given : (program : Program) (given own budget : ℕ) (tree : RowTree) (ended : Ended) → given ≡ own → IsSearchOf program false given budget ended tree → IsSearchOf program false own budget ended tree
-from-given program given own budget tree ended is of = subst (λ n. IsSearchOf program false n budget ended tree) is of
+from-given : (program : Program) (given own budget : ℕ) (tree : RowTree) (ended : Ended) → given ≡ own → IsSearchOf (plain program) false given budget ended tree → IsSearchOf (plain program) false own budget ended tree
+from-given program given own budget tree ended is of = subst (λ n. IsSearchOf (plain program) false n budget ended tree) is of
 
 module _ (plant : Plant) (part : Program) (given budget : ℕ) (tree : RowTree) (ended : Ended) (sound : Sound plant) (is : IsPartOf plant part) (same : given ≡ length part.root)
-    (of : IsSearchOf part false given budget ended tree) where
+    (of : IsSearchOf (plain part) false given budget ended tree) where
   -- its best point has a value for each slot of the plant
   pub plain-places : IfSome ended.best (λ found. length found.point ≡ length (slots plant))
   plain-places = best-places plant part sound is false budget tree ended (from-given part given (length part.root) budget tree ended same of).search
@@ -40,21 +48,25 @@ module _ (plant : Plant) (part : Program) (given budget : ℕ) (tree : RowTree) 
   pub plain-right : (told : Told) → IsTold plant ended told → IsToldRight plant part budget tree told
   plain-right told says = told-right plant part sound is budget tree ended (from-given part given (length part.root) budget tree ended same of) told says
 
-module _ (plant : Plant) (part : Program) (judged : List Domain) (headed : Headed) (budget : ℕ) (tree : RowTree) (ended own : Ended) (sound : Sound plant) (is : IsPartOf plant part) (wide : AreRanges part judged) (with_head : IsHeaded part judged headed)
-    (some : 1 ≤ budget) (of : IsEnding headed.rows.program true headed.given budget ended tree) (as_given : own ≡ given_end headed.given headed.least ended) where
+module _ (plant : Plant) (part : Program) (judged : List Domain) (headed : Headed) (budget : ℕ) (tree : RowTree) (ended own : Ended) (sound : Sound plant) (is : IsPartOf plant part) (ranges : AreRanges part judged) (with_head : IsHeaded plant part judged headed)
+    (some : 1 ≤ budget) (of : IsEnding headed.rows true headed.given budget ended tree) (as_given : own ≡ given_end headed.given headed.least ended) where
   -- what the search ended with is as of the part
   own_is : IsGivenEnded part ended own
   own_is = as_given ∙ ap₂ (λ (slots : ℕ) (least : Option Found). given_end slots least ended) with_head.given with_head.least
 
-  -- it is a search in which the slots after the part's are sums
-  own_of : IsEnding headed.rows.program true (length part.root) budget ended tree
-  own_of = subst (λ (n : ℕ). IsEnding headed.rows.program true n budget ended tree) with_head.given of
+  -- it is a search in which the slots after the part's are sums and setups
+  own_of : IsEnding headed.rows true (length part.root) budget ended tree
+  own_of = subst (λ (n : ℕ). IsEnding headed.rows true n budget ended tree) with_head.given of
 
   -- its best point has a value for each slot of the plant
   pub headed-places : IfSome own.best (λ found. length found.point ≡ length (slots plant))
-  headed-places = given-places {floors = true} {budget = budget} plant part headed.rows.program judged headed.sums with_head.derivations tree ended own sound is wide with_head.can some own_of own_is
+  headed-places = given-places {floors = true} {budget = budget} plant part headed.rows judged headed.sums with_head.units with_head.derivations tree ended own sound is ranges with_head.can some own_of own_is
 
   -- what is told of it is right
-  pub headed-right : 50000 < points_of part.root → budget ≤ 100000 → (told : Told) → IsTold plant own told → IsToldByHead plant part judged headed.sums with_head.derivations budget tree told
+  pub headed-right : 50000 < points_of part.root → budget ≤ 100000 → (told : Told) → IsTold plant own told → IsToldByHead plant part judged headed.sums with_head.units with_head.derivations budget tree told
   headed-right many few told says =
-      told-by_head plant part headed.rows.program judged headed.sums with_head.derivations true budget tree ended own told sound is wide with_head.can many some few own_of own_is says
+      told-by_head plant part headed.rows judged headed.sums with_head.units with_head.derivations true budget tree ended own told sound is ranges with_head.can many some few own_of own_is says
+
+-- each lawful point has an image among the rows of a head
+pub headed-images : (plant : Plant) (part : Program) (judged : List Domain) (headed : Headed) → Sound plant → IsPartOf plant part → AreRanges part judged → IsHeaded plant part judged headed → HaveImages headed.rows
+headed-images plant part judged headed sound is ranges with_head = head-images plant part headed.rows judged headed.sums with_head.units with_head.derivations sound is ranges with_head.can

@@ -6,10 +6,11 @@ use Rattle.row_kit.specs.declared.program.Program.{Program}
 use Rattle.row_set.specs.Parts.{IsPartOf}
 use Rattle.row_set.proofs.Limits.{part-rows, part-slots}
 use Rattle.branch_tree.specs.Searched.{IsSearchable}
+use Rattle.branch_tree.proofs.Depths.{splits-few}
 
 pub part-searchable : (plant : Plant) (part : Program) → Sound plant → IsPartOf plant part → IsSearchable part
 part-searchable plant part sound is = record {
   each_open = is.each_open;
-  few_slots = part-slots plant part sound is;
+  few_splits = splits-few part.root (part-slots plant part sound is);
   few_rows = (let few = part-rows plant part sound is in omega (arith, few));
 }

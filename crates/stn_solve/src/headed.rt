@@ -1,4 +1,4 @@
-//! Planning over the program of a part of a plant's choices with what the head of its log declares.
+//! Planning over the rows of a part of a plant's choices with what the head of its log declares.
 ghost use Rattle.std.specs.Prelude.{◌≡◌, ◌≤◌, ◌<◌, None, Err, IsTrue, IfOk, OnErr};
 ghost use Rattle.stn_edge.specs.Count.{Rose};
 ghost use Rattle.stn_edge.specs.Files.{OthersStay};
@@ -21,8 +21,8 @@ use std::alloc::{AllocError, Global};
 use stn_edge::{Shelf, Stop};
 use stn_model::{Outcome, Plant};
 
-// Plans over the program of a part with the sums and derivations that are chosen for it, in a head that is judged over domains, with at
-// most so many boxes.
+// Plans over the program of a part with the sums, the setups and the derivations that are chosen for it, in a head that is judged over
+// domains, with at most so many boxes.
 pub fn plan_headed<A: Advisers>(
     alloc: Global,
     plant: &Plant,
@@ -47,7 +47,7 @@ pub fn plan_headed<A: Advisers>(
         given,
         least,
         ..
-    } = with_head::<A>(alloc, part, judged)?;
+    } = with_head::<A>(alloc, plant, part, judged)?;
     let whole = completed(alloc, sums.as_slice(), start, lawful)?;
     let rules = SplitRules {
         given,
@@ -59,8 +59,8 @@ pub fn plan_headed<A: Advisers>(
     Ok(outcome)
 }
 
-// Plans over the program of a part with the sums and derivations that are chosen for it, and writes the log of the proof, of version 4,
-// whose head declares them.
+// Plans over the program of a part with the sums, the setups and the derivations that are chosen for it, and writes the log of the
+// proof, of version 4, whose head declares them.
 pub fn solve_headed_to<A: Advisers, F: Shelf>(
     alloc: Global,
     plant: &Plant,
@@ -81,7 +81,7 @@ pub fn solve_headed_to<A: Advisers, F: Shelf>(
     ensures proof { IfOk result
         (HasProof plant.now part judged (bytes_in name.now (F.files files.new))) }
     ensures begun { IfOk result (λ outcome. EarnsPoint part start.now outcome.answer) }
-    ensures err { OnErr result (LeavesSomeBegun part judged name.now (F.files files.old)
+    ensures err { OnErr result (LeavesSomeBegun plant.now part judged name.now (F.files files.old)
         (F.files files.new)) }
     ensures others { OthersStay name.now (F.files files.old) (F.files files.new) }
     ensures readable { F.may_read files.new ≡ F.may_read files.old }
@@ -98,7 +98,7 @@ pub fn solve_headed_to<A: Advisers, F: Shelf>(
         head,
         given,
         least,
-    } = with_head::<A>(alloc, part, judged)?;
+    } = with_head::<A>(alloc, plant, part, judged)?;
     let begun = completed(alloc, sums.as_slice(), start, lawful)?;
     let rules = SplitRules {
         given,

@@ -15,6 +15,7 @@ mod part;
 mod plain;
 mod plant;
 mod searching;
+mod setting;
 mod solved;
 mod split_rules;
 

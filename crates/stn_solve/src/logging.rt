@@ -3,9 +3,11 @@ ghost use Rattle.std.specs.Prelude.{◌≡◌, ◌≤◌, ◌↔◌, Bool, true,
 ghost use Rattle.std.specs.List.{All};
 ghost use Rattle.stn_edge.specs.Count.{Rose};
 ghost use Rattle.row_kit.specs.Domain.{IsOpen};
-ghost use Rattle.branch_tree.specs.Searched.{IsExact, IsSearch, IsSearchable, IsWorth};
+ghost use Rattle.row_relax.specs.Choices.{HaveImages, choices_of};
+ghost use Rattle.branch_tree.specs.Searched.{AreSearchable, IsExact, IsSearch, IsWorth};
 ghost use Rattle.plan_told.specs.Ended.{IsEmptyRoot, IsEnding};
 ghost use Rattle.proof_log.specs.Writer.{KeepsOthers, writing};
+ghost use Rattle.stn_solve.specs.laws.Heading.{HasFewSplits};
 ghost use Rattle.stn_solve.specs.laws.Logging.{IsLogged, LeavesBegun, stored};
 
 use crate::searching::empty_end;
@@ -39,16 +41,18 @@ pub fn search_logged<A: Advisers, F: Shelf>(
     files: &mut F,
     name: &str,
 ) -> Result<Logged, Stop>
-    requires slots { length rows.now.program.root ≤ 512 }
+    requires images { HaveImages rows.now }
+    requires splits { HasFewSplits rows.now.program }
     requires rows { length rows.now.program.rows ≤ 50000 }
     requires budget { (1 ≤ budget) × (budget ≤ 100000) }
     requires allowed { IsTrue (F.may_write files.old name.now) }
     ensures logged { IfOk result (λ logged. IsLogged
-        (IsEnding rows.now.program rules.floors rules.given budget logged.ended)
-        rows.now.program rules.floors head.now name.now
+        (IsEnding rows.now rules.floors rules.given budget logged.ended)
+        rows.now rules.floors head.now name.now
         (writing F.files F.read_faults F.may_read F.may_write logged.writer files.new)) }
-    ensures begun { IfOk result (λ logged. IsWorth rows.now.program start.now logged.ended.best) }
-    ensures err { OnErr result (LeavesBegun rows.now.program rules.floors head.now name.now
+    ensures begun { IfOk result
+        (λ logged. IsWorth (choices_of rows.now) start.now logged.ended.best) }
+    ensures err { OnErr result (LeavesBegun rows.now rules.floors head.now name.now
         (F.files files.old) (F.files files.new)) }
     ensures kept { KeepsOthers
         (stored F.files F.read_faults F.may_read F.may_write name.now files.old)
@@ -81,10 +85,10 @@ fn log_empty<F: Shelf>(
     requires allowed { IsTrue (F.may_write files.old name.now) }
     ensures logged { (floors : Bool)
         → IfOk result (λ logged. IsLogged (IsEmptyRoot rows.now.program logged.ended)
-        rows.now.program floors head.now name.now
+        rows.now floors head.now name.now
         (writing F.files F.read_faults F.may_read F.may_write logged.writer files.new)) }
     ensures err { (floors : Bool)
-        → OnErr result (LeavesBegun rows.now.program floors head.now name.now
+        → OnErr result (LeavesBegun rows.now floors head.now name.now
         (F.files files.old) (F.files files.new)) }
     ensures kept { KeepsOthers
         (stored F.files F.read_faults F.may_read F.may_write name.now files.old)
@@ -112,19 +116,19 @@ fn log_advised<A: Advisers, F: Shelf>(
     files: &mut F,
     name: &str,
 ) -> Result<(Logged, bool), Stop>
-    requires searchable { IsSearchable rows.now.program }
+    requires searchable { AreSearchable rows.now }
     requires budget { (1 ≤ budget) × (budget ≤ 100000) }
     requires allowed { IsTrue (F.may_write files.old name.now) }
     ensures logged { IfOk result (λ found.
         IsLogged
-        (λ tree. IsSearch rows.now.program rules.floors rules.given budget tree found.0.ended)
-        rows.now.program rules.floors head.now name.now
+        (λ tree. IsSearch rows.now rules.floors rules.given budget tree found.0.ended)
+        rows.now rules.floors head.now name.now
         (writing F.files F.read_faults F.may_read F.may_write found.0.writer files.new)) }
     ensures begun { IfOk result
-        (λ found. IsWorth rows.now.program start.now found.0.ended.best) }
+        (λ found. IsWorth (choices_of rows.now) start.now found.0.ended.best) }
     ensures exact { IfOk result
         (λ found. found.1 ≡ true → IsExact rows.now.program budget found.0.ended) }
-    ensures err { OnErr result (LeavesBegun rows.now.program rules.floors head.now name.now
+    ensures err { OnErr result (LeavesBegun rows.now rules.floors head.now name.now
         (F.files files.old) (F.files files.new)) }
     ensures kept { KeepsOthers
         (stored F.files F.read_faults F.may_read F.may_write name.now files.old)
@@ -167,17 +171,18 @@ fn log_hinted<A: Advisers, F: Shelf>(
     files: &mut F,
     name: &str,
 ) -> Result<Logged, Stop>
-    requires searchable { IsSearchable rows.now.program }
+    requires searchable { AreSearchable rows.now }
     requires budget { (1 ≤ budget) × (budget ≤ 100000) }
     requires allowed { IsTrue (F.may_write files.old name.now) }
     ensures logged { IfOk result (λ logged.
         IsLogged
-        (λ tree. IsSearch rows.now.program rules.floors rules.given budget tree logged.ended)
-        rows.now.program rules.floors head.now name.now
+        (λ tree. IsSearch rows.now rules.floors rules.given budget tree logged.ended)
+        rows.now rules.floors head.now name.now
         (writing F.files F.read_faults F.may_read F.may_write logged.writer files.new)) }
-    ensures begun { IfOk result (λ logged. IsWorth rows.now.program start.now logged.ended.best) }
+    ensures begun { IfOk result
+        (λ logged. IsWorth (choices_of rows.now) start.now logged.ended.best) }
     ensures exact { IfOk result (λ logged. IsExact rows.now.program budget logged.ended) }
-    ensures err { OnErr result (LeavesBegun rows.now.program rules.floors head.now name.now
+    ensures err { OnErr result (LeavesBegun rows.now rules.floors head.now name.now
         (F.files files.old) (F.files files.new)) }
     ensures kept { KeepsOthers
         (stored F.files F.read_faults F.may_read F.may_write name.now files.old)

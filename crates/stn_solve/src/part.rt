@@ -44,7 +44,10 @@ pub fn plan_rows<A: Advisers>(
     if has_many(&part, levels) {
         return plan_headed::<A>(alloc, plant, part, judged, budget, start);
     }
-    let rows = Rows { program: part };
+    let rows = Rows {
+        program: part,
+        choices: None,
+    };
     plan_plain::<A>(alloc, plant, &rows, budget, start)
 }
 
@@ -71,7 +74,7 @@ pub fn solve_rows_to<A: Advisers, F: Shelf>(
     ensures proof { IfOk result
         (HasProof plant.now part judged (bytes_in name.now (F.files files.new))) }
     ensures begun { IfOk result (λ outcome. EarnsPoint part start.now outcome.answer) }
-    ensures err { OnErr result (LeavesSomeBegun part judged name.now (F.files files.old)
+    ensures err { OnErr result (LeavesSomeBegun plant.now part judged name.now (F.files files.old)
         (F.files files.new)) }
     ensures others { OthersStay name.now (F.files files.old) (F.files files.new) }
     ensures readable { F.may_read files.new ≡ F.may_read files.old }
@@ -84,6 +87,9 @@ pub fn solve_rows_to<A: Advisers, F: Shelf>(
     if has_many(&part, levels) {
         return solve_headed_to::<A, _>(alloc, plant, part, judged, budget, start, files, name);
     }
-    let rows = Rows { program: part };
+    let rows = Rows {
+        program: part,
+        choices: None,
+    };
     solve_plain_to::<A, _>(alloc, plant, &rows, budget, start, files, name)
 }

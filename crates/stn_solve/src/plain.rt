@@ -25,7 +25,7 @@ use std::alloc::{AllocError, Global};
 use stn_edge::{Shelf, Stop};
 use stn_model::{Outcome, Plant};
 
-// Plans over the rows of a part's own program, with at most so many boxes.
+// Plans over the rows of a part's own program, by which points are judged, with at most so many boxes.
 pub fn plan_plain<A: Advisers>(
     alloc: Global,
     plant: &Plant,
@@ -35,6 +35,7 @@ pub fn plan_plain<A: Advisers>(
 ) -> Result<Outcome, AllocError>
     requires sound { Sound plant.now }
     requires part { IsPartOf plant.now rows.now.program }
+    requires plain { rows.now.choices ≡ None }
     requires budget { (1 ≤ budget) × (budget ≤ 100000) }
     ensures outcome { IfOk result (IsPartOutcome plant.now rows.now.program budget) }
     ensures proof { (judged : List Domain)
@@ -60,6 +61,7 @@ pub fn solve_rows<A: Advisers>(
 ) -> Result<Solved, AllocError>
     requires sound { Sound plant.now }
     requires part { IsPartOf plant.now rows.now.program }
+    requires plain { rows.now.choices ≡ None }
     requires budget { (1 ≤ budget) × (budget ≤ 100000) }
     ensures outcome { IfOk result
         (λ solved. IsPartOutcome plant.now rows.now.program budget solved.outcome) }
@@ -105,6 +107,7 @@ pub fn solve_plain_to<A: Advisers, F: Shelf>(
 ) -> Result<Outcome, Stop>
     requires sound { Sound plant.now }
     requires part { IsPartOf plant.now rows.now.program }
+    requires plain { rows.now.choices ≡ None }
     requires budget { (1 ≤ budget) × (budget ≤ 100000) }
     requires allowed { IsTrue (F.may_write files.old name.now) }
     ensures outcome { IfOk result (IsPartOutcome plant.now rows.now.program budget) }
@@ -113,7 +116,7 @@ pub fn solve_plain_to<A: Advisers, F: Shelf>(
     ensures begun { IfOk result
         (λ outcome. EarnsPoint rows.now.program start.now outcome.answer) }
     ensures err { (judged : List Domain)
-        → OnErr result (LeavesSomeBegun rows.now.program judged name.now
+        → OnErr result (LeavesSomeBegun plant.now rows.now.program judged name.now
         (F.files files.old) (F.files files.new)) }
     ensures others { OthersStay name.now (F.files files.old) (F.files files.new) }
     ensures readable { F.may_read files.new ≡ F.may_read files.old }

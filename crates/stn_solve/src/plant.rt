@@ -76,7 +76,10 @@ pub fn solve<A: Advisers>(alloc: Global, plant: &Plant, budget: u32) -> Result<S
         (λ solved. solved.claim ≡ claim_of plant.now solved.outcome.answer) }
 {
     let program = program_of(alloc, plant)?;
-    let rows = Rows { program };
+    let rows = Rows {
+        program,
+        choices: None,
+    };
     solve_rows::<A>(alloc, plant, &rows, budget)
 }
 

@@ -1,8 +1,10 @@
 //! Searches with the advice on plans, and where that leaves boxes open though budget is left, anew without it.
 ghost use Rattle.std.specs.Prelude.{◌≡◌, ◌≤◌, IfOk, length};
 ghost use Rattle.proof_tree.specs.Tree.{tree_of};
-ghost use Rattle.branch_tree.specs.Searched.{IsSearchable, IsWorth, ended_of};
+ghost use Rattle.row_relax.specs.Choices.{HaveImages, choices_of};
+ghost use Rattle.branch_tree.specs.Searched.{AreSearchable, IsWorth, ended_of};
 ghost use Rattle.plan_told.specs.Ended.{IsSearchOf, IsSearched, empty_end};
+ghost use Rattle.stn_solve.specs.laws.Heading.{HasFewSplits};
 
 use crate::item_dropper::ItemDropper;
 use crate::split_rules::SplitRules;
@@ -41,11 +43,12 @@ pub fn search_only<A: Advisers>(
     budget: u32,
     start: &[u8],
 ) -> Result<Ended, AllocError>
-    requires slots { length rows.now.program.root ≤ 512 }
+    requires images { HaveImages rows.now }
+    requires splits { HasFewSplits rows.now.program }
     requires rows { length rows.now.program.rows ≤ 50000 }
     requires budget { (1 ≤ budget) × (budget ≤ 100000) }
-    ensures ended { IfOk result (IsSearched rows.now.program rules.floors rules.given budget) }
-    ensures begun { IfOk result (λ ended. IsWorth rows.now.program start.now ended.best) }
+    ensures ended { IfOk result (IsSearched rows.now rules.floors rules.given budget) }
+    ensures begun { IfOk result (λ ended. IsWorth (choices_of rows.now) start.now ended.best) }
 {
     if is_searchable(&rows.program) {
         search_open::<A>(alloc, rows, rules, budget, start)
@@ -62,10 +65,10 @@ fn search_open<A: Advisers>(
     budget: u32,
     start: &[u8],
 ) -> Result<Ended, AllocError>
-    requires searchable { IsSearchable rows.now.program }
+    requires searchable { AreSearchable rows.now }
     requires budget { (1 ≤ budget) × (budget ≤ 100000) }
-    ensures ended { IfOk result (IsSearched rows.now.program rules.floors rules.given budget) }
-    ensures begun { IfOk result (λ ended. IsWorth rows.now.program start.now ended.best) }
+    ensures ended { IfOk result (IsSearched rows.now rules.floors rules.given budget) }
+    ensures begun { IfOk result (λ ended. IsWorth (choices_of rows.now) start.now ended.best) }
 {
     let mut taker = ItemDropper;
     let Ok(guided) = search_advised::<A, _, _>(
@@ -105,9 +108,9 @@ pub fn search_built<A: Advisers>(
     rules: SplitRules,
     budget: u32,
 ) -> Result<Searched, AllocError>
-    requires searchable { IsSearchable rows.now.program }
+    requires searchable { AreSearchable rows.now }
     requires budget { (1 ≤ budget) × (budget ≤ 100000) }
-    ensures { IfOk result (λ searched. IsSearchOf rows.now.program rules.floors rules.given budget
+    ensures { IfOk result (λ searched. IsSearchOf rows.now rules.floors rules.given budget
         (ended_of searched) (tree_of searched.tree)) }
 {
     let (searched, exact) = build_advised::<A>(

@@ -3,7 +3,7 @@
 /// How a search may split boxes.
 #[derive(Clone, Copy)]
 pub struct SplitRules {
-    /// Slots from this number on are sums.
+    /// Slots from this number on are sums, and behind them setups.
     pub given: u32,
     /// Whether splits may have floors, as in logs of version 4.
     pub floors: bool,

@@ -1,6 +1,7 @@
 -- A walk over the lines of a head.
 use Rattle.std.proofs.Common.{◌≡◌, ◌≢◌, inl, inr, ℕ, ◌≤◌, ◌+◌, ◌<◌, List, [], ◌∷◌, ◌++◌, length, length-append, drop, Option, Some, None, MatchOption, IfSome, subst, sym, ap, ◌∙◌, refl, arith, append_assoc}
 use Rattle.std.proofs.Math.Seq.{drop-append_seam}
+use Rattle.std.proofs.lemmas.List.{drop-drop}
 use Rattle.log_lines.specs.Reader.{EndsLine, HasNoFeed, IsEnd, Reading, line_length, new_reading}
 use Rattle.log_lines.specs.declared.reader.LineEnd.{LineEnd}
 use Rattle.log_lines.specs.declared.reader.LineEnd.TheVariants.{Whole, Cut, Long, Nothing}
@@ -107,6 +108,17 @@ whole_step files name start text old new reader end whole is ends same count byt
     let ends2 = subst (λ r. IfSome files (λ m. EndsLine (file_of m name) old.reader r Whole)) (sym same) (subst (λ e. IfSome files (λ m. EndsLine (file_of m name) old.reader reader e)) whole ends) in
     subst (IsStepped files name start text old new) (sym whole)
     (whole_after files name start text old new after is2 ends2 count (bytes ∙ ap (λ r. old.bytes + (length r.line + 1)) (sym same)))
+
+-- what is left of a file behind a text, by what follows it
+left_is : (start : ℕ) (text file rest : List ℕ) → drop start file ≡ text ++ rest → drop (start + length text) file ≡ rest
+left_is start text file rest is = sym (drop-drop (length text) start file) ∙ ap (drop (length text)) is ∙ drop-append_seam text rest
+
+-- the line behind a text that was passed
+pub next_is : (start : ℕ) (text line file : List ℕ) → drop start file ≡ (text ++ (line ++ 10 ∷ [])) ++ drop (start + length (text ++ (line ++ 10 ∷ []))) file
+    → drop (start + length text) file ≡ line ++ 10 ∷ drop (start + length (text ++ (line ++ 10 ∷ []))) file
+next_is start text line file is =
+    let after : List ℕ = drop (start + length (text ++ (line ++ 10 ∷ []))) file in
+    left_is start text file (line ++ 10 ∷ after) (is ∙ append_assoc text (line ++ 10 ∷ []) after ∙ ap (λ w. text ++ w) (append_assoc line (10 ∷ []) after))
 
 -- ---- lines of a head
 

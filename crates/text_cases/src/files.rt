@@ -1,16 +1,12 @@
 //! Cases of stores and sinks in memory.
 ghost use Rattle.std.specs.Prelude.{◌≤◌, ◌^◌};
 
-use case_tables::{Sheet, Step};
-use std::alloc::{AllocError, Global};
+use case_tables::{Sheet, Step, Tried};
+use std::alloc::Global;
 use stn_edge::{FixedShelf, FixedSink, MemShelf, MemSink, ReadStop, Shelf, Sink, Stop, read_all};
 
 /// Prints what the steps give over stores and sinks that are empty at first.
-pub fn answer<'a>(
-    alloc: Global,
-    steps: &'a [Step<'a>],
-    sheet: &mut Sheet<'a>,
-) -> Result<(), AllocError> {
+pub fn answer<'a>(alloc: Global, steps: &'a [Step<'a>], sheet: &mut Sheet<'a>) -> Tried {
     let mut failing = MemShelf::new(alloc);
     let mut fixed = FixedShelf::new(alloc);
     let mut sink = MemSink::new(alloc);
@@ -57,7 +53,7 @@ fn put_file(file: Option<&[u8]>, sheet: &mut Sheet) {
 }
 
 // `sink_fail CALL BYTES`, and `sink_put` over a text: how the put ends, and what was put so far.
-fn answer_sink(sink: &mut MemSink, verb: &str, sheet: &mut Sheet) -> Result<(), AllocError> {
+fn answer_sink(sink: &mut MemSink, verb: &str, sheet: &mut Sheet) -> Tried {
     if verb == "sink_fail" {
         let call = sheet.number();
         return sink.fail_call(call, sheet.number());
@@ -74,12 +70,7 @@ fn put_to_fixed(sink: &mut FixedSink, sheet: &mut Sheet) {
 }
 
 // `fixed_put`, `fixed_append` and `fixed_clear` over a text, and `fixed_read MOST LIMIT`: the file, read in pieces of MOST bytes.
-fn answer_fixed(
-    alloc: Global,
-    shelf: &mut FixedShelf,
-    verb: &str,
-    sheet: &mut Sheet,
-) -> Result<(), AllocError> {
+fn answer_fixed(alloc: Global, shelf: &mut FixedShelf, verb: &str, sheet: &mut Sheet) -> Tried {
     match verb {
         "fixed_put" => shelf.put_file("file", sheet.bytes())?,
         "fixed_read" => read_fixed(alloc, shelf, sheet),
@@ -120,12 +111,7 @@ fn limit(sheet: &mut Sheet) -> u64
 }
 
 // `fail CALL BYTES`, and `put NAME`, `append NAME`, `clear NAME`, `read NAME LIMIT` over a text.
-fn answer_failing(
-    alloc: Global,
-    shelf: &mut MemShelf,
-    verb: &str,
-    sheet: &mut Sheet,
-) -> Result<(), AllocError> {
+fn answer_failing(alloc: Global, shelf: &mut MemShelf, verb: &str, sheet: &mut Sheet) -> Tried {
     match verb {
         "fail" => fail(shelf, sheet)?,
         "put" => shelf.put_file(sheet.word(), sheet.bytes())?,
@@ -136,7 +122,7 @@ fn answer_failing(
     Ok(())
 }
 
-fn fail(shelf: &mut MemShelf, sheet: &mut Sheet) -> Result<(), AllocError> {
+fn fail(shelf: &mut MemShelf, sheet: &mut Sheet) -> Tried {
     let call = sheet.number();
     shelf.fail_call(call, sheet.number())
 }

@@ -1,9 +1,10 @@
 //! Cases of the heads of logs: what is read of one, and the text of what was read.
-ghost use Rattle.std.specs.Prelude.{◌≤◌, IfSome};
+ghost use Rattle.std.specs.Prelude.{◌≤◌, IfSome, length};
 
-use case_tables::{Sheet, Step};
+use case_tables::{Sheet, Step, Tried};
 use derivation_lines::{Tail, TailFront, put_derivations, read_derivations};
 use log_lines::{Defect, Limits};
+use setup_lines::{SetupFront, SetupSize, Setups, put_setups, read_setups};
 use std::alloc::{AllocError, Global};
 use stn_edge::FixedShelf;
 use sum_lines::{Front, Head, put_head, read_head};
@@ -14,12 +15,11 @@ const MOST_SLOTS: u32 = 4_096;
 /// The most rows of a program.
 const MOST_ROWS: u32 = 400_000;
 
+/// The most units.
+const MOST_UNITS: usize = 65_536;
+
 /// Prints what the steps give.
-pub fn answer<'a>(
-    alloc: Global,
-    steps: &'a [Step<'a>],
-    sheet: &mut Sheet<'a>,
-) -> Result<(), AllocError> {
+pub fn answer<'a>(alloc: Global, steps: &'a [Step<'a>], sheet: &mut Sheet<'a>) -> Tried {
     for step in steps {
         sheet.begin(step);
         match step.verb {
@@ -30,11 +30,13 @@ pub fn answer<'a>(
     Ok(())
 }
 
-// `head ROWS SLOTS`: what stands at the front of the file, over a program with so many rows and slots.
-fn head(alloc: Global, sheet: &mut Sheet) -> Result<(), AllocError> {
+// `head ROWS SLOTS`, and of each unit the slots and rows of its setup: what stands at the front of the file, over a program with so
+// many rows and slots.
+fn head(alloc: Global, sheet: &mut Sheet) -> Tried {
     let rows = sheet.number();
     let slots = sheet.number();
-    if rows > MOST_ROWS || slots > MOST_SLOTS {
+    let sizes = sizes_of(alloc, sheet)?;
+    if rows > MOST_ROWS || slots > MOST_SLOTS || sizes.len() > MOST_UNITS {
         sheet.refuse();
         return Ok(());
     }
@@ -43,6 +45,7 @@ fn head(alloc: Global, sheet: &mut Sheet) -> Result<(), AllocError> {
     let limits = Limits {
         rows,
         slots,
+        points: slots,
         depth: 0,
     };
     match read_head(alloc, &limits, &mut shelf, "log") {
@@ -50,7 +53,7 @@ fn head(alloc: Global, sheet: &mut Sheet) -> Result<(), AllocError> {
         Ok(Front::Bad(defect)) => put_defect(defect, sheet),
         Ok(Front::Headed(head)) => {
             if head.version == 4 {
-                derivations(alloc, &limits, &head, &mut shelf, sheet)?;
+                setups(alloc, &limits, sizes.as_slice(), head, &mut shelf, sheet)?;
             } else {
                 put_front(alloc, &head, sheet)?;
             }
@@ -60,24 +63,51 @@ fn head(alloc: Global, sheet: &mut Sheet) -> Result<(), AllocError> {
     Ok(())
 }
 
-// What stands behind a head.
-fn derivations(
+// The slots and rows of the setup of each unit, which the words that are left say.
+fn sizes_of(alloc: Global, sheet: &mut Sheet) -> Result<Vec<SetupSize>, AllocError> {
+    let mut sizes = Vec::new(alloc);
+    for _ in 0..sheet.words_left() / 2 {
+        let slots = sheet.number();
+        let rows = sheet.number();
+        sizes.push(SetupSize { slots, rows })?;
+    }
+    Ok(sizes)
+}
+
+// What stands behind the sums of a head.
+fn setups(
     alloc: Global,
     limits: &Limits,
-    head: &Head,
+    sizes: &[SetupSize],
+    head: Head,
     shelf: &mut FixedShelf,
     sheet: &mut Sheet,
-) -> Result<(), AllocError>
+) -> Tried
     requires rows { limits.now.rows ≤ 400000 }
     requires slots { limits.now.slots ≤ 4096 }
+    requires units { length sizes.now ≤ 65536 }
 {
     let Some(larger) = with_sums(limits, head.sums.len()) else {
         sheet.refuse();
         return Ok(());
     };
-    match read_derivations(alloc, &larger, head, shelf, "log") {
+    match read_setups(alloc, &larger, sizes, head, shelf, "log") {
+        Ok(SetupFront::Bad(defect)) => put_defect(defect, sheet),
+        Ok(SetupFront::Whole(setups)) => derivations(alloc, &setups, shelf, sheet)?,
+        Err(_) => sheet.lacks_memory(),
+    }
+    Ok(())
+}
+
+// What stands behind setups.
+fn derivations(alloc: Global, setups: &Setups, shelf: &mut FixedShelf, sheet: &mut Sheet) -> Tried {
+    if setups.limits.rows > MOST_ROWS {
+        sheet.refuse();
+        return Ok(());
+    }
+    match read_derivations(alloc, &setups.limits, &setups.head, shelf, "log") {
         Ok(TailFront::Bad(defect)) => put_defect(defect, sheet),
-        Ok(TailFront::Whole(tail)) => put_whole(alloc, head, &tail, sheet)?,
+        Ok(TailFront::Whole(tail)) => put_whole(alloc, setups, &tail, sheet)?,
         Err(_) => sheet.lacks_memory(),
     }
     Ok(())
@@ -100,6 +130,7 @@ fn with_sums(limits: &Limits, sums: usize) -> Option<Limits>
     Some(Limits {
         rows,
         slots: limits.slots + sums,
+        points: limits.points.saturating_add(sums),
         depth: limits.depth,
     })
 }
@@ -114,7 +145,7 @@ fn put_defect(defect: Defect, sheet: &mut Sheet) {
 }
 
 // Prints how many lines and bytes a head has, and its text.
-fn put_front(alloc: Global, head: &Head, sheet: &mut Sheet) -> Result<(), AllocError> {
+fn put_front(alloc: Global, head: &Head, sheet: &mut Sheet) -> Tried {
     put_counts(head.count, head.bytes, &[], sheet);
     let mut text = Vec::new(alloc);
     put_head(alloc, head.version, head.sums.as_slice(), &mut text)?;
@@ -122,11 +153,17 @@ fn put_front(alloc: Global, head: &Head, sheet: &mut Sheet) -> Result<(), AllocE
     Ok(())
 }
 
-// The same of a head and its derivations, with the lines on which these begin.
-fn put_whole(alloc: Global, head: &Head, tail: &Tail, sheet: &mut Sheet) -> Result<(), AllocError> {
+// The same of a head, its setups and its derivations, with the lines on which these begin.
+fn put_whole(alloc: Global, setups: &Setups, tail: &Tail, sheet: &mut Sheet) -> Tried {
     put_counts(tail.count, tail.bytes, tail.lines.as_slice(), sheet);
     let mut text = Vec::new(alloc);
-    put_head(alloc, head.version, head.sums.as_slice(), &mut text)?;
+    put_head(
+        alloc,
+        setups.head.version,
+        setups.head.sums.as_slice(),
+        &mut text,
+    )?;
+    put_setups(alloc, setups.units.as_slice(), &mut text)?;
     put_derivations(alloc, tail.derivations.as_slice(), &mut text)?;
     sheet.put_lines(text.as_slice());
     Ok(())

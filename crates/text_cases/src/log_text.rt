@@ -3,17 +3,13 @@ ghost use Rattle.std.specs.Prelude.{◌≡◌, false};
 ghost use Rattle.stn_edge.specs.Files.{file_of};
 ghost use Rattle.log_lines.specs.Reader.{IsAhead};
 
-use case_tables::{Sheet, Step};
+use case_tables::{Sheet, Step, Tried};
 use log_lines::{Grammar, Limits, Line, LineEnd, LineReader, put_line, read_line};
-use std::alloc::{AllocError, Global};
+use std::alloc::Global;
 use stn_edge::FixedShelf;
 
 /// Prints what the steps give.
-pub fn answer<'a>(
-    alloc: Global,
-    steps: &'a [Step<'a>],
-    sheet: &mut Sheet<'a>,
-) -> Result<(), AllocError> {
+pub fn answer<'a>(alloc: Global, steps: &'a [Step<'a>], sheet: &mut Sheet<'a>) -> Tried {
     for step in steps {
         sheet.begin(step);
         match step.verb {
@@ -27,7 +23,7 @@ pub fn answer<'a>(
 }
 
 // `line`: the line that the text is, and what is put of it; or none.
-fn line(alloc: Global, sheet: &mut Sheet) -> Result<(), AllocError> {
+fn line(alloc: Global, sheet: &mut Sheet) -> Tried {
     match read_line(sheet.bytes()) {
         None => {
             sheet.line("none");
@@ -37,7 +33,7 @@ fn line(alloc: Global, sheet: &mut Sheet) -> Result<(), AllocError> {
     }
 }
 
-fn put_again(alloc: Global, line: Line, sheet: &mut Sheet) -> Result<(), AllocError> {
+fn put_again(alloc: Global, line: Line, sheet: &mut Sheet) -> Tried {
     let mut text = Vec::new(alloc);
     put_line(alloc, &line, &mut text)?;
     let fields = format!(in alloc; "{line:?}")?;
@@ -51,11 +47,16 @@ fn limits_of(sheet: &mut Sheet) -> Limits {
     let rows = sheet.number();
     let slots = sheet.number();
     let depth = sheet.number();
-    Limits { rows, slots, depth }
+    Limits {
+        rows,
+        slots,
+        points: slots,
+        depth,
+    }
 }
 
 // `take ROWS SLOTS DEPTH`, over lines: the kind of the defect of each or `-`, and whether the log is done then.
-fn take(alloc: Global, sheet: &mut Sheet) -> Result<(), AllocError> {
+fn take(alloc: Global, sheet: &mut Sheet) -> Tried {
     let limits = limits_of(sheet);
     let mut grammar = Grammar::new(alloc);
     for line in sheet.text().lines() {
@@ -65,12 +66,7 @@ fn take(alloc: Global, sheet: &mut Sheet) -> Result<(), AllocError> {
     Ok(())
 }
 
-fn take_line(
-    limits: &Limits,
-    grammar: &mut Grammar,
-    line: &str,
-    sheet: &mut Sheet,
-) -> Result<(), AllocError> {
+fn take_line(limits: &Limits, grammar: &mut Grammar, line: &str, sheet: &mut Sheet) -> Tried {
     match read_line(line.as_bytes()) {
         None => sheet.put("none"),
         Some(line) => put_kind(grammar.take(limits, &line)?, sheet),
@@ -87,7 +83,7 @@ fn put_kind(kind: Option<u8>, sheet: &mut Sheet) {
 }
 
 // `pieces MOST`: the first two lines of a file that gives at most so many bytes a read, and how they end.
-fn pieces(alloc: Global, sheet: &mut Sheet) -> Result<(), AllocError> {
+fn pieces(alloc: Global, sheet: &mut Sheet) -> Tried {
     let most: usize = sheet.number();
     if most < 1 {
         sheet.refuse();

@@ -7,8 +7,8 @@ mod log_text;
 mod parts;
 mod words;
 
-use case_tables::{Kinds, Sheet, Step, judge};
-use std::alloc::{AllocError, Global};
+use case_tables::{Kinds, Sheet, Step, Tried, judge};
+use std::alloc::Global;
 use std::process::ExitCode;
 
 /// The kinds of cases of this program.
@@ -21,7 +21,7 @@ impl Kinds for TextKinds {
         kind: &str,
         steps: &'a [Step<'a>],
         sheet: &mut Sheet<'a>,
-    ) -> Result<(), AllocError> {
+    ) -> Tried {
         match kind {
             "words" => words::answer(alloc, steps, sheet),
             "heads" => heads::answer(alloc, steps, sheet),

@@ -3,9 +3,9 @@ ghost use Rattle.std.specs.Prelude.{◌↔◌, IfSome, IsTrue};
 ghost use Rattle.std.specs.List.{All};
 ghost use Rattle.fraction.specs.Fractions.{IsProper};
 
-use case_tables::Sheet;
+use case_tables::{Sheet, Tried};
 use fraction::{Fraction, MAX_PART, sums_to_one};
-use std::alloc::{AllocError, Global};
+use std::alloc::Global;
 
 /// `part`: the part that the text is, or none.
 pub fn part(sheet: &mut Sheet) {
@@ -64,7 +64,7 @@ pub fn of(sheet: &mut Sheet) {
 }
 
 /// `sum PART PART ..`: whether the parts make up a whole.
-pub fn sum(alloc: Global, sheet: &mut Sheet) -> Result<(), AllocError> {
+pub fn sum(alloc: Global, sheet: &mut Sheet) -> Tried {
     let mut parts = Vec::new(alloc);
     for _ in 0..sheet.words_left() {
         if let Some(part) = proper_part(sheet) {

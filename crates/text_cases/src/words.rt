@@ -1,15 +1,11 @@
 //! Cases of words: numbers, texts that are cut, and parts of a batch.
 use crate::parts::{of, part, sum, times};
-use case_tables::{Sheet, Step};
-use std::alloc::{AllocError, Global};
+use case_tables::{Sheet, Step, Tried};
+use std::alloc::Global;
 use text_words::{cut_at, put_number, read_number, read_wide};
 
 /// Prints what the steps give.
-pub fn answer<'a>(
-    alloc: Global,
-    steps: &'a [Step<'a>],
-    sheet: &mut Sheet<'a>,
-) -> Result<(), AllocError> {
+pub fn answer<'a>(alloc: Global, steps: &'a [Step<'a>], sheet: &mut Sheet<'a>) -> Tried {
     for step in steps {
         sheet.begin(step);
         answer_step(alloc, step.verb, sheet)?;
@@ -17,7 +13,7 @@ pub fn answer<'a>(
     Ok(())
 }
 
-fn answer_step(alloc: Global, verb: &str, sheet: &mut Sheet) -> Result<(), AllocError> {
+fn answer_step(alloc: Global, verb: &str, sheet: &mut Sheet) -> Tried {
     match verb {
         "put" => return put(alloc, sheet),
         "sum" => return sum(alloc, sheet),
@@ -55,7 +51,7 @@ fn cut(sheet: &mut Sheet) {
 }
 
 // `put NUMBER`: the text with the digits of the number behind it.
-fn put(alloc: Global, sheet: &mut Sheet) -> Result<(), AllocError> {
+fn put(alloc: Global, sheet: &mut Sheet) -> Tried {
     let mut text = sheet.bytes().to_vec(alloc)?;
     put_number(alloc, sheet.number(), &mut text)?;
     sheet.put_bytes(text.as_slice());

@@ -5,6 +5,7 @@ ghost use Rattle.time_grid.specs.Slots.{slots, IsGrid};
 ghost use Rattle.unit_rows.specs.Busy.{runs_in, busy_part, busy_row, unit_busy_rows, busy_rows};
 
 use crate::slot::{is_on, slot_end};
+use crate::written::Written;
 use row_kit::{Row, entries_of};
 use std::alloc::{AllocError, Global};
 use stn_model::Plant;
@@ -12,19 +13,14 @@ use time_grid::Grid;
 
 /// Adds the busy rows: for each unit and period, in this order, at most one start on the unit runs in the period. It costs
 /// the rows times the slots. After want of memory the rows are as before.
-pub fn add_busy(
-    alloc: Global,
-    plant: &Plant,
-    grid: &Grid,
-    into: &mut Vec<Row>,
-) -> Result<(), AllocError>
+pub fn add_busy(alloc: Global, plant: &Plant, grid: &Grid, into: &mut Vec<Row>) -> Written
     requires sound { Sound plant.now }
     requires grid { IsGrid plant.now grid.now }
     ensures ok { OnOk result (into.new.items ≡ into.old.items ++ busy_rows plant.now) }
     ensures err { OnErr result (into.new.items ≡ into.old.items) }
 {
     let before = into.len();
-    match push_rows(alloc, plant, grid, into) {
+    match push_busy_rows(alloc, plant, grid, into) {
         Ok(()) => Ok(()),
         Err(want) => {
             into.truncate(before);
@@ -34,12 +30,7 @@ pub fn add_busy(
 }
 
 // Adds the busy rows. After want of memory the first rows are as before.
-fn push_rows(
-    alloc: Global,
-    plant: &Plant,
-    grid: &Grid,
-    into: &mut Vec<Row>,
-) -> Result<(), AllocError>
+fn push_busy_rows(alloc: Global, plant: &Plant, grid: &Grid, into: &mut Vec<Row>) -> Written
     requires sound { Sound plant.now }
     requires grid { IsGrid plant.now grid.now }
     ensures ok { OnOk result (into.new.items ≡ into.old.items ++ busy_rows plant.now) }
@@ -58,7 +49,7 @@ fn push_unit_rows(
     grid: &Grid,
     unit: u32,
     into: &mut Vec<Row>,
-) -> Result<(), AllocError>
+) -> Written
     requires sound { Sound plant.now }
     requires grid { IsGrid plant.now grid.now }
     ensures ok { OnOk result (into.new.items

@@ -7,6 +7,7 @@ ghost use Rattle.unit_rows.specs.Busy.{slot_end};
 ghost use Rattle.unit_rows.specs.Gaps.{gap_part, gap_row, is_too_soon, lies_between, gap_after, rows_after, unit_gap_rows, gap_rows};
 
 use crate::slot::{is_on, slot_end};
+use crate::written::Written;
 use row_kit::{Row, entries_of};
 use std::alloc::{AllocError, Global};
 use stn_model::{Plant, Run, gap_of};
@@ -15,19 +16,14 @@ use time_grid::Grid;
 /// Adds the gap rows: for each unit and each two slots of it that are too near for the cleaning, in this order, with starts
 /// in both there is one between them. It costs the square of the slots, and the rows times the slots; gaps are looked through
 /// once at most for a slot and a run of its unit. After want of memory the rows are as before.
-pub fn add_gaps(
-    alloc: Global,
-    plant: &Plant,
-    grid: &Grid,
-    into: &mut Vec<Row>,
-) -> Result<(), AllocError>
+pub fn add_gaps(alloc: Global, plant: &Plant, grid: &Grid, into: &mut Vec<Row>) -> Written
     requires sound { Sound plant.now }
     requires grid { IsGrid plant.now grid.now }
     ensures ok { OnOk result (into.new.items ≡ into.old.items ++ gap_rows plant.now) }
     ensures err { OnErr result (into.new.items ≡ into.old.items) }
 {
     let before = into.len();
-    match push_rows(alloc, plant, grid, into) {
+    match push_gap_rows(alloc, plant, grid, into) {
         Ok(()) => Ok(()),
         Err(want) => {
             into.truncate(before);
@@ -37,12 +33,7 @@ pub fn add_gaps(
 }
 
 // Adds the gap rows. After want of memory the first rows are as before.
-fn push_rows(
-    alloc: Global,
-    plant: &Plant,
-    grid: &Grid,
-    into: &mut Vec<Row>,
-) -> Result<(), AllocError>
+fn push_gap_rows(alloc: Global, plant: &Plant, grid: &Grid, into: &mut Vec<Row>) -> Written
     requires sound { Sound plant.now }
     requires grid { IsGrid plant.now grid.now }
     ensures ok { OnOk result (into.new.items ≡ into.old.items ++ gap_rows plant.now) }
@@ -63,7 +54,7 @@ fn push_unit_rows(
     unit: u32,
     gaps: &mut [u32],
     into: &mut Vec<Row>,
-) -> Result<(), AllocError>
+) -> Written
     requires sound { Sound plant.now }
     requires grid { IsGrid plant.now grid.now }
     requires room { length gaps.old ≡ length plant.now.runs }
@@ -87,7 +78,7 @@ fn push_rows_after(
     first: (u32, u32),
     gaps: &mut [u32],
     into: &mut Vec<Row>,
-) -> Result<(), AllocError>
+) -> Written
     requires sound { Sound plant.now }
     requires grid { IsGrid plant.now grid.now }
     requires slot { IsSlotOf plant.now first }

@@ -6,6 +6,7 @@
 mod busy;
 mod gaps;
 mod slot;
+pub mod written;
 
 pub use busy::add_busy;
 pub use gaps::add_gaps;

@@ -6,5 +6,6 @@
 
 mod draws;
 mod rows;
+pub mod written;
 
 pub use rows::add_rows;

@@ -7,6 +7,7 @@ ghost use Rattle.row_kit.specs.Table.{rows_below};
 ghost use Rattle.utility_rows.specs.LoadRows.{load_parts, load_row, load_rows};
 
 use crate::draws::{each_drawn, fixed_drawn};
+use crate::written::Written;
 use row_kit::{Row, entries_of};
 use std::alloc::{AllocError, Global};
 use stn_model::Plant;
@@ -14,12 +15,7 @@ use time_grid::Grid;
 
 /// Appends the rows that keep loads, by utility, then by period. After want of memory `into` is as before. It takes memory for its
 /// rows, and time for each row in proportion to the slots.
-pub fn add_rows(
-    alloc: Global,
-    plant: &Plant,
-    grid: &Grid,
-    into: &mut Vec<Row>,
-) -> Result<(), AllocError>
+pub fn add_rows(alloc: Global, plant: &Plant, grid: &Grid, into: &mut Vec<Row>) -> Written
     requires sound { Sound plant.now }
     requires grid { IsGrid plant.now grid.now }
     ensures ok { OnOk result (into.new.items ≡ into.old.items ++ load_rows plant.now) }
@@ -32,12 +28,7 @@ pub fn add_rows(
 }
 
 #[tactic(auto, unfolding(crate::specs::LoadRows::load_rows))]
-fn push_load_rows(
-    alloc: Global,
-    plant: &Plant,
-    grid: &Grid,
-    rows: &mut Vec<Row>,
-) -> Result<(), AllocError>
+fn push_load_rows(alloc: Global, plant: &Plant, grid: &Grid, rows: &mut Vec<Row>) -> Written
     requires sound { Sound plant.now }
     requires grid { IsGrid plant.now grid.now }
     ensures { OnOk result (rows.new.items ≡ rows.old.items ++ load_rows plant.now) }
@@ -56,7 +47,7 @@ fn push_loads(
     utility: u32,
     parts: &mut [(i64, i64)],
     rows: &mut Vec<Row>,
-) -> Result<(), AllocError>
+) -> Written
     requires sound { Sound plant.now }
     requires grid { IsGrid plant.now grid.now }
     requires utility { utility < length plant.now.utilities }

@@ -1,11 +1,13 @@
 -- A log of any version that is valid where so many splits may be open is valid where more may be.
-use Rattle.std.proofs.Common.{◌≡◌, ℕ, ◌+◌, ◌≤◌, Bool, true, false, nat_lt, if◌then◌else◌, List, [], ◌∷◌, length, refl, arith, inl, inr}
+use Rattle.std.proofs.Common.{◌≡◌, ℕ, ◌+◌, ◌≤◌, Bool, true, false, nat_lt, if◌then◌else◌, List, [], ◌∷◌, length, refl, sym, ap, ◌∙◌, arith, inl, inr}
 use Rattle.std.specs.Prelude.{Option, Some, None, ◌==◌, ◌&&◌}
 use Rattle.std.specs.List.{slice_split}
 use Rattle.std.specs.Option.{option_map_or}
 use Rattle.std.proofs.lemmas.Bool.{cases_Bool}
 use Rattle.std.proofs.lemmas.Bool.Decides.{nat_tests}
 use Rattle.row_kit.specs.declared.program.Program.{Program}
+use Rattle.row_relax.specs.declared.rows.Rows.{Rows}
+use Rattle.row_relax.specs.Choices.{plain}
 use Rattle.log_lines.specs.declared.grammar.Limits.{Limits}
 use Rattle.log_lines.specs.declared.line.Line.{Line}
 use Rattle.log_lines.specs.declared.line.Line.TheVariants.{Header, Node, Cut, Found, Value, Empty, Point, Dual, Pending, Floor, Split, Mult, ClaimOptimal, ClaimInfeasible, ClaimBetween, ClaimBelow, End}
@@ -33,7 +35,14 @@ use Rattle.derivation_lines.specs.declared.tail.TailFront.TheVariants.{Whole}
 use Rattle.derivation_lines.specs.Front.{IsTailed}
 use Rattle.derivation_lines.specs.Tail.{AreKeptAfter}
 use Rattle.proof_log.specs.Behind.{behind}
-use Rattle.valid_log.specs.AnyVersion.{IsAnyVerdict, IsFrontVerdict, IsHeadVerdict, IsShownVerdict, IsTail, IsTailVerdict, judged_over, limits_with}
+use Rattle.setup_lines.specs.declared.setups.SetupFront.{SetupFront}
+use Rattle.setup_lines.specs.declared.setups.SetupFront.TheVariants as setting
+use Rattle.setup_lines.specs.declared.setups.SetupSize.{SetupSize}
+use Rattle.setup_lines.specs.declared.setups.Setups.{Setups}
+use Rattle.setup_lines.specs.Front.{IsSetUp}
+use Rattle.setup_lines.specs.Setups.{AreSetupsKept, has_setup_room, head_set_up, limits_set_up, setups_of, size_of, with_setup}
+use Rattle.valid_log.specs.Heads.{AreSetups, IsTail, judged_over, limits_with, setup_sizes}
+use Rattle.valid_log.specs.AnyVersion.{IsAnyVerdict, IsFrontVerdict, IsHeadVerdict, IsSetUpVerdict, IsSetupsVerdict, IsShownVerdict, IsTailVerdict}
 use Rattle.valid_log.specs.PlantLogs.{IsPlantVerdict}
 
 -- a choice among options that is none, where only the last differs
@@ -97,19 +106,19 @@ module _ (limits : Limits) (depth : ℕ) (more : limits.depth ≤ depth) where
       none
 
 -- a text without a defect where so many splits may be open has none where more may be
-pub clean-deeper : (program : Program) (depth more : ℕ) (bytes : List ℕ) → depth ≤ more → log_text_defect (limits_of program depth) bytes ≡ None → log_text_defect (limits_of program more) bytes ≡ None
-clean-deeper program depth more bytes less none = text-deeper (limits_of program depth) more less new_standing 1 (slice_split (λ byte. byte == 10) bytes) none
+pub clean-deeper : (rows : Rows) (depth more : ℕ) (bytes : List ℕ) → depth ≤ more → log_text_defect (limits_of rows depth) bytes ≡ None → log_text_defect (limits_of rows more) bytes ≡ None
+clean-deeper rows depth more bytes less none = text-deeper (limits_of rows depth) more less new_standing 1 (slice_split (λ byte. byte == 10) bytes) none
 
 -- a yes is given where there is no text defect
-yes-given : (program : Program) (bytes : List ℕ) (at : Option (ℕ × ℕ)) (claim : Claim) → IsVerdictGiven program bytes at (Yes claim) → (at ≡ None) × IsMeaningVerdict program bytes (Yes claim)
-yes-given program bytes None claim is = (refl, is)
-yes-given program bytes (Some at) claim is = absurd is
+yes-given : (rows : Rows) (bytes : List ℕ) (at : Option (ℕ × ℕ)) (claim : Claim) → IsVerdictGiven rows bytes at (Yes claim) → (at ≡ None) × IsMeaningVerdict rows bytes (Yes claim)
+yes-given rows bytes None claim is = (refl, is)
+yes-given rows bytes (Some at) claim is = absurd is
 
 -- a log that is valid at one depth is so at a greater one
-pub yes-deeper : (program : Program) (depth more : ℕ) (bytes : List ℕ) (claim : Claim) → depth ≤ more → IsVerdict program depth bytes (Yes claim) → IsVerdict program more bytes (Yes claim)
-yes-deeper program depth more bytes claim less is =
-    let given = yes-given program bytes (log_text_defect (limits_of program depth) bytes) claim is in
-    let none = clean-deeper program depth more bytes less given.0 in
+pub yes-deeper : (rows : Rows) (depth more : ℕ) (bytes : List ℕ) (claim : Claim) → depth ≤ more → IsVerdict rows depth bytes (Yes claim) → IsVerdict rows more bytes (Yes claim)
+yes-deeper rows depth more bytes claim less is =
+    let given = yes-given rows bytes (log_text_defect (limits_of rows depth) bytes) claim is in
+    let none = clean-deeper rows depth more bytes less given.0 in
     rw none given.1
 
 -- what a head keeps does not depend on how many splits may be open
@@ -149,40 +158,91 @@ tail-deeper limits more head bytes tail (inr four) =
     } in
     inr (four.0, deeper)
 
--- the same of the answer over a program whose sums and derivations are shown
-shown-deeper : (program : Program) (judged : List Domain) (depth more : ℕ) (bytes : List ℕ) (head : Head) (tail : Tail) (claim : Claim) (own : LogVerdict) → depth ≤ more → (is : IsShownVerdict program judged depth bytes head tail (Yes claim)) → is.own ≡ own
-    → IsShownVerdict program judged more bytes head tail (Yes claim)
-shown-deeper program judged depth more bytes head tail claim (Yes said) less is same = record {
-  larger = is.larger;
+-- nor do the limits with setups
+pub set-deeper : (limits : Limits) (more : ℕ) (sizes : List SetupSize) (units : List ℕ) → limits_set_up (record limits { depth = more }) sizes units ≡ record (limits_set_up limits sizes units) { depth = more }
+set-deeper limits more sizes [] = refl
+set-deeper limits more sizes (unit ∷ units) = set-deeper (with_setup limits (size_of sizes unit)) more sizes units
+
+-- nor what setups keep
+kept-deeper : (limits : Limits) (more : ℕ) (sizes : List SetupSize) (units : List ℕ) → AreSetupsKept limits sizes units → AreSetupsKept (record limits { depth = more }) sizes units
+kept-deeper limits more sizes units kept = record {
+  ascending = kept.ascending;
+  short = kept.short;
+  there = kept.there;
+  room = λ some. ap has_setup_room (set-deeper limits more sizes units) ∙ kept.room some;
+}
+
+-- setups under limits with which more splits may be open
+abbrev pub deep_setups : ℕ → Setups → Setups
+deep_setups more setups = record setups { limits = record setups.limits { depth = more } }
+
+-- nor what stands behind the sums of a head
+pub setups-deeper : (limits : Limits) (more : ℕ) (sizes : List SetupSize) (head : Head) (bytes : List ℕ) (setups : Setups) → AreSetups limits sizes head bytes (setting.Whole setups)
+    → AreSetups (record limits { depth = more }) sizes head bytes (setting.Whole (deep_setups more setups))
+setups-deeper limits more sizes head bytes setups (inl three) = inl (three.0, ap deep three.1)
+  where
+    deep : SetupFront → SetupFront
+    deep (setting.Whole s) = setting.Whole (deep_setups more s)
+    deep (setting.Bad defect) = setting.Bad defect
+setups-deeper limits more sizes head bytes setups (inr four) =
+    let own = four.1 in
+    let kept = own.kept in
+    let is : deep_setups more setups ≡ setups_of (record limits { depth = more }) sizes head setups.units =
+    ap (deep_setups more) kept.is ∙ ap (λ (l : Limits). record { units = setups.units; head = head_set_up head setups.units; limits = l }) (sym (set-deeper limits more sizes setups.units)) in
+    let deeper : IsSetUp (record limits { depth = more }) sizes head bytes (deep_setups more setups) = record {
+      kept = record { is = is; units = kept-deeper limits more sizes setups.units kept.units; bytes_most = kept.bytes_most };
+      is = own.is;
+      ends = own.ends;
+    } in
+    inr (four.0, deeper)
+
+-- the same of the answer over rows whose sums and derivations are shown
+shown-deeper : (plant : Plant) (program : Program) (judged : List Domain) (depth more : ℕ) (bytes : List ℕ) (setups : Setups) (tail : Tail) (claim : Claim) (own : LogVerdict) → depth ≤ more
+    → (is : IsShownVerdict plant program judged depth bytes setups tail (Yes claim)) → is.own ≡ own → IsShownVerdict plant program judged more bytes (deep_setups more setups) tail (Yes claim)
+shown-deeper plant program judged depth more bytes setups tail claim (Yes said) less is same = record {
+  rows = is.rows;
   enlarged = is.enlarged;
   own = Yes said;
-  right = yes-deeper is.larger depth more (behind head.version tail.bytes bytes) said less (rw same at is.right);
+  right = yes-deeper is.rows depth more (behind setups.head.version tail.bytes bytes) said less (rw same at is.right);
   is = rw same at is.is;
 }
-shown-deeper program judged depth more bytes head tail claim (No defect) less is same = let e = is.is in cc
+shown-deeper plant program judged depth more bytes setups tail claim (No defect) less is same = let e = is.is in cc
+
+-- the same behind setups
+behind-deeper : (plant : Plant) (program : Program) (judged : List Domain) (depth more : ℕ) (bytes : List ℕ) (setups : Setups) (claim : Claim) (tail : TailFront) → depth ≤ more
+    → IsTail setups.limits setups.head bytes tail → IsTailVerdict plant program judged depth bytes setups tail (Yes claim) → IsSetUpVerdict plant program judged more bytes (deep_setups more setups) (Yes claim)
+behind-deeper plant program judged depth more bytes setups claim (Whole tail) less follows' (inl unshown) = let e = unshown.is in cc
+behind-deeper plant program judged depth more bytes setups claim (Whole tail) less follows' (inr shown) = record {
+  tail = Whole tail;
+  follows = tail-deeper setups.limits more setups.head bytes tail follows';
+  right = inr (shown-deeper plant program judged depth more bytes setups tail claim shown.own less shown refl);
+}
+behind-deeper plant program judged depth more bytes setups claim (tailed.Bad defect) less follows' right = cc
 
 -- the same behind a head
-head-deeper : (program : Program) (judged : List Domain) (depth more : ℕ) (bytes : List ℕ) (head : Head) (claim : Claim) (tail : TailFront) → depth ≤ more → IsTail (limits_with program depth (length head.sums)) head bytes tail
-    → IsTailVerdict program judged depth bytes head tail (Yes claim) → IsHeadVerdict program judged more bytes head (Yes claim)
-head-deeper program judged depth more bytes head claim (Whole tail) less follows' (inl unshown) = let e = unshown.is in cc
-head-deeper program judged depth more bytes head claim (Whole tail) less follows' (inr shown) = record {
-  tail = Whole tail;
-  follows = tail-deeper (limits_with program depth (length head.sums)) more head bytes tail follows';
-  right = inr (shown-deeper program judged depth more bytes head tail claim shown.own less shown refl);
+head-deeper : (plant : Plant) (program : Program) (judged : List Domain) (depth more : ℕ) (bytes : List ℕ) (head : Head) (claim : Claim) (setups : SetupFront) → depth ≤ more
+    → AreSetups (limits_with program depth (length head.sums)) (setup_sizes plant) head bytes setups → IsSetupsVerdict plant program judged depth bytes setups (Yes claim) → IsHeadVerdict plant program judged more bytes head (Yes claim)
+head-deeper plant program judged depth more bytes head claim (setting.Whole setups) less stands right = record {
+  setups = setting.Whole (deep_setups more setups);
+  set_up = setups-deeper (limits_with program depth (length head.sums)) more (setup_sizes plant) head bytes setups stands;
+  right = behind-deeper plant program judged depth more bytes setups claim right.tail less right.follows right.right;
 }
-head-deeper program judged depth more bytes head claim (tailed.Bad defect) less follows' right = cc
+head-deeper plant program judged depth more bytes head claim (setting.Bad defect) less stands right = cc
 
 -- a log of any version that is valid at one depth is so at a greater one
-any-front-deeper : (program : Program) (ranges root : List Domain) (depth more : ℕ) (bytes : List ℕ) (claim : Claim) (front : Front) → depth ≤ more → IsFront (limits_with program depth 0) bytes front
-    → IsFrontVerdict program ranges root depth bytes front (Yes claim) → IsAnyVerdict program ranges root more bytes (Yes claim)
-any-front-deeper program ranges root depth more bytes claim Plain less stands right = record { front = Plain; stands = stands; right = yes-deeper program depth more bytes claim less right }
-any-front-deeper program ranges root depth more bytes claim (Headed head) less stands right =
-    record { front = Headed head; stands = front-deeper program depth more bytes head stands; right = head-deeper program (judged_over ranges root head.version) depth more bytes head claim right.tail less right.follows right.right }
-any-front-deeper program ranges root depth more bytes claim (Bad defect) less stands right = cc
+any-front-deeper : (plant : Plant) (program : Program) (ranges root : List Domain) (depth more : ℕ) (bytes : List ℕ) (claim : Claim) (front : Front) → depth ≤ more → IsFront (limits_with program depth 0) bytes front
+    → IsFrontVerdict plant program ranges root depth bytes front (Yes claim) → IsAnyVerdict plant program ranges root more bytes (Yes claim)
+any-front-deeper plant program ranges root depth more bytes claim Plain less stands right = record { front = Plain; stands = stands; right = yes-deeper (plain program) depth more bytes claim less right }
+any-front-deeper plant program ranges root depth more bytes claim (Headed head) less stands right = record {
+  front = Headed head;
+  stands = front-deeper program depth more bytes head stands;
+  right = head-deeper plant program (judged_over ranges root head.version) depth more bytes head claim right.setups less right.set_up right.right;
+}
+any-front-deeper plant program ranges root depth more bytes claim (Bad defect) less stands right = cc
 
-pub any-deeper : (program : Program) (ranges root : List Domain) (depth more : ℕ) (bytes : List ℕ) (claim : Claim) → depth ≤ more → IsAnyVerdict program ranges root depth bytes (Yes claim) → IsAnyVerdict program ranges root more bytes (Yes claim)
-any-deeper program ranges root depth more bytes claim less is = any-front-deeper program ranges root depth more bytes claim is.front less is.stands is.right
+pub any-deeper : (plant : Plant) (program : Program) (ranges root : List Domain) (depth more : ℕ) (bytes : List ℕ) (claim : Claim) → depth ≤ more → IsAnyVerdict plant program ranges root depth bytes (Yes claim) → IsAnyVerdict plant program ranges root more bytes (Yes claim)
+any-deeper plant program ranges root depth more bytes claim less is = any-front-deeper plant program ranges root depth more bytes claim is.front less is.stands is.right
 
 -- the same of a log over a part of a plant's choices
 pub plant-deeper : (plant : Plant) (part : Program) (depth more : ℕ) (bytes : List ℕ) (claim : Claim) → depth ≤ more → IsPlantVerdict plant part depth bytes (Yes claim) → IsPlantVerdict plant part more bytes (Yes claim)
-plant-deeper plant part depth more bytes claim less is = any-deeper part (plant_root plant) (plant_root plant) depth more bytes claim less is
+plant-deeper plant part depth more bytes claim less is = any-deeper plant part (plant_root plant) (plant_root plant) depth more bytes claim less is

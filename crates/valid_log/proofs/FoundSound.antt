@@ -24,6 +24,7 @@ use Rattle.proof_tree.proofs.WalkLaw.{walked-undefined, walked-misplaced}
 use Rattle.row_relax.specs.declared.pick.RowPick.{RowPick}
 use Rattle.row_relax.specs.declared.rows.Rows.{Rows}
 use Rattle.row_relax.specs.RowProofs.{RowItem}
+use Rattle.row_relax.specs.Choices.{choices_of, steps_of}
 use Rattle.row_relax.specs.Steps.{row_steps}
 use Rattle.row_relax.specs.View.{domains_of}
 use Rattle.proof_log.specs.declared.claim.Claim.{Claim}
@@ -111,41 +112,41 @@ cap_filled program v cert real = false_from_ne_true (list_any is_bare (domains_o
         (false_from_ne_true (list_all (λ (d : Domain). ltb 0 (count_of d)) (domains_of v)) (λ opened. no_value (domains_of v) bare opened))
 
 -- a part without a cap leads nowhere
-part_real : (program : Program) (splits : List (Opened RowPick)) (proof_cap : Capped) → part_ended (row_steps program) splits proof_cap ≢ undefined → proof_cap ≢ Bad
-part_real program splits proof_cap leads is = leads (rw is refl)
+part_real : (rows : Rows) (splits : List (Opened RowPick)) (proof_cap : Capped) → part_ended (steps_of rows) splits proof_cap ≢ undefined → proof_cap ≢ Bad
+part_real rows splits proof_cap leads is = leads (rw is refl)
 
 -- a fine item that leads somewhere has no defect
-taken_sound : (program : Program) (splits : List (Opened RowPick)) (v : View) (item : RowItem) → IsFine program item → taken (row_steps program) splits v item ≢ undefined → (kind : ℕ) → ¬ ItemDefect (row_steps program) program v item kind
-taken_sound program splits v Node fine leads = λ kind has. has
-taken_sound program splits v (Cut cut) fine leads = λ kind has. has
-taken_sound program splits v (FoundItem found) fine leads = fine
-taken_sound program splits v Empty fine leads = leads_on (row_steps program) program splits v Empty tt leads
-taken_sound program splits v (Dual cert) fine leads =
-    leads_on (row_steps program) program splits v (Dual cert) (cap_filled program v cert (part_real program splits ((row_steps program).cap v cert) leads)) leads
-taken_sound program splits v Point fine leads = leads_on (row_steps program) program splits v Point tt leads
-taken_sound program splits v (Pending cert) fine leads =
-    leads_on (row_steps program) program splits v (Pending cert) (cap_filled program v cert (part_real program splits ((row_steps program).cap v cert) leads)) leads
-taken_sound program splits v (Split pick cert) fine leads = λ kind has. has
+taken_sound : (rows : Rows) (splits : List (Opened RowPick)) (v : View) (item : RowItem) → IsFine (choices_of rows) item → taken (steps_of rows) splits v item ≢ undefined → (kind : ℕ) → ¬ ItemDefect (steps_of rows) (choices_of rows) v item kind
+taken_sound rows splits v Node fine leads = λ kind has. has
+taken_sound rows splits v (Cut cut) fine leads = λ kind has. has
+taken_sound rows splits v (FoundItem found) fine leads = fine
+taken_sound rows splits v Empty fine leads = leads_on (steps_of rows) (choices_of rows) splits v Empty tt leads
+taken_sound rows splits v (Dual cert) fine leads =
+    leads_on (steps_of rows) (choices_of rows) splits v (Dual cert) (cap_filled rows.program v cert (part_real rows splits ((steps_of rows).cap v cert) leads)) leads
+taken_sound rows splits v Point fine leads = leads_on (steps_of rows) (choices_of rows) splits v Point tt leads
+taken_sound rows splits v (Pending cert) fine leads =
+    leads_on (steps_of rows) (choices_of rows) splits v (Pending cert) (cap_filled rows.program v cert (part_real rows splits ((steps_of rows).cap v cert) leads)) leads
+taken_sound rows splits v (Split pick cert) fine leads = λ kind has. has
 
-step_sound : (program : Program) (stage : Stage RowPick) (item : RowItem) (may : Bool) → IsFine program item
-    → (if may then taken (row_steps program) stage.splits stage.view item else misplaced) ≢ undefined → (if may then taken (row_steps program) stage.splits stage.view item else misplaced) ≢ misplaced
-    → (kind : ℕ) → ¬ HasDefect (row_steps program) program (going stage) item kind
-step_sound program stage item true fine leads placed = taken_sound program stage.splits stage.view item fine leads
-step_sound program stage item false fine leads placed = absurd (placed refl)
+step_sound : (rows : Rows) (stage : Stage RowPick) (item : RowItem) (may : Bool) → IsFine (choices_of rows) item
+    → (if may then taken (steps_of rows) stage.splits stage.view item else misplaced) ≢ undefined → (if may then taken (steps_of rows) stage.splits stage.view item else misplaced) ≢ misplaced
+    → (kind : ℕ) → ¬ HasDefect (steps_of rows) (choices_of rows) (going stage) item kind
+step_sound rows stage item true fine leads placed = taken_sound rows stage.splits stage.view item fine leads
+step_sound rows stage item false fine leads placed = absurd (placed refl)
 
-one_sound : (program : Program) (outcome : Outcome RowPick) (item : RowItem) → IsFine program item → after (row_steps program) outcome item ≢ undefined → after (row_steps program) outcome item ≢ misplaced → (kind : ℕ) → ¬ HasDefect (row_steps program) program outcome item kind
-one_sound program (going stage) item fine leads placed = step_sound program stage item (may_come stage.expected item) fine leads placed
-one_sound program (ended proof_cap) item fine leads placed = λ kind has. has
-one_sound program undefined item fine leads placed = λ kind has. has
-one_sound program misplaced item fine leads placed = λ kind has. has
+one_sound : (rows : Rows) (outcome : Outcome RowPick) (item : RowItem) → IsFine (choices_of rows) item → after (steps_of rows) outcome item ≢ undefined → after (steps_of rows) outcome item ≢ misplaced → (kind : ℕ) → ¬ HasDefect (steps_of rows) (choices_of rows) outcome item kind
+one_sound rows (going stage) item fine leads placed = step_sound rows stage item (may_come stage.expected item) fine leads placed
+one_sound rows (ended proof_cap) item fine leads placed = λ kind has. has
+one_sound rows undefined item fine leads placed = λ kind has. has
+one_sound rows misplaced item fine leads placed = λ kind has. has
 
 -- fine items that lead to a cap have no defect
-pub items_sound : (program : Program) (outcome : Outcome RowPick) (items : List RowItem) (proof_cap : Capped) → All (IsFine program) items → walked (row_steps program) outcome items ≡ ended proof_cap → HaveNone (row_steps program) program outcome items
-items_sound program outcome [] proof_cap fine led = tt
-items_sound program outcome (item ∷ items) proof_cap fine led =
-    let on = lost (row_steps program) (after (row_steps program) outcome item) items proof_cap led in (
-      one_sound program outcome item (All-head (IsFine program) item items fine) on.0 on.1,
-      items_sound program (after (row_steps program) outcome item) items proof_cap (All-tail (IsFine program) item items fine) led,
+pub items_sound : (rows : Rows) (outcome : Outcome RowPick) (items : List RowItem) (proof_cap : Capped) → All (IsFine (choices_of rows)) items → walked (steps_of rows) outcome items ≡ ended proof_cap → HaveNone (steps_of rows) (choices_of rows) outcome items
+items_sound rows outcome [] proof_cap fine led = tt
+items_sound rows outcome (item ∷ items) proof_cap fine led =
+    let on = lost (steps_of rows) (after (steps_of rows) outcome item) items proof_cap led in (
+      one_sound rows outcome item (All-head (IsFine (choices_of rows)) item items fine) on.0 on.1,
+      items_sound rows (after (steps_of rows) outcome item) items proof_cap (All-tail (IsFine (choices_of rows)) item items fine) led,
     )
 
 -- ---- caps and claims

@@ -1,28 +1,22 @@
--- What holds of all points of a plant's program holds of all its plans.
-use Rattle.std.proofs.Common.{sym}
+-- The program of a plant is a part of its own choices, and what holds of all plans that it admits holds of all its plans.
+use Rattle.std.proofs.Common.{List, [], ◌∷◌, refl, sym}
 use Rattle.std.specs.Prelude.{Result, Ok, Err, IfOk}
+use Rattle.std.specs.List.{AllZip}
 use Rattle.stn_model.specs.declared.plant.Plant.{Plant}
+use Rattle.stn_model.specs.declared.start.Start.{Start}
 use Rattle.stn_model.specs.Sound.{Sound}
 use Rattle.stn_model.specs.Feasible.{Feasible}
 use Rattle.stn_model.specs.Profit.{profit}
+use Rattle.row_kit.specs.declared.domain.Domain.{Domain}
 use Rattle.row_kit.specs.declared.program.Program.{Program}
+use Rattle.row_set.specs.Parts.{IsAdmitted, IsPartOf, IsWithin, plan_of_values}
 use Rattle.row_set.specs.PlantProgram.{IsMadeOf, IsProgramOf}
-use Rattle.proof_log.specs.declared.claim.Claim.{Claim}
-use Rattle.plan_images.proofs.Plans.{plant-relaxes}
-use Rattle.plan_images.proofs.Telling.{told}
+use Rattle.row_set.proofs.Limits.{made-open}
+use Rattle.plan_images.proofs.Telling.{same-plans}
 use Rattle.valid_log.specs.declared.verdict.LogVerdict.{LogVerdict}
 use Rattle.valid_log.specs.declared.verdict.LogVerdict.TheVariants.{Yes, No}
-use Rattle.valid_log.specs.Meaning.{HoldsOfPoints}
-use Rattle.valid_log.specs.Verdict.{YesHolds}
-use Rattle.row_set.specs.Parts.{plan_of_values}
-use Rattle.valid_log.specs.Claims.{SaysOfPlans, YesSays, IsOfPlant}
+use Rattle.valid_log.specs.Claims.{IsOfPlant, YesSays, YesSaysOf}
 use Rattle.valid_log.proofs.Points.{lawful-plan, feasible-lawful}
-
--- a claim that holds of all points holds of all plans
-pub says : (plant : Plant) (program : Program) (claim : Claim) → Sound plant → IsProgramOf plant program → HoldsOfPoints program claim → SaysOfPlans plant claim
-says plant program claim sound means holds =
-    told (Feasible plant) (profit plant) program (plan_of_values plant) claim (plant-relaxes plant program means)
-    (λ point lawful. let plan = lawful-plan plant program point sound means lawful in (plan.feasible, plan.earns)) holds
 
 -- the program of a plant says of points what the plant says of plans
 pub of_plant : (plant : Plant) (program : Program) → Sound plant → IsMadeOf plant program → IsProgramOf plant program → IsOfPlant plant program
@@ -32,12 +26,33 @@ of_plant plant program sound made means = record {
   earned = λ point lawful. sym (lawful-plan plant program point sound means lawful).earns;
 }
 
--- a yes that holds of all points holds of all plans
-pub yes_says : (plant : Plant) (program : Program) (verdict : LogVerdict) → Sound plant → IsProgramOf plant program → YesHolds program verdict → YesSays plant verdict
-yes_says plant program (Yes claim) sound means holds = says plant program claim sound means holds
-yes_says plant program (No defect) sound means holds = tt
+-- domains hold their own values
+own_within : (ds : List Domain) → AllZip IsWithin ds ds
+own_within [] = tt
+own_within (d ∷ ds) = (λ value holds. holds, own_within ds)
 
--- where a check over the plant's rows answers yes, its claim holds of all plans
-pub says_if : {E : Type 0} (plant : Plant) (program : Program) (r : Result LogVerdict E) → Sound plant → IsProgramOf plant program → IfOk r (YesHolds program) → IfOk r (YesSays plant)
-says_if plant program (Ok verdict) sound means holds = yes_says plant program verdict sound means holds
-says_if plant program (Err e) sound means holds = tt
+-- the program of a plant is a part of its choices: all of them
+pub whole-is_part : (plant : Plant) (program : Program) → IsMadeOf plant program → IsProgramOf plant program → IsPartOf plant program
+whole-is_part plant program made means = record {
+  whole = program;
+  made = made;
+  means = means;
+  but_root = record { rows = refl; profit = refl; base = refl; tags = refl; changes = refl };
+  within = own_within program.root;
+  each_open = made-open plant program made;
+}
+
+-- it admits all feasible plans
+whole_admits : (plant : Plant) (program : Program) → IsProgramOf plant program → (plan : List Start) → Feasible plant plan → IsAdmitted plant program plan
+whole_admits plant program means plan feasible = record { feasible = feasible; lies = ((means.feasible plan).0 feasible).1.lies }
+
+-- a yes that holds of all plans that it admits holds of all plans
+pub whole_says : (plant : Plant) (program : Program) (verdict : LogVerdict) → IsProgramOf plant program → YesSaysOf plant program verdict → YesSays plant verdict
+whole_says plant program (Yes claim) means says =
+    same-plans (IsAdmitted plant program) (Feasible plant) (profit plant) (plan_of_values plant) claim (λ plan admitted. admitted.feasible) (whole_admits plant program means) says
+whole_says plant program (No defect) means says = tt
+
+-- the same of what a check answers
+pub whole_says_if : {E : Type 0} (plant : Plant) (program : Program) (r : Result LogVerdict E) → IsProgramOf plant program → IfOk r (YesSaysOf plant program) → IfOk r (YesSays plant)
+whole_says_if plant program (Ok verdict) means says = whole_says plant program verdict means says
+whole_says_if plant program (Err e) means says = tt

@@ -1,5 +1,6 @@
 pub mod Meaning
 pub mod Verdict
+pub mod Heads
 pub mod AnyVersion
 pub mod SumTexts
 pub mod Claims

@@ -14,7 +14,7 @@ use Rattle.row_relax.specs.declared.pick.RowPick.{RowPick}
 use Rattle.proof_log.specs.declared.claim.Claim.{Claim}
 use Rattle.proof_log.specs.declared.claim.Claim.TheVariants.{Optimal, Infeasible, Between, Below}
 use Rattle.log_lines.specs.declared.defect.Defect.{Defect}
-use Rattle.proof_log.specs.ClaimSays.{HasWorth, ClaimSays}
+use Rattle.proof_log.specs.ClaimSays.{HasWorth}
 use Rattle.row_relax.specs.RowProofs.{RowItem}
 use Rattle.proof_log.specs.Log.{line_after}
 pub use Rattle.plan_images.specs.Caps.{AllowsPoint, AllowsMore}
@@ -27,10 +27,6 @@ RowSteps = Steps RowCut Cert RowPick
 -- a point is lawful and has this worth
 abbrev pub IsWorth : Program → ℤ → List ℕ → Type 0
 IsWorth program value point = HasWorth (IsLawful program) (worth_of program) point value
-
--- what a claim says of all points of a program
-abbrev pub HoldsOfPoints : Program → Claim → Type 0
-HoldsOfPoints program claim = ClaimSays (IsLawful program) (worth_of program) (λ point. point) claim
 
 -- what is wrong with a point and the worth that it is said to have: 13 where it is not lawful, 14 where it is and its worth is another
 abbrev pub PointDefect : Program → ℤ → List ℕ → ℕ → Type 0

@@ -9,11 +9,11 @@ use Rattle.valid_log.specs.AnyVersion.{IsAnyVerdict}
 
 -- the answer on a log of any version over a part of a plant's choices: its head is judged over what slots of the plant may have, whatever they may have in the part
 abbrev pub IsPlantVerdict : Plant → Program → ℕ → List ℕ → LogVerdict → Type 0
-IsPlantVerdict plant part depth log verdict = IsAnyVerdict part (plant_root plant) (plant_root plant) depth log verdict
+IsPlantVerdict plant part depth log verdict = IsAnyVerdict plant part (plant_root plant) (plant_root plant) depth log verdict
 
 -- the answer on a log of any version over the choices that kept starts leave: its head is judged over these choices in version 4, and over what slots of the plant may have in version 3
 abbrev pub IsKeptVerdict : Plant → Program → ℕ → List ℕ → LogVerdict → Type 0
-IsKeptVerdict plant part depth log verdict = IsAnyVerdict part (plant_root plant) part.root depth log verdict
+IsKeptVerdict plant part depth log verdict = IsAnyVerdict plant part (plant_root plant) part.root depth log verdict
 
 -- The verdict on a log of any version is right of the plant: it is right over the plant's program, where at most 4,608 splits may be
 -- open, and the claim of a log that is valid holds of all plans.

@@ -4,6 +4,8 @@ pub mod OldLogs
 pub mod OwnCaps
 pub mod RaisedSound
 pub mod RaisedStates
+pub mod Room
 pub mod Same
 pub mod Shown
+pub mod TakenHeads
 pub mod Within

@@ -19,6 +19,8 @@ use Rattle.proof_tree.specs.Cap.{greater, floor_cap}
 use Rattle.proof_tree.specs.Tree.{Leaf, no_point, dual, one_point, pending, leaf, split, after_cuts, cap_if, leaf_cap, split_cap, tree_cap}
 use Rattle.proof_tree.specs.Views.{View}
 use Rattle.row_relax.specs.declared.pick.RowPick.{RowPick}
+use Rattle.row_relax.specs.declared.rows.Rows.{Rows}
+use Rattle.row_relax.specs.Choices.{plain, steps_of}
 use Rattle.row_relax.specs.RowProofs.{RowTree}
 use Rattle.row_relax.specs.Steps.{floor_by, row_steps}
 use Rattle.row_relax.specs.View.{Fits, domains_of, points_in}
@@ -83,11 +85,11 @@ loosened-defined program v own = by_empty ((row_steps program).empty v) refl
     by_empty false e = or_else-defined own ((row_steps program).cap v no_mults) (plain-defined program v e)
 
 -- the loose cap is defined
-pub loose_cap-defined : (capped : Bool) (program : Program) (tree : RowTree) (v : View) → loose_cap capped program v tree ≢ Bad
-loose_cap-defined capped program (leaf cuts found end) v = loosened-defined program (after_all program v cuts) (leaf_cap (row_steps program) (after_all program v cuts) end)
-loose_cap-defined capped program (split cuts found pick cert a b) v =
-    let w = after_all program v cuts in
-    loosened-defined program w (within capped program w cert (split_cap (row_steps program) w pick cert (λ x. loose_cap capped program x a) (λ x. loose_cap capped program x b)))
+pub loose_cap-defined : (capped : Bool) (rows : Rows) (tree : RowTree) (v : View) → loose_cap capped rows v tree ≢ Bad
+loose_cap-defined capped rows (leaf cuts found end) v = loosened-defined rows.program (after_all rows.program v cuts) (leaf_cap (steps_of rows) (after_all rows.program v cuts) end)
+loose_cap-defined capped rows (split cuts found pick cert a b) v =
+    let w = after_all rows.program v cuts in
+    loosened-defined rows.program w (within capped rows.program w cert (split_cap (steps_of rows) w pick cert (λ x. loose_cap capped rows x a) (λ x. loose_cap capped rows x b)))
 
 -- ---- where the proof's own cap is defined
 
@@ -125,30 +127,32 @@ pub cap_if-there : (next : Option View) (cap_at : View → Capped) → cap_if ne
 cap_if-there None cap_at is = absurd (is refl)
 cap_if-there (Some w) cap_at is = (w, refl)
 
+-- the views after cuts that are all there
+first_cut : (rows : Rows) (cut : RowCut) (cuts : List RowCut) (v w : View) (next : Option View) → (row_steps rows.program).cut v cut ≡ next → option_and_then (λ x. after_cuts (steps_of rows) x cuts) next ≡ Some w
+    → (x : View) × (((row_steps rows.program).cut v cut ≡ Some x) × (after_cuts (steps_of rows) x cuts ≡ Some w))
+first_cut rows cut cuts v w None is led = absurd (cc)
+first_cut rows cut cuts v w (Some x) is led = (x, (is, led))
+
+pub after_all-same : (rows : Rows) (cuts : List RowCut) (v w : View) → Fits rows.program v → after_cuts (steps_of rows) v cuts ≡ Some w → (after_all rows.program v cuts ≡ w) × Fits rows.program w
+after_all-same rows [] v w fit led = let same : v ≡ w = cc in (same, subst (Fits rows.program) same fit)
+after_all-same rows (cut ∷ cuts) v w fit led =
+    let first = first_cut rows cut cuts v w ((row_steps rows.program).cut v cut) refl led in
+    let rest = after_all-same rows cuts first.0 w ((rows_sound rows.program).cut_fits v first.0 cut fit first.1.0) first.1.1 in
+    (ap (λ x. after_all rows.program (unwrap_or x v) cuts) first.1.0 ∙ rest.0, rest.1)
+
+-- ---- rows without choices
+
 module _ (program : Program) where
   -- a view that fits, and that has no point
   record IsNone (v : View) : Type 0 where
     fits : Fits program v
     none : points_in v ≡ 0
 
-  -- the views after cuts that are all there
-  first_cut : (cut : RowCut) (cuts : List RowCut) (v w : View) (next : Option View) → (row_steps program).cut v cut ≡ next → option_and_then (λ x. after_cuts (row_steps program) x cuts) next ≡ Some w
-      → (x : View) × (((row_steps program).cut v cut ≡ Some x) × (after_cuts (row_steps program) x cuts ≡ Some w))
-  first_cut cut cuts v w None is led = absurd (cc)
-  first_cut cut cuts v w (Some x) is led = (x, (is, led))
-
-  pub after_all-same : (cuts : List RowCut) (v w : View) → Fits program v → after_cuts (row_steps program) v cuts ≡ Some w → (after_all program v cuts ≡ w) × Fits program w
-  after_all-same [] v w fit led = let same : v ≡ w = cc in (same, subst (Fits program) same fit)
-  after_all-same (cut ∷ cuts) v w fit led =
-      let first = first_cut cut cuts v w ((row_steps program).cut v cut) refl led in
-      let rest = after_all-same cuts first.0 w ((rows_sound program).cut_fits v first.0 cut fit first.1.0) first.1.1 in
-      (ap (λ x. after_all program (unwrap_or x v) cuts) first.1.0 ∙ rest.0, rest.1)
-
   -- cuts leave a view without points without any
-  after_cuts-none : (cuts : List RowCut) (v w : View) → IsNone v → after_cuts (row_steps program) v cuts ≡ Some w → IsNone w
+  after_cuts-none : (cuts : List RowCut) (v w : View) → IsNone v → after_cuts (steps_of (plain program)) v cuts ≡ Some w → IsNone w
   after_cuts-none [] v w is led = let same : v ≡ w = cc in subst IsNone same is
   after_cuts-none (cut ∷ cuts) v w is led =
-      let first = first_cut cut cuts v w ((row_steps program).cut v cut) refl led in
+      let first = first_cut (plain program) cut cuts v w ((row_steps program).cut v cut) refl led in
       after_cuts-none cuts first.0 w (record {
         fits = (rows_sound program).cut_fits v first.0 cut is.fits first.1.0;
         none = at_most_none (points_in first.0) (points_in v) (points-cut program v first.0 cut is.fits first.1.0) is.none;
@@ -179,7 +183,8 @@ module _ (program : Program) where
   }
 
   -- a leaf over a view without points has no point, where it has a cap
-  leaf_cap-none : (v : View) (end : Leaf Cert) → points_in v ≡ 0 → leaf_cap (row_steps program) v end ≢ Bad → leaf_cap (row_steps program) v end ≡ NoPoint
+  leaf_cap-none : (v : View) (end : Leaf Cert) → points_in v ≡ 0 → leaf_cap (steps_of (plain program)) v end ≢ Bad → leaf_cap (steps_of (plain program)) v end ≡ NoPoint
+  unfolding row_steps
   leaf_cap-none v no_point none is = rw (empty-none v none) refl
   leaf_cap-none v (dual cert) none is = absurd (is (cap-none v cert none))
   leaf_cap-none v one_point none is = absurd (let one = points-settled program v is in omega (arith, one, none))
@@ -191,26 +196,26 @@ module _ (program : Program) where
   part-none (Some x) cap_at none is = none x refl is
 
   -- a proof over a view without points has no point, where it has a cap
-  tree_cap-none : (tree : RowTree) (v : View) → IsNone v → tree_cap (row_steps program) v tree ≢ Bad → tree_cap (row_steps program) v tree ≡ NoPoint
+  tree_cap-none : (tree : RowTree) (v : View) → IsNone v → tree_cap (steps_of (plain program)) v tree ≢ Bad → tree_cap (steps_of (plain program)) v tree ≡ NoPoint
   tree_cap-none (leaf cuts found end) v at =
-      part-none (after_cuts (row_steps program) v cuts) (λ w. leaf_cap (row_steps program) w end)
+      part-none (after_cuts (steps_of (plain program)) v cuts) (λ w. leaf_cap (steps_of (plain program)) w end)
       (λ w led. leaf_cap-none w end (after_cuts-none cuts v w at led).none)
   tree_cap-none (split cuts found pick cert a b) v at =
-      part-none (after_cuts (row_steps program) v cuts) (λ w. split_cap (row_steps program) w pick cert (λ x. tree_cap (row_steps program) x a) (λ x. tree_cap (row_steps program) x b))
+      part-none (after_cuts (steps_of (plain program)) v cuts) (λ w. split_cap (steps_of (plain program)) w pick cert (λ x. tree_cap (steps_of (plain program)) x a) (λ x. tree_cap (steps_of (plain program)) x b))
       (λ w led is.
       let rest = (row_steps program).trim w pick cert in
       let there = after_cuts-none cuts v w at led in
       let still = trim-none w pick cert there in
       let floor = floor_cap ((row_steps program).floor w pick cert) in
-      let first = cap_if ((row_steps program).left rest pick) (λ x. tree_cap (row_steps program) x a) in
-      let second = cap_if ((row_steps program).right rest pick) (λ x. tree_cap (row_steps program) x b) in
+      let first = cap_if ((row_steps program).left rest pick) (λ x. tree_cap (steps_of (plain program)) x a) in
+      let second = cap_if ((row_steps program).right rest pick) (λ x. tree_cap (steps_of (plain program)) x b) in
       greater-none (greater floor first) second
       (greater-none floor first (floor-none w pick cert there.none)
-      (part-none ((row_steps program).left rest pick) (λ x. tree_cap (row_steps program) x a) (λ x to. tree_cap-none a x (record {
+      (part-none ((row_steps program).left rest pick) (λ x. tree_cap (steps_of (plain program)) x a) (λ x to. tree_cap-none a x (record {
         fits = (rows_sound program).left_fits rest x pick still.fits to;
         none = at_most_none (points_in x) (points_in rest) (points-left program rest x pick to) still.none;
       })) (greater-second floor first (greater-first (greater floor first) second is))))
-      (part-none ((row_steps program).right rest pick) (λ x. tree_cap (row_steps program) x b) (λ x to. tree_cap-none b x (record {
+      (part-none ((row_steps program).right rest pick) (λ x. tree_cap (steps_of (plain program)) x b) (λ x to. tree_cap-none b x (record {
         fits = (rows_sound program).right_fits rest x pick still.fits to;
         none = at_most_none (points_in x) (points_in rest) (points-right program rest x pick to) still.none;
       })) (greater-second (greater floor first) second is)))
@@ -221,34 +226,34 @@ module _ (program : Program) where
   part-same (Some x) loose own same is = same x refl is
 
 -- the loose cap is the proof's own, where that is defined and splits have no caps of their own
-pub loose_cap-same : (program : Program) (tree : RowTree) (v : View) → Fits program v → tree_cap (row_steps program) v tree ≢ Bad → loose_cap false program v tree ≡ tree_cap (row_steps program) v tree
+pub loose_cap-same : (program : Program) (tree : RowTree) (v : View) → Fits program v → tree_cap (steps_of (plain program)) v tree ≢ Bad → loose_cap false (plain program) v tree ≡ tree_cap (steps_of (plain program)) v tree
 loose_cap-same program (leaf cuts found end) v fit is =
-    let s = row_steps program in
+    let s = steps_of (plain program) in
     let there = cap_if-there (after_cuts s v cuts) (λ w. leaf_cap s w end) is in
     let w = there.0 in
     let own : tree_cap s v (leaf cuts found end) ≡ leaf_cap s w end = ap (λ x. cap_if x (λ y. leaf_cap s y end)) there.1 in
-    let at = after_all-same program cuts v w fit there.1 in
+    let at = after_all-same (plain program) cuts v w fit there.1 in
     let defined : leaf_cap s w end ≢ Bad = λ e. is (own ∙ e) in
     ap (λ x. loosened program x (leaf_cap s x end)) at.0
     ∙ loosened-own program w (leaf_cap s w end) defined (λ e. leaf_cap-none program w end (points-empty program w e) defined)
     ∙ sym own
 loose_cap-same program (split cuts found pick cert a b) v fit is =
-    let s = row_steps program in
-    let loose_parts : View → Capped = λ w. split_cap s w pick cert (λ x. loose_cap false program x a) (λ x. loose_cap false program x b) in
+    let s = steps_of (plain program) in
+    let loose_parts : View → Capped = λ w. split_cap s w pick cert (λ x. loose_cap false (plain program) x a) (λ x. loose_cap false (plain program) x b) in
     let own_parts : View → Capped = λ w. split_cap s w pick cert (λ x. tree_cap s x a) (λ x. tree_cap s x b) in
     let there = cap_if-there (after_cuts s v cuts) own_parts is in
     let w = there.0 in
     let own : tree_cap s v (split cuts found pick cert a b) ≡ own_parts w = ap (λ x. cap_if x own_parts) there.1 in
-    let at = after_all-same program cuts v w fit there.1 in
+    let at = after_all-same (plain program) cuts v w fit there.1 in
     let defined : own_parts w ≢ Bad = λ e. is (own ∙ e) in
     let rest = s.trim w pick cert in
     let rest_fits = (rows_sound program).trim_fits w pick cert at.1 in
     let floor = floor_cap (s.floor w pick cert) in
     let first = cap_if (s.left rest pick) (λ x. tree_cap s x a) in
     let second = cap_if (s.right rest pick) (λ x. tree_cap s x b) in
-    let left_same = part-same program (s.left rest pick) (λ x. loose_cap false program x a) (λ x. tree_cap s x a) (λ x to. loose_cap-same program a x ((rows_sound program).left_fits rest x pick rest_fits to)) (greater-second floor first (greater-first (greater floor first) second defined)) in
-    let right_same = part-same program (s.right rest pick) (λ x. loose_cap false program x b) (λ x. tree_cap s x b) (λ x to. loose_cap-same program b x ((rows_sound program).right_fits rest x pick rest_fits to)) (greater-second (greater floor first) second defined) in
-    let same : loose_parts w ≡ own_parts w = ap (λ x. greater (greater floor x) (cap_if (s.right rest pick) (λ y. loose_cap false program y b))) left_same ∙ ap (λ x. greater (greater floor first) x) right_same in
+    let left_same = part-same program (s.left rest pick) (λ x. loose_cap false (plain program) x a) (λ x. tree_cap s x a) (λ x to. loose_cap-same program a x ((rows_sound program).left_fits rest x pick rest_fits to)) (greater-second floor first (greater-first (greater floor first) second defined)) in
+    let right_same = part-same program (s.right rest pick) (λ x. loose_cap false (plain program) x b) (λ x. tree_cap s x b) (λ x to. loose_cap-same program b x ((rows_sound program).right_fits rest x pick rest_fits to)) (greater-second (greater floor first) second defined) in
+    let same : loose_parts w ≡ own_parts w = ap (λ x. greater (greater floor x) (cap_if (s.right rest pick) (λ y. loose_cap false (plain program) y b))) left_same ∙ ap (λ x. greater (greater floor first) x) right_same in
     let empty_none : s.empty w ≡ true → own_parts w ≡ NoPoint = λ e. tree_cap-none program (split [] None pick cert a b) w (record { fits = at.1; none = points-empty program w e }) defined in
     ap (λ x. loosened program x (loose_parts x)) at.0
     ∙ ap (λ x. loosened program w x) same

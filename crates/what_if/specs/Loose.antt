@@ -10,6 +10,8 @@ use Rattle.proof_tree.specs.declared.capped.Capped.TheVariants.{AtMost, NoPoint,
 use Rattle.proof_tree.specs.Tree.{leaf, split, leaf_cap, split_cap}
 use Rattle.proof_tree.specs.Views.{View, present}
 use Rattle.plan_images.specs.Caps.{Allows}
+use Rattle.row_relax.specs.declared.rows.Rows.{Rows}
+use Rattle.row_relax.specs.Choices.{steps_of}
 use Rattle.row_relax.specs.RowProofs.{RowTree}
 use Rattle.row_relax.specs.Steps.{row_steps}
 use Rattle.row_relax.specs.View.{view_of}
@@ -58,13 +60,13 @@ within false program v cert parts = parts
 within true program v cert parts = lesser (certified program v cert) parts
 
 -- the loose cap of a proof over a view: what its end gives after its cuts, where a split has the greatest of its floor's and of its two parts' loose caps, the parts being those of what it has not forgotten, and where splits have caps of their own no more than that of its certificate
-abbrev pub loose_cap : Bool → Program → View → RowTree → Capped
-loose_cap capped program v (leaf cuts found end) =
-    loosened program (after_all program v cuts) (leaf_cap (row_steps program) (after_all program v cuts) end)
-loose_cap capped program v (split cuts found pick cert a b) =
-    loosened program (after_all program v cuts)
-    (within capped program (after_all program v cuts) cert
-    (split_cap (row_steps program) (after_all program v cuts) pick cert (λ x. loose_cap capped program x a) (λ x. loose_cap capped program x b)))
+abbrev pub loose_cap : Bool → Rows → View → RowTree → Capped
+loose_cap capped rows v (leaf cuts found end) =
+    loosened rows.program (after_all rows.program v cuts) (leaf_cap (steps_of rows) (after_all rows.program v cuts) end)
+loose_cap capped rows v (split cuts found pick cert a b) =
+    loosened rows.program (after_all rows.program v cuts)
+    (within capped rows.program (after_all rows.program v cuts) cert
+    (split_cap (steps_of rows) (after_all rows.program v cuts) pick cert (λ x. loose_cap capped rows x a) (λ x. loose_cap capped rows x b)))
 
 -- a number as a cap: none says that there is no point
 abbrev pub as_cap : Option ℤ → Capped
@@ -75,6 +77,10 @@ as_cap (Some n) = AtMost n
 abbrev pub IsAtMost : Option ℤ → Capped → Type 0
 IsAtMost None cap = ⊤
 IsAtMost (Some n) cap = Allows cap n
+
+-- points are judged by the program of the rows itself, where splits have no caps of their own
+abbrev pub IsPlainBelow : Bool → Rows → Type 0
+IsPlainBelow capped rows = capped ≡ false → rows.choices ≡ None
 
 -- a number answers to the own cap of a proof: it is that, and where splits have caps of their own it is at most that
 abbrev pub AnswersTo : Bool → Option ℤ → Capped → Type 0

@@ -1,16 +1,19 @@
-//! What stands at the front of the bytes of a log, and behind the sums of its head.
-ghost use Rattle.std.specs.Prelude.{◌≡◌, ◌≤◌, ◌<◌, ◌^◌, IfOk, length};
+//! What stands at the front of the bytes of a log, behind the sums of its head, and behind its setups.
+ghost use Rattle.std.specs.Prelude.{◌≤◌, ◌<◌, ◌^◌, IfOk};
+ghost use Rattle.stn_model.specs.Sound.{Sound};
 ghost use Rattle.sum_lines.specs.Front.{IsFront, KeepsLimits};
 ghost use Rattle.sum_lines.specs.Head.{IsHeadVersion};
-ghost use Rattle.valid_log.specs.AnyVersion.{IsTail, limits_with};
-ghost use Rattle.plant_check.specs.Heads.{IsFrontHeld};
+ghost use Rattle.valid_log.specs.Heads.{AreSetups, IsTail, limits_with, setup_sizes};
+ghost use Rattle.plant_check.specs.Heads.{AreSetupsHeld, IsFrontHeld};
 
 use derivation_lines::TailFront;
 use log_lines::Limits;
-use plant_check::{MOST_DEPTH, limits_with, read_tail};
+use plant_check::{MOST_DEPTH, limits_with, read_setups, read_tail};
 use row_kit::Program;
+use setup_lines::SetupFront;
 use std::alloc::{AllocError, Global};
 use stn_edge::FixedShelf;
+use stn_model::Plant;
 use sum_lines::{Front, Head, read_head};
 
 // What stands at the front of the bytes.
@@ -27,7 +30,29 @@ pub(crate) fn front_of(alloc: Global, program: &Program, bytes: &[u8]) -> Result
     }
 }
 
-// What stands behind the sums of a head of the bytes.
+// What stands behind the sums of a head of the bytes, for a plant.
+pub(crate) fn setups_of(
+    alloc: Global,
+    plant: &Plant,
+    limits: &Limits,
+    head: Head,
+    bytes: &[u8],
+) -> Result<SetupFront, AllocError>
+    requires sound { Sound plant.now }
+    requires version { IsHeadVersion head.version }
+    requires bytes { head.bytes < 2 ^ 64 }
+    ensures stands { IfOk result (AreSetups limits.now (setup_sizes plant.now) head bytes.now) }
+    ensures held { IfOk result (AreSetupsHeld limits.now (setup_sizes plant.now) head) }
+{
+    let mut shelf = FixedShelf::new(alloc);
+    shelf.put_file("log", bytes)?;
+    match read_setups(alloc, plant, limits, head, &mut shelf, "log") {
+        Ok(front) => Ok(front),
+        Err(_) => Err(AllocError),
+    }
+}
+
+// What stands behind the setups of a head of the bytes.
 pub(crate) fn tail_of(
     alloc: Global,
     limits: &Limits,

@@ -1,6 +1,7 @@
 //! A log behind a head, read of its bytes and checked.
 ghost use Rattle.std.specs.Prelude.{◌≡◌, ◌≤◌, ◌==◌, if◌then◌else◌, codes, length, Err, IfOk};
-ghost use Rattle.proof_tree.specs.Tree.{tree_of};
+ghost use Rattle.stn_model.specs.Sound.{Sound};
+ghost use Rattle.row_set.specs.Parts.{IsPartOf};
 ghost use Rattle.log_lines.specs.declared.defect.Defect.{Defect};
 ghost use Rattle.log_lines.specs.TextDefect.{log_text_defect};
 ghost use Rattle.proof_log.specs.Behind.{behind};
@@ -9,21 +10,24 @@ ghost use Rattle.sum_lines.specs.Front.{IsFront};
 ghost use Rattle.sum_lines.specs.Head.{IsKeptHead};
 ghost use Rattle.derivation_lines.specs.declared.tail.TailFront.TheVariants.{Whole};
 ghost use Rattle.valid_log.specs.declared.verdict.LogVerdict.TheVariants.{No};
+ghost use Rattle.valid_log.specs.Heads.{IsTail, limits_with};
 ghost use Rattle.valid_log.specs.AnyVersion.{
   given_claim,
-  limits_with,
   unshown_defect,
   IsHeadVerdict,
-  IsTail,
+  IsSetUpVerdict,
   IsTailVerdict,
-  IsWithHead,
 };
-ghost use Rattle.plant_check.specs.Heads.{IsTailHeld};
-ghost use Rattle.what_if.specs.Estimate.{AreTaken};
-ghost use Rattle.what_if.specs.Head.{version_of};
-ghost use Rattle.what_if.specs.laws.Judged.{IsAnyOwnLog, IsHeadOf, IsOwnLog, IsStopInFile};
+ghost use Rattle.plant_check.specs.Heads.{IsHeadHeld, IsTailHeld};
+ghost use Rattle.what_if.specs.laws.Judged.{
+  IsAnyOwnLog,
+  IsHeadOf,
+  IsSetUpLog,
+  IsStopInFile,
+  IsTailedLog,
+};
 
-use crate::front::tail_of;
+use crate::front::{setups_of, tail_of};
 use crate::judging::own_log;
 use crate::old::{LogHead, ValidLog};
 use derivation_lines::{Tail, TailFront};
@@ -31,63 +35,93 @@ use log_lines::{Defect, Limits};
 use plant_check::{MOST_DEPTH, given_claim, in_file, judge_head, limits_behind, limits_with};
 use proof_log::{Log, LogStop, read_log};
 use row_kit::{Domain, Program};
-use row_relax::Rows;
+use setup_lines::{SetupFront, Setups};
 use std::alloc::{AllocError, Global};
+use stn_model::Plant;
 use sum_lines::{Front, Head};
 
-// The log of bytes with a head, where it is valid over the program with the head, or its first defect.
+// The log of bytes with a head, where it is valid over the program of a plant with the head, or its first defect.
 pub(crate) fn headed_log(
     alloc: Global,
+    plant: &Plant,
     program: Program,
     ranges: &[Domain],
     head: Head,
     bytes: &[u8],
 ) -> Result<ValidLog, LogStop>
+    requires sound { Sound plant.now }
+    requires part { IsPartOf plant.now program }
     requires ranges { AreRanges program ranges.now }
     requires stands { IsFront (limits_with program 4608 0) bytes.now (Front.Headed head) }
     requires kept { IsKeptHead (limits_with program 4608 0) head }
-    ensures log { IfOk result (IsAnyOwnLog program ranges.now bytes.now) }
+    ensures log { IfOk result (IsAnyOwnLog plant.now program ranges.now bytes.now) }
     ensures defect { (defect : Defect) → result ≡ Err (LogStop.Defect defect)
-        → IsHeadVerdict program ranges.now 4608 bytes.now head (No defect) }
+        → IsHeadVerdict plant.now program ranges.now 4608 bytes.now head (No defect) }
 {
     let limits = limits_with(&program, MOST_DEPTH, head.sums.len());
-    match tail_of(alloc, &limits, &head, bytes)? {
-        TailFront::Bad(defect) => Err(LogStop::Defect(defect)),
-        TailFront::Whole(tail) => tailed_log(alloc, program, ranges, head, tail, bytes),
+    match setups_of(alloc, plant, &limits, head, bytes)? {
+        SetupFront::Whole(setups) => set_up_log(alloc, plant, program, ranges, setups, bytes),
+        SetupFront::Bad(defect) => Err(LogStop::Defect(defect)),
     }
 }
 
-// The same of a log behind whose sums this stands.
-fn tailed_log(
+// The same of a log behind whose sums these setups stand.
+fn set_up_log(
     alloc: Global,
+    plant: &Plant,
     program: Program,
     ranges: &[Domain],
-    head: Head,
+    setups: Setups,
+    bytes: &[u8],
+) -> Result<ValidLog, LogStop>
+    requires sound { Sound plant.now }
+    requires part { IsPartOf plant.now program }
+    requires ranges { AreRanges program ranges.now }
+    requires held { IsHeadHeld plant.now program 4608 setups }
+    requires some { 1 ≤ setups.head.bytes }
+    requires within { setups.head.bytes ≤ length bytes.now }
+    ensures log { IfOk result (IsSetUpLog plant.now program ranges.now bytes.now setups) }
+    ensures defect { (defect : Defect) → result ≡ Err (LogStop.Defect defect)
+        → IsSetUpVerdict plant.now program ranges.now 4608 bytes.now setups (No defect) }
+{
+    match tail_of(alloc, &setups.limits, &setups.head, bytes)? {
+        TailFront::Whole(tail) => tailed_log(alloc, plant, program, ranges, setups, tail, bytes),
+        TailFront::Bad(defect) => Err(LogStop::Defect(defect)),
+    }
+}
+
+// The same of a log behind whose setups this stands.
+fn tailed_log(
+    alloc: Global,
+    plant: &Plant,
+    program: Program,
+    ranges: &[Domain],
+    setups: Setups,
     tail: Tail,
     bytes: &[u8],
 ) -> Result<ValidLog, LogStop>
+    requires sound { Sound plant.now }
+    requires part { IsPartOf plant.now program }
     requires ranges { AreRanges program ranges.now }
-    requires stands { IsFront (limits_with program 4608 0) bytes.now (Front.Headed head) }
-    requires kept { IsKeptHead (limits_with program 4608 0) head }
-    requires follows { IsTail (limits_with program 4608 (length head.sums)) head bytes.now
-        (Whole tail) }
-    requires held { IsTailHeld (limits_with program 4608 (length head.sums)) head tail }
-    ensures log { IfOk result (IsAnyOwnLog program ranges.now bytes.now) }
+    requires held { IsHeadHeld plant.now program 4608 setups }
+    requires some { 1 ≤ setups.head.bytes }
+    requires within { setups.head.bytes ≤ length bytes.now }
+    requires follows { IsTail setups.limits setups.head bytes.now (Whole tail) }
+    requires tailed { IsTailHeld setups.limits setups.head tail }
+    ensures log { IfOk result (IsTailedLog plant.now program ranges.now bytes.now setups tail) }
     ensures defect { (defect : Defect) → result ≡ Err (LogStop.Defect defect)
-        → IsTailVerdict program ranges.now 4608 bytes.now head (Whole tail) (No defect) }
+        → IsTailVerdict plant.now program ranges.now 4608 bytes.now setups (Whole tail)
+        (No defect) }
 {
     let slots = program.root.len();
-    let limits = limits_behind(&program, MOST_DEPTH, &head, &tail);
-    let rest = behind(alloc, head.version, tail.bytes, bytes)?;
-    match judge_head(alloc, program, MOST_DEPTH, ranges, &head, &tail)? {
+    let limits = limits_behind(&setups, &tail);
+    let rest = behind(alloc, setups.head.version, tail.bytes, bytes)?;
+    match judge_head(alloc, plant, program, MOST_DEPTH, ranges, &setups, &tail)? {
         Err(defect) => Err(unshown_stop(alloc, &limits, tail.count, defect, rest.as_slice())),
-        Ok(program) => {
-            let rows = Rows { program };
-            match own_log(alloc, &rows, rest.as_slice()) {
-                Ok(log) => Ok(given_log(alloc, slots, head, tail, log)?),
-                Err(stop) => Err(stop_in_file(tail.count, stop)),
-            }
-        }
+        Ok(rows) => match own_log(alloc, &rows, rest.as_slice()) {
+            Ok(log) => Ok(given_log(alloc, slots, setups, tail, log)?),
+            Err(stop) => Err(stop_in_file(tail.count, stop)),
+        },
     }
 }
 
@@ -140,22 +174,25 @@ fn stop_in_file(count: u64, stop: LogStop) -> LogStop
     }
 }
 
-// A log over a program with a head, with its claim cut back to so many slots.
+// A log over rows with a head, with its claim cut back to so many slots.
 fn given_log(
     alloc: Global,
     slots: usize,
-    head: Head,
+    setups: Setups,
     tail: Tail,
     log: Log,
 ) -> Result<ValidLog, AllocError>
-    ensures head { IfOk result (λ given. IsHeadOf head tail given.head) }
+    ensures head { IfOk result (λ given. IsHeadOf setups tail given.head) }
     ensures tree { IfOk result (λ given. given.tree ≡ log.tree) }
     ensures claim { IfOk result (λ given. given.claim ≡ given_claim slots log.claim) }
 {
     let claim = given_claim(alloc, slots, log.claim)?;
+    let Setups { units, head, .. } = setups;
+    let Head { version, sums, .. } = head;
     let head = LogHead {
-        capped: head.version == 4,
-        sums: head.sums,
+        capped: version == 4,
+        sums,
+        units,
         derivations: tail.derivations,
     };
     Ok(ValidLog {

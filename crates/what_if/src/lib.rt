@@ -14,6 +14,7 @@ mod loosening;
 mod old;
 mod raising;
 mod reading;
+mod taking;
 
 pub use claimed::claimed_plan;
 pub use estimating::estimate;

@@ -1,13 +1,13 @@
 //! The loose cap of a proof, over rows that may be others.
 ghost use Rattle.std.specs.Prelude.{◌≡◌, ◌≢◌, [], map, None};
-ghost use Rattle.row_kit.specs.Point.{IsLawful, worth_of};
 ghost use Rattle.proof_tree.specs.declared.capped.Capped.TheVariants.{Bad};
 ghost use Rattle.proof_tree.specs.Cap.{Bounds};
 ghost use Rattle.proof_tree.specs.Tree.{cap_if, leaf_cap, no_point, tree_at, tree_cap, tree_of};
 ghost use Rattle.proof_tree.specs.Views.{KeepsViews};
+ghost use Rattle.row_relax.specs.Choices.{IsLawfulIn, steps_of, worth_in};
 ghost use Rattle.row_relax.specs.Steps.{row_steps};
 ghost use Rattle.row_relax.specs.View.{Fits, IsIn, view_of};
-ghost use Rattle.what_if.specs.Loose.{AnswersTo, after_all, after_cut, lesser, loose_cap, no_mults, or_else, as_cap, shown, within};
+ghost use Rattle.what_if.specs.Loose.{AnswersTo, IsPlainBelow, after_all, after_cut, lesser, loose_cap, no_mults, or_else, as_cap, shown, within};
 ghost use Rattle.what_if.specs.laws.Own.{own_cap};
 
 use dual_bound::Cert;
@@ -34,18 +34,19 @@ pub fn loose(
     capped: bool,
 ) -> Option<i128>
     requires fits { Fits rows.now.program (shown area.old) }
-    ensures cap { as_cap result ≡ loose_cap capped rows.now.program (shown area.old)
+    ensures cap { as_cap result ≡ loose_cap capped rows.now (shown area.old)
         (tree_of proof.now) }
 
     // No lawful point of the area is worth more, and where it is none the area has no lawful point.
-    ensures bounds { Bounds (IsIn (shown area.old)) (IsLawful rows.now.program)
-        (worth_of rows.now.program)
+    ensures bounds { Bounds (IsIn (shown area.old)) (IsLawfulIn rows.now) (worth_in rows.now)
         (as_cap result) }
 
-    // It is the proof's own cap, where that is defined; where splits have caps of their own, it is at most that.
-    ensures own { tree_cap (row_steps rows.now.program) (shown area.old) (tree_of proof.now) ≢ Bad
+    // It is the proof's own cap, where that is defined; where splits have caps of their own, it is at most that. Points may be judged
+    // by choices only where they have.
+    ensures own { IsPlainBelow capped rows.now
+        → tree_cap (steps_of rows.now) (shown area.old) (tree_of proof.now) ≢ Bad
         → AnswersTo capped result
-        (tree_cap (row_steps rows.now.program) (shown area.old) (tree_of proof.now)) }
+        (tree_cap (steps_of rows.now) (shown area.old) (tree_of proof.now)) }
     ensures same { area.new ≡ area.old }
 {
     let plain = no_mults(alloc);
@@ -79,7 +80,7 @@ pub(crate) fn no_mults(alloc: Global) -> Cert
 fn node_cap(rows: &Rows, area: &mut Area, plain: &Cert, capped: bool, proof: &RowProof) -> Capped
     requires fits { Fits rows.now.program (shown area.old) }
     requires plain { plain.now ≡ no_mults }
-    ensures cap { result ≡ loose_cap capped rows.now.program (shown area.old) (tree_of proof.now) }
+    ensures cap { result ≡ loose_cap capped rows.now (shown area.old) (tree_of proof.now) }
     ensures same { map view_of area.new ≡ map view_of area.old }
 {
     let mark = rows.mark(area);
@@ -106,7 +107,7 @@ fn end_cap(
     requires fits { Fits rows.now.program (shown area.old) }
     requires plain { plain.now ≡ no_mults }
     ensures cap { result
-        ≡ own_cap capped rows.now.program (shown area.old) (tree_at [] None end.now) }
+        ≡ own_cap capped rows.now (shown area.old) (tree_at [] None end.now) }
     ensures same { map view_of area.new ≡ map view_of area.old }
 {
     match end {
@@ -139,7 +140,7 @@ fn left_cap(
     requires fits { Fits rows.now.program (shown area.old) }
     requires plain { plain.now ≡ no_mults }
     ensures cap { result ≡ cap_if ((row_steps rows.now.program).left (shown area.old) pick.now)
-        (λ view. loose_cap capped rows.now.program view (tree_of part.now)) }
+        (λ view. loose_cap capped rows.now view (tree_of part.now)) }
     ensures same { map view_of area.new ≡ map view_of area.old }
 {
     let mark = rows.mark(area);
@@ -164,7 +165,7 @@ fn right_cap(
     requires fits { Fits rows.now.program (shown area.old) }
     requires plain { plain.now ≡ no_mults }
     ensures cap { result ≡ cap_if ((row_steps rows.now.program).right (shown area.old) pick.now)
-        (λ view. loose_cap capped rows.now.program view (tree_of part.now)) }
+        (λ view. loose_cap capped rows.now view (tree_of part.now)) }
     ensures same { map view_of area.new ≡ map view_of area.old }
 {
     let mark = rows.mark(area);
@@ -201,7 +202,7 @@ fn cut_if_there(rows: &Rows, area: &mut Area, cut: &RowCut)
 // The cap of an end that says that the area has no point.
 fn empty_cap(rows: &Rows, area: &Area) -> Capped
     requires { Fits rows.now.program (shown area.now) }
-    ensures { result ≡ leaf_cap (row_steps rows.now.program) (shown area.now) no_point }
+    ensures { result ≡ leaf_cap (steps_of rows.now) (shown area.now) no_point }
 {
     if rows.empty(area) {
         Capped::NoPoint

@@ -13,6 +13,8 @@ pub struct LogHead {
     pub capped: bool,
     /// The sums that it declares: none in version 1 or 2.
     pub sums: List<Sum>,
+    /// The units whose setups it declares, in ascending order: none below version 4.
+    pub units: List<u32>,
     /// Its cuts and derived rows: none below version 4.
     pub derivations: List<Derivation>,
 }

@@ -2,6 +2,8 @@
 ghost use Rattle.std.specs.Prelude.{◌≡◌, Err, IfOk};
 ghost use Rattle.stn_model.specs.Sound.{Sound};
 ghost use Rattle.proof_tree.specs.Tree.{tree_of};
+ghost use Rattle.row_relax.specs.Choices.{plain};
+ghost use Rattle.row_set.specs.Parts.{IsPartOf};
 ghost use Rattle.sum_slots.specs.Shown.{AreRanges};
 ghost use Rattle.log_lines.specs.declared.defect.Defect.{Defect};
 ghost use Rattle.valid_log.specs.declared.verdict.LogVerdict.TheVariants.{No};
@@ -30,29 +32,32 @@ pub fn old_log(alloc: Global, plant: &Plant, bytes: &[u8]) -> Result<OldLog, All
 {
     let program = program_of(alloc, plant)?;
     let ranges = plant_root(alloc, plant)?;
-    match any_log(alloc, program, ranges.as_slice(), bytes) {
+    match any_log(alloc, plant, program, ranges.as_slice(), bytes) {
         Ok(log) => Ok(OldLog::Valid(log)),
         Err(LogStop::Defect(defect)) => Ok(OldLog::Defective(defect)),
         Err(LogStop::Memory) => Err(AllocError),
     }
 }
 
-// The log of the bytes, where it is valid over a program whose points lie in these domains, or its first defect.
+// The log of the bytes, where it is valid over a program of a plant whose points lie in these domains, or its first defect.
 fn any_log(
     alloc: Global,
+    plant: &Plant,
     program: Program,
     ranges: &[Domain],
     bytes: &[u8],
 ) -> Result<ValidLog, LogStop>
+    requires sound { Sound plant.now }
+    requires part { IsPartOf plant.now program }
     requires ranges { AreRanges program ranges.now }
-    ensures log { IfOk result (IsAnyOwnLog program ranges.now bytes.now) }
+    ensures log { IfOk result (IsAnyOwnLog plant.now program ranges.now bytes.now) }
     ensures defect { (defect : Defect) → result ≡ Err (LogStop.Defect defect)
-        → IsAnyVerdict program ranges.now ranges.now 4608 bytes.now (No defect) }
+        → IsAnyVerdict plant.now program ranges.now ranges.now 4608 bytes.now (No defect) }
 {
     match front_of(alloc, &program, bytes) {
         Ok(Front::Plain) => plain_log(alloc, program, bytes),
         Ok(Front::Bad(defect)) => Err(LogStop::Defect(defect)),
-        Ok(Front::Headed(head)) => headed_log(alloc, program, ranges, head, bytes),
+        Ok(Front::Headed(head)) => headed_log(alloc, plant, program, ranges, head, bytes),
         Err(_) => Err(LogStop::Memory),
     }
 }
@@ -60,11 +65,15 @@ fn any_log(
 // The log of bytes without a head, of version 1 or 2.
 fn plain_log(alloc: Global, program: Program, bytes: &[u8]) -> Result<ValidLog, LogStop>
     ensures head { IfOk result (λ log. IsNoHead log.head) }
-    ensures log { IfOk result (λ log. IsOwnLog program bytes.now (tree_of log.tree) log.claim) }
+    ensures log { IfOk result (λ log. IsOwnLog (plain program) bytes.now (tree_of log.tree)
+        log.claim) }
     ensures defect { (defect : Defect) → result ≡ Err (LogStop.Defect defect)
-        → IsVerdict program 4608 bytes.now (No defect) }
+        → IsVerdict (plain program) 4608 bytes.now (No defect) }
 {
-    let rows = Rows { program };
+    let rows = Rows {
+        program,
+        choices: None,
+    };
     let log = own_log(alloc, &rows, bytes)?;
     Ok(ValidLog {
         head: no_head(alloc),
@@ -80,6 +89,7 @@ fn no_head(alloc: Global) -> LogHead
     LogHead {
         capped: false,
         sums: List::new(alloc),
+        units: List::new(alloc),
         derivations: List::new(alloc),
     }
 }

@@ -1,11 +1,10 @@
 -- How the nodes of a search end, and what its choices are. Only clauses of private functions cite it.
-use Rattle.std.specs.Prelude.{◌≡◌, ◌≢◌, ℕ, ◌^◌, ◌<◌, Bool, true, false, if◌then◌else◌, List, Option, Some, None, IfSome, ℤ, ◌≤ℤ◌, int_lt, unsigned_abs, ⊤}
+use Rattle.std.specs.Prelude.{◌≡◌, ◌≢◌, ℕ, ◌^◌, ◌<◌, Bool, true, false, if◌then◌else◌, List, length, take, Option, Some, None, IfSome, ℤ, ◌≤ℤ◌, int_lt, unsigned_abs, ⊤}
 use Rattle.std.specs.List.{All, Contains, sum_by}
 use Rattle.std.specs.Option.{IsSomeAnd}
 use Rattle.row_kit.specs.declared.domain.Domain.{Domain}
 use Rattle.row_kit.specs.declared.found.Found.{Found}
 use Rattle.row_kit.specs.declared.program.Program.{Program}
-use Rattle.row_kit.specs.Domain.{IsSingle}
 use Rattle.dual_bound.specs.declared.cert.Cert.{Cert}
 use Rattle.dual_bound.specs.Cap.{cert_cap}
 use Rattle.proof_tree.specs.declared.capped.Capped.{Capped}
@@ -15,6 +14,9 @@ use Rattle.proof_tree.specs.Nodes.{NodeEnd, closed, parted}
 use Rattle.proof_tree.specs.Tree.{no_point, dual, one_point, pending}
 use Rattle.proof_tree.specs.Views.{View}
 use Rattle.row_relax.specs.declared.pick.RowPick.{RowPick}
+use Rattle.row_relax.specs.declared.rows.Rows.{Rows}
+use Rattle.row_relax.specs.Choices.{choices_of, steps_of}
+use Rattle.row_relax.specs.Settle.{are_single}
 use Rattle.row_relax.specs.Steps.{row_steps}
 use Rattle.row_relax.specs.View.{Fits, domains_of}
 use Rattle.branch_tree.specs.Justified.{RowNode, IsGroup, IsPolished, IsParted, HasCause, IsLeftOpen, found_up_to, left_by}
@@ -28,12 +30,12 @@ ClosedBy NoPoint found = ⊤
 ClosedBy Bad found = ⊥
 
 -- how a counted node ends, over its view after its cuts and with the found points up to it
-abbrev pub EndDone : Program → ℕ → View → List Found → NodeEnd Cert RowPick → Type 0
-EndDone program given view found (closed no_point) = (row_steps program).empty view ≡ true
-EndDone program given view found (closed (dual cert)) = ClosedBy ((row_steps program).cap view cert) found
-EndDone program given view found (closed one_point) = ClosedBy ((row_steps program).settle view) found
-EndDone program given view found (closed (pending cert)) = ⊥
-EndDone program given view found (parted pick cert) = HasCause program given (domains_of view) found pick cert
+abbrev pub EndDone : Rows → ℕ → View → List Found → NodeEnd Cert RowPick → Type 0
+EndDone rows given view found (closed no_point) = (steps_of rows).empty view ≡ true
+EndDone rows given view found (closed (dual cert)) = ClosedBy ((steps_of rows).cap view cert) found
+EndDone rows given view found (closed one_point) = ClosedBy ((steps_of rows).settle view) found
+EndDone rows given view found (closed (pending cert)) = ⊥
+EndDone rows given view found (parted pick cert) = HasCause rows.program given (domains_of view) found pick cert
 
 -- a node that is left open has points, and a cap
 pub record OpenDone (program : Program) (node : RowNode) (cert : Cert) : Type 0 where
@@ -42,26 +44,26 @@ pub record OpenDone (program : Program) (node : RowNode) (cert : Cert) : Type 0 
   pub capped : (row_steps program).cap node.view cert ≢ Bad
 
 -- how a node ends
-abbrev pub NodeEndDone : Program → ℕ → RowNode → NodeEnd Cert RowPick → Type 0
-NodeEndDone program given node (closed (pending cert)) = OpenDone program node cert
-NodeEndDone program given node (closed no_point) = EndDone program given node.view (found_up_to node) (closed no_point)
-NodeEndDone program given node (closed (dual cert)) = EndDone program given node.view (found_up_to node) (closed (dual cert))
-NodeEndDone program given node (closed one_point) = EndDone program given node.view (found_up_to node) (closed one_point)
-NodeEndDone program given node (parted pick cert) = EndDone program given node.view (found_up_to node) (parted pick cert)
+abbrev pub NodeEndDone : Rows → ℕ → RowNode → NodeEnd Cert RowPick → Type 0
+NodeEndDone rows given node (closed (pending cert)) = OpenDone rows.program node cert
+NodeEndDone rows given node (closed no_point) = EndDone rows given node.view (found_up_to node) (closed no_point)
+NodeEndDone rows given node (closed (dual cert)) = EndDone rows given node.view (found_up_to node) (closed (dual cert))
+NodeEndDone rows given node (closed one_point) = EndDone rows given node.view (found_up_to node) (closed one_point)
+NodeEndDone rows given node (parted pick cert) = EndDone rows given node.view (found_up_to node) (parted pick cert)
 
 -- a node of a search
-pub record NodeDone (program : Program) (given : ℕ) (node : RowNode) : Type 0 where
-  pub group : IfSome node.found (IsGroup program)
-  pub fits : Fits program node.view
-  pub end : NodeEndDone program given node node.end
+pub record NodeDone (rows : Rows) (given : ℕ) (node : RowNode) : Type 0 where
+  pub group : IfSome node.found (IsGroup (choices_of rows))
+  pub fits : Fits rows.program node.view
+  pub end : NodeEndDone rows given node node.end
 
 -- an item ends a counted node so
-abbrev pub ItemEnds : Program → ℕ → View → List Found → RowItem → Type 0
-ItemEnds program given view found Empty = EndDone program given view found (closed no_point)
-ItemEnds program given view found (Dual cert) = EndDone program given view found (closed (dual cert))
-ItemEnds program given view found Point = EndDone program given view found (closed one_point)
-ItemEnds program given view found (Split pick cert) = EndDone program given view found (parted pick cert)
-ItemEnds program given view found _ = ⊥
+abbrev pub ItemEnds : Rows → ℕ → View → List Found → RowItem → Type 0
+ItemEnds rows given view found Empty = EndDone rows given view found (closed no_point)
+ItemEnds rows given view found (Dual cert) = EndDone rows given view found (closed (dual cert))
+ItemEnds rows given view found Point = EndDone rows given view found (closed one_point)
+ItemEnds rows given view found (Split pick cert) = EndDone rows given view found (parted pick cert)
+ItemEnds rows given view found _ = ⊥
 
 -- a cap leaves something above the best worth
 abbrev pub is_over : Capped → Option ℤ → Bool
@@ -80,14 +82,18 @@ says_more _ _ = false
 abbrev pub IsFloor : Bool → Option ℤ → ℤ → Type 0
 IsFloor floors best floor = (floors ≡ true) × (best ≡ Some floor) × (unsigned_abs floor < 10 ^ 30)
 
--- what is judged of a box with points: a certificate leaves nothing above the best worth, it has one point, or it is to be split, with no floor but what may be one
-abbrev pub IsBoxVerdict : Program → Bool → ℕ → List Domain → Option ℤ → RowItem → Type 0
-IsBoxVerdict program floors given domains best (Dual cert) = is_over (cert_cap program domains cert) best ≡ false
-IsBoxVerdict program floors given domains best Point = All IsSingle domains
-IsBoxVerdict program floors given domains best (Split pick cert) =
-    IsPolished program domains cert × IsParted given (left_by program domains cert pick.floor) pick × (is_over (cert_cap program domains cert) best ≡ true)
+-- each slot that points have has one value
+abbrev pub is_chosen : Rows → List Domain → Bool
+is_chosen rows domains = are_single (take (length (choices_of rows).root) domains)
+
+-- what is judged of a box with points: a certificate leaves nothing above the best worth, each slot that points have has one value, or it is to be split, with no floor but what may be one
+abbrev pub IsBoxVerdict : Rows → Bool → ℕ → List Domain → Option ℤ → RowItem → Type 0
+IsBoxVerdict rows floors given domains best (Dual cert) = is_over (cert_cap rows.program domains cert) best ≡ false
+IsBoxVerdict rows floors given domains best Point = is_chosen rows domains ≡ true
+IsBoxVerdict rows floors given domains best (Split pick cert) =
+    IsPolished rows.program domains cert × IsParted given (left_by rows.program domains cert pick.floor) pick × (is_over (cert_cap rows.program domains cert) best ≡ true)
     × IfSome pick.floor (IsFloor floors best)
-IsBoxVerdict program floors given domains best _ = ⊥
+IsBoxVerdict rows floors given domains best _ = ⊥
 
 -- the one of two found points that is worth more, the first where both are worth the same
 abbrev pub better_of : Option Found → Option Found → Option Found

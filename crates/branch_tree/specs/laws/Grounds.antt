@@ -1,5 +1,5 @@
 -- What a search goes over, and where it stands. Only clauses of private functions cite it.
-use Rattle.std.specs.Prelude.{◌≡◌, ◌≢◌, ℕ, ◌+◌, ◌≤◌, ◌<◌, true, false, List, [], ◌∷◌, length, map, Option, Some, None, IfSome, ℤ, ◌≤ℤ◌}
+use Rattle.std.specs.Prelude.{◌≡◌, ◌≢◌, ℕ, ◌+◌, ◌≤◌, ◌<◌, true, false, List, [], ◌∷◌, length, map, take, Option, Some, None, IfSome, ℤ, ◌≤ℤ◌}
 use Rattle.std.specs.Option.{IsSomeAnd}
 use Rattle.row_kit.specs.declared.domain.Domain.{Domain}
 use Rattle.row_kit.specs.declared.found.Found.{Found}
@@ -9,6 +9,8 @@ use Rattle.dual_bound.specs.declared.cert.Cert.{Cert}
 use Rattle.dual_bound.specs.Total.{is_fit}
 use Rattle.proof_tree.specs.declared.capped.Capped.TheVariants.{Bad}
 use Rattle.row_relax.specs.declared.pick.RowPick.{RowPick}
+use Rattle.row_relax.specs.declared.rows.Rows.{Rows}
+use Rattle.row_relax.specs.Choices.{IsImageIn, choices_of}
 use Rattle.row_relax.specs.Steps.{row_steps}
 use Rattle.range_prop.specs.Cuts.{HaveRoomBut}
 use Rattle.range_prop.specs.Index.{IsIndex}
@@ -24,11 +26,26 @@ use Rattle.branch_tree.specs.laws.Ends.{view_splits}
 abbrev pub seen : List (List Domain) → View
 seen marks = present (map view_of marks)
 
--- the program of a ground
+-- the rows of a ground, and their program
+abbrev pub rows_of : Ground → Rows
+rows_of ground = ground.rows.now
+
 abbrev pub program_of : Ground → Program
 program_of ground = ground.rows.now.program
 
--- the program can be searched, and the index is that of its rows
+-- the program by which points are judged
+abbrev pub choices_at : Ground → Program
+choices_at ground = choices_of (rows_of ground)
+
+-- the first values of a point, as many as points have slots
+abbrev pub first_values : Ground → List ℕ → List ℕ
+first_values ground values = take (length (choices_at ground).root) values
+
+-- a lawful point has an image in the area
+abbrev pub IsAmong : Rows → View → List ℕ → Type 0
+IsAmong rows view point = (image : List ℕ) × IsImageIn rows point image × IsIn view image
+
+-- the program of the rows can be searched, and the index is that of its rows
 pub record IsGround (ground : Ground) : Type 0 where
   pub searchable : IsSearchable (program_of ground)
   pub index : IsIndex (program_of ground).rows ground.index
@@ -42,8 +59,8 @@ pub record StandsIn (ground : Ground) (view : View) (depth : ℕ) (reached : Rea
   pub deep : depth + view_splits view ≤ 4608
   -- but for rows with an entry of the slot that was split last, each row has room
   pub room : IfSome reached.changed (λ slot. (slot < length (program_of ground).root) × HaveRoomBut (program_of ground).rows (slot ∷ []) (domains_of view))
-  -- the point that is to be offered is lawful, and lies in the area
-  pub own : IfSome reached.own (λ found. IsGroup (program_of ground) found × IsIn view found.point)
+  -- the point that is to be offered is lawful, and has an image in the area
+  pub own : IfSome reached.own (λ found. IsGroup (choices_at ground) found × IsAmong (rows_of ground) view found.point)
 
 -- a found point is lawful, and worth as much as each of two points that is lawful
 pub record IsOffered (program : Program) (first second : List ℕ) (own : Option Found) : Type 0 where
@@ -51,14 +68,14 @@ pub record IsOffered (program : Program) (first second : List ℕ) (own : Option
   pub least : IsWorth program first own
   pub given : IsWorth program second own
 
--- the start of a search: nothing is counted or found, and a lawful point is to be offered that is worth as much as the root's least
--- point and as the point to begin with, where these are lawful
-pub record IsStart (program : Program) (start : List ℕ) (reached : Reached) : Type 0 where
+-- the start of a search: nothing is counted or found, and a lawful point is to be offered that is worth as much as the least point and
+-- as the point to begin with, where these are lawful
+pub record IsStart (rows : Rows) (start : List ℕ) (reached : Reached) : Type 0 where
   pub spent : reached.spent ≡ 0
   pub best : reached.best ≡ None
   pub changed : reached.changed ≡ None
-  pub places : length reached.point.items ≡ length program.root
-  pub own : IsOffered program (only_point program.root) start reached.own
+  pub places : length reached.point.items ≡ length rows.program.root
+  pub own : IsOffered (choices_of rows) (only_point (choices_of rows).root) start reached.own
 
 -- where a point of one's own was to be offered, the best found point is worth as much
 abbrev pub IsOwnBest : Option Found → Option Found → Type 0

@@ -1,17 +1,14 @@
 -- Logs whose items are copied to another log.
-use Rattle.std.specs.Prelude.{◌≡◌, ◌⊎◌, ⊤, ℕ, ◌+◌, ◌*◌, ◌-◌, ◌^◌, ◌<◌, List, [], ◌∷◌, ◌++◌, flat_map, length, slice_index_or, drop, string_bytes, Option, None, IfSome}
+use Rattle.std.specs.Prelude.{◌≡◌, ◌⊎◌, ⊤, ℕ, ◌^◌, ◌<◌, List, [], ◌∷◌, ◌++◌, flat_map, slice_index_or, drop, string_bytes, Option, None, IfSome}
 use Rattle.std.specs.Option.{option_map}
 use Rattle.stn_edge.specs.Files.{FileMap, file_of}
 use Rattle.stn_model.specs.declared.plant.Plant.{Plant}
-use Rattle.time_grid.specs.Slots.{slots}
 use Rattle.std.specs.List.{All}
 use Rattle.row_kit.specs.declared.program.Program.{Program}
 use Rattle.row_kit.specs.Point.{IsLawful}
-use Rattle.row_set.specs.PlantProgram.{IsMadeOf, plant_root, plant_rows}
+use Rattle.row_set.specs.PlantProgram.{IsMadeOf, plant_root}
 use Rattle.sum_slots.specs.declared.sum.Sum.{Sum}
 use Rattle.sum_slots.specs.Shown.{IsShown}
-use Rattle.derivations.specs.Growth.{rows_of}
-use Rattle.log_parts.specs.declared.heads.Declared.{Declared}
 use Rattle.proof_tree.specs.declared.item.Item.TheVariants.{Node, Split}
 use Rattle.proof_tree.specs.Items.{tree_items}
 use Rattle.row_relax.specs.RowProofs.{RowItem, RowTree}
@@ -27,19 +24,6 @@ use Rattle.log_parts.specs.declared.joins.Joined.{Joined}
 use Rattle.log_parts.specs.declared.joins.Joined.TheVariants.{Done, No}
 use Rattle.log_parts.specs.Joining.{plan_of}
 use Rattle.log_parts.specs.PartLogs.{logs_of, no_mults, no_tree, tree_over}
-
--- limits of logs over programs with what a head declares: a slot and two rows more for each sum, and a row for each that is derived
-abbrev pub limits_declared : Limits → Declared → Limits
-limits_declared limits declared =
-    let count = length declared.sums in record { rows = limits.rows + 2 * count + rows_of declared.derivations; slots = limits.slots + count; depth = limits.depth }
-
--- the limits of the logs of a plant's parts over their programs with what they declare
-abbrev pub part_limits : Plant → ℕ → Declared → Limits
-part_limits plant levels declared = limits_declared (record { rows = length (plant_rows plant); slots = length (slots plant); depth = 4608 - levels }) declared
-
--- the same from the plant's program
-abbrev pub limits_over : Program → ℕ → Declared → Limits
-limits_over program levels declared = limits_declared (record { rows = length program.rows; slots = length program.root; depth = 4608 - levels }) declared
 
 -- the point of a claim, where it has one, is lawful
 abbrev pub IsPointed : Program → Claim → Type 0
@@ -74,7 +58,7 @@ pub record IsLogOf (limits : Limits) (bytes : List ℕ) (tree : RowTree) : Type 
   pub version : ℕ
   pub claim : Claim
   pub text : bytes ≡ log_text version (tree_items tree) claim
-  pub over : IsLogOver limits.slots version tree claim
+  pub over : IsLogOver limits.points version tree claim
   pub clean : log_text_defect limits bytes ≡ None
 
 -- the logs are those of these trees

@@ -10,9 +10,10 @@ use Rattle.row_relax.specs.View.{domains_of, points_in, view_of}
 use Rattle.row_relax.proofs.Marks.{domains-views, fits_slots}
 use Rattle.range_prop.specs.Cuts.{HaveRoom}
 use Rattle.proof_tree.specs.Views.{MovesTo, present as last_view}
+use Rattle.row_relax.specs.Choices.{steps_of}
 use Rattle.branch_tree.specs.Searched.{IsBest, IsFitItem}
 use Rattle.branch_tree.specs.laws.Ends.{ItemEnds, view_splits}
-use Rattle.branch_tree.specs.laws.Grounds.{IsSplitAt, StandsIn, program_of, seen, slot_alone}
+use Rattle.branch_tree.specs.laws.Grounds.{IsSplitAt, StandsIn, program_of, seen, slot_alone, rows_of}
 use Rattle.branch_tree.specs.laws.Handed.{Grows, PartsHanded, TailHanded}
 use Rattle.branch_tree.proofs.Best.{IsBest-itself}
 use Rattle.branch_tree.proofs.Caps.{total-fit}
@@ -30,26 +31,26 @@ may_not : (b : Bool) → b ≡ false → b ≡ true → ⊥
 may_not b is_false is_true = cc
 
 pub search_box-returns-in_err-open_box-clause-err : goal.search_box-returns-in_err-open_box-clause-err
-search_box-returns-in_err-open_box-clause-err g t c = at_err _ _ (box_in_head g.T.NodeTaker.took g.T.NodeTaker.broke (program_of c.args.ground.now) c.args.ground.now.floors (seen c.args.area.now) _ _ _ _ c.in_err-open_box.ensures.err)
+search_box-returns-in_err-open_box-clause-err g t c = at_err _ _ (box_in_head g.T.NodeTaker.took g.T.NodeTaker.broke (rows_of c.args.ground.now) c.args.ground.now.floors (seen c.args.area.now) _ _ _ _ c.in_err-open_box.ensures.err)
 
 pub search_box-look-requires-clause-stands : goal.search_box-look-requires-clause-stands
 search_box-look-requires-clause-stands g t c =
     let head = c.in_ok-open_box.ensures.handed in
     stands_after c.args.ground.now (seen c.args.area.now) (seen c.open_box.new.area) c.args.depth c.args.reached.now _ c.requires.stands
-    (cuts_leave (program_of c.args.ground.now) head.cuts (seen c.args.area.now) (seen c.open_box.new.area) c.requires.stands.fits head.moved) refl c.take.ensures.after refl
+    (cuts_leave (rows_of c.args.ground.now) head.cuts (seen c.args.area.now) (seen c.open_box.new.area) c.requires.stands.fits head.moved) refl c.take.ensures.after refl
 
 pub search_box-returns-in_err-item-clause-err : goal.search_box-returns-in_err-item-clause-err
 search_box-returns-in_err-item-clause-err g t c =
     let head = c.in_ok-open_box.ensures.handed in
-    at_err _ _ (box_in_look g.T.NodeTaker.took g.T.NodeTaker.broke (program_of c.args.ground.now) c.args.ground.now.floors (seen c.args.area.now) head.cuts _ _ _ _ _ _ head.fit head.handed c.in_err-item.ensures.err)
+    at_err _ _ (box_in_look g.T.NodeTaker.took g.T.NodeTaker.broke (rows_of c.args.ground.now) c.args.ground.now.floors (seen c.args.area.now) head.cuts _ _ _ _ _ _ head.fit head.handed c.in_err-item.ensures.err)
 
 pub search_box-search_end-requires : goal.search_box-search_end-requires
 search_box-search_end-requires g t c =
-    let program = program_of c.args.ground.now in
+    let rows = rows_of c.args.ground.now in
     let head = c.in_ok-open_box.ensures.handed in
     let look = c.in_ok-item.ensures.handed in
     let old = c.args.reached.now.best in
-    let leave = cuts_leave program head.cuts (seen c.args.area.now) (seen c.open_box.new.area) c.requires.stands.fits head.moved in
+    let leave = cuts_leave rows head.cuts (seen c.args.area.now) (seen c.open_box.new.area) c.requires.stands.fits head.moved in
     let fewer : points_in (seen c.look.new.area) ≤ points_in (seen c.args.area.now) = subst (λ (ms : List (List Domain)). points_in (seen ms) ≤ points_in (seen c.args.area.now)) (sym c.look.ensures.same) leave.points in
     let there : StandsIn c.args.ground.now (seen c.open_box.new.area) c.args.depth c.look.new.reached =
     stands_on c.args.ground.now (seen c.args.area.now) (seen c.open_box.new.area) c.args.depth c.args.reached.now c.look.new.reached c.requires.stands leave c.look.ensures.places (c.look.ensures.changed ∙ c.take.ensures.after) c.in_ok-item.ensures.none in
@@ -57,12 +58,12 @@ search_box-search_end-requires g t c =
     let stands : StandsIn c.args.ground.now (seen c.look.new.area) c.args.depth c.look.new.reached = subst (λ (ms : List (List Domain)). StandsIn c.args.ground.now (seen ms) c.args.depth c.look.new.reached) back there in
     let within : c.look.new.reached.spent ≤ c.args.ground.now.budget = omega (arith, c.look.ensures.spent, c.requires.room) in
     let none : c.look.new.reached.own ≡ None = c.in_ok-item.ensures.none in
-    let room : HaveRoom program.rows (domains_of (seen c.look.new.area)) = subst (λ (ms : List (List Domain)). HaveRoom program.rows (domains_of (seen ms))) back (subst (HaveRoom program.rows) (sym (domains-views c.open_box.new.area)) c.in_ok-open_box.ensures.room) in
+    let room : HaveRoom rows.program.rows (domains_of (seen c.look.new.area)) = subst (λ (ms : List (List Domain)). HaveRoom rows.program.rows (domains_of (seen ms))) back (subst (HaveRoom rows.program.rows) (sym (domains-views c.open_box.new.area)) c.in_ok-open_box.ensures.room) in
     let here = IsBest-itself old in
-    let ends : (fs : List Found) → IsBest c.look.new.reached.best fs → ItemEnds program c.args.ground.now.given (seen c.look.new.area) fs c.in_ok-item.item =
-    λ fs best. subst (λ (ms : List (List Domain)). ItemEnds program c.args.ground.now.given (seen ms) fs c.in_ok-item.item) back
-    (ends-same program c.args.ground.now.given (seen c.open_box.new.area) c.in_ok-item.item c.look.new.reached.best (option_to_list old ++ option_to_list look.found) fs (look.best (option_to_list old) here) best (look.ends (option_to_list old) here)) in
-    let fit : IsFitItem program c.args.ground.now.floors c.in_ok-item.item = look.fit in
+    let ends : (fs : List Found) → IsBest c.look.new.reached.best fs → ItemEnds rows c.args.ground.now.given (seen c.look.new.area) fs c.in_ok-item.item =
+    λ fs best. subst (λ (ms : List (List Domain)). ItemEnds rows c.args.ground.now.given (seen ms) fs c.in_ok-item.item) back
+    (ends-same rows c.args.ground.now.given (seen c.open_box.new.area) c.in_ok-item.item c.look.new.reached.best (option_to_list old ++ option_to_list look.found) fs (look.best (option_to_list old) here) best (look.ends (option_to_list old) here)) in
+    let fit : IsFitItem rows c.args.ground.now.floors c.in_ok-item.item = look.fit in
     let ready : g.T.NodeTaker.ready c.look.new.taker c.look.new.out = c.in_ok-item.ensures.ready in
     search rules
 
@@ -70,9 +71,9 @@ pub search_box-returns-in_err-cap-clause-err : goal.search_box-returns-in_err-ca
 search_box-returns-in_err-cap-clause-err g t c =
     let head = c.in_ok-open_box.ensures.handed in
     let look = c.in_ok-item.ensures.handed in
-    let leave = cuts_leave (program_of c.args.ground.now) head.cuts (seen c.args.area.now) (seen c.open_box.new.area) c.requires.stands.fits head.moved in
+    let leave = cuts_leave (rows_of c.args.ground.now) head.cuts (seen c.args.area.now) (seen c.open_box.new.area) c.requires.stands.fits head.moved in
     let fewer = subst (λ (ms : List (List Domain)). view_splits (seen ms) ≤ view_splits (seen c.args.area.now)) (sym c.look.ensures.same) leave.splits in
-    at_err _ _ (box_in_tail g.T.NodeTaker.took g.T.NodeTaker.broke (program_of c.args.ground.now) c.args.ground.now.floors (seen c.args.area.now) head.cuts look.found _ _ _ _ _ _ _ _ (seen c.look.new.area) fewer head.fit look.group head.handed look.handed c.in_err-cap.ensures.err)
+    at_err _ _ (box_in_tail g.T.NodeTaker.took g.T.NodeTaker.broke (rows_of c.args.ground.now) c.args.ground.now.floors (seen c.args.area.now) head.cuts look.found _ _ _ _ _ _ _ _ (seen c.look.new.area) fewer head.fit look.group head.handed look.handed c.in_err-cap.ensures.err)
 
 pub search_box-returns-clause-own : goal.search_box-returns-clause-own
 search_box-returns-clause-own g t c =
@@ -90,74 +91,74 @@ search_box-returns-clause-as_before g t c =
 
 pub search_box-returns-clause-handed : goal.search_box-returns-clause-handed
 search_box-returns-clause-handed g t c =
-    let tail = subst (λ (ms : List (List Domain)). TailHanded g.T.NodeTaker.took (program_of c.args.ground.now) c.args.ground.now.floors c.args.ground.now.given c.args.ground.now.budget c.args.ground.now.may_leave (seen ms) c.in_ok-cap.cap
+    let tail = subst (λ (ms : List (List Domain)). TailHanded g.T.NodeTaker.took (rows_of c.args.ground.now) c.args.ground.now.floors c.args.ground.now.given c.args.ground.now.budget c.args.ground.now.may_leave (seen ms) c.in_ok-cap.cap
     c.look.new.reached c.look.new.taker c.look.new.out c.search_end.new.reached c.search_end.new.taker c.search_end.new.out) c.look.ensures.same c.in_ok-cap.ensures.handed in
-    box_handed g.T.NodeTaker.took (program_of c.args.ground.now) c.args.ground.now.floors c.args.ground.now.given c.args.ground.now.budget c.args.ground.now.may_leave (seen c.args.area.now) (seen c.open_box.new.area) c.in_ok-cap.cap c.in_ok-item.item
+    box_handed g.T.NodeTaker.took (rows_of c.args.ground.now) c.args.ground.now.floors c.args.ground.now.given c.args.ground.now.budget c.args.ground.now.may_leave (seen c.args.area.now) (seen c.open_box.new.area) c.in_ok-cap.cap c.in_ok-item.item
     c.args.reached.now _ c.look.new.reached c.search_end.new.reached _ _ _ _ _ _ _ _ c.in_ok-open_box.ensures.fits refl c.look.ensures.spent c.in_ok-open_box.ensures.handed c.in_ok-item.ensures.handed tail
 
 pub search_end-returns-in_err-put-clause-err : goal.search_end-returns-in_err-put-clause-err
 search_end-returns-in_err-put-clause-err g t c =
-    let program = program_of c.args.ground.now in
+    let rows = rows_of c.args.ground.now in
     let fs = option_to_list c.args.reached.now.best in
     let ends = c.requires.ends fs (IsBest-itself c.args.reached.now.best) in
-    at_err _ _ (tail_at_item g.T.NodeTaker.took g.T.NodeTaker.broke program c.args.ground.now.floors c.args.ground.now.given (seen c.args.area.now) c.args.item fs _ _ _ _ ends c.requires.fit (ends-room program c.args.ground.now.given (seen c.args.area.now) fs c.args.item c.requires.stands.fits ends) c.in_err-put.ensures.broke)
+    at_err _ _ (tail_at_item g.T.NodeTaker.took g.T.NodeTaker.broke rows c.args.ground.now.floors c.args.ground.now.given (seen c.args.area.now) c.args.item fs _ _ _ _ ends c.requires.fit (ends-room rows c.args.ground.now.given (seen c.args.area.now) fs c.args.item c.requires.stands.fits ends) c.in_err-put.ensures.broke)
 
 pub search_end-returns-in-Empty-clause-handed : goal.search_end-returns-in-Empty-clause-handed
 search_end-returns-in-Empty-clause-handed g t c =
-    let program = program_of c.args.ground.now in
-    let ends = subst (λ item. (fs : List Found) → IsBest c.args.reached.now.best fs → ItemEnds program c.args.ground.now.given (seen c.args.area.now) fs item) c.in-Empty.is c.requires.ends in
+    let rows = rows_of c.args.ground.now in
+    let ends = subst (λ item. (fs : List Found) → IsBest c.args.reached.now.best fs → ItemEnds rows c.args.ground.now.given (seen c.args.area.now) fs item) c.in-Empty.is c.requires.ends in
     let taken = subst (λ item. Grows g.T.NodeTaker.took g.T.NodeTaker.took c.args.taker.now c.args.out.now (item ∷ []) c.put.new.self c.put.new.out) c.in-Empty.is c.in_ok-put.ensures.took in
-    tail_empty g.T.NodeTaker.took program c.args.ground.now.floors c.args.ground.now.given c.args.ground.now.budget c.args.ground.now.may_leave (seen c.args.area.now) c.args.reached.now _ _ _ _ ends taken
+    tail_empty g.T.NodeTaker.took rows c.args.ground.now.floors c.args.ground.now.given c.args.ground.now.budget c.args.ground.now.may_leave (seen c.args.area.now) c.args.reached.now _ _ _ _ ends taken
 
 pub search_end-returns-in-Dual-clause-handed : goal.search_end-returns-in-Dual-clause-handed
 search_end-returns-in-Dual-clause-handed g t c =
-    let program = program_of c.args.ground.now in
-    let ends = subst (λ item. (fs : List Found) → IsBest c.args.reached.now.best fs → ItemEnds program c.args.ground.now.given (seen c.args.area.now) fs item) c.in-Dual.is c.requires.ends in
-    let fit = subst (IsFitItem program c.args.ground.now.floors) c.in-Dual.is c.requires.fit in
+    let rows = rows_of c.args.ground.now in
+    let ends = subst (λ item. (fs : List Found) → IsBest c.args.reached.now.best fs → ItemEnds rows c.args.ground.now.given (seen c.args.area.now) fs item) c.in-Dual.is c.requires.ends in
+    let fit = subst (IsFitItem rows c.args.ground.now.floors) c.in-Dual.is c.requires.fit in
     let taken = subst (λ item. Grows g.T.NodeTaker.took g.T.NodeTaker.took c.args.taker.now c.args.out.now (item ∷ []) c.put.new.self c.put.new.out) c.in-Dual.is c.in_ok-put.ensures.took in
-    tail_dual g.T.NodeTaker.took program c.args.ground.now.floors c.args.ground.now.given c.args.ground.now.budget c.args.ground.now.may_leave (seen c.args.area.now) c.in-Dual.cert c.cap.result c.args.reached.now _ _ _ _ ends c.cap.ensures fit taken
+    tail_dual g.T.NodeTaker.took rows c.args.ground.now.floors c.args.ground.now.given c.args.ground.now.budget c.args.ground.now.may_leave (seen c.args.area.now) c.in-Dual.cert c.cap.result c.args.reached.now _ _ _ _ ends c.cap.ensures fit taken
 
 pub search_end-returns-in-Point-clause-handed : goal.search_end-returns-in-Point-clause-handed
 search_end-returns-in-Point-clause-handed g t c =
-    let program = program_of c.args.ground.now in
-    let ends = subst (λ item. (fs : List Found) → IsBest c.args.reached.now.best fs → ItemEnds program c.args.ground.now.given (seen c.args.area.now) fs item) c.in-Point.is c.requires.ends in
+    let rows = rows_of c.args.ground.now in
+    let ends = subst (λ item. (fs : List Found) → IsBest c.args.reached.now.best fs → ItemEnds rows c.args.ground.now.given (seen c.args.area.now) fs item) c.in-Point.is c.requires.ends in
     let taken = subst (λ item. Grows g.T.NodeTaker.took g.T.NodeTaker.took c.args.taker.now c.args.out.now (item ∷ []) c.put.new.self c.put.new.out) c.in-Point.is c.in_ok-put.ensures.took in
-    tail_point g.T.NodeTaker.took program c.args.ground.now.floors c.args.ground.now.given c.args.ground.now.budget c.args.ground.now.may_leave (seen c.args.area.now) c.settle.result c.args.reached.now _ _ _ _ ends c.settle.ensures taken
+    tail_point g.T.NodeTaker.took rows c.args.ground.now.floors c.args.ground.now.given c.args.ground.now.budget c.args.ground.now.may_leave (seen c.args.area.now) c.settle.result c.args.reached.now _ _ _ _ ends c.settle.ensures taken
 
 pub search_end-search_split-requires : goal.search_end-search_split-requires
 search_end-search_split-requires g t c =
-    let program = program_of c.args.ground.now in
+    let rows = rows_of c.args.ground.now in
     let view = seen c.args.area.now in
-    let ends = subst (λ item. ItemEnds program c.args.ground.now.given view (option_to_list c.args.reached.now.best) item) c.in-Split.is (c.requires.ends (option_to_list c.args.reached.now.best) (IsBest-itself c.args.reached.now.best)) in
-    let split : IsSplitAt program c.args.ground.now.given ((row_steps program).trim view c.in-Split.pick c.in-Split.cert) c.in-Split.pick c.in-Split.cert = record {
-      fit = total-fit program (domains_of view) c.in-Split.cert ends.polished.total;
+    let ends = subst (λ item. ItemEnds rows c.args.ground.now.given view (option_to_list c.args.reached.now.best) item) c.in-Split.is (c.requires.ends (option_to_list c.args.reached.now.best) (IsBest-itself c.args.reached.now.best)) in
+    let split : IsSplitAt rows.program c.args.ground.now.given ((steps_of rows).trim view c.in-Split.pick c.in-Split.cert) c.in-Split.pick c.in-Split.cert = record {
+      fit = total-fit rows.program (domains_of view) c.in-Split.cert ends.polished.total;
       scale = ends.polished.scale;
-      parted = parted_there program view c.in-Split.pick c.in-Split.cert ends;
+      parted = parted_there rows.program view c.in-Split.pick c.in-Split.cert ends;
     } in
     search rules
 
 pub search_end-returns-in-Split-clause-handed : goal.search_end-returns-in-Split-clause-handed
 search_end-returns-in-Split-clause-handed g t c =
-    let program = program_of c.args.ground.now in
-    let ends = subst (λ item. (fs : List Found) → IsBest c.args.reached.now.best fs → ItemEnds program c.args.ground.now.given (seen c.args.area.now) fs item) c.in-Split.is c.requires.ends in
-    let fit = subst (IsFitItem program c.args.ground.now.floors) c.in-Split.is c.requires.fit in
+    let rows = rows_of c.args.ground.now in
+    let ends = subst (λ item. (fs : List Found) → IsBest c.args.reached.now.best fs → ItemEnds rows c.args.ground.now.given (seen c.args.area.now) fs item) c.in-Split.is c.requires.ends in
+    let fit = subst (IsFitItem rows c.args.ground.now.floors) c.in-Split.is c.requires.fit in
     let taken = subst (λ item. Grows g.T.NodeTaker.took g.T.NodeTaker.took c.args.taker.now c.args.out.now (item ∷ []) c.put.new.self c.put.new.out) c.in-Split.is c.in_ok-put.ensures.took in
     IfOk-weaker c.search_split.result _ _
-    (λ cap parts. tail_split g.T.NodeTaker.took program c.args.ground.now.floors c.args.ground.now.given c.args.ground.now.budget c.args.ground.now.may_leave (seen c.args.area.now) c.in-Split.pick c.in-Split.cert cap c.args.reached.now c.search_split.new.reached _ _ _ _ _ _ ends fit taken parts)
+    (λ cap parts. tail_split g.T.NodeTaker.took rows c.args.ground.now.floors c.args.ground.now.given c.args.ground.now.budget c.args.ground.now.may_leave (seen c.args.area.now) c.in-Split.pick c.in-Split.cert cap c.args.reached.now c.search_split.new.reached _ _ _ _ _ _ ends fit taken parts)
     c.search_split.ensures.handed
 
 pub search_end-returns-in-Split-clause-err : goal.search_end-returns-in-Split-clause-err
 search_end-returns-in-Split-clause-err g t c =
-    let program = program_of c.args.ground.now in
-    let fit = subst (IsFitItem program c.args.ground.now.floors) c.in-Split.is c.requires.fit in
+    let rows = rows_of c.args.ground.now in
+    let fit = subst (IsFitItem rows c.args.ground.now.floors) c.in-Split.is c.requires.fit in
     let taken = subst (λ item. Grows g.T.NodeTaker.took g.T.NodeTaker.took c.args.taker.now c.args.out.now (item ∷ []) c.put.new.self c.put.new.out) c.in-Split.is c.in_ok-put.ensures.took in
     on_err_weaker c.search_split.result
-    (λ stopped. tail_in_parts g.T.NodeTaker.took g.T.NodeTaker.broke program c.args.ground.now.floors (seen c.args.area.now) c.in-Split.pick c.in-Split.cert _ _ _ _ _ _ fit taken stopped)
+    (λ stopped. tail_in_parts g.T.NodeTaker.took g.T.NodeTaker.broke rows c.args.ground.now.floors (seen c.args.area.now) c.in-Split.pick c.in-Split.cert _ _ _ _ _ _ fit taken stopped)
     c.search_split.ensures.err
 
 pub search_end-unreachable-requires : goal.search_end-unreachable-requires
 search_end-unreachable-requires g t c =
-    ends-only (program_of c.args.ground.now) c.args.ground.now.given (seen c.args.area.now) (option_to_list c.args.reached.now.best) c.args.item (c.requires.ends (option_to_list c.args.reached.now.best) (IsBest-itself c.args.reached.now.best))
+    ends-only (rows_of c.args.ground.now) c.args.ground.now.given (seen c.args.area.now) (option_to_list c.args.reached.now.best) c.args.item (c.requires.ends (option_to_list c.args.reached.now.best) (IsBest-itself c.args.reached.now.best))
     c.in_default.not-Empty c.in_default.not-Dual c.in_default.not-Point c.in_default.not-Split
 
 pub search_part-is_left-requires-clause-slots : goal.search_part-is_left-requires-clause-slots
@@ -168,7 +169,7 @@ search_part-is_left-requires-clause-each_open g t c = part_each_open (program_of
 
 pub search_part-returns-then-reached-ground-clause-handed : goal.search_part-returns-then-reached-ground-clause-handed
 search_part-returns-then-reached-ground-clause-handed g t c =
-    let program = program_of c.args.ground.now in
+    let rows = rows_of c.args.ground.now in
     let view = seen c.args.area.now in
     let full : c.args.ground.now.may_leave ≡ false → c.args.reached.now.spent ≡ c.args.ground.now.budget =
     λ never. elim c.then-reached-ground.branch [
@@ -176,18 +177,18 @@ search_part-returns-then-reached-ground-clause-handed g t c =
       | search_part-then-reached-ground-via-else-reached-ground+then-is_left w ↦ absurd (may_not c.args.ground.now.may_leave never (w.is_left.ensures w.if-is_left.true))
     ] in
     both_ok c.leave_open.result _ _ c.leave_open.ensures.cap c.leave_open.ensures.handed
-    (λ cap is taken. open_handed g.T.NodeTaker.took program c.args.ground.now.floors c.args.ground.now.given c.args.ground.now.budget c.args.ground.now.may_leave view c.args.cert.now cap c.args.reached.now _ _ _ _ c.requires.stands.fits c.requires.part.some c.requires.part.capped is full (pending-fit program c.args.ground.now.floors view c.args.cert.now c.requires.part.capped) taken)
+    (λ cap is taken. open_handed g.T.NodeTaker.took rows c.args.ground.now.floors c.args.ground.now.given c.args.ground.now.budget c.args.ground.now.may_leave view c.args.cert.now cap c.args.reached.now _ _ _ _ c.requires.stands.fits c.requires.part.some c.requires.part.capped is full (pending-fit rows c.args.ground.now.floors view c.args.cert.now c.requires.part.capped) taken)
 
 pub search_part-returns-then-reached-ground-clause-err : goal.search_part-returns-then-reached-ground-clause-err
 search_part-returns-then-reached-ground-clause-err g t c =
-    let program = program_of c.args.ground.now in
+    let rows = rows_of c.args.ground.now in
     let view = seen c.args.area.now in
     on_err_weaker c.leave_open.result
-    (λ stopped. open_stopped g.T.NodeTaker.took g.T.NodeTaker.broke program c.args.ground.now.floors view c.args.cert.now _ _ _ _ (pending-fit program c.args.ground.now.floors view c.args.cert.now c.requires.part.capped) stopped)
+    (λ stopped. open_stopped g.T.NodeTaker.took g.T.NodeTaker.broke rows c.args.ground.now.floors view c.args.cert.now _ _ _ _ (pending-fit rows c.args.ground.now.floors view c.args.cert.now c.requires.part.capped) stopped)
     c.leave_open.ensures.err
 
 pub search_part-returns-in_err-copied_cert-clause-err : goal.search_part-returns-in_err-copied_cert-clause-err
-search_part-returns-in_err-copied_cert-clause-err g t c = at_err _ _ (box_before g.T.NodeTaker.took g.T.NodeTaker.broke (program_of c.args.ground.now) c.args.ground.now.floors (seen c.args.area.now) c.args.taker.now c.args.out.now)
+search_part-returns-in_err-copied_cert-clause-err g t c = at_err _ _ (box_before g.T.NodeTaker.took g.T.NodeTaker.broke (rows_of c.args.ground.now) c.args.ground.now.floors (seen c.args.area.now) c.args.taker.now c.args.out.now)
 
 pub search_split-search_parts-requires : goal.search_split-search_parts-requires
 search_split-search_parts-requires g t c =
@@ -204,10 +205,10 @@ search_split-search_parts-requires g t c =
 
 pub search_split-returns-in_err-cap-clause-err : goal.search_split-returns-in_err-cap-clause-err
 search_split-returns-in_err-cap-clause-err g t c =
-    let program = program_of c.args.ground.now in
+    let rows = rows_of c.args.ground.now in
     let view = seen c.args.area.now in
-    let less = subst (IsLeftTo program view) (sym c.trim-floor.ensures.trimmed) (left_to program view c.args.pick.now c.args.cert.now c.requires.stands.fits) in
-    at_err _ _ (parts_of_rest g.T.NodeTaker.took g.T.NodeTaker.broke program c.args.ground.now.floors view (seen c.trim-floor.new.area) _ _ _ _ less.splits c.in_err-cap.ensures.err)
+    let less = subst (IsLeftTo rows.program view) (sym c.trim-floor.ensures.trimmed) (left_to rows.program view c.args.pick.now c.args.cert.now c.requires.stands.fits) in
+    at_err _ _ (parts_of_rest g.T.NodeTaker.took g.T.NodeTaker.broke rows c.args.ground.now.floors view (seen c.trim-floor.new.area) _ _ _ _ less.splits c.in_err-cap.ensures.err)
 
 pub search_split-back-requires-clause-within : goal.search_split-back-requires-clause-within
 search_split-back-requires-clause-within g t c =
@@ -219,10 +220,10 @@ search_split-returns-clause-as_before g t c =
 
 pub search_split-returns-clause-handed : goal.search_split-returns-clause-handed
 search_split-returns-clause-handed g t c =
-    let program = program_of c.args.ground.now in
+    let rows = rows_of c.args.ground.now in
     let view = seen c.args.area.now in
     let cap = c.greater_cap.ensures ∙ ap (λ floor. greater floor c.in_ok-cap.cap) (c.floor_cap.ensures ∙ ap floor_cap c.trim-floor.ensures.floor) in
-    split_handed g.T.NodeTaker.took program c.args.ground.now.floors c.args.ground.now.given c.args.ground.now.budget c.args.ground.now.may_leave view (seen c.trim-floor.new.area) c.args.pick.now c.args.cert.now c.greater_cap.result c.in_ok-cap.cap
+    split_handed g.T.NodeTaker.took rows c.args.ground.now.floors c.args.ground.now.given c.args.ground.now.budget c.args.ground.now.may_leave view (seen c.trim-floor.new.area) c.args.pick.now c.args.cert.now c.greater_cap.result c.in_ok-cap.cap
     c.args.reached.now (record c.args.reached.now { changed = None }) c.search_parts.new.reached _ _ _ _ c.trim-floor.ensures.trimmed cap refl refl c.in_ok-cap.ensures.handed
 
 pub search_parts-search_part-requires : goal.search_parts-search_part-requires
@@ -241,13 +242,13 @@ search_parts-search_part-requires g t c =
 
 pub search_parts-returns-in_err-first-clause-err : goal.search_parts-returns-in_err-first-clause-err
 search_parts-returns-in_err-first-clause-err g t c =
-    let program = program_of c.args.ground.now in
+    let rows = rows_of c.args.ground.now in
     let view = seen c.args.area.now in
     let pick = c.args.pick.now in
     let parts = c.requires.split.parted in
-    let part = left_there program view pick parts in
-    let left = moved_to ((row_steps program).left view pick) (map view_of c.args.area.now) (map view_of c.left.new.area) c.left.result part.0 part.1 c.left.ensures.moves in
-    at_err _ _ (parts_in_first g.T.NodeTaker.took g.T.NodeTaker.broke program c.args.ground.now.floors view (seen c.left.new.area) _ _ _ _ (splits-left program view (seen c.left.new.area) pick parts left.0) c.in_err-first.ensures.err)
+    let part = left_there rows.program view pick parts in
+    let left = moved_to ((steps_of rows).left view pick) (map view_of c.args.area.now) (map view_of c.left.new.area) c.left.result part.0 part.1 c.left.ensures.moves in
+    at_err _ _ (parts_in_first g.T.NodeTaker.took g.T.NodeTaker.broke rows c.args.ground.now.floors view (seen c.left.new.area) _ _ _ _ (splits-left rows.program view (seen c.left.new.area) pick parts left.0) c.in_err-first.ensures.err)
 
 pub search_parts-back-requires-clause-within : goal.search_parts-back-requires-clause-within
 search_parts-back-requires-clause-within g t c =
@@ -280,22 +281,22 @@ search_parts-search_part-requires-2 g t c =
 
 pub search_parts-returns-in_err-second-clause-err : goal.search_parts-returns-in_err-second-clause-err
 search_parts-returns-in_err-second-clause-err g t c =
-    let program = program_of c.args.ground.now in
+    let rows = rows_of c.args.ground.now in
     let view = seen c.args.area.now in
     let pick = c.args.pick.now in
     let parts = c.requires.split.parted in
-    let part = left_there program view pick parts in
-    let left = moved_to ((row_steps program).left view pick) (map view_of c.args.area.now) (map view_of c.left.new.area) c.left.result part.0 part.1 c.left.ensures.moves in
+    let part = left_there rows.program view pick parts in
+    let left = moved_to ((steps_of rows).left view pick) (map view_of c.args.area.now) (map view_of c.left.new.area) c.left.result part.0 part.1 c.left.ensures.moves in
     let same : map view_of c.back.new.area ≡ map view_of c.args.area.now =
     c.back.ensures.views ∙ ap (take (c.mark-mark.result + 1)) c.in_ok-first.ensures.as_before ∙ ap (λ n. take n (map view_of c.left.new.area)) c.mark-mark.ensures ∙ left.1 in
-    let other = right_there program view pick parts in
-    let moves = subst (λ views. MovesTo ((row_steps program).right (last_view views) pick) views (map view_of c.right.new.area) c.right.result) same c.right.ensures.moves in
-    let right = moved_to ((row_steps program).right view pick) (map view_of c.args.area.now) (map view_of c.right.new.area) c.right.result other.0 other.1 moves in
+    let other = right_there rows.program view pick parts in
+    let moves = subst (λ views. MovesTo ((steps_of rows).right (last_view views) pick) views (map view_of c.right.new.area) c.right.result) same c.right.ensures.moves in
+    let right = moved_to ((steps_of rows).right view pick) (map view_of c.args.area.now) (map view_of c.right.new.area) c.right.result other.0 other.1 moves in
     let first = c.in_ok-first.ensures.handed in
     let done = first.done (Some c.args.cert.now) (option_to_list c.args.reached.now.best) refl (IsBest-itself c.args.reached.now.best) in
-    let deep = tree-depth program c.args.ground.now.given first.tree (Some c.args.cert.now) (option_to_list c.args.reached.now.best) (seen c.left.new.area) c.left.ensures.fits done in
-    let less = splits-left program view (seen c.left.new.area) pick parts left.0 in
-    at_err _ _ (parts_in_second g.T.NodeTaker.took g.T.NodeTaker.broke program c.args.ground.now.floors view (seen c.right.new.area) first.tree _ _ _ _ _ _ (omega (arith, deep, less)) (splits-right program view (seen c.right.new.area) pick parts right.0) first.fit first.handed c.in_err-second.ensures.err)
+    let deep = tree-depth rows c.args.ground.now.given first.tree (Some c.args.cert.now) (option_to_list c.args.reached.now.best) (seen c.left.new.area) c.left.ensures.fits done in
+    let less = splits-left rows.program view (seen c.left.new.area) pick parts left.0 in
+    at_err _ _ (parts_in_second g.T.NodeTaker.took g.T.NodeTaker.broke rows c.args.ground.now.floors view (seen c.right.new.area) first.tree _ _ _ _ _ _ (omega (arith, deep, less)) (splits-right rows.program view (seen c.right.new.area) pick parts right.0) first.fit first.handed c.in_err-second.ensures.err)
 
 pub search_parts-back-requires-2-clause-within : goal.search_parts-back-requires-2-clause-within
 search_parts-back-requires-2-clause-within g t c =
@@ -329,18 +330,18 @@ search_parts-returns-clause-as_before g t c =
 
 pub search_parts-returns-clause-handed : goal.search_parts-returns-clause-handed
 search_parts-returns-clause-handed g t c =
-    let program = program_of c.args.ground.now in
+    let rows = rows_of c.args.ground.now in
     let view = seen c.args.area.now in
     let pick = c.args.pick.now in
     let parts = c.requires.split.parted in
-    let part = left_there program view pick parts in
-    let left = moved_to ((row_steps program).left view pick) (map view_of c.args.area.now) (map view_of c.left.new.area) c.left.result part.0 part.1 c.left.ensures.moves in
+    let part = left_there rows.program view pick parts in
+    let left = moved_to ((steps_of rows).left view pick) (map view_of c.args.area.now) (map view_of c.left.new.area) c.left.result part.0 part.1 c.left.ensures.moves in
     let same : map view_of c.back.new.area ≡ map view_of c.args.area.now =
     c.back.ensures.views ∙ ap (take (c.mark-mark.result + 1)) c.in_ok-first.ensures.as_before ∙ ap (λ n. take n (map view_of c.left.new.area)) c.mark-mark.ensures ∙ left.1 in
-    let other = right_there program view pick parts in
-    let moves = subst (λ views. MovesTo ((row_steps program).right (last_view views) pick) views (map view_of c.right.new.area) c.right.result) same c.right.ensures.moves in
-    let right = moved_to ((row_steps program).right view pick) (map view_of c.args.area.now) (map view_of c.right.new.area) c.right.result other.0 other.1 moves in
-    let all = parts_handed g.T.NodeTaker.took program c.args.ground.now.floors c.args.ground.now.given c.args.ground.now.budget c.args.ground.now.may_leave view (seen c.left.new.area) (seen c.right.new.area) pick c.args.cert.now c.in_ok-first.first c.in_ok-second.second
+    let other = right_there rows.program view pick parts in
+    let moves = subst (λ views. MovesTo ((steps_of rows).right (last_view views) pick) views (map view_of c.right.new.area) c.right.result) same c.right.ensures.moves in
+    let right = moved_to ((steps_of rows).right view pick) (map view_of c.args.area.now) (map view_of c.right.new.area) c.right.result other.0 other.1 moves in
+    let all = parts_handed g.T.NodeTaker.took rows c.args.ground.now.floors c.args.ground.now.given c.args.ground.now.budget c.args.ground.now.may_leave view (seen c.left.new.area) (seen c.right.new.area) pick c.args.cert.now c.in_ok-first.first c.in_ok-second.second
     c.args.reached.now (record c.args.reached.now { changed = c.slot_alone-reached.result }) c.search_part.new.reached (record c.search_part.new.reached { changed = c.slot_alone-reached-2.result }) c.search_part-2.new.reached _ _ _ _ _ _
     refl refl refl refl c.in_ok-second.ensures.within left.0 right.0 c.in_ok-first.ensures.handed c.in_ok-second.ensures.handed in
-    subst (λ cap. PartsHanded g.T.NodeTaker.took program c.args.ground.now.floors c.args.ground.now.given c.args.ground.now.budget c.args.ground.now.may_leave view pick c.args.cert.now cap c.args.reached.now c.args.taker.now c.args.out.now c.search_part-2.new.reached c.search_part-2.new.taker c.search_part-2.new.out) (sym c.greater_cap.ensures) all
+    subst (λ cap. PartsHanded g.T.NodeTaker.took rows c.args.ground.now.floors c.args.ground.now.given c.args.ground.now.budget c.args.ground.now.may_leave view pick c.args.cert.now cap c.args.reached.now c.args.taker.now c.args.out.now c.search_part-2.new.reached c.search_part-2.new.taker c.search_part-2.new.out) (sym c.greater_cap.ensures) all

@@ -3,9 +3,9 @@ use Rattle.std.proofs.Common.{◌≡◌, sym, ap, ◌∙◌, subst}
 use Rattle.std.specs.Prelude.{IfSome, ◌≤ℤ◌}
 use Rattle.std.specs.Option.{IsSomeAnd}
 use Rattle.row_kit.specs.Area.{present}
-use Rattle.row_relax.specs.Settle.{settled}
+use Rattle.row_relax.specs.Choices.{settled_in}
 use Rattle.branch_tree.specs.laws.Ends.{better_of, Reaches}
-use Rattle.branch_tree.specs.laws.Grounds.{program_of}
+use Rattle.branch_tree.specs.laws.Grounds.{rows_of}
 use Rattle.branch_tree.proofs.Best.{better-first, better-second, own-third, reaches-better}
 use Rattle.branch_tree.proofs.found.found_at.Goals as goal
 
@@ -16,7 +16,7 @@ returns-clause-own g c =
 
 pub returns-clause-only : goal.returns-clause-only
 returns-clause-only g c = λ all.
-    let cap = settled (program_of c.args.ground.now) (present c.args.area.now) in
+    let cap = settled_in (rows_of c.args.ground.now) (present c.args.area.now) in
     let is : c.better-2.result ≡ better_of (better_of c.args.own c.in_ok-only.only) c.in_ok-hinted.hinted = c.better-2.ensures ∙ ap (λ mid. better_of mid c.in_ok-hinted.hinted) c.better.ensures in
     let mid = reaches-better cap c.in_ok-only.only (better_of c.args.own c.in_ok-only.only) (better-second c.args.own c.in_ok-only.only) (c.in_ok-only.ensures.only all) in
     subst (Reaches cap) (sym is) (reaches-better cap (better_of c.args.own c.in_ok-only.only) (better_of (better_of c.args.own c.in_ok-only.only) c.in_ok-hinted.hinted) (better-first (better_of c.args.own c.in_ok-only.only) c.in_ok-hinted.hinted) mid)

@@ -2,7 +2,7 @@
 use Rattle.std.proofs.Common.{[], ◌∷◌, map, subst}
 use Rattle.std.proofs.lemmas.Result.{on_err_weaker, on_ok_weaker}
 use Rattle.proof_tree.specs.declared.item.Item.TheVariants.{Node as NodeItem, Cut as CutItem}
-use Rattle.branch_tree.specs.laws.Grounds.{program_of}
+use Rattle.branch_tree.specs.laws.Grounds.{rows_of}
 use Rattle.branch_tree.specs.laws.Handed.{Grows}
 use Rattle.branch_tree.specs.laws.Stops.{Stopped}
 use Rattle.branch_tree.proofs.Growing.{Grows-more}
@@ -10,10 +10,10 @@ use Rattle.branch_tree.proofs.Stopping.{at_err, head_at_node, head_before_cuts, 
 use Rattle.branch_tree.proofs.putting.open_box.Goals as goal
 
 pub returns-in_err-put-clause-err : goal.returns-in_err-put-clause-err
-returns-in_err-put-clause-err g c = at_err _ _ (head_at_node g.T.NodeTaker.took g.T.NodeTaker.broke (program_of c.args.ground.now) c.args.ground.now.floors _ _ _ _ c.in_err-put.ensures.broke)
+returns-in_err-put-clause-err g c = at_err _ _ (head_at_node g.T.NodeTaker.took g.T.NodeTaker.broke (rows_of c.args.ground.now) c.args.ground.now.floors _ _ _ _ c.in_err-put.ensures.broke)
 
 pub returns-in_err-cuts-clause-err : goal.returns-in_err-cuts-clause-err
-returns-in_err-cuts-clause-err g c = at_err _ _ (head_before_cuts g.T.NodeTaker.took g.T.NodeTaker.broke (program_of c.args.ground.now) c.args.ground.now.floors _ _ _ _ c.in_ok-put.ensures.took)
+returns-in_err-cuts-clause-err g c = at_err _ _ (head_before_cuts g.T.NodeTaker.took g.T.NodeTaker.broke (rows_of c.args.ground.now) c.args.ground.now.floors _ _ _ _ c.in_ok-put.ensures.took)
 
 pub returns-clause-handed : goal.returns-clause-handed
 returns-clause-handed g c =
@@ -31,6 +31,6 @@ returns-clause-handed g c =
 pub returns-clause-err : goal.returns-clause-err
 returns-clause-err g c =
     on_err_weaker c.put_cuts.result
-    (λ stopped. head_in_cuts g.T.NodeTaker.took g.T.NodeTaker.broke (program_of c.args.ground.now) c.args.ground.now.floors c.in_ok-cuts.cuts.items _ _ _ _ _ _ c.in_ok-cuts.ensures.fit c.in_ok-put.ensures.took
+    (λ stopped. head_in_cuts g.T.NodeTaker.took g.T.NodeTaker.broke (rows_of c.args.ground.now) c.args.ground.now.floors c.in_ok-cuts.cuts.items _ _ _ _ _ _ c.in_ok-cuts.ensures.fit c.in_ok-put.ensures.took
     (subst (λ cuts. Stopped g.T.NodeTaker.took g.T.NodeTaker.broke c.put.new.self c.put.new.out (map CutItem cuts) c.put_cuts.new.taker c.put_cuts.new.out) c.as_slice.ensures.value stopped))
     c.put_cuts.ensures.err

@@ -9,7 +9,7 @@ pub returns-in-Ok-clause-right : goal.returns-in-Ok-clause-right
 returns-in-Ok-clause-right g c =
     let named = c.as_str.ensures.value ∙ c.in_ok-name.ensures in
     let reads = rw named at c.in-Ok.ensures.reads in
-    let checked = rw c.read_text.ensures.same at c.check_kept.ensures.checked in
+    let checked = rw c.read_text.ensures.kept.same at c.check_kept.ensures.checked in
     IfOk-weaker c.check_kept.result _ _ (λ verdict is. kept_right c.args.plant.now (g.F.Shelf.files c.args.files.now) c.args.stem.now c.in-Ok.kept.items verdict reads is) checked
 
 pub returns-in-Ok-clause-says : goal.returns-in-Ok-clause-says

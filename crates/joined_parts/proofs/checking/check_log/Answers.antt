@@ -7,6 +7,9 @@ use Rattle.valid_log.specs.PlantLogs.{IsAnyPartChecked}
 use Rattle.log_parts.proofs.PartsChecked.{no_checked, part_said, yes_checked}
 use Rattle.joined_parts.proofs.checking.check_log.Goals as goal
 
+pub compared-requires : goal.compared-requires
+compared-requires g c = (c.args.plant.now, (_, c.in_ok-front.ensures.kept))
+
 pub returns-in-Yes-clause-checked : goal.returns-in-Yes-clause-checked
 returns-in-Yes-clause-checked g c =
     let program = c.in_ok-rows.rows.program in

@@ -59,9 +59,11 @@ returns-clause-checked g c =
 pub returns-clause-says : goal.returns-clause-says
 returns-clause-says g c =
     let inv = c.loop-part.invariant in
-    let end : c.loop-part.part ≡ 2 ^ c.args.levels = omega (arith, c.loop-part-test.false, c.part_count-part-end.ensures) in (
-      inv.counted ∙ end,
-      inv.heads_counted ∙ end,
-      may_join (head_limits c.args.plant.now c.args.levels) c.args.first.version c.args.first.declared c.loop-part.newest c.requires.declared inv.older,
-      inv.said,
-    )
+    let end : c.loop-part.part ≡ 2 ^ c.args.levels = omega (arith, c.loop-part-test.false, c.part_count-part-end.ensures) in
+    record {
+      all_claims = inv.counted ∙ end;
+      all_heads = inv.heads_counted ∙ end;
+      may = may_join c.args.plant.now (head_limits c.args.plant.now c.args.levels) c.args.first.version c.args.first.declared c.loop-part.newest c.requires.kept.may inv.older;
+      limits_are = c.requires.kept.limits_are;
+      each = inv.said;
+    }

@@ -8,8 +8,8 @@ use Rattle.log_parts.specs.laws.Checked.{IsFrontKept, IsFrontOf, head_limits}
 use Rattle.log_parts.proofs.PartsChecked.{first_refused}
 use Rattle.joined_parts.proofs.checking.check_parts.Goals as goal
 
-pub check_logs-requires-clause-declared : goal.check_logs-requires-clause-declared
-check_logs-requires-clause-declared g c = (subst (IsFrontKept (head_limits c.args.plant.now c.args.levels)) c.in-Whole.is c.in_ok-first.ensures.kept).0
+pub check_logs-requires-clause-kept : goal.check_logs-requires-clause-kept
+check_logs-requires-clause-kept g c = subst (IsFrontKept c.args.plant.now (head_limits c.args.plant.now c.args.levels)) c.in-Whole.is c.in_ok-first.ensures.kept
 
 pub check_logs-requires-clause-first : goal.check_logs-requires-clause-first
 check_logs-requires-clause-first g c =

@@ -11,4 +11,4 @@ returns-in-Ok-clause-verdict c =
     let name : List ℕ = codes "log" in
     let put = ap (λ (s : FixedFiles). file_of s.files name) c.in_ok-put_file.ensures.ok in
     let is : file_of c.put_file.new.self.files name ≡ c.args.bytes.now = put ∙ file_of-insert c.new-shelf.result.files name c.args.bytes.now in
-    subst (λ bytes. IsVerdict c.args.rows.now.program c.args.depth bytes c.in-Ok.verdict) is c.in-Ok.ensures.verdict
+    subst (λ bytes. IsVerdict c.args.rows.now c.args.depth bytes c.in-Ok.verdict) is c.in-Ok.ensures.verdict

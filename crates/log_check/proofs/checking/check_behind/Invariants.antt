@@ -10,5 +10,5 @@ invariant-parts g l = record {
   writable : g.F.Shelf.may_write l.files ≡ g.F.Shelf.may_write l.initial.files;
   no_write : g.F.Shelf.write_faults l.files ≡ g.F.Shelf.write_faults l.initial.files;
   later : g.F.Shelf.read_faults l.initial.files ≤ g.F.Shelf.read_faults l.files;
-  taken : HasTaken l.rows.program l.depth (g.F.Shelf.files l.files) l.name l.fn.version l.fn.head l.reader l.checker l.began l.claimed;
+  taken : HasTaken l.rows l.depth (g.F.Shelf.files l.files) l.name l.fn.version l.fn.head l.reader l.checker l.began l.claimed;
 }

@@ -6,36 +6,30 @@ use Rattle.log_parts.proofs.HeadsDiffer.{all_same, first_other, lines_long, more
 use Rattle.log_parts.proofs.fronts.other_line.Goals as goal
 use Rattle.log_parts.proofs.fronts.other_line.Goals.{then-all-own_all, else-all-own_all}
 
-pub offset_bounds-lines-place : goal.offset_bounds-lines-place
-offset_bounds-lines-place c = elim c.if-all-own_all.branch [
-  | then-all-own_all w ↦ omega (arith, c.loop-place-test.true, w.few-is, c.count_of-all.ensures.small)
-  | else-all-own_all w ↦ omega (arith, c.loop-place-test.true, w.few-is, c.count_of-own_all.ensures.small)
-]
-
-pub bounds-lines-place : goal.bounds-lines-place
-bounds-lines-place c =
+pub line_at-requires : goal.line_at-requires
+line_at-requires c =
     let long : length c.args.lines.now ≡ length (items_of c.args.own.now) = ap length c.requires ∙ lines_long c.args.own.now in
     elim c.if-all-own_all.branch [
-      | then-all-own_all w ↦ omega (arith, long, c.loop-place-test.true, w.few-is, w.if-all-own_all.true, c.count_of-own_all.ensures.count)
-      | else-all-own_all w ↦ omega (arith, long, c.loop-place-test.true, w.few-is, c.count_of-own_all.ensures.count)
+      | then-all-own_all w ↦ omega (arith, long, c.loop-place-test.true, w.few-is, w.if-all-own_all.true, c.count_of-own_all.ensures)
+      | else-all-own_all w ↦ omega (arith, long, c.loop-place-test.true, w.few-is, c.count_of-own_all.ensures)
     ]
 
 pub returns-then-not-is_same_at : goal.returns-then-not-is_same_at
 returns-then-not-is_same_at c =
     let both : (c.loop-place.place < length (items_of c.args.given.now)) × (c.loop-place.place < length (items_of c.args.own.now)) =
     elim c.if-all-own_all.branch [
-      | then-all-own_all w ↦ (omega (arith, c.loop-place-test.true, w.few-is, c.count_of-all.ensures.count), omega (arith, c.loop-place-test.true, w.few-is, w.if-all-own_all.true, c.count_of-own_all.ensures.count))
-      | else-all-own_all w ↦ (omega (arith, c.loop-place-test.true, w.few-is, w.if-all-own_all.false, c.count_of-all.ensures.count), omega (arith, c.loop-place-test.true, w.few-is, c.count_of-own_all.ensures.count))
+      | then-all-own_all w ↦ (omega (arith, c.loop-place-test.true, w.few-is, c.count_of-all.ensures), omega (arith, c.loop-place-test.true, w.few-is, w.if-all-own_all.true, c.count_of-own_all.ensures))
+      | else-all-own_all w ↦ (omega (arith, c.loop-place-test.true, w.few-is, w.if-all-own_all.false, c.count_of-all.ensures), omega (arith, c.loop-place-test.true, w.few-is, c.count_of-own_all.ensures))
     ] in
     first_other (items_of c.args.given.now) (items_of c.args.own.now) (lines_on c.args.own.now) c.loop-place.place _ both.0 both.1 c.loop-place.invariant
-    (λ is. false≢true (sym c.if-not-is_same_at.true ∙ c.is_same_at.ensures.1 is)) (ap (λ (ls : List ℕ). slice_index_or ls c.loop-place.place 0) c.requires)
+    (λ is. false≢true (sym c.if-not-is_same_at.true ∙ c.is_same_at.ensures.1 is)) (c.line_at.ensures ∙ ap (λ (ls : List ℕ). slice_index_or ls c.loop-place.place 0) c.requires)
 
 pub loop-place-preserved : goal.loop-place-preserved
 loop-place-preserved c =
     let both : (c.loop-place.place < length (items_of c.args.given.now)) × (c.loop-place.place < length (items_of c.args.own.now)) =
     elim c.if-all-own_all.branch [
-      | then-all-own_all w ↦ (omega (arith, c.loop-place-test.true, w.few-is, c.count_of-all.ensures.count), omega (arith, c.loop-place-test.true, w.few-is, w.if-all-own_all.true, c.count_of-own_all.ensures.count))
-      | else-all-own_all w ↦ (omega (arith, c.loop-place-test.true, w.few-is, w.if-all-own_all.false, c.count_of-all.ensures.count), omega (arith, c.loop-place-test.true, w.few-is, c.count_of-own_all.ensures.count))
+      | then-all-own_all w ↦ (omega (arith, c.loop-place-test.true, w.few-is, c.count_of-all.ensures), omega (arith, c.loop-place-test.true, w.few-is, w.if-all-own_all.true, c.count_of-own_all.ensures))
+      | else-all-own_all w ↦ (omega (arith, c.loop-place-test.true, w.few-is, w.if-all-own_all.false, c.count_of-all.ensures), omega (arith, c.loop-place-test.true, w.few-is, c.count_of-own_all.ensures))
     ] in
     same_more (items_of c.args.given.now) (items_of c.args.own.now) c.loop-place.place both.0 both.1 c.loop-place.invariant (c.is_same_at.ensures.0 c.if-not-is_same_at.false)
 
@@ -47,7 +41,7 @@ returns-then-all-own_all-2 c =
       | then-all-own_all w ↦ (omega (arith, c.loop-place-test.false, w.few-is, same), omega (arith, c.loop-place-test.false, w.few-is, same))
       | else-all-own_all w ↦ (omega (arith, c.loop-place-test.false, w.few-is, same), omega (arith, c.loop-place-test.false, w.few-is, same))
     ] in
-    all_same c.args.given.now c.args.own.now c.loop-place.place (few.0 ∙ c.count_of-all.ensures.count) (few.1 ∙ c.count_of-own_all.ensures.count) c.loop-place.invariant
+    all_same c.args.given.now c.args.own.now c.loop-place.place (few.0 ∙ c.count_of-all.ensures) (few.1 ∙ c.count_of-own_all.ensures) c.loop-place.invariant
 
 pub returns-else-all-own_all-2 : goal.returns-else-all-own_all-2
 returns-else-all-own_all-2 c =
@@ -57,7 +51,7 @@ returns-else-all-own_all-2 c =
     let lines = lines_on c.args.own.now in
     elim c.if-all-own_all.branch [
       | then-all-own_all w ↦
-          more_own given own lines c.loop-place.place (omega (arith, c.loop-place-test.false, w.few-is, c.count_of-all.ensures.count)) (omega (arith, w.if-all-own_all.true, c.count_of-all.ensures.count, c.count_of-own_all.ensures.count)) c.loop-place.invariant
+          more_own given own lines c.loop-place.place (omega (arith, c.loop-place-test.false, w.few-is, c.count_of-all.ensures)) (omega (arith, w.if-all-own_all.true, c.count_of-all.ensures, c.count_of-own_all.ensures)) c.loop-place.invariant
       | else-all-own_all w ↦
-          more_given given own lines c.loop-place.place (omega (arith, c.loop-place-test.false, w.few-is, c.count_of-own_all.ensures.count)) (omega (arith, w.if-all-own_all.false, apart, c.count_of-all.ensures.count, c.count_of-own_all.ensures.count)) c.loop-place.invariant
+          more_given given own lines c.loop-place.place (omega (arith, c.loop-place-test.false, w.few-is, c.count_of-own_all.ensures)) (omega (arith, w.if-all-own_all.false, apart, c.count_of-all.ensures, c.count_of-own_all.ensures)) c.loop-place.invariant
     ]

@@ -3,8 +3,9 @@ use Rattle.stn_model.specs.Profit.{profit}
 use Rattle.row_set.specs.Parts.{IsAdmitted}
 use Rattle.plan_images.proofs.Allowing.{floored}
 use Rattle.plan_images.proofs.Imaging.{composed, derived-extend, shown-extend, with-rows}
-use Rattle.plan_images.proofs.Losing.{none-lost, rows-settle, tree-caps}
+use Rattle.plan_images.proofs.Losing.{none-lost, plain-settle, tree-caps}
 use Rattle.plan_images.proofs.Plans.{part-relaxes}
+use Rattle.plan_images.proofs.Setups.{choices-settle, derived-judged, derived-keep, setups-judged, setups-relax}
 use Rattle.plan_images.proofs.Telling.{borne, told}
 use Rattle.plan_images.proofs.law.plans_have_images.Goals as goal
 
@@ -27,7 +28,22 @@ pub returns-clause-lost : goal.returns-clause-lost
 returns-clause-lost c = none-lost
 
 pub returns-clause-settled : goal.returns-clause-settled
-returns-clause-settled c = rows-settle
+returns-clause-settled c = plain-settle
+
+pub returns-clause-settled_by : goal.returns-clause-settled_by
+returns-clause-settled_by c = choices-settle
+
+pub returns-clause-setups : goal.returns-clause-setups
+returns-clause-setups c = setups-relax
+
+pub returns-clause-kept : goal.returns-clause-kept
+returns-clause-kept c = λ plant part given larger alone domains derivations first wide shown enlarged. derived-keep (IsAdmitted plant part) (profit plant) given larger alone domains derivations wide shown enlarged first
+
+pub returns-clause-judged : goal.returns-clause-judged
+returns-clause-judged c = setups-judged
+
+pub returns-clause-judged_on : goal.returns-clause-judged_on
+returns-clause-judged_on c = derived-judged
 
 pub returns-clause-caps : goal.returns-clause-caps
 returns-clause-caps c = λ plant part program alone settle sound is tree. tree-caps (IsAdmitted plant part) (profit plant) program alone settle sound is tree

@@ -1,22 +1,31 @@
 -- The answer behind the head is the answer on the file.
-use Rattle.std.proofs.Common.{subst}
+use Rattle.std.proofs.Common.{subst, arith}
 use Rattle.plant_check.specs.Heads.{IsJudged}
-use Rattle.plant_check.proofs.HeadJudged.{declared_over, few_derived}
-use Rattle.plant_check.proofs.ShownVerdicts.{shown_holds, shown_verdict}
+use Rattle.plant_check.proofs.HeadJudged.{few_derived, held_small}
+use Rattle.plant_check.proofs.ShownVerdicts.{shown_says, shown_verdict}
 use Rattle.plant_check.proofs.check.check_tailed.Goals as goal
 
 pub limits_behind-limits-requires-clause-rows : goal.limits_behind-limits-requires-clause-rows
-limits_behind-limits-requires-clause-rows g c = few_derived c.args.program c.args.depth c.args.head.now c.args.tail.now c.requires.kept c.requires.held
+limits_behind-limits-requires-clause-rows g c = (held_small c.args.plant.now c.args.program c.args.depth c.args.setups.now c.requires.held).rows
+
+pub limits_behind-limits-requires-clause-derived : goal.limits_behind-limits-requires-clause-derived
+limits_behind-limits-requires-clause-derived g c = omega (arith, few_derived c.args.plant.now c.args.program c.args.depth c.args.setups.now c.args.tail.now c.requires.held c.requires.tailed)
 
 pub returns-in_ok-own-in-Ok-clause-verdict : goal.returns-in_ok-own-in-Ok-clause-verdict
 returns-in_ok-own-in-Ok-clause-verdict g c =
-    shown_verdict c.args.program c.in-Ok.program c.args.judged.now c.args.depth c.args.head.now c.args.tail.now (g.F.Shelf.files c.args.files.now) c.args.name.now c.in_ok-own-in-Ok.own c.len-slots.result c.given_verdict.result
-    c.len-slots.ensures (subst (IsJudged c.args.program c.args.judged.now c.args.head.now c.args.tail.now) c.in-Ok.is c.in_ok-program.ensures) c.in_ok-own-in-Ok.ensures.verdict c.given_verdict.ensures.verdict
+    let plant = c.args.plant.now in
+    let setups = c.args.setups.now in
+    let tail = c.args.tail.now in
+    shown_verdict plant c.args.program c.args.judged.now c.args.depth setups tail c.in-Ok.rows (g.F.Shelf.files c.args.files.now) c.args.name.now c.in_ok-own-in-Ok.own c.len-slots.result c.given_verdict.result
+    c.len-slots.ensures (subst (IsJudged plant c.args.program c.args.judged.now setups tail) c.in-Ok.is c.in_ok-rows.ensures) c.in_ok-own-in-Ok.ensures.verdict c.given_verdict.ensures.verdict
 
-pub returns-in_ok-own-in-Ok-clause-holds : goal.returns-in_ok-own-in-Ok-clause-holds
-returns-in_ok-own-in-Ok-clause-holds g c =
-    shown_holds c.args.program c.in-Ok.program c.args.judged.now c.args.head.now c.args.tail.now c.in_ok-own-in-Ok.own c.len-slots.result c.given_verdict.result
-    c.len-slots.ensures c.requires.ranges (declared_over c.args.program c.args.depth c.args.head.now c.requires.kept) (subst (IsJudged c.args.program c.args.judged.now c.args.head.now c.args.tail.now) c.in-Ok.is c.in_ok-program.ensures) c.in_ok-own-in-Ok.ensures.holds c.given_verdict.ensures.verdict
+pub returns-in_ok-own-in-Ok-clause-says : goal.returns-in_ok-own-in-Ok-clause-says
+returns-in_ok-own-in-Ok-clause-says g c =
+    let plant = c.args.plant.now in
+    let setups = c.args.setups.now in
+    let tail = c.args.tail.now in
+    shown_says plant c.args.program c.args.judged.now c.args.depth setups tail c.in-Ok.rows c.in_ok-own-in-Ok.own c.len-slots.result c.given_verdict.result c.len-slots.ensures c.requires.sound c.requires.part
+    c.requires.ranges c.requires.held (subst (IsJudged plant c.args.program c.args.judged.now setups tail) c.in-Ok.is c.in_ok-rows.ensures) c.in_ok-own-in-Ok.ensures.holds c.given_verdict.ensures.verdict
 
-pub returns-in-Err-clause-holds : goal.returns-in-Err-clause-holds
-returns-in-Err-clause-holds g c = c.check_text.ensures.holds c.args.program
+pub returns-in-Err-clause-says : goal.returns-in-Err-clause-says
+returns-in-Err-clause-says g c = c.check_text.ensures.says c.args.plant.now c.args.program

@@ -4,7 +4,6 @@ use Rattle.std.specs.Prelude.{IfOk, IfSome}
 use Rattle.stn_edge.specs.Files.{file_of}
 use Rattle.row_kit.specs.declared.domain.Domain.{Domain}
 use Rattle.row_set.specs.PlantProgram.{plant_root}
-use Rattle.valid_log.proofs.PartSaying.{part_says_if}
 use Rattle.sum_slots.specs.Shown.{AreRanges}
 use Rattle.sum_slots.proofs.Ranges.{own-ranges}
 use Rattle.valid_log.specs.AnyVersion.{IsAnyVerdict}
@@ -20,9 +19,6 @@ pub check_any-requires-clause-root : goal.check_any-requires-clause-root
 check_any-requires-clause-root g c =
     subst (λ (ds : List Domain). AreRanges c.args.part ds) (sym (c.as_slice-3.ensures ∙ c.in_ok-root.ensures ∙ c.as_slice.ensures)) (own-ranges c.args.part)
 
-pub returns-clause-says : goal.returns-clause-says
-returns-clause-says g c = part_says_if c.args.plant.now c.args.part c.check_any.result c.requires.sound c.requires.part c.check_any.ensures.holds
-
 pub returns-clause-checked : goal.returns-clause-checked
 returns-clause-checked g c =
     let plant = c.args.plant.now in
@@ -30,7 +26,7 @@ returns-clause-checked g c =
     let files = g.F.Shelf.files c.args.files.now in
     let name = c.args.name.now in
     let root = c.as_slice-3.ensures ∙ c.in_ok-root.ensures ∙ c.as_slice.ensures in
-    let own = subst (λ (ds : List Domain). IfOk c.check_any.result (λ verdict. IfSome files (λ m. IsAnyVerdict part ds c.as_slice-3.result.now c.args.depth (file_of m name) verdict))) (c.as_slice-2.ensures ∙ c.in_ok-ranges.ensures) c.check_any.ensures.verdict in
+    let own = subst (λ (ds : List Domain). IfOk c.check_any.result (λ verdict. IfSome files (λ m. IsAnyVerdict plant part ds c.as_slice-3.result.now c.args.depth (file_of m name) verdict))) (c.as_slice-2.ensures ∙ c.in_ok-ranges.ensures) c.check_any.ensures.verdict in
     kept_checked plant part c.args.depth files name c.check_any.result
-    (subst (λ (ds : List Domain). IfOk c.check_any.result (λ verdict. IfSome files (λ m. IsAnyVerdict part (plant_root plant) ds c.args.depth (file_of m name) verdict))) root own)
-    (part_says_if plant part c.check_any.result c.requires.sound c.requires.part c.check_any.ensures.holds)
+    (subst (λ (ds : List Domain). IfOk c.check_any.result (λ verdict. IfSome files (λ m. IsAnyVerdict plant part (plant_root plant) ds c.args.depth (file_of m name) verdict))) root own)
+    c.check_any.ensures.says

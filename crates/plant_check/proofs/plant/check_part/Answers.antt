@@ -3,7 +3,6 @@ use Rattle.std.proofs.Common.{List, sym, ◌∙◌, subst}
 use Rattle.std.specs.Prelude.{IfOk, IfSome}
 use Rattle.stn_edge.specs.Files.{file_of}
 use Rattle.row_kit.specs.declared.domain.Domain.{Domain}
-use Rattle.valid_log.proofs.PartSaying.{part_says_if}
 use Rattle.sum_slots.specs.Shown.{AreRanges}
 use Rattle.valid_log.specs.AnyVersion.{IsAnyVerdict}
 use Rattle.valid_log.proofs.PlantRanges.{part-ranges}
@@ -18,9 +17,6 @@ pub check_any-requires-clause-root : goal.check_any-requires-clause-root
 check_any-requires-clause-root g c =
     subst (λ (ds : List Domain). AreRanges c.args.part ds) (sym (c.as_slice-ranges.ensures ∙ c.in_ok-whole.ensures)) (part-ranges c.args.plant.now c.args.part c.requires.part)
 
-pub returns-clause-says : goal.returns-clause-says
-returns-clause-says g c = part_says_if c.args.plant.now c.args.part c.check_any.result c.requires.sound c.requires.part c.check_any.ensures.holds
-
 pub returns-clause-checked : goal.returns-clause-checked
 returns-clause-checked g c =
     let plant = c.args.plant.now in
@@ -28,5 +24,5 @@ returns-clause-checked g c =
     let files = g.F.Shelf.files c.args.files.now in
     let name = c.args.name.now in
     part_checked plant part c.args.depth files name c.check_any.result
-    (subst (λ (ds : List Domain). IfOk c.check_any.result (λ verdict. IfSome files (λ m. IsAnyVerdict part ds ds c.args.depth (file_of m name) verdict))) (c.as_slice-ranges.ensures ∙ c.in_ok-whole.ensures) c.check_any.ensures.verdict)
-    (part_says_if plant part c.check_any.result c.requires.sound c.requires.part c.check_any.ensures.holds)
+    (subst (λ (ds : List Domain). IfOk c.check_any.result (λ verdict. IfSome files (λ m. IsAnyVerdict plant part ds ds c.args.depth (file_of m name) verdict))) (c.as_slice-ranges.ensures ∙ c.in_ok-whole.ensures) c.check_any.ensures.verdict)
+    c.check_any.ensures.says

@@ -3,7 +3,7 @@ use Rattle.std.proofs.Common.{List, sym, ◌∙◌, subst}
 use Rattle.std.specs.Prelude.{IfOk, IfSome}
 use Rattle.stn_edge.specs.Files.{file_of}
 use Rattle.row_kit.specs.declared.domain.Domain.{Domain}
-use Rattle.valid_log.proofs.Saying.{says_if}
+use Rattle.valid_log.proofs.Saying.{whole-is_part, whole_says_if}
 use Rattle.sum_slots.specs.Shown.{AreRanges}
 use Rattle.valid_log.specs.AnyVersion.{IsAnyVerdict}
 use Rattle.plant_check.proofs.PlantSaying.{any_checked}
@@ -20,8 +20,11 @@ check_any-requires-clause-root g c =
     subst (λ (ds : List Domain). AreRanges c.in_ok-program.program ds) (sym (c.as_slice-ranges.ensures ∙ c.in_ok-ranges.ensures))
     (plant-ranges c.args.plant.now c.in_ok-program.program c.in_ok-program.ensures.made)
 
+pub check_any-requires-clause-part : goal.check_any-requires-clause-part
+check_any-requires-clause-part g c = whole-is_part c.args.plant.now c.in_ok-program.program c.in_ok-program.ensures.made c.in_ok-program.ensures.means
+
 pub returns-clause-says : goal.returns-clause-says
-returns-clause-says g c = says_if c.args.plant.now c.in_ok-program.program c.check_any.result c.requires.sound c.in_ok-program.ensures.means c.check_any.ensures.holds
+returns-clause-says g c = whole_says_if c.args.plant.now c.in_ok-program.program c.check_any.result c.in_ok-program.ensures.means c.check_any.ensures.says
 
 pub returns-clause-checked : goal.returns-clause-checked
 returns-clause-checked g c =
@@ -30,5 +33,5 @@ returns-clause-checked g c =
     let files = g.F.Shelf.files c.args.files.now in
     let name = c.args.name.now in
     any_checked plant program files name c.check_any.result c.requires.sound c.in_ok-program.ensures.made c.in_ok-program.ensures.means
-    (subst (λ (ds : List Domain). IfOk c.check_any.result (λ verdict. IfSome files (λ m. IsAnyVerdict program ds ds 4608 (file_of m name) verdict))) (c.as_slice-ranges.ensures ∙ c.in_ok-ranges.ensures) c.check_any.ensures.verdict)
-    (says_if plant program c.check_any.result c.requires.sound c.in_ok-program.ensures.means c.check_any.ensures.holds)
+    (subst (λ (ds : List Domain). IfOk c.check_any.result (λ verdict. IfSome files (λ m. IsAnyVerdict plant program ds ds 4608 (file_of m name) verdict))) (c.as_slice-ranges.ensures ∙ c.in_ok-ranges.ensures) c.check_any.ensures.verdict)
+    (whole_says_if plant program c.check_any.result c.in_ok-program.ensures.means c.check_any.ensures.says)

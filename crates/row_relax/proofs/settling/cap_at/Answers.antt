@@ -18,7 +18,7 @@ pub returns-then-lawful : goal.returns-then-lawful
 returns-then-lawful c =
     let program = c.args.program.now in
     let point = c.args.point.now in
-    let lawful = sym (lawful_decides c.args.lawful program point c.requires.lawful.0 c.requires.lawful.1) ∙ c.if-lawful.true in
+    let lawful = sym (lawful_decides c.args.lawful program point c.requires.0 c.requires.1) ∙ c.if-lawful.true in
     let exact : to_z w128 (of_z w128 c.worth.result) ≡ c.worth.result = omega (arith, ints, c.worth.type_inv) in
     ap AtMost (exact ∙ c.worth.ensures.worth) ∙ sym (cond-true (is_lawful program point) (AtMost (worth_of program point)) NoPoint lawful)
 
@@ -26,5 +26,5 @@ pub returns-else-lawful : goal.returns-else-lawful
 returns-else-lawful c =
     let program = c.args.program.now in
     let point = c.args.point.now in
-    let lawful = sym (lawful_decides c.args.lawful program point c.requires.lawful.0 c.requires.lawful.1) ∙ c.if-lawful.false in
+    let lawful = sym (lawful_decides c.args.lawful program point c.requires.0 c.requires.1) ∙ c.if-lawful.false in
     sym (cond-false (is_lawful program point) (AtMost (worth_of program point)) NoPoint lawful)

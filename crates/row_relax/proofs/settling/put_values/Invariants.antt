@@ -6,6 +6,6 @@ use Rattle.row_relax.proofs.settling.put_values.Given as goal
 
 abbrev pub invariant-loop-slot : goal.invariant-loop-slot
 invariant-loop-slot l = record {
-  count : length l.point ≡ length (present l.area);
+  count : length l.point ≡ l.slots;
   so_far : take l.slot l.point ≡ only_point (take l.slot (present l.area));
 }

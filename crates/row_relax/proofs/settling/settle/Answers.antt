@@ -1,22 +1,26 @@
--- The point of the area is its only one, and it is tested.
-use Rattle.std.proofs.Common.{◌∙◌, sym}
+-- The point of the area's first slots is the only one there, and it is tested.
+use Rattle.std.proofs.Common.{◌≡◌, ◌∙◌, List, length, take, sym, ap}
+use Rattle.row_kit.specs.declared.domain.Domain.{Domain}
 use Rattle.row_kit.specs.Area.{present}
-use Rattle.row_relax.proofs.OnlyPoints.{single_decides, settled_at, settled_bad}
+use Rattle.row_relax.specs.Settle.{are_single, cap_at, only_point}
+use Rattle.row_relax.proofs.OnlyPoints.{settled_at, settled_bad, single_is}
 use Rattle.row_relax.proofs.settling.settle.Goals as goal
 
-pub returns-then-not-is_point : goal.returns-then-not-is_point
-returns-then-not-is_point c =
-    let ds = present c.args.area.now in
-    settled_bad c.args.program.now ds (sym (single_decides c.is_point.result ds c.is_point.ensures.single.0 c.is_point.ensures.single.1) ∙ c.if-not-is_point.true)
+pub returns-then-not-first_are_single : goal.returns-then-not-first_are_single
+returns-then-not-first_are_single c =
+    settled_bad c.args.program.now (take (length c.args.program.now.root) (present c.args.area.now))
+    (ap are_single (sym c.first_slots-slots.ensures.first) ∙ sym (single_is c.first_are_single.result (take c.first_slots-slots.result (present c.args.area.now)) c.first_are_single.ensures) ∙ c.if-not-first_are_single.true)
 
-pub returns-then-slots-le-FEW_SLOTS : goal.returns-then-slots-le-FEW_SLOTS
-returns-then-slots-le-FEW_SLOTS c =
-    let ds = present c.args.area.now in
-    let single = sym (single_decides c.is_point.result ds c.is_point.ensures.single.0 c.is_point.ensures.single.1) ∙ c.if-not-is_point.false in
-    settled_at c.args.program.now ds c.cap_of.result single c.cap_of.ensures
+pub returns-then-count-le-FEW_SLOTS : goal.returns-then-count-le-FEW_SLOTS
+returns-then-count-le-FEW_SLOTS c =
+    let first = c.first_slots-slots.ensures.first in
+    settled_at c.args.program.now (take (length c.args.program.now.root) (present c.args.area.now)) c.cap_of.result
+    (ap are_single (sym first) ∙ sym (single_is c.first_are_single.result (take c.first_slots-slots.result (present c.args.area.now)) c.first_are_single.ensures) ∙ c.if-not-first_are_single.false)
+    (c.cap_of.ensures ∙ ap (λ (ds : List Domain). cap_at c.args.program.now (only_point ds)) first)
 
-pub returns-else-slots-le-FEW_SLOTS : goal.returns-else-slots-le-FEW_SLOTS
-returns-else-slots-le-FEW_SLOTS c =
-    let ds = present c.args.area.now in
-    let single = sym (single_decides c.is_point.result ds c.is_point.ensures.single.0 c.is_point.ensures.single.1) ∙ c.if-not-is_point.false in
-    settled_at c.args.program.now ds c.cap_of-else-slots-le-FEW_SLOTS.result single c.cap_of-else-slots-le-FEW_SLOTS.ensures
+pub returns-else-count-le-FEW_SLOTS : goal.returns-else-count-le-FEW_SLOTS
+returns-else-count-le-FEW_SLOTS c =
+    let first = c.first_slots-slots.ensures.first in
+    settled_at c.args.program.now (take (length c.args.program.now.root) (present c.args.area.now)) c.cap_of-else-count-le-FEW_SLOTS.result
+    (ap are_single (sym first) ∙ sym (single_is c.first_are_single.result (take c.first_slots-slots.result (present c.args.area.now)) c.first_are_single.ensures) ∙ c.if-not-first_are_single.false)
+    (c.cap_of-else-count-le-FEW_SLOTS.ensures ∙ ap (λ (ds : List Domain). cap_at c.args.program.now (only_point ds)) first)

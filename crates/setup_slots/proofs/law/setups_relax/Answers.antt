@@ -1,6 +1,7 @@
 -- The law of setups.
 use Rattle.setup_slots.proofs.Images.{costs-less, law}
 use Rattle.setup_slots.proofs.Plans.{plans-law}
+use Rattle.setup_slots.proofs.ManyUnits.{several-costs, several-law}
 use Rattle.setup_slots.proofs.law.setups_relax.Goals as goal
 
 pub returns-clause-images : goal.returns-clause-images
@@ -11,3 +12,9 @@ returns-clause-costs c = costs-less
 
 pub returns-clause-plans : goal.returns-clause-plans
 returns-clause-plans c = plans-law
+
+pub returns-clause-several : goal.returns-clause-several
+returns-clause-several c = several-law
+
+pub returns-clause-all_costs : goal.returns-clause-all_costs
+returns-clause-all_costs c = several-costs

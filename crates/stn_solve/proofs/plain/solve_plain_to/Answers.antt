@@ -5,15 +5,19 @@ use Rattle.proof_tree.specs.Items.{tree_items}
 use Rattle.log_lines.specs.declared.line.Line.TheVariants.{End}
 use Rattle.proof_log.specs.Log.{claim_lines, item_lines, lines_text, log_text}
 use Rattle.proof_log.specs.Writer.{writing}
+use Rattle.row_relax.proofs.Choosing.{plain-images}
 use Rattle.plan_told.proofs.Texts.{plain-has}
 use Rattle.stn_solve.proofs.LogsLeft.{logged-begun, logged-broke, logged-whole, plain-left, plain-text, plain-told, told-bytes}
-use Rattle.stn_solve.proofs.BegunTold.{told-earns}
+use Rattle.stn_solve.proofs.BegunTold.{told-earns, worth-plain}
 use Rattle.stn_solve.proofs.SearchTold.{plain-places, plain-right, plain-search}
 use Rattle.stn_solve.proofs.Searchable.{part-searchable}
 use Rattle.stn_solve.proofs.plain.solve_plain_to.Goals as goal
 
-pub search_logged-requires-clause-slots : goal.search_logged-requires-clause-slots
-search_logged-requires-clause-slots g c = (part-searchable c.args.plant.now c.args.rows.now.program c.requires.sound c.requires.part).few_slots
+pub search_logged-requires-clause-images : goal.search_logged-requires-clause-images
+search_logged-requires-clause-images g c = plain-images c.args.rows.now c.requires.plain
+
+pub search_logged-requires-clause-splits : goal.search_logged-requires-clause-splits
+search_logged-requires-clause-splits g c = (part-searchable c.args.plant.now c.args.rows.now.program c.requires.sound c.requires.part).few_splits
 
 pub search_logged-requires-clause-rows : goal.search_logged-requires-clause-rows
 search_logged-requires-clause-rows g c = (part-searchable c.args.plant.now c.args.rows.now.program c.requires.sound c.requires.part).few_rows
@@ -22,25 +26,25 @@ pub told_of-requires-clause-places : goal.told_of-requires-clause-places
 told_of-requires-clause-places g c =
     let logged = c.in_ok-ended.ensures.logged in
     plain-places c.args.plant.now c.args.rows.now.program c.slot_count-given.result c.args.budget logged.tree c.in_ok-ended.field-0.ended c.requires.sound c.requires.part c.slot_count-given.ensures
-    (plain-search c.args.plant.now c.args.rows.now.program c.slot_count-given.result c.args.budget c.in_ok-ended.field-0.ended logged.tree c.requires.part logged.is)
+    (plain-search c.args.plant.now c.args.rows.now c.slot_count-given.result c.args.budget c.in_ok-ended.field-0.ended logged.tree c.requires.plain c.requires.part logged.is)
 
 pub returns-in_err-ended-clause-err : goal.returns-in_err-ended-clause-err
-returns-in_err-ended-clause-err g c = λ judged. at_err _ _ (plain-left c.args.rows.now.program judged _ c.args.name.now _ _ (c.as_slice.ensures.value ∙ c.in_ok-head.ensures) c.in_err-ended.ensures.err)
+returns-in_err-ended-clause-err g c = λ judged. at_err _ _ (plain-left c.args.plant.now c.args.rows.now judged _ c.args.name.now _ _ c.requires.plain (c.as_slice.ensures.value ∙ c.in_ok-head.ensures) c.in_err-ended.ensures.err)
 
 pub returns-in_err-told-clause-err : goal.returns-in_err-told-clause-err
 returns-in_err-told-clause-err g c = λ judged.
-    at_err _ _ (inr (plain-told c.args.rows.now.program judged _ c.args.name.now _ (c.as_slice.ensures.value ∙ c.in_ok-head.ensures) (logged-begun c.args.rows.now.program false _ c.args.name.now _ c.in_ok-ended.ensures.logged)))
+    at_err _ _ (inr (plain-told c.args.plant.now c.args.rows.now judged _ c.args.name.now _ c.requires.plain (c.as_slice.ensures.value ∙ c.in_ok-head.ensures) (logged-begun c.args.rows.now false _ c.args.name.now _ c.in_ok-ended.ensures.logged)))
 
 pub returns-in_err-finish-clause-err : goal.returns-in_err-finish-clause-err
 returns-in_err-finish-clause-err g c = λ judged.
-    at_err _ _ (inr (plain-told c.args.rows.now.program judged _ c.args.name.now _ (c.as_slice.ensures.value ∙ c.in_ok-head.ensures)
-    (logged-broke c.args.rows.now.program false _ c.args.name.now _ _ c.in_ok-told.told.claim c.in_ok-ended.ensures.logged c.in_err-finish.ensures.broke)))
+    at_err _ _ (inr (plain-told c.args.plant.now c.args.rows.now judged _ c.args.name.now _ c.requires.plain (c.as_slice.ensures.value ∙ c.in_ok-head.ensures)
+    (logged-broke c.args.rows.now false _ c.args.name.now _ _ c.in_ok-told.told.claim c.in_ok-ended.ensures.logged c.in_err-finish.ensures.broke)))
 
 pub returns-clause-outcome : goal.returns-clause-outcome
 returns-clause-outcome g c =
     let logged = c.in_ok-ended.ensures.logged in
     (plain-right c.args.plant.now c.args.rows.now.program c.slot_count-given.result c.args.budget logged.tree c.in_ok-ended.field-0.ended c.requires.sound c.requires.part c.slot_count-given.ensures
-    (plain-search c.args.plant.now c.args.rows.now.program c.slot_count-given.result c.args.budget c.in_ok-ended.field-0.ended logged.tree c.requires.part logged.is) c.in_ok-told.told c.in_ok-told.ensures).outcome
+    (plain-search c.args.plant.now c.args.rows.now c.slot_count-given.result c.args.budget c.in_ok-ended.field-0.ended logged.tree c.requires.plain c.requires.part logged.is) c.in_ok-told.told c.in_ok-told.ensures).outcome
 
 pub returns-clause-proof : goal.returns-clause-proof
 returns-clause-proof g c = λ judged.
@@ -50,10 +54,10 @@ returns-clause-proof g c = λ judged.
     let told = c.in_ok-told.told in
     let at = writing g.F.Shelf.files g.F.Shelf.read_faults g.F.Shelf.may_read g.F.Shelf.may_write c.in_ok-ended.field-0.writer c.search_logged.new.files in
     let right = plain-right c.args.plant.now part c.slot_count-given.result c.args.budget logged.tree c.in_ok-ended.field-0.ended c.requires.sound c.requires.part c.slot_count-given.ensures
-    (plain-search c.args.plant.now c.args.rows.now.program c.slot_count-given.result c.args.budget c.in_ok-ended.field-0.ended logged.tree c.requires.part logged.is) told c.in_ok-told.ensures in
-    let whole = logged-whole part false _ c.args.name.now at logged in
+    (plain-search c.args.plant.now c.args.rows.now c.slot_count-given.result c.args.budget c.in_ok-ended.field-0.ended logged.tree c.requires.plain c.requires.part logged.is) told c.in_ok-told.ensures in
+    let whole = logged-whole c.args.rows.now false _ c.args.name.now at logged in
     plain-has c.args.plant.now part judged _ told.outcome logged.tree right.proof
     (told-bytes c.args.name.now at.name (g.F.Shelf.files c.finish.new.files) _ _ logged.named (ap (λ (head : List ℕ). head ++ lines_text (flat_map item_lines items ++ (claim_lines told.claim ++ End ∷ []))) (c.as_slice.ensures.value ∙ c.in_ok-head.ensures) ∙ plain-text items told.claim ∙ ap (log_text 2 items) right.claim) (c.in_ok-finish.ensures.file _ items whole))
 
 pub returns-clause-begun : goal.returns-clause-begun
-returns-clause-begun g c = told-earns c.args.plant.now c.args.rows.now.program c.args.start.now c.in_ok-ended.field-0.ended c.in_ok-told.told c.in_ok-ended.ensures.begun c.in_ok-told.ensures
+returns-clause-begun g c = told-earns c.args.plant.now c.args.rows.now.program c.args.start.now c.in_ok-ended.field-0.ended c.in_ok-told.told (worth-plain c.args.rows.now c.args.start.now c.in_ok-ended.field-0.ended.best c.requires.plain c.in_ok-ended.ensures.begun) c.in_ok-told.ensures

@@ -31,8 +31,8 @@ returns-clause-proof g c =
 pub returns-clause-err : goal.returns-clause-err
 returns-clause-err g c =
     on_err_weaker c.solve_rows_to.result
-    (λ (left : LeavesSomeBegun c.in_ok-program.program c.in_ok-judged.judged c.args.name.now (g.F.Shelf.files c.args.files.now) (g.F.Shelf.files c.solve_rows_to.new.files)).
-    inr (c.in_ok-program.program, (c.in_ok-program.ensures.made, (c.in_ok-program.ensures.means, subst (λ (ds : List Domain). LeavesSomeBegun c.in_ok-program.program ds c.args.name.now (g.F.Shelf.files c.args.files.now) (g.F.Shelf.files c.solve_rows_to.new.files)) c.in_ok-judged.ensures left))))
+    (λ (left : LeavesSomeBegun c.args.plant.now c.in_ok-program.program c.in_ok-judged.judged c.args.name.now (g.F.Shelf.files c.args.files.now) (g.F.Shelf.files c.solve_rows_to.new.files)).
+    inr (c.in_ok-program.program, (c.in_ok-program.ensures.made, (c.in_ok-program.ensures.means, subst (λ (ds : List Domain). LeavesSomeBegun c.args.plant.now c.in_ok-program.program ds c.args.name.now (g.F.Shelf.files c.args.files.now) (g.F.Shelf.files c.solve_rows_to.new.files)) c.in_ok-judged.ensures left))))
     c.solve_rows_to.ensures.err
 
 pub returns-clause-begun : goal.returns-clause-begun

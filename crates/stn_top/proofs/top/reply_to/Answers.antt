@@ -11,7 +11,7 @@ pub returns-in-Solve-clause-done : goal.returns-in-Solve-clause-done
 returns-in-Solve-clause-done g c =
     rw c.in-Solve.is (only_read (Solving c.in-Solve.plant.now c.in-Solve.budget.boxes) (g.F.Shelf.files c.args.files.now) (g.F.Shelf.files c.solve_file.new.files) (g.F.Shelf.read_faults c.args.files.now) (g.F.Shelf.read_faults c.solve_file.new.files)
     (g.F.Shelf.write_faults c.args.files.now) (g.F.Shelf.write_faults c.solve_file.new.files) c.solve_file.result
-    c.solve_file.ensures.answer c.solve_file.ensures.fault (λ is. c.solve_file.ensures.named is refl) c.solve_file.ensures.left c.solve_file.ensures.later (c.solve_file.ensures.no_write refl))
+    c.solve_file.ensures.answer c.solve_file.ensures.fault (λ is. c.solve_file.ensures.writing.named is refl) c.solve_file.ensures.left c.solve_file.ensures.kept.later (c.solve_file.ensures.writing.none refl))
 
 pub returns-in-Simulate-clause-done : goal.returns-in-Simulate-clause-done
 returns-in-Simulate-clause-done g c =
@@ -47,7 +47,7 @@ pub returns-in-Replan-clause-done : goal.returns-in-Replan-clause-done
 returns-in-Replan-clause-done g c =
     rw c.in-Replan.is (only_read (Replanning c.in-Replan.plant.now c.in-Replan.plan.now c.in-Replan.period.number c.in-Replan.budget.boxes) (g.F.Shelf.files c.args.files.now) (g.F.Shelf.files c.plan_on_file.new.files) (g.F.Shelf.read_faults c.args.files.now) (g.F.Shelf.read_faults c.plan_on_file.new.files)
     (g.F.Shelf.write_faults c.args.files.now) (g.F.Shelf.write_faults c.plan_on_file.new.files) c.plan_on_file.result
-    c.plan_on_file.ensures.answer c.plan_on_file.ensures.fault (λ is. c.plan_on_file.ensures.named is refl) c.plan_on_file.ensures.left c.plan_on_file.ensures.later (c.plan_on_file.ensures.no_write refl))
+    c.plan_on_file.ensures.answer c.plan_on_file.ensures.fault (λ is. c.plan_on_file.ensures.writing.named is refl) c.plan_on_file.ensures.left c.plan_on_file.ensures.kept.later (c.plan_on_file.ensures.writing.none refl))
 
 pub returns-in-CheckReplan-clause-done : goal.returns-in-CheckReplan-clause-done
 returns-in-CheckReplan-clause-done g c =
@@ -65,25 +65,25 @@ pub returns-in-Least-clause-done : goal.returns-in-Least-clause-done
 returns-in-Least-clause-done g c =
     rw c.in-Least.is (only_read (Seeking c.in-Least.plant.now c.in-Least.budget.boxes) (g.F.Shelf.files c.args.files.now) (g.F.Shelf.files c.seek_file.new.files) (g.F.Shelf.read_faults c.args.files.now) (g.F.Shelf.read_faults c.seek_file.new.files)
     (g.F.Shelf.write_faults c.args.files.now) (g.F.Shelf.write_faults c.seek_file.new.files) c.seek_file.result
-    c.seek_file.ensures.answer c.seek_file.ensures.fault c.seek_file.ensures.unwritten c.seek_file.ensures.same c.seek_file.ensures.later c.seek_file.ensures.no_write)
+    c.seek_file.ensures.answer c.seek_file.ensures.fault c.seek_file.ensures.unwritten c.seek_file.ensures.kept.same c.seek_file.ensures.kept.later c.seek_file.ensures.kept.no_write)
 
 pub returns-in-CheckLeast-clause-done : goal.returns-in-CheckLeast-clause-done
 returns-in-CheckLeast-clause-done g c =
     rw c.in-CheckLeast.is (only_read (Auditing c.in-CheckLeast.plant.now c.in-CheckLeast.horizon c.in-CheckLeast.stem.now) (g.F.Shelf.files c.args.files.now) (g.F.Shelf.files c.audit_file.new.files) (g.F.Shelf.read_faults c.args.files.now) (g.F.Shelf.read_faults c.audit_file.new.files)
     (g.F.Shelf.write_faults c.args.files.now) (g.F.Shelf.write_faults c.audit_file.new.files) c.audit_file.result
-    c.audit_file.ensures.answer c.audit_file.ensures.fault c.audit_file.ensures.unwritten c.audit_file.ensures.same c.audit_file.ensures.later c.audit_file.ensures.no_write)
+    c.audit_file.ensures.answer c.audit_file.ensures.fault c.audit_file.ensures.unwritten c.audit_file.ensures.kept.same c.audit_file.ensures.kept.later c.audit_file.ensures.kept.no_write)
 
 pub returns-in-Conflict-clause-done : goal.returns-in-Conflict-clause-done
 returns-in-Conflict-clause-done g c =
     rw c.in-Conflict.is (only_read (Conflicting c.in-Conflict.plant.now c.in-Conflict.budget.boxes) (g.F.Shelf.files c.args.files.now) (g.F.Shelf.files c.find_file.new.files) (g.F.Shelf.read_faults c.args.files.now) (g.F.Shelf.read_faults c.find_file.new.files)
     (g.F.Shelf.write_faults c.args.files.now) (g.F.Shelf.write_faults c.find_file.new.files) c.find_file.result
-    c.find_file.ensures.answer c.find_file.ensures.fault c.find_file.ensures.unwritten c.find_file.ensures.same c.find_file.ensures.later c.find_file.ensures.no_write)
+    c.find_file.ensures.answer c.find_file.ensures.fault c.find_file.ensures.unwritten c.find_file.ensures.kept.same c.find_file.ensures.kept.later c.find_file.ensures.kept.no_write)
 
 pub returns-in-CheckConflict-clause-done : goal.returns-in-CheckConflict-clause-done
 returns-in-CheckConflict-clause-done g c =
     rw c.in-CheckConflict.is (only_read (CheckingConflict c.in-CheckConflict.plant.now c.in-CheckConflict.stem.now) (g.F.Shelf.files c.args.files.now) (g.F.Shelf.files c.check_conflict_file.new.files) (g.F.Shelf.read_faults c.args.files.now) (g.F.Shelf.read_faults c.check_conflict_file.new.files)
     (g.F.Shelf.write_faults c.args.files.now) (g.F.Shelf.write_faults c.check_conflict_file.new.files) c.check_conflict_file.result
-    c.check_conflict_file.ensures.answer c.check_conflict_file.ensures.fault c.check_conflict_file.ensures.unwritten c.check_conflict_file.ensures.same c.check_conflict_file.ensures.later c.check_conflict_file.ensures.no_write)
+    c.check_conflict_file.ensures.answer c.check_conflict_file.ensures.fault c.check_conflict_file.ensures.unwritten c.check_conflict_file.ensures.kept.same c.check_conflict_file.ensures.kept.later c.check_conflict_file.ensures.kept.no_write)
 
 pub returns-in-Parts-clause-done : goal.returns-in-Parts-clause-done
 returns-in-Parts-clause-done g c =
@@ -100,43 +100,43 @@ pub returns-in-Log-clause-done : goal.returns-in-Log-clause-done
 returns-in-Log-clause-done g c =
     rw c.in-Log.is (wrote (Logging c.in-Log.plant.now c.in-Log.budget.boxes c.in-Log.log.now) (g.F.Shelf.files c.args.files.now) (g.F.Shelf.files c.solve_file-in-Log.new.files) (g.F.Shelf.read_faults c.args.files.now) (g.F.Shelf.read_faults c.solve_file-in-Log.new.files)
     (g.F.Shelf.write_faults c.args.files.now) (g.F.Shelf.write_faults c.solve_file-in-Log.new.files) c.solve_file-in-Log.result
-    c.solve_file-in-Log.ensures.answer c.solve_file-in-Log.ensures.refused c.solve_file-in-Log.ensures.fault (λ is _. c.solve_file-in-Log.ensures.unread is) c.solve_file-in-Log.ensures.write_fault c.solve_file-in-Log.ensures.begun
-    (kept_log c.in-Log.plant.now c.in-Log.budget.boxes c.in-Log.log.now (g.F.Shelf.files c.args.files.now) (g.F.Shelf.files c.solve_file-in-Log.new.files) c.solve_file-in-Log.ensures.others) c.solve_file-in-Log.ensures.left c.solve_file-in-Log.ensures.later c.solve_file-in-Log.ensures.writes)
+    c.solve_file-in-Log.ensures.answer c.solve_file-in-Log.ensures.refused c.solve_file-in-Log.ensures.fault (λ is _. c.solve_file-in-Log.ensures.unread is) c.solve_file-in-Log.ensures.writing.fault c.solve_file-in-Log.ensures.begun
+    (kept_log c.in-Log.plant.now c.in-Log.budget.boxes c.in-Log.log.now (g.F.Shelf.files c.args.files.now) (g.F.Shelf.files c.solve_file-in-Log.new.files) c.solve_file-in-Log.ensures.others) c.solve_file-in-Log.ensures.left c.solve_file-in-Log.ensures.kept.later c.solve_file-in-Log.ensures.kept.writes)
 
 pub returns-in-LogReplan-clause-done : goal.returns-in-LogReplan-clause-done
 returns-in-LogReplan-clause-done g c =
     rw c.in-LogReplan.is (wrote (ReplanLogging c.in-LogReplan.plant.now c.in-LogReplan.plan.now c.in-LogReplan.period.number c.in-LogReplan.budget.boxes c.in-LogReplan.log.now) (g.F.Shelf.files c.args.files.now) (g.F.Shelf.files c.plan_on_file-in-LogReplan.new.files) (g.F.Shelf.read_faults c.args.files.now) (g.F.Shelf.read_faults c.plan_on_file-in-LogReplan.new.files)
     (g.F.Shelf.write_faults c.args.files.now) (g.F.Shelf.write_faults c.plan_on_file-in-LogReplan.new.files) c.plan_on_file-in-LogReplan.result
-    c.plan_on_file-in-LogReplan.ensures.answer c.plan_on_file-in-LogReplan.ensures.refused c.plan_on_file-in-LogReplan.ensures.fault (λ is _. c.plan_on_file-in-LogReplan.ensures.unread is) c.plan_on_file-in-LogReplan.ensures.write_fault c.plan_on_file-in-LogReplan.ensures.begun
-    (kept_replan c.in-LogReplan.plant.now c.in-LogReplan.plan.now c.in-LogReplan.period.number c.in-LogReplan.budget.boxes c.in-LogReplan.log.now (g.F.Shelf.files c.args.files.now) (g.F.Shelf.files c.plan_on_file-in-LogReplan.new.files) c.plan_on_file-in-LogReplan.ensures.others) c.plan_on_file-in-LogReplan.ensures.left c.plan_on_file-in-LogReplan.ensures.later c.plan_on_file-in-LogReplan.ensures.writes)
+    c.plan_on_file-in-LogReplan.ensures.answer c.plan_on_file-in-LogReplan.ensures.refused c.plan_on_file-in-LogReplan.ensures.fault (λ is _. c.plan_on_file-in-LogReplan.ensures.unread is) c.plan_on_file-in-LogReplan.ensures.writing.fault c.plan_on_file-in-LogReplan.ensures.begun
+    (kept_replan c.in-LogReplan.plant.now c.in-LogReplan.plan.now c.in-LogReplan.period.number c.in-LogReplan.budget.boxes c.in-LogReplan.log.now (g.F.Shelf.files c.args.files.now) (g.F.Shelf.files c.plan_on_file-in-LogReplan.new.files) c.plan_on_file-in-LogReplan.ensures.others) c.plan_on_file-in-LogReplan.ensures.left c.plan_on_file-in-LogReplan.ensures.kept.later c.plan_on_file-in-LogReplan.ensures.kept.writes)
 
 pub returns-in-Improve-clause-done : goal.returns-in-Improve-clause-done
 returns-in-Improve-clause-done g c =
     rw c.in-Improve.is (wrote (Improving c.in-Improve.plant.now c.in-Improve.plan.now c.in-Improve.budget.boxes (named_log c.in-Improve.log)) (g.F.Shelf.files c.args.files.now) (g.F.Shelf.files c.plan_on_file-in-Improve.new.files) (g.F.Shelf.read_faults c.args.files.now) (g.F.Shelf.read_faults c.plan_on_file-in-Improve.new.files)
     (g.F.Shelf.write_faults c.args.files.now) (g.F.Shelf.write_faults c.plan_on_file-in-Improve.new.files) c.plan_on_file-in-Improve.result
-    c.plan_on_file-in-Improve.ensures.answer c.plan_on_file-in-Improve.ensures.refused c.plan_on_file-in-Improve.ensures.fault (λ is _. c.plan_on_file-in-Improve.ensures.unread is) c.plan_on_file-in-Improve.ensures.write_fault (λ is. (c.plan_on_file-in-Improve.ensures.named is, c.plan_on_file-in-Improve.ensures.begun is))
-    (kept_improve c.in-Improve.plant.now c.in-Improve.plan.now c.in-Improve.budget.boxes (named_log c.in-Improve.log) (g.F.Shelf.files c.args.files.now) (g.F.Shelf.files c.plan_on_file-in-Improve.new.files) c.plan_on_file-in-Improve.ensures.others) c.plan_on_file-in-Improve.ensures.left c.plan_on_file-in-Improve.ensures.later c.plan_on_file-in-Improve.ensures.writes)
+    c.plan_on_file-in-Improve.ensures.answer c.plan_on_file-in-Improve.ensures.refused c.plan_on_file-in-Improve.ensures.fault (λ is _. c.plan_on_file-in-Improve.ensures.unread is) c.plan_on_file-in-Improve.ensures.writing.fault (λ is. (c.plan_on_file-in-Improve.ensures.writing.named is, c.plan_on_file-in-Improve.ensures.begun is))
+    (kept_improve c.in-Improve.plant.now c.in-Improve.plan.now c.in-Improve.budget.boxes (named_log c.in-Improve.log) (g.F.Shelf.files c.args.files.now) (g.F.Shelf.files c.plan_on_file-in-Improve.new.files) c.plan_on_file-in-Improve.ensures.others) c.plan_on_file-in-Improve.ensures.left c.plan_on_file-in-Improve.ensures.kept.later c.plan_on_file-in-Improve.ensures.kept.writes)
 
 pub returns-in-LeastLogs-clause-done : goal.returns-in-LeastLogs-clause-done
 returns-in-LeastLogs-clause-done g c =
     rw c.in-LeastLogs.is (wrote (Tracing c.in-LeastLogs.plant.now c.in-LeastLogs.budget.boxes c.in-LeastLogs.stem.now) (g.F.Shelf.files c.args.files.now) (g.F.Shelf.files c.trace_file.new.files) (g.F.Shelf.read_faults c.args.files.now) (g.F.Shelf.read_faults c.trace_file.new.files)
     (g.F.Shelf.write_faults c.args.files.now) (g.F.Shelf.write_faults c.trace_file.new.files) c.trace_file.result
     c.trace_file.ensures.answer c.trace_file.ensures.refused c.trace_file.ensures.fault (λ is _. c.trace_file.ensures.unread is) c.trace_file.ensures.write_fault c.trace_file.ensures.begun
-    (kept_logs c.in-LeastLogs.plant.now c.in-LeastLogs.budget.boxes c.in-LeastLogs.stem.now (g.F.Shelf.files c.args.files.now) (g.F.Shelf.files c.trace_file.new.files) c.trace_file.ensures.others) c.trace_file.ensures.left c.trace_file.ensures.later c.trace_file.ensures.writes)
+    (kept_logs c.in-LeastLogs.plant.now c.in-LeastLogs.budget.boxes c.in-LeastLogs.stem.now (g.F.Shelf.files c.args.files.now) (g.F.Shelf.files c.trace_file.new.files) c.trace_file.ensures.others) c.trace_file.ensures.left c.trace_file.ensures.kept.later c.trace_file.ensures.kept.writes)
 
 pub returns-in-ConflictLogs-clause-done : goal.returns-in-ConflictLogs-clause-done
 returns-in-ConflictLogs-clause-done g c =
     rw c.in-ConflictLogs.is (wrote (ConflictLogging c.in-ConflictLogs.plant.now c.in-ConflictLogs.budget.boxes c.in-ConflictLogs.stem.now) (g.F.Shelf.files c.args.files.now) (g.F.Shelf.files c.find_log_file.new.files) (g.F.Shelf.read_faults c.args.files.now) (g.F.Shelf.read_faults c.find_log_file.new.files)
     (g.F.Shelf.write_faults c.args.files.now) (g.F.Shelf.write_faults c.find_log_file.new.files) c.find_log_file.result
     c.find_log_file.ensures.answer c.find_log_file.ensures.refused c.find_log_file.ensures.fault (λ is _. c.find_log_file.ensures.unread is) c.find_log_file.ensures.write_fault c.find_log_file.ensures.begun
-    (kept_conflict c.in-ConflictLogs.plant.now c.in-ConflictLogs.budget.boxes c.in-ConflictLogs.stem.now (g.F.Shelf.files c.args.files.now) (g.F.Shelf.files c.find_log_file.new.files) c.find_log_file.ensures.others) c.find_log_file.ensures.left c.find_log_file.ensures.later c.find_log_file.ensures.writes)
+    (kept_conflict c.in-ConflictLogs.plant.now c.in-ConflictLogs.budget.boxes c.in-ConflictLogs.stem.now (g.F.Shelf.files c.args.files.now) (g.F.Shelf.files c.find_log_file.new.files) c.find_log_file.ensures.others) c.find_log_file.ensures.left c.find_log_file.ensures.kept.later c.find_log_file.ensures.kept.writes)
 
 pub returns-in-SolvePart-clause-done : goal.returns-in-SolvePart-clause-done
 returns-in-SolvePart-clause-done g c =
     rw c.in-SolvePart.is (wrote (PartSolving c.in-SolvePart.plant.now c.in-SolvePart.part.levels.number c.in-SolvePart.part.number c.in-SolvePart.budget.boxes c.in-SolvePart.log.now) (g.F.Shelf.files c.args.files.now) (g.F.Shelf.files c.solve_part_file.new.files) (g.F.Shelf.read_faults c.args.files.now) (g.F.Shelf.read_faults c.solve_part_file.new.files)
     (g.F.Shelf.write_faults c.args.files.now) (g.F.Shelf.write_faults c.solve_part_file.new.files) c.solve_part_file.result
     c.solve_part_file.ensures.answer c.solve_part_file.ensures.refused c.solve_part_file.ensures.fault (λ is _. c.solve_part_file.ensures.unread is) c.solve_part_file.ensures.write_fault c.solve_part_file.ensures.begun
-    (kept_part c.in-SolvePart.plant.now c.in-SolvePart.part.levels.number c.in-SolvePart.part.number c.in-SolvePart.budget.boxes c.in-SolvePart.log.now (g.F.Shelf.files c.args.files.now) (g.F.Shelf.files c.solve_part_file.new.files) c.solve_part_file.ensures.others) c.solve_part_file.ensures.left c.solve_part_file.ensures.later c.solve_part_file.ensures.writes)
+    (kept_part c.in-SolvePart.plant.now c.in-SolvePart.part.levels.number c.in-SolvePart.part.number c.in-SolvePart.budget.boxes c.in-SolvePart.log.now (g.F.Shelf.files c.args.files.now) (g.F.Shelf.files c.solve_part_file.new.files) c.solve_part_file.ensures.others) c.solve_part_file.ensures.left c.solve_part_file.ensures.kept.later c.solve_part_file.ensures.kept.writes)
 
 pub returns-in-Join-clause-done : goal.returns-in-Join-clause-done
 returns-in-Join-clause-done g c =

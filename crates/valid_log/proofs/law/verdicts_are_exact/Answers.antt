@@ -11,8 +11,8 @@ pub returns-clause-any_exact : goal.returns-clause-any_exact
 returns-clause-any_exact c = any_exact
 
 pub returns-clause-alike : goal.returns-clause-alike
-returns-clause-alike c = λ version program larger other judged sums derivations depth bytes claim enlarged enlarged2 valid.
-    valid_alike larger other depth bytes claim (alike version program larger other judged sums derivations enlarged enlarged2) valid
+returns-clause-alike c = λ plant version program judged sums units derivations rows other depth bytes claim enlarged enlarged2 valid.
+    valid_alike rows other depth bytes claim (alike plant version program judged sums units derivations rows other enlarged enlarged2) valid
 
 pub returns-clause-stays : goal.returns-clause-stays
 returns-clause-stays c = yes-stays

@@ -3,7 +3,7 @@ use Rattle.std.proofs.Common.{◌≡◌, List, ℕ, ap, ◌∙◌, subst, codes}
 use Rattle.stn_edge.specs.FixedFiles.{FixedFiles}
 use Rattle.stn_edge.specs.Files.{file_of}
 use Rattle.stn_edge.proofs.FileLemmas.{file_of-insert}
-use Rattle.valid_log.specs.AnyVersion.{IsTail}
+use Rattle.valid_log.specs.Heads.{IsTail}
 use Rattle.what_if.proofs.front.tail_of.Goals as goal
 
 pub returns-in-Ok-clause-follows : goal.returns-in-Ok-clause-follows

@@ -8,8 +8,8 @@ use Rattle.what_if.proofs.judging.judged.Goals as goal
 
 pub returns-in-Ok-Yes-clause-log : goal.returns-in-Ok-Yes-clause-log
 returns-in-Ok-Yes-clause-log c =
-    let program = c.args.rows.now.program in
+    let rows = c.args.rows.now in
     let read = c.requires in
     let yes = c.in-Ok-Yes.field-0-is in
-    let on = c.in-Ok-Yes.ensures.meant read.over (subst (λ (text : List ℕ). log_text_defect (limits_of program 4608) text ≡ None) read.text read.clean) in
-    yes_log program c.args.bytes.now c.args.log c.in-Ok-Yes.field-0-0 read (subst (IsVerdictOn program (tree_of c.args.log.tree) c.args.log.claim) yes on) (subst (YesHolds program) yes c.in-Ok-Yes.ensures.holds)
+    let on = c.in-Ok-Yes.ensures.meant read.over (subst (λ (text : List ℕ). log_text_defect (limits_of rows 4608) text ≡ None) read.text read.clean) in
+    yes_log rows c.args.bytes.now c.args.log c.in-Ok-Yes.field-0-0 read (subst (IsVerdictOn rows (tree_of c.args.log.tree) c.args.log.claim) yes on) (subst (YesHolds rows) yes c.in-Ok-Yes.ensures.holds)

@@ -7,5 +7,5 @@ use Rattle.what_if.proofs.judging.own_log.Goals as goal
 
 pub returns-in-Err-clause-defect : goal.returns-in-Err-clause-defect
 returns-in-Err-clause-defect c defect is =
-    text_verdict c.args.rows.now.program c.args.bytes.now defect
+    text_verdict c.args.rows.now c.args.bytes.now defect
     (subst (λ (limits : Limits). log_text_defect limits c.args.bytes.now ≡ Some (defect.line, defect.kind)) c.limits_of.ensures (c.in-Err.ensures.defect defect is))

@@ -8,5 +8,5 @@ use Rattle.what_if.proofs.loosening.+loose.Goals as goal
 pub node_cap-returns-clause-cap : goal.node_cap-returns-clause-cap
 node_cap-returns-clause-cap t c =
     let node = c.args.proof.now in
-    let by_end = loose_cap-tree_at c.args.capped c.args.rows.now.program (shown c.args.area.now) node.cuts node.found node.end in
+    let by_end = loose_cap-tree_at c.args.capped c.args.rows.now (shown c.args.area.now) node.cuts node.found node.end in
     grind (arith, common_steps)

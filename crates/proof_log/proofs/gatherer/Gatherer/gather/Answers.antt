@@ -17,7 +17,7 @@ grow-requires c =
 pub returns-in-More-clause-made : goal.returns-in-More-clause-made
 returns-in-More-clause-made c before lines items claim comes =
     let g = c.args.self.now in
-    let is : More c.in-More.group ≡ followed g.limits.slots g.group c.args.line = sym c.in-More.is ∙ c.in_ok-group.ensures.grown in
+    let is : More c.in-More.group ≡ followed g.limits.points g.group c.args.line = sym c.in-More.is ∙ c.in_ok-group.ensures.grown in
     rw c.grow.ensures.same
     (made_more before lines items claim c.args.line g c.in-More.group
     (record { comes = comes; body = c.requires.body; few_rows = omega (arith, c.fits-self); few_slots = omega (arith, c.fits-self) }) is)
@@ -25,7 +25,7 @@ returns-in-More-clause-made c before lines items claim comes =
 pub returns-in-Whole-Item-clause-made : goal.returns-in-Whole-Item-clause-made
 returns-in-Whole-Item-clause-made c before lines items claim comes =
     let g = c.args.self.now in
-    let is : Whole (Item c.in-Whole-Item.item) ≡ followed g.limits.slots g.group c.args.line = ap Whole (sym c.in-Whole-Item.field-0-is) ∙ (sym c.in-Whole-Item.is ∙ c.in_ok-group.ensures.grown) in
+    let is : Whole (Item c.in-Whole-Item.item) ≡ followed g.limits.points g.group c.args.line = ap Whole (sym c.in-Whole-Item.field-0-is) ∙ (sym c.in-Whole-Item.is ∙ c.in_ok-group.ensures.grown) in
     rw c.grow.ensures.same
     (made_item before lines items claim c.args.line g c.in-Whole-Item.item (g.number + 1)
     (record { comes = comes; body = c.requires.body; few_rows = omega (arith, c.fits-self); few_slots = omega (arith, c.fits-self) }) is refl)
@@ -33,7 +33,7 @@ returns-in-Whole-Item-clause-made c before lines items claim comes =
 pub returns-in-Whole-Claim-clause-made : goal.returns-in-Whole-Claim-clause-made
 returns-in-Whole-Claim-clause-made c before lines items claim comes =
     let g = c.args.self.now in
-    let is : Whole (Claim c.in-Whole-Claim.claim) ≡ followed g.limits.slots g.group c.args.line = ap Whole (sym c.in-Whole-Claim.field-0-is) ∙ (sym c.in-Whole-Claim.is ∙ c.in_ok-group.ensures.grown) in
+    let is : Whole (Claim c.in-Whole-Claim.claim) ≡ followed g.limits.points g.group c.args.line = ap Whole (sym c.in-Whole-Claim.field-0-is) ∙ (sym c.in-Whole-Claim.is ∙ c.in_ok-group.ensures.grown) in
     rw c.grow.ensures.same
     (made_claim before lines items claim c.args.line g c.in-Whole-Claim.claim
     (record { comes = comes; body = c.requires.body; few_rows = omega (arith, c.fits-self); few_slots = omega (arith, c.fits-self) }) is)

@@ -1,22 +1,21 @@
--- The point of the area is its only one, and it is tested.
-use Rattle.std.proofs.Common.{◌∙◌, sym}
+-- The rooms are those of the program by which points are judged, and domains settle by their first ones.
+use Rattle.std.proofs.Common.{◌∙◌, ap, length, subst, sym, take}
+use Rattle.row_kit.specs.declared.program.Program.{Program}
 use Rattle.row_kit.specs.Area.{present}
-use Rattle.row_relax.proofs.OnlyPoints.{single_decides, settled_at, settled_bad}
+use Rattle.row_relax.specs.Settle.{settled}
+use Rattle.row_relax.proofs.Choosing.{first-settled}
+use Rattle.row_rooms.specs.Rooms.{IsRoomsOf}
 use Rattle.row_rooms.proofs.rooms.RowRooms.settle.Goals as goal
 
-pub returns-then-not-is_point-clause-cap : goal.returns-then-not-is_point-clause-cap
-returns-then-not-is_point-clause-cap c =
-    let ds = present c.args.area.now in
-    settled_bad c.args.program.now ds (sym (single_decides c.is_point.result ds c.is_point.ensures.single.0 c.is_point.ensures.single.1) ∙ c.if-not-is_point.true)
+pub settle_first-requires : goal.settle_first-requires
+settle_first-requires c = subst (λ (program : Program). IsRoomsOf program c.args.self.now) (sym c.choices_of.ensures) c.requires.rooms
 
-pub returns-then-slots-le-FEW_SLOTS-clause-cap : goal.returns-then-slots-le-FEW_SLOTS-clause-cap
-returns-then-slots-le-FEW_SLOTS-clause-cap c =
-    let ds = present c.args.area.now in
-    let single = sym (single_decides c.is_point.result ds c.is_point.ensures.single.0 c.is_point.ensures.single.1) ∙ c.if-not-is_point.false in
-    settled_at c.args.program.now ds c.cap_of.result single c.cap_of.ensures.cap
+pub returns-clause-rooms : goal.returns-clause-rooms
+returns-clause-rooms c = subst (λ (program : Program). IsRoomsOf program c.settle_first.new.self) c.choices_of.ensures c.settle_first.ensures.rooms
 
-pub returns-else-slots-le-FEW_SLOTS-clause-cap : goal.returns-else-slots-le-FEW_SLOTS-clause-cap
-returns-else-slots-le-FEW_SLOTS-clause-cap c =
+pub returns-clause-cap : goal.returns-clause-cap
+returns-clause-cap c =
     let ds = present c.args.area.now in
-    let single = sym (single_decides c.is_point.result ds c.is_point.ensures.single.0 c.is_point.ensures.single.1) ∙ c.if-not-is_point.false in
-    settled_at c.args.program.now ds c.cap_of-else-slots-le-FEW_SLOTS.result single c.cap_of-else-slots-le-FEW_SLOTS.ensures.cap
+    c.settle_first.ensures.cap
+    ∙ ap (λ (program : Program). settled program (take (length program.root) ds)) c.choices_of.ensures
+    ∙ first-settled c.args.rows.now ds c.requires.slots

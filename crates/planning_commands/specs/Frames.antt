@@ -1,0 +1,25 @@
+-- What planning leaves of its store, where a log may be named.
+use Rattle.std.specs.Prelude.{◌≡◌, ◌≢◌, ◌≤◌, ℕ, List, Option, None, Result, Err}
+use Rattle.stn_edge.specs.Files.{FileMap, OthersStay}
+use Rattle.stn_edge.specs.declared.shelf.Shelf.{Ghosts}
+use Rattle.command_replies.specs.declared.stopped.Stopped.{Stopped}
+use Rattle.command_replies.specs.declared.stopped.Stopped.TheVariants.{WriteFault}
+use Rattle.command_replies.specs.Frames.{HadWriteFault}
+use Rattle.planning_commands.specs.NamedLog.{LogLeft}
+
+-- a call that only writes: what may be read and written is as before; no read has failed, writes may have
+pub record OnlyWrites {F : Type 0} (S : Ghosts F) (old new : F) : Type 0 where
+  pub readable : S.may_read new ≡ S.may_read old
+  pub writable : S.may_write new ≡ S.may_write old
+  pub no_read : S.read_faults new ≡ S.read_faults old
+  pub writes : S.write_faults old ≤ S.write_faults new
+
+-- writes may fail only where a log is named, and a call that ends for a fault of writing has had one
+pub record WritesLog {F X : Type 0} (S : Ghosts F) (log : Option (List ℕ)) (old new : F) (result : Result X Stopped) : Type 0 where
+  pub fault : HadWriteFault S old new result
+  pub named : result ≡ Err WriteFault → log ≢ None
+  pub none : log ≡ None → S.write_faults new ≡ S.write_faults old
+
+-- every file but the log that is named is as it was
+abbrev pub OthersLeft : Option (List ℕ) → Option FileMap → Option FileMap → Type 0
+OthersLeft log old new = LogLeft log (λ name. OthersStay name old new) old new

@@ -1,0 +1,6 @@
+-- The copies of the rows so far.
+use Rattle.std.proofs.Common.{◌≡◌, take}
+use Rattle.setup_slots.proofs.copies.copy_rows.Given as goal
+
+abbrev pub invariant-loop-row : goal.invariant-loop-row
+invariant-loop-row l = l.copies ≡ take l.row-index l.rows

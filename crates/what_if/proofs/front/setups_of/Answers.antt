@@ -1,0 +1,14 @@
+-- The file that was put is the bytes.
+use Rattle.std.proofs.Common.{◌≡◌, List, ℕ, ap, ◌∙◌, subst, codes}
+use Rattle.stn_edge.specs.FixedFiles.{FixedFiles}
+use Rattle.stn_edge.specs.Files.{file_of}
+use Rattle.stn_edge.proofs.FileLemmas.{file_of-insert}
+use Rattle.valid_log.specs.Heads.{AreSetups, setup_sizes}
+use Rattle.what_if.proofs.front.setups_of.Goals as goal
+
+pub returns-in-Ok-clause-stands : goal.returns-in-Ok-clause-stands
+returns-in-Ok-clause-stands c =
+    let name : List ℕ = codes "log" in
+    let put = ap (λ (s : FixedFiles). file_of s.files name) c.in_ok-put_file.ensures.ok in
+    let is : file_of c.put_file.new.self.files name ≡ c.args.bytes.now = put ∙ file_of-insert c.new-shelf.result.files name c.args.bytes.now in
+    subst (λ bytes. AreSetups c.args.limits.now (setup_sizes c.args.plant.now) c.args.head bytes c.in-Ok.front) is c.in-Ok.ensures.stands
