@@ -3,8 +3,8 @@ use row_chains::SumRows;
 use row_kit::{Entry, List, Program, Row};
 use std::alloc::{AllocError, Global};
 
-/// The program without its sums: its first slots, so many, and the rows before those of sums. What is derived behind them is left out,
-/// too. None where there are no sums.
+/// The program without its sums and setups: its first slots, so many, and the rows before those that count others. What is derived
+/// behind them is left out, too. None where there are neither.
 pub fn without_sums(
     alloc: Global,
     program: &Program,
@@ -18,12 +18,23 @@ pub fn without_sums(
     let rows = first_rows(alloc, program.rows.as_slice(), count)?;
     Ok(Program::checked(
         rows,
-        List::from_slice(alloc, program.profit.as_slice())?,
+        first_entries(alloc, program.profit.as_slice(), given)?,
         program.base,
         List::from_slice(alloc, &program.root.as_slice()[..slots])?,
         List::from_slice(alloc, &program.tags.as_slice()[..slots])?,
         List::from_slice(alloc, program.changes.as_slice())?,
     ))
+}
+
+// The entries of slots before `given`.
+fn first_entries(alloc: Global, entries: &[Entry], given: u32) -> Result<List<Entry>, AllocError> {
+    let mut first = List::new(alloc);
+    for entry in entries {
+        if entry.slot < given {
+            first.push(*entry)?;
+        }
+    }
+    Ok(first)
 }
 
 // Copies of the first rows, so many.
