@@ -4,7 +4,7 @@ ghost use Rattle.std.specs.List.{All};
 ghost use Rattle.row_kit.specs.Bounds.{IsBoundedRow};
 ghost use Rattle.row_kit.specs.Domain.{IsNormal};
 
-use row_kit::{Area, Change, Domain, Entry, List, Program, Row, Tag};
+use row_kit::{Area, Domain, List, Program, Row};
 use std::alloc::{AllocError, Global};
 
 /// A copy of a row.
@@ -22,41 +22,6 @@ pub fn no_row(alloc: Global) -> Row {
         entries: List::new(alloc),
         limit: 0,
     }
-}
-
-/// The first of some items.
-pub fn first_of<T>(items: &[T], most: usize) -> &[T] {
-    if most <= items.len() {
-        &items[..most]
-    } else {
-        items
-    }
-}
-
-/// The entries of slots below this.
-pub fn entries_below(
-    alloc: Global,
-    entries: &[Entry],
-    slots: usize,
-) -> Result<List<Entry>, AllocError> {
-    let mut below = List::new(alloc);
-    for entry in entries {
-        if (entry.slot as usize) < slots {
-            below.push(*entry)?;
-        }
-    }
-    Ok(below)
-}
-
-/// The first tags, and all changes, of a program.
-pub fn tags_of(
-    alloc: Global,
-    program: &Program,
-    slots: usize,
-) -> Result<(List<Tag>, List<Change>), AllocError> {
-    let tags = List::from_slice(alloc, first_of(program.tags.as_slice(), slots))?;
-    let changes = List::from_slice(alloc, program.changes.as_slice())?;
-    Ok((tags, changes))
 }
 
 /// The domains that are left in an area.

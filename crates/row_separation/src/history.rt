@@ -1,9 +1,10 @@
 //! What has been derived, and what of it is declared.
+use crate::bare::Sums;
 use derivations::Derivation;
 use derived_rows::{Derived, Factor, Group, Members};
 use fixed_point::numbered;
 use range_prop::RowCut;
-use row_kit::List;
+use row_kit::{Entry, List};
 use std::alloc::{AllocError, Global};
 
 /// A derived row: whether it is still there, and for how many rounds it has been slack.
@@ -24,23 +25,23 @@ pub enum Step {
     Row(u32),
 }
 
-/// What has been derived from a program with so many rows, before which so many rows of sums are to stand in the end.
+/// What has been derived from a program with so many rows, whose sums are left out and stand there in the end.
 #[derive(Drop)]
 pub struct History {
     pub steps: Vec<Step>,
     pub made: Vec<Made>,
     rows: u32,
-    sum_rows: u32,
+    sums: Sums,
 }
 
 impl History {
     /// Nothing.
-    pub fn new(alloc: Global, rows: u32, sum_rows: u32) -> History {
+    pub fn new(alloc: Global, rows: u32, sums: Sums) -> History {
         History {
             steps: Vec::new(alloc),
             made: Vec::new(alloc),
             rows,
-            sum_rows,
+            sums,
         }
     }
 
@@ -106,7 +107,7 @@ impl History {
             match step {
                 Step::Cut(cut) => list.push(Derivation::Cut(RowCut {
                     row: self.renamed(cut.row),
-                    slot: cut.slot,
+                    slot: self.slot_of(cut.slot),
                 }))?,
                 Step::Row(number) => self.put_declared(alloc, *number, &mut list)?,
             }
@@ -201,15 +202,29 @@ impl History {
 
     // The number that a row has in the program with sums and what is declared.
     fn renamed(&self, row: u32) -> u32 {
+        let sum_rows = numbered(self.sums.count).saturating_mul(2);
         if row < self.rows {
-            return row;
+            return if (row as usize) < self.sums.row {
+                row
+            } else {
+                row.saturating_add(sum_rows)
+            };
         }
         match self.made.get((row - self.rows) as usize) {
             None => row,
             Some(made) => self
                 .rows
-                .saturating_add(self.sum_rows)
+                .saturating_add(sum_rows)
                 .saturating_add(made.before),
+        }
+    }
+
+    // The number that a slot has in the program with sums.
+    fn slot_of(&self, slot: u32) -> u32 {
+        if (slot as usize) < self.sums.slot {
+            slot
+        } else {
+            slot.saturating_add(numbered(self.sums.count))
         }
     }
 
@@ -248,14 +263,30 @@ impl History {
             down: derived.down,
             factors,
             groups,
-            entries: List::from_slice(alloc, derived.entries.as_slice())?,
+            entries: self.entries_of(alloc, derived.entries.as_slice())?,
         })
     }
 
-    // A group that names its row by the number that it has in the end.
+    // Entries that name slots by the numbers that they have in the end.
+    fn entries_of(&self, alloc: Global, entries: &[Entry]) -> Result<List<Entry>, AllocError> {
+        let mut list = List::new(alloc);
+        for entry in entries {
+            list.push(Entry {
+                slot: self.slot_of(entry.slot),
+                fixed: entry.fixed,
+                per: entry.per,
+            })?;
+        }
+        Ok(list)
+    }
+
+    // A group that names its row or slot by the number that it has in the end.
     fn group_of(&self, group: &Group) -> Group {
         match group.members {
-            Members::One(_) => *group,
+            Members::One(slot) => Group {
+                members: Members::One(self.slot_of(slot)),
+                shift: group.shift,
+            },
             Members::OfRow(row) => Group {
                 members: Members::OfRow(self.renamed(row)),
                 shift: group.shift,

@@ -1,5 +1,5 @@
 //! Separation at the root of a program.
-use crate::bare::{sum_count, without_sums};
+use crate::bare::{Sums, sums_of, without_sums};
 use crate::bound::{Bound, bounded};
 use crate::families::{Window, windows};
 use crate::history::History;
@@ -32,8 +32,8 @@ pub struct Effort {
 /// behind the program's rows, and each is shown over the domains, one for each slot, that the cuts before it leave. None where the
 /// domains are not such, or nothing pays.
 ///
-/// The slots at the end whose last two entries are those of sums are not looked at. It takes memory for a copy of the rows, and costs
-/// at most the effort.
+/// The slots of sums, which stand at the end or before those of setups, are not looked at. It takes memory for a copy of the rows, and
+/// costs at most the effort.
 pub fn separate(
     alloc: Global,
     program: &Program,
@@ -43,10 +43,10 @@ pub fn separate(
     if domains.len() != program.root.len() {
         return Ok(List::new(alloc));
     }
-    let sums = sum_count(program);
-    match without_sums(alloc, program, domains, sums)? {
+    let sums = sums_of(program);
+    match without_sums(alloc, program, domains, &sums)? {
         None => Ok(List::new(alloc)),
-        Some(bare) => derived(alloc, bare, numbered(sums).saturating_mul(2), effort),
+        Some(bare) => derived(alloc, bare, sums, effort),
     }
 }
 
@@ -63,14 +63,14 @@ struct Progress {
     wide: bool,
 }
 
-// The derivations of a program without sums, before whose derived rows so many rows of sums stand.
+// The derivations of a program whose sums are left out.
 fn derived(
     alloc: Global,
     program: Program,
-    sum_rows: u32,
+    sums: Sums,
     effort: Effort,
 ) -> Result<List<Derivation>, AllocError> {
-    let mut history = History::new(alloc, numbered(program.rows.len()), sum_rows);
+    let mut history = History::new(alloc, numbered(program.rows.len()), sums);
     let windows = windows(alloc, program.rows.as_slice())?;
     let mut progress = Progress {
         basis: Basis::new(alloc, &program)?,
