@@ -16,7 +16,7 @@ impl Simplex {
         self.kernel.clear(&mut self.own);
         self.own.clear();
         self.columns
-            .fill(program, domains, chains.sums.given, chains.up);
+            .fill(program, domains, &chains.sums, chains.slots, chains.up);
         self.put_columns_low();
         self.put_row_limits(chains, program, domains);
         if start.is_empty() {

@@ -23,7 +23,7 @@ pub struct Simplex {
 impl Simplex {
     /// A simplex for chains.
     pub fn new(alloc: Global, chains: &Chains) -> Result<Simplex, AllocError> {
-        let slots = chains.sums.given as usize;
+        let slots = chains.slots as usize;
         let rows = chains.rows.len();
         let kernel = Kernel::new(alloc, slots, rows, chains.by_row.size())?;
         let places = kernel.room();

@@ -46,7 +46,8 @@ pub fn solve_dual(alloc: Global, program: &Program, area: &Area) -> Result<Cert,
 fn found_cert(alloc: Global, program: &Program, area: &Area) -> Result<Cert, AllocError>
     requires { length (present area.now) ≡ length program.now.root }
 {
-    let mut workspace = Workspace::new(alloc, program, numbered(program.root.len()))?;
+    let slots = numbered(program.root.len());
+    let mut workspace = Workspace::new(alloc, program, slots, slots)?;
     let start = Basis::new(alloc, program)?;
     let outcome = workspace.bound(program, area, &start, None, MOST_PIVOTS);
     if outcome == Outcome::NoPoint {

@@ -52,11 +52,16 @@ pub struct Workspace {
 }
 
 impl Workspace {
-    /// A workspace for a program. The slots from `given` on are those of sums, each with two rows (`SumRows`): they need
-    /// no columns, and count in each row with the end of their domain that is best for it. Where there are no sums, `given` is the
-    /// number of slots.
-    pub fn new(alloc: Global, program: &Program, given: u32) -> Result<Workspace, AllocError> {
-        let chains = Chains::new(alloc, program, given)?;
+    /// A workspace for a program. The slots from `given` on and before `points` are those of sums, each with two rows (`SumRows`): they
+    /// need no columns, and count in each row with the end of their domain that is best for it. Where there are no sums, `given` is
+    /// `points`; where no slots follow those of sums, that is the number of slots.
+    pub fn new(
+        alloc: Global,
+        program: &Program,
+        given: u32,
+        points: u32,
+    ) -> Result<Workspace, AllocError> {
+        let chains = Chains::new(alloc, program, given, points)?;
         let simplex = Simplex::new(alloc, &chains)?;
         Ok(Workspace {
             chains,

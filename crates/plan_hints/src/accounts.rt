@@ -35,17 +35,18 @@ const MOST_FIRST: u64 = 45_000_000_000;
 const WIDE_GAP: i128 = 50;
 
 impl Accounts {
-    /// Nothing is done.
-    pub fn new(program: &Program) -> Accounts {
+    /// Nothing is done. Plans are looked for in a program, and boxes are of so many slots.
+    pub fn new(program: &Program, box_slots: usize) -> Accounts {
         let slots = program.root.len() as u64;
         let square = slots.saturating_mul(slots);
+        let larger = box_slots as u64;
         let places = u64::from(Extents::new(program.tags.as_slice()).places);
         let patience = places
             .saturating_mul(places)
             .saturating_mul(PLACES)
             .saturating_add(SQUARES);
         Accounts {
-            per_box: square.saturating_mul(BOX),
+            per_box: larger.saturating_mul(larger).saturating_mul(BOX),
             patience: square.saturating_mul(patience),
             boxes: 0,
             is_first: true,

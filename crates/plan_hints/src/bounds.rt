@@ -32,7 +32,7 @@ impl Bounds {
         let start = Basis::new(alloc, program)?;
         let bases = listed_bases(alloc, program)?;
         let amounts = vec![in alloc; NONE; slots]?;
-        let workspace = Workspace::new(alloc, program, numbered(slots))?;
+        let workspace = Workspace::new(alloc, program, numbered(slots), numbered(slots))?;
         Ok(Bounds {
             start,
             bases,

@@ -66,9 +66,10 @@ impl PlanHinter {
         start: &[u8],
     ) -> Result<PlanHinter, AllocError> {
         let own = without_sums(alloc, program, given)?;
+        let slots = program.root.len();
         let looker = match &own {
-            None => Looker::begun(alloc, program, start)?,
-            Some(own) => Looker::begun(alloc, own, start)?,
+            None => Looker::begun(alloc, program, slots, start)?,
+            Some(own) => Looker::begun(alloc, own, slots, start)?,
         };
         Ok(PlanHinter {
             own,
@@ -80,21 +81,26 @@ impl PlanHinter {
 }
 
 impl Looker {
-    // What looks for plans of a program.
-    fn new(alloc: Global, program: &Program) -> Result<Looker, AllocError> {
+    // What looks for plans of a program, where boxes are of so many slots.
+    fn new(alloc: Global, program: &Program, box_slots: usize) -> Result<Looker, AllocError> {
         Ok(Looker {
             finder: Finder::new(alloc, program)?,
             walk: Walk::new(program),
             seen: vec![in alloc; NONE; program.root.len()]?,
-            accounts: Accounts::new(program),
+            accounts: Accounts::new(program, box_slots),
             boxes: 0,
             offered: None,
         })
     }
 
     // What looks for plans of a program from a point on, if one is at hand.
-    fn begun(alloc: Global, program: &Program, start: &[u8]) -> Result<Looker, AllocError> {
-        let mut looker = Looker::new(alloc, program)?;
+    fn begun(
+        alloc: Global,
+        program: &Program,
+        box_slots: usize,
+        start: &[u8],
+    ) -> Result<Looker, AllocError> {
+        let mut looker = Looker::new(alloc, program, box_slots)?;
         if start.len() >= program.root.len() {
             looker.take_left(program, start);
         }

@@ -14,7 +14,7 @@ pub fn without_sums(
     if slots >= program.root.len() || slots > program.tags.len() {
         return Ok(None);
     }
-    let count = SumRows::new(program, given).first as usize;
+    let count = SumRows::new(program, given, given).first as usize;
     let rows = first_rows(alloc, program.rows.as_slice(), count)?;
     Ok(Program::checked(
         rows,
@@ -53,7 +53,7 @@ fn first_rows(alloc: Global, rows: &[Row], count: usize) -> Result<List<Row>, Al
 /// values for those before.
 pub fn put_sums(program: &Program, given: u32, points: u32, point: &mut [u8]) {
     let rows = program.rows.as_slice();
-    let sums = SumRows::new(program, given);
+    let sums = SumRows::new(program, given, points);
     for slot in given..points {
         if let Some(row) = rows.get(sums.row_of(slot) as usize) {
             let value = value_of(row, slot, point);

@@ -67,7 +67,7 @@ fn answer_over<'a>(
     sheet: &mut Sheet<'a>,
 ) -> Tried {
     let mut area = Area::new(alloc, program)?;
-    let mut workspace = Workspace::new(alloc, program, given)?;
+    let mut workspace = Workspace::new(alloc, program, given, slot_count(program))?;
     let mut basis = Basis::new(alloc, program)?;
     for step in steps {
         if !is_part(step.verb) {

@@ -12,12 +12,13 @@ use std::alloc::{AllocError, Global};
 /// The rows of a program as differences. A chain is rows that stand one after another; each but the first is told by how it differs
 /// from the one before. Feature `2 j` is how far slot j is started, and `2 j + 1` its quanta.
 ///
-/// Only rows that a point of the root may break are there, and all those of sums; and only the slots before those of
-/// sums.
+/// Only rows that a point of the root may break are there, and all those of sums; and slots of sums have no parts.
 #[derive(Drop)]
 pub struct Chains {
-    /// The rows of the sums; the slots before theirs have features.
+    /// The rows of the sums.
     pub sums: SumRows,
+    /// How many slots have features: those before the ones of sums, or where slots of setups follow all, those of sums without parts.
+    pub slots: u32,
     /// For each place the program's row.
     pub rows: Vec<u32>,
     /// For each of the program's rows its place; `NONE` where it is not there.
@@ -40,24 +41,29 @@ pub struct Chains {
 }
 
 impl Chains {
-    /// The chains of a program, of which the slots from `given` on are those of sums.
-    pub fn new(alloc: Global, program: &Program, given: u32) -> Result<Chains, AllocError> {
+    /// The chains of a program, of which the slots from `given` on and before `points` are those of sums.
+    pub fn new(
+        alloc: Global,
+        program: &Program,
+        given: u32,
+        points: u32,
+    ) -> Result<Chains, AllocError> {
         let rows = program.rows.as_slice();
-        let root = first(program.root.as_slice(), given);
-        let given = numbered(root.len());
-        let sums = SumRows::new(program, given);
+        let sums = sums_of(program, given, points);
+        let root = first(program.root.as_slice(), slot_count(program, &sums));
         let order = order_of(alloc, program, &sums)?;
         let end = ends_of(alloc, order.first.as_slice())?;
-        let downs = downs_of(alloc, rows, root, &order, given)?;
+        let downs = downs_of(alloc, rows, root, &order, &sums)?;
         let whole = program.root.as_slice();
         let most_left = lefts_of(alloc, rows, whole, &order, downs.as_slice())?;
-        let by_row = differences_of(alloc, rows, &order, downs.as_slice(), given)?;
+        let by_row = differences_of(alloc, rows, &order, downs.as_slice(), &sums)?;
         let by_feature = by_row.turned(alloc, root.len().saturating_mul(2))?;
         let places = places_of(alloc, order.rows.as_slice(), rows.len())?;
         let bits = greatest_bits(program.profit.as_slice(), root);
         let Order { rows, first } = order;
         Ok(Chains {
             sums,
+            slots: numbered(root.len()),
             rows,
             places,
             first,
@@ -109,6 +115,22 @@ impl Chains {
     }
 }
 
+// The sums of a program, whose slots are there.
+fn sums_of(program: &Program, given: u32, points: u32) -> SumRows {
+    let slots = numbered(program.root.len());
+    SumRows::new(program, given.min(slots), points.min(slots))
+}
+
+// How many slots have features.
+fn slot_count(program: &Program, sums: &SumRows) -> u32 {
+    let slots = numbered(program.root.len());
+    if sums.points < slots {
+        slots
+    } else {
+        sums.given
+    }
+}
+
 // For each place the end of its chain.
 fn ends_of(alloc: Global, first: &[u32]) -> Result<Vec<u32>, AllocError> {
     let count = first.len();
@@ -139,12 +161,12 @@ fn downs_of(
     rows: &[Row],
     root: &[Domain],
     order: &Order,
-    given: u32,
+    sums: &SumRows,
 ) -> Result<Vec<u32>, AllocError> {
     let mut greatest = vec![in alloc; 0u32; order.rows.len()]?;
     for place in 0..order.rows.len() {
         let place = numbered(place);
-        let bits = greatest_bits(entries_at(rows, order, place, given), root);
+        let bits = greatest_bits(entries_at(rows, order, place, sums), root);
         let first = place_at(order.first.as_slice(), place);
         let other = place_at(greatest.as_slice(), first);
         put_place(greatest.as_mut_slice(), first, other.max(bits));
@@ -178,8 +200,8 @@ fn lefts_of(
 }
 
 // The entries of the row of a place.
-fn entries_at<'a>(rows: &'a [Row], order: &Order, place: u32, given: u32) -> &'a [Entry] {
-    given_entries(rows, place_at(order.rows.as_slice(), place), given)
+fn entries_at<'a>(rows: &'a [Row], order: &Order, place: u32, sums: &SumRows) -> &'a [Entry] {
+    given_entries(rows, place_at(order.rows.as_slice(), place), sums)
 }
 
 // How each place differs from the one before.
@@ -188,16 +210,16 @@ fn differences_of(
     rows: &[Row],
     order: &Order,
     downs: &[u32],
-    given: u32,
+    sums: &SumRows,
 ) -> Result<Table, AllocError> {
     let mut table = Table::new(alloc)?;
     for place in 0..order.rows.len() {
         let place = numbered(place);
-        let to = entries_at(rows, order, place, given);
+        let to = entries_at(rows, order, place, sums);
         let from = if place_at(order.first.as_slice(), place) == place {
             &[]
         } else {
-            entries_at(rows, order, place.saturating_sub(1), given)
+            entries_at(rows, order, place.saturating_sub(1), sums)
         };
         let shift = 0i32.saturating_sub_unsigned(place_at(downs, place));
         put_differences(&mut table, from, to, shift)?;

@@ -1,4 +1,5 @@
 //! The entries by which a row differs from another.
+use crate::sums::SumRows;
 use row_kit::{Entry, Row};
 
 /// A walk along two lists of entries, each in the order of its slots.
@@ -85,11 +86,19 @@ pub fn count_changes(from: &[Entry], to: &[Entry]) -> usize {
     count
 }
 
-/// The entries of a row for slots before `given`; none where there is no such row.
-pub fn given_entries(rows: &[Row], row: u32, given: u32) -> &[Entry] {
+/// The entries of a row for slots that are none of sums; none where there is no such row.
+pub fn given_entries<'a>(rows: &'a [Row], row: u32, sums: &SumRows) -> &'a [Entry] {
     match rows.get(row as usize) {
         None => &[],
-        Some(row) => up_to(row.entries.as_slice(), given),
+        Some(row) => without_sum(row.entries.as_slice(), sums),
+    }
+}
+
+// The entries up to those for slots of sums, where the last one is for such a slot; else all.
+fn without_sum<'a>(entries: &'a [Entry], sums: &SumRows) -> &'a [Entry] {
+    match entries.last() {
+        Some(entry) if sums.has_slot(entry.slot) => up_to(entries, sums.given),
+        _ => entries,
     }
 }
 

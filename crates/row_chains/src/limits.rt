@@ -11,7 +11,7 @@ pub fn row_limit(program: &Program, domains: &[Domain], sums: &SumRows, row: u32
         return None;
     }
     match own.entries.as_slice().last() {
-        Some(entry) if entry.slot >= sums.given => {
+        Some(entry) if sums.has_slot(entry.slot) => {
             Some(own.limit.saturating_sub(least_at(entry, domains)))
         }
         _ => Some(own.limit),

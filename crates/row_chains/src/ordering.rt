@@ -26,7 +26,7 @@ struct Links {
 pub fn order_of(alloc: Global, program: &Program, sums: &SumRows) -> Result<Order, AllocError> {
     let kept = kept_rows(alloc, program, sums)?;
     let rows = program.rows.as_slice();
-    let links = links_of(alloc, rows, kept.as_slice(), sums.given)?;
+    let links = links_of(alloc, rows, kept.as_slice(), sums)?;
     let mut order = Order {
         rows: Vec::with_capacity(alloc, kept.len())?,
         first: Vec::with_capacity(alloc, kept.len())?,
@@ -65,13 +65,18 @@ fn may_break(row: &Row, program: &Program) -> bool {
 }
 
 // Joins rows to chains: each to one of the two rows before it, where fewer entries differ than it has.
-fn links_of(alloc: Global, rows: &[Row], kept: &[u32], given: u32) -> Result<Links, AllocError> {
+fn links_of(
+    alloc: Global,
+    rows: &[Row],
+    kept: &[u32],
+    sums: &SumRows,
+) -> Result<Links, AllocError> {
     let mut links = Links {
         before: vec![in alloc; NONE; kept.len()]?,
         after: vec![in alloc; NONE; kept.len()]?,
     };
     for number in 0..kept.len() {
-        let before = row_before(rows, kept, &links, numbered(number), given);
+        let before = row_before(rows, kept, &links, numbered(number), sums);
         if before != NONE {
             put_place(links.before.as_mut_slice(), numbered(number), before);
             put_place(links.after.as_mut_slice(), before, numbered(number));
@@ -81,15 +86,15 @@ fn links_of(alloc: Global, rows: &[Row], kept: &[u32], given: u32) -> Result<Lin
 }
 
 // Which of the two rows before a row it is joined to; none where it is to begin a chain.
-fn row_before(rows: &[Row], kept: &[u32], links: &Links, number: u32, given: u32) -> u32 {
-    let own = given_entries(rows, place_at(kept, number), given);
+fn row_before(rows: &[Row], kept: &[u32], links: &Links, number: u32, sums: &SumRows) -> u32 {
+    let own = given_entries(rows, place_at(kept, number), sums);
     let mut best = own.len();
     let mut found = NONE;
     for back in 1u32..3 {
         if back <= number {
             let other = number - back;
             if place_at(links.after.as_slice(), other) == NONE {
-                let entries = given_entries(rows, place_at(kept, other), given);
+                let entries = given_entries(rows, place_at(kept, other), sums);
                 let count = count_changes(entries, own);
                 if count < best {
                     best = count;

@@ -12,25 +12,34 @@ pub struct Sides {
     pub offset: i128,
 }
 
-/// Where the rows of a program's sums stand: two for each slot from `given` on, from the row `first` on and before the row `end`. Behind
-/// them may stand derived rows, which count no slot of a sum.
+/// Where the rows of a program's sums stand: two for each slot from `given` on and before `points`, from the row `first` on and before
+/// the row `end`. Behind them may stand rows of setups, whose slots follow, and derived rows; none counts the slot of a sum beside one
+/// that follows.
 #[derive(Clone, Copy)]
 pub struct SumRows {
     pub given: u32,
+    pub points: u32,
     pub first: u32,
     pub end: u32,
 }
 
 impl SumRows {
-    /// The rows of the sums of a program, of which the slots from `given` on are theirs. It looks at each row's last entry.
-    pub fn new(program: &Program, given: u32) -> SumRows {
-        let sums = numbered(program.root.len()).saturating_sub(given);
+    /// The rows of the sums of a program, of which the slots from `given` on and before `points` are theirs. It looks at each row's last
+    /// entry.
+    pub fn new(program: &Program, given: u32, points: u32) -> SumRows {
+        let sums = points.saturating_sub(given);
         let first = first_row(program.rows.as_slice(), given);
         SumRows {
             given,
+            points,
             first,
             end: first.saturating_add(sums.saturating_mul(2)),
         }
+    }
+
+    /// Whether a slot is that of a sum.
+    pub fn has_slot(&self, slot: u32) -> bool {
+        slot >= self.given && slot < self.points
     }
 
     /// Whether a row is one of a sum.
@@ -60,7 +69,7 @@ fn first_row(rows: &[Row], given: u32) -> u32 {
 
 /// The rows of the sum of a slot; None where the slot is not one of a sum, or its rows are not those of a sum.
 pub fn sides_of(program: &Program, sums: &SumRows, slot: u32) -> Option<Sides> {
-    if slot < sums.given || (slot as usize) >= program.root.len() {
+    if !sums.has_slot(slot) {
         return None;
     }
     let row = sums.row_of(slot);

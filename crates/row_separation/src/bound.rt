@@ -27,7 +27,8 @@ pub fn bounded(
     most: u32,
     mixes_too: bool,
 ) -> Result<Bound, AllocError> {
-    let chains = Chains::new(alloc, program, numbered(program.root.len()))?;
+    let slots = numbered(program.root.len());
+    let chains = Chains::new(alloc, program, slots, slots)?;
     let mut simplex = Simplex::new(alloc, &chains)?;
     let root = program.root.as_slice();
     simplex.begin(&chains, program, root, start);

@@ -1,7 +1,7 @@
 //! The variables of the slots of an area.
 use crate::features::Features;
 use fixed_point::{NONE, numbered, of_whole, put_last, refill, scaled, wide};
-use row_chains::first;
+use row_chains::{SumRows, first};
 use row_kit::{Domain, Entry, Program};
 use std::alloc::{AllocError, Global};
 
@@ -45,14 +45,23 @@ impl Columns {
         })
     }
 
-    /// The variables of so many first slots with these domains, with profits raised by a power of two.
-    pub fn fill(&mut self, program: &Program, domains: &[Domain], given: u32, up: i32) {
-        let domains = first(domains, given);
+    /// The variables of so many first slots with these domains that are none of sums, with profits raised by a power of two.
+    pub fn fill(
+        &mut self,
+        program: &Program,
+        domains: &[Domain],
+        sums: &SumRows,
+        slots: u32,
+        up: i32,
+    ) {
+        let domains = first(domains, slots);
         let count = self.columns.len();
         refill(&mut self.columns, NO_COLUMN, count);
         self.listed.clear();
         for slot in 0..domains.len() {
-            self.add_slot(numbered(slot), &domains[slot]);
+            if !sums.has_slot(numbered(slot)) {
+                self.add_slot(numbered(slot), &domains[slot]);
+            }
         }
         for entry in program.profit.as_slice() {
             self.set_price(entry.slot.saturating_mul(2), entry, up);

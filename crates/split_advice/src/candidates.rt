@@ -23,17 +23,35 @@ pub struct Candidate {
     pub sum: bool,
 }
 
-/// Lists the fractional ones of so many first slots of an area, as far as there is room.
+/// Lists the fractional slots of an area before `given`, as far as there is room; only where there are none, those from `points` on, which
+/// are of setups. Those between are of sums.
 pub fn list_fractional(
     workspace: &Workspace,
     area: &Area,
     given: u32,
+    points: u32,
     candidates: &mut Vec<Candidate>,
 ) {
     candidates.clear();
-    for slot in 0..area.slot_count().min(given) {
-        let candidate = slot_candidate(slot, &area.domain(slot), &workspace.amount(slot));
-        put_candidate(candidates, candidate);
+    list_between(workspace, area, 0, given, candidates);
+    if candidates.is_empty() {
+        list_between(workspace, area, points, u32::MAX, candidates);
+    }
+}
+
+// Lists after these the fractional slots of an area from one number on and before another, as far as there is room.
+fn list_between(
+    workspace: &Workspace,
+    area: &Area,
+    first: u32,
+    end: u32,
+    candidates: &mut Vec<Candidate>,
+) {
+    for slot in 0..area.slot_count() {
+        if slot >= first && slot < end {
+            let candidate = slot_candidate(slot, &area.domain(slot), &workspace.amount(slot));
+            put_candidate(candidates, candidate);
+        }
     }
 }
 
@@ -56,16 +74,17 @@ fn slot_candidate(slot: u32, domain: &Domain, amount: &Amount) -> Candidate {
     }
 }
 
-/// Lists after these the slots of sums, from `given` on, of which both parts of a split cut the solution of the bound off, as far as
-/// there is room.
+/// Lists after these the slots of sums, from `given` on and before `points`, of which both parts of a split cut the solution of the bound
+/// off, as far as there is room.
 pub fn list_sums(
     workspace: &Workspace,
     program: &Program,
     area: &Area,
     given: u32,
+    points: u32,
     candidates: &mut Vec<Candidate>,
 ) {
-    for slot in given..area.slot_count() {
+    for slot in given..points {
         if let Some(candidate) = sum_candidate(workspace, program, area, slot) {
             put_candidate(candidates, candidate);
         }

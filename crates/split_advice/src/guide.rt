@@ -14,9 +14,6 @@ use dual_simplex::{Basis, Workspace};
 use row_kit::{Area, Program};
 use std::alloc::{AllocError, Global};
 
-// A number of slots that no program has more than.
-const EVERY: u32 = u32::MAX;
-
 /// A guide by the dual simplex. Each box is bounded from where the bound of the split above it has ended; where it stays open, the
 /// slot to split is chosen by trial bounds of both sides. The rounded solution is left in the point. It leaves no box open.
 ///
@@ -29,20 +26,17 @@ pub struct PlanGuide {
 }
 
 impl PlanGuide {
-    /// A guide for searches of a program, of which the slots from `given` on and before `points` are those of sums. Where slots of setups
-    /// follow them, sums are bounded and split as all other slots are.
+    /// A guide for searches of a program, of which the slots from `given` on and before `points` are those of sums.
     pub fn new(
         alloc: Global,
         program: &Program,
         given: u32,
         points: u32,
     ) -> Result<PlanGuide, AllocError> {
-        let has_setups = (points as usize) < program.root.len();
-        let given = if has_setups { EVERY } else { given };
         Ok(PlanGuide {
-            workspace: Workspace::new(alloc, program, given)?,
+            workspace: Workspace::new(alloc, program, given, points)?,
             path: Path::new(alloc, program)?,
-            picker: Picker::new(alloc, program, given)?,
+            picker: Picker::new(alloc, program, given, points)?,
         })
     }
 

@@ -18,6 +18,7 @@ const LEAST_GAP: i64 = 1_048_576;
 #[derive(Drop)]
 pub struct Picker {
     given: u32,
+    points: u32,
     has_sums: bool,
     candidates: Vec<Candidate>,
     ranked: Vec<Ranked>,
@@ -26,12 +27,18 @@ pub struct Picker {
 }
 
 impl Picker {
-    /// A picker for a program, of which the slots from `given` on are those of sums.
-    pub fn new(alloc: Global, program: &Program, given: u32) -> Result<Picker, AllocError> {
+    /// A picker for a program, of which the slots from `given` on and before `points` are those of sums.
+    pub fn new(
+        alloc: Global,
+        program: &Program,
+        given: u32,
+        points: u32,
+    ) -> Result<Picker, AllocError> {
         let slots = program.root.len();
         Ok(Picker {
             given,
-            has_sums: (given as usize) < slots,
+            points,
+            has_sums: given < points,
             candidates: Vec::with_capacity(alloc, slots)?,
             ranked: Vec::with_capacity(alloc, slots)?,
             weights: weights_of(alloc, program)?,
@@ -49,9 +56,22 @@ impl Picker {
         area: &Area,
     ) -> Option<Candidate> {
         let gap = gap_of(workspace);
-        list_fractional(workspace, area, self.given, &mut self.candidates);
+        list_fractional(
+            workspace,
+            area,
+            self.given,
+            self.points,
+            &mut self.candidates,
+        );
         if workspace.gap().is_some() {
-            list_sums(workspace, program, area, self.given, &mut self.candidates);
+            list_sums(
+                workspace,
+                program,
+                area,
+                self.given,
+                self.points,
+                &mut self.candidates,
+            );
         }
         match self.tried(workspace, program, gap.saturating_mul(2)) {
             Some(tried) if self.gains_much(&tried, gap) => Some(tried.candidate),

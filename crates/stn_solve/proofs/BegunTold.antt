@@ -36,8 +36,8 @@ use Rattle.plan_told.proofs.Completing.{claim-bytes}
 use Rattle.plan_told.proofs.ValidHeads.{head-same}
 use Rattle.proof_log.specs.declared.claim.Claim.TheVariants as claim
 use Rattle.std.specs.Prelude.{pos}
-use Rattle.stn_solve.specs.declared.heading.Headed.{Headed}
-use Rattle.stn_solve.specs.laws.Heading.{IsHeaded}
+use Rattle.head_choice.specs.declared.heading.Headed.{Headed}
+use Rattle.head_choice.specs.Heading.{IsHeaded}
 use Rattle.stn_solve.specs.Begun.{EarnsAtLeast, EarnsPoint}
 
 -- a plan of a found point that is worth as much

@@ -1,12 +1,3 @@
-pub mod BegunLog
-pub mod Both
-pub mod LogsLeft
 pub mod SearchTold
-pub mod EmptyLog
-pub mod EmptySearch
-pub mod FactorsRise
-pub mod HeadChosen
 pub mod BegunTold
 pub mod Searchable
-pub mod UnitsRise
-pub mod UnitsSet

@@ -22,8 +22,8 @@ use Rattle.plan_told.specs.declared.telling.Told.{Told}
 use Rattle.plan_told.proofs.HeadImages.{head-images}
 use Rattle.plan_told.proofs.PlainTold.{IsToldRight, best-places, told-right}
 use Rattle.plan_told.proofs.ToldByHead.{given-places, told-by_head}
-use Rattle.stn_solve.specs.declared.heading.Headed.{Headed}
-use Rattle.stn_solve.specs.laws.Heading.{IsHeaded}
+use Rattle.head_choice.specs.declared.heading.Headed.{Headed}
+use Rattle.head_choice.specs.Heading.{IsHeaded}
 
 -- a search over rows whose points are judged by their own program is one over that program
 pub as-plain : (rows : Rows) (given budget : ℕ) (ended : Ended) (tree : RowTree) → rows.choices ≡ None → IsSearchOf rows false given budget ended tree → IsSearchOf (plain rows.program) false given budget ended tree

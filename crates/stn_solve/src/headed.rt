@@ -1,22 +1,23 @@
 //! Planning over the rows of a part of a plant's choices with what the head of its log declares.
 ghost use Rattle.std.specs.Prelude.{◌≡◌, ◌≤◌, ◌<◌, None, Err, IsTrue, IfOk, OnErr};
 ghost use Rattle.stn_edge.specs.Count.{Rose};
-ghost use Rattle.stn_edge.specs.Files.{OthersStay};
 ghost use Rattle.stn_model.specs.Sound.{Sound};
 ghost use Rattle.row_kit.specs.Points.{points_of};
 ghost use Rattle.row_set.specs.Parts.{IsPartOf};
 ghost use Rattle.sum_slots.specs.Shown.{AreRanges};
+ghost use Rattle.proof_log.specs.Writer.{KeepsOthers};
 ghost use Rattle.plan_told.specs.Outcomes.{IsPartOutcome};
 ghost use Rattle.plan_told.specs.Proofs.{HasProof, LeavesSomeBegun, bytes_in};
 ghost use Rattle.stn_solve.specs.Begun.{EarnsPoint};
+ghost use Rattle.logged_search.specs.Logging.{stored};
 
-use crate::heading::{Headed, completed, with_head};
-use crate::logging::{Logged, search_logged};
-use crate::searching::search_only;
-use crate::split_rules::SplitRules;
+use crate::beginning::{Beginning, begun_at};
+use crate::telling::{told_given, told_larger};
 use box_advice::Advisers;
-use plan_told::{Told, given_ended, larger_claim, told_of};
-use row_kit::{Domain, List, Program, is_lawful};
+use head_choice::Headed;
+use logged_search::{Logged, SplitRules, search_logged, search_only};
+use plan_told::Told;
+use row_kit::{Domain, List, Program};
 use std::alloc::{AllocError, Global};
 use stn_edge::{Shelf, Stop};
 use stn_model::{Outcome, Plant};
@@ -40,22 +41,19 @@ pub fn plan_headed<A: Advisers>(
     ensures proof { IfOk result (HasProof plant.now part judged None) }
     ensures begun { IfOk result (λ outcome. EarnsPoint part start.now outcome.answer) }
 {
-    let lawful = is_lawful(&part, start);
+    let Beginning { headed, point } = begun_at::<A>(alloc, plant, part, judged, start)?;
     let Headed {
         rows,
-        sums,
         given,
         least,
         ..
-    } = with_head::<A>(alloc, plant, part, judged)?;
-    let whole = completed(alloc, sums.as_slice(), start, lawful)?;
+    } = headed;
     let rules = SplitRules {
         given,
         floors: true,
     };
-    let ended = search_only::<A>(alloc, &rows, rules, budget, whole.as_slice())?;
-    let own = given_ended(alloc, given as usize, least, ended)?;
-    let Told { outcome, .. } = told_of(alloc, plant, own)?;
+    let ended = search_only::<A>(alloc, &rows, rules, budget, point.as_slice())?;
+    let Told { outcome, .. } = told_given(alloc, plant, given, least, ended)?;
     Ok(outcome)
 }
 
@@ -83,23 +81,21 @@ pub fn solve_headed_to<A: Advisers, F: Shelf>(
     ensures begun { IfOk result (λ outcome. EarnsPoint part start.now outcome.answer) }
     ensures err { OnErr result (LeavesSomeBegun plant.now part judged name.now (F.files files.old)
         (F.files files.new)) }
-    ensures others { OthersStay name.now (F.files files.old) (F.files files.new) }
-    ensures readable { F.may_read files.new ≡ F.may_read files.old }
-    ensures writable { F.may_write files.new ≡ F.may_write files.old }
-    ensures no_read { F.read_faults files.new ≡ F.read_faults files.old }
+    ensures kept { KeepsOthers
+        (stored F.files F.read_faults F.may_read F.may_write name.now files.old)
+        (stored F.files F.read_faults F.may_read F.may_write name.now files.new) }
     ensures later { F.write_faults files.old ≤ F.write_faults files.new }
     ensures failed { result ≡ Err Stop.Failed
         → Rose (F.write_faults files.old) (F.write_faults files.new) }
 {
-    let lawful = is_lawful(&part, start);
+    let begun = begun_at::<A>(alloc, plant, part, judged, start)?;
     let Headed {
         rows,
         sums,
         head,
         given,
         least,
-    } = with_head::<A>(alloc, plant, part, judged)?;
-    let begun = completed(alloc, sums.as_slice(), start, lawful)?;
+    } = begun.headed;
     let rules = SplitRules {
         given,
         floors: true,
@@ -109,14 +105,12 @@ pub fn solve_headed_to<A: Advisers, F: Shelf>(
         &rows,
         rules,
         budget,
-        begun.as_slice(),
+        begun.point.as_slice(),
         head.as_slice(),
         files,
         name,
     )?;
-    let own = given_ended(alloc, given as usize, least, ended)?;
-    let Told { outcome, claim } = told_of(alloc, plant, own)?;
-    let whole = larger_claim(alloc, sums.as_slice(), claim)?;
-    writer.finish(files, &whole)?;
-    Ok(outcome)
+    let told = told_larger(alloc, plant, sums.as_slice(), given, least, ended)?;
+    writer.finish(files, &told.claim)?;
+    Ok(told.outcome)
 }

@@ -5,19 +5,13 @@
 //! with sums and derived rows that the head of the log declares.
 #![tactic(auto)]
 
-mod copying;
-mod declaring;
+mod beginning;
 mod headed;
-mod heading;
-mod item_dropper;
-mod logging;
 mod part;
 mod plain;
 mod plant;
-mod searching;
-mod setting;
 mod solved;
-mod split_rules;
+mod telling;
 
 pub use part::{plan_rows, solve_rows_to};
 pub use plain::solve_rows;

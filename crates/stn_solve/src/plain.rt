@@ -1,24 +1,23 @@
 //! Planning over the own program of a part of a plant's choices, without a head.
-ghost use Rattle.std.specs.Prelude.{◌≡◌, ◌≤◌, List, ◌∷◌, [], None, Err, IsTrue, IfOk, OnErr};
+ghost use Rattle.std.specs.Prelude.{◌≡◌, ◌≤◌, List, ◌∷◌, [], length, None, Err, IsTrue, IfOk, OnErr};
 ghost use Rattle.stn_edge.specs.Count.{Rose};
-ghost use Rattle.stn_edge.specs.Files.{OthersStay};
 ghost use Rattle.stn_model.specs.Sound.{Sound};
 ghost use Rattle.proof_tree.specs.Tree.{tree_of};
 ghost use Rattle.row_kit.specs.declared.domain.Domain.{Domain};
 ghost use Rattle.row_set.specs.Parts.{IsPartOf};
 ghost use Rattle.log_lines.specs.declared.line.Line.{Line};
 ghost use Rattle.proof_log.specs.Log.{lines_text};
+ghost use Rattle.proof_log.specs.Writer.{KeepsOthers};
 ghost use Rattle.plan_told.specs.Outcomes.{IsPartOutcome};
 ghost use Rattle.stn_solve.specs.Begun.{EarnsPoint};
 ghost use Rattle.plan_told.specs.Proofs.{HasProof, LeavesSomeBegun, IsProofOf, bytes_in, claim_of};
+ghost use Rattle.logged_search.specs.Logging.{stored};
 
-use crate::logging::{Logged, search_logged};
-use crate::searching::{search_built, search_only, slot_count};
 use crate::solved::Solved;
-use crate::split_rules::SplitRules;
 use box_advice::Advisers;
 use branch_tree::{Ended, Searched};
 use log_lines::{Line, put_line};
+use logged_search::{Logged, SplitRules, search_built, search_logged, search_only};
 use plan_told::{Told, told_of};
 use row_relax::Rows;
 use std::alloc::{AllocError, Global};
@@ -118,10 +117,9 @@ pub fn solve_plain_to<A: Advisers, F: Shelf>(
     ensures err { (judged : List Domain)
         → OnErr result (LeavesSomeBegun plant.now rows.now.program judged name.now
         (F.files files.old) (F.files files.new)) }
-    ensures others { OthersStay name.now (F.files files.old) (F.files files.new) }
-    ensures readable { F.may_read files.new ≡ F.may_read files.old }
-    ensures writable { F.may_write files.new ≡ F.may_write files.old }
-    ensures no_read { F.read_faults files.new ≡ F.read_faults files.old }
+    ensures kept { KeepsOthers
+        (stored F.files F.read_faults F.may_read F.may_write name.now files.old)
+        (stored F.files F.read_faults F.may_read F.may_write name.now files.new) }
     ensures later { F.write_faults files.old ≤ F.write_faults files.new }
     ensures failed { result ≡ Err Stop.Failed
         → Rose (F.write_faults files.old) (F.write_faults files.new) }
@@ -154,4 +152,11 @@ fn plain_head(alloc: Global) -> Result<Vec<u8>, AllocError>
     let mut head = Vec::new(alloc);
     put_line(alloc, &Line::Header { version: 2 }, &mut head)?;
     Ok(head)
+}
+
+// The number of slots, where none is a sum's.
+fn slot_count(rows: &Rows) -> u32
+    ensures { result ≡ length rows.now.program.root }
+{
+    rows.program.root.len() as u32
 }

@@ -7,6 +7,7 @@ ghost use Rattle.stn_model.specs.Answers.{IsOutcome};
 ghost use Rattle.stn_model.specs.Feasible.{Feasible};
 ghost use Rattle.stn_model.specs.Profit.{profit};
 ghost use Rattle.time_grid.specs.PlanPoint.{HasPoint, plan_point};
+ghost use Rattle.row_set.specs.PlantProgram.{IsMadeOf, IsProgramOf, plant_root};
 ghost use Rattle.proof_tree.specs.Tree.{tree_of};
 ghost use Rattle.plan_told.specs.Proofs.{HasPlantProof, IsLeftOf, IsPlantProof, bytes_in, claim_of};
 ghost use Rattle.stn_solve.specs.Begun.{EarnsAtLeast};
@@ -15,12 +16,21 @@ use crate::part::{plan_rows, solve_rows_to};
 use crate::plain::solve_rows;
 use crate::solved::Solved;
 use box_advice::Advisers;
+use row_kit::{Domain, List, Program};
 use row_relax::Rows;
 use row_set::{plant_root, program_of};
 use std::alloc::{AllocError, Global};
 use stn_edge::{Shelf, Stop};
 use stn_model::{Outcome, Plant, Start};
 use time_grid::Grid;
+
+// The program of a plant, the domains over which its head is judged, and a point to begin with.
+#[derive(Drop)]
+pub struct Whole {
+    pub program: Program,
+    pub judged: List<Domain>,
+    pub point: Vec<u8>,
+}
 
 /// Plans a plant with at most so many boxes. There is a proof of the outcome, which is not kept.
 pub fn plan<A: Advisers>(alloc: Global, plant: &Plant, budget: u32) -> Result<Outcome, AllocError>
@@ -47,10 +57,31 @@ pub fn plan_from<A: Advisers>(
     ensures begun { IfOk result (λ outcome. Feasible plant.now start.now
         → EarnsAtLeast (profit plant.now start.now) outcome.answer) }
 {
+    let Whole {
+        program,
+        judged,
+        point,
+    } = whole_of(alloc, plant, start)?;
+    plan_rows::<A>(alloc, plant, program, judged, 0, budget, &point)
+}
+
+// A plant as the whole of its choices, and the point of a plan.
+fn whole_of(alloc: Global, plant: &Plant, start: &[Start]) -> Result<Whole, AllocError>
+    requires { Sound plant.now }
+    ensures made { IfOk result (λ whole. IsMadeOf plant.now whole.program) }
+    ensures means { IfOk result (λ whole. IsProgramOf plant.now whole.program) }
+    ensures judged { IfOk result (λ whole. whole.judged ≡ plant_root plant.now) }
+    ensures point { IfOk result (λ whole. HasPoint plant.now start.now
+        → whole.point.items ≡ plan_point plant.now start.now) }
+{
     let program = program_of(alloc, plant)?;
     let point = point_of(alloc, plant, start)?;
     let judged = plant_root(alloc, plant)?;
-    plan_rows::<A>(alloc, plant, program, judged, 0, budget, &point)
+    Ok(Whole {
+        program,
+        judged,
+        point,
+    })
 }
 
 /// The point of a plan, where it has one. It takes memory for the slots.
@@ -137,9 +168,11 @@ pub fn solve_from_to<A: Advisers, F: Shelf>(
     ensures failed { result ≡ Err Stop.Failed
         → Rose (F.write_faults files.old) (F.write_faults files.new) }
 {
-    let program = program_of(alloc, plant)?;
-    let point = point_of(alloc, plant, start)?;
-    let judged = plant_root(alloc, plant)?;
+    let Whole {
+        program,
+        judged,
+        point,
+    } = whole_of(alloc, plant, start)?;
     solve_rows_to::<A, _>(
         alloc, plant, program, judged, 0, budget, &point, files, name,
     )

@@ -7,7 +7,8 @@ use Rattle.proof_log.specs.Log.{claim_lines, item_lines, lines_text, log_text}
 use Rattle.proof_log.specs.Writer.{writing}
 use Rattle.row_relax.proofs.Choosing.{plain-images}
 use Rattle.plan_told.proofs.Texts.{plain-has}
-use Rattle.stn_solve.proofs.LogsLeft.{logged-begun, logged-broke, logged-whole, plain-left, plain-text, plain-told, told-bytes}
+use Rattle.logged_search.specs.Logging.{stored}
+use Rattle.logged_search.proofs.LogsLeft.{kept-finished, keeps-none, logged-begun, logged-broke, logged-whole, plain-left, plain-text, plain-told, told-bytes}
 use Rattle.stn_solve.proofs.BegunTold.{told-earns, worth-plain}
 use Rattle.stn_solve.proofs.SearchTold.{plain-places, plain-right, plain-search}
 use Rattle.stn_solve.proofs.Searchable.{part-searchable}
@@ -61,3 +62,20 @@ returns-clause-proof g c = λ judged.
 
 pub returns-clause-begun : goal.returns-clause-begun
 returns-clause-begun g c = told-earns c.args.plant.now c.args.rows.now.program c.args.start.now c.in_ok-ended.field-0.ended c.in_ok-told.told (worth-plain c.args.rows.now c.args.start.now c.in_ok-ended.field-0.ended.best c.requires.plain c.in_ok-ended.ensures.begun) c.in_ok-told.ensures
+
+pub returns-in_err-head-clause-kept : goal.returns-in_err-head-clause-kept
+returns-in_err-head-clause-kept g c = keeps-none (stored g.F.Shelf.files g.F.Shelf.read_faults g.F.Shelf.may_read g.F.Shelf.may_write c.args.name.now c.args.files.now)
+
+pub returns-in_err-ended-clause-kept : goal.returns-in_err-ended-clause-kept
+returns-in_err-ended-clause-kept g c = c.in_err-ended.ensures.kept
+
+pub returns-in_err-told-clause-kept : goal.returns-in_err-told-clause-kept
+returns-in_err-told-clause-kept g c = c.in_ok-ended.ensures.kept
+
+pub returns-in_err-finish-clause-kept : goal.returns-in_err-finish-clause-kept
+returns-in_err-finish-clause-kept g c =
+    kept-finished g.F.Shelf.files g.F.Shelf.read_faults g.F.Shelf.may_read g.F.Shelf.may_write c.args.name.now c.in_ok-ended.field-0.writer c.args.files.now c.search_logged.new.files c.finish.new.files c.in_ok-ended.ensures.logged.named c.in_ok-ended.ensures.kept c.in_err-finish.ensures.broke.keeps
+
+pub returns-clause-kept : goal.returns-clause-kept
+returns-clause-kept g c =
+    kept-finished g.F.Shelf.files g.F.Shelf.read_faults g.F.Shelf.may_read g.F.Shelf.may_write c.args.name.now c.in_ok-ended.field-0.writer c.args.files.now c.search_logged.new.files c.finish.new.files c.in_ok-ended.ensures.logged.named c.in_ok-ended.ensures.kept c.in_ok-finish.ensures.took.keeps

@@ -11,24 +11,24 @@ use Rattle.stn_solve.proofs.BegunTold.{begun-if}
 use Rattle.stn_solve.proofs.plant.plan_from.Goals as goal
 
 pub plan_rows-requires-clause-part : goal.plan_rows-requires-clause-part
-plan_rows-requires-clause-part g c = whole-is_part c.args.plant.now c.in_ok-program.program c.in_ok-program.ensures.made c.in_ok-program.ensures.means
+plan_rows-requires-clause-part g c = whole-is_part c.args.plant.now c.in_ok-program.field-0.program c.in_ok-program.ensures.made c.in_ok-program.ensures.means
 
 pub plan_rows-requires-clause-ranges : goal.plan_rows-requires-clause-ranges
-plan_rows-requires-clause-ranges g c = subst (AreRanges c.in_ok-program.program) (sym c.in_ok-judged.ensures) (plant-ranges c.args.plant.now c.in_ok-program.program c.in_ok-program.ensures.made)
+plan_rows-requires-clause-ranges g c = subst (AreRanges c.in_ok-program.field-0.program) (sym c.in_ok-program.ensures.judged) (plant-ranges c.args.plant.now c.in_ok-program.field-0.program c.in_ok-program.ensures.made)
 
 pub returns-clause-outcome : goal.returns-clause-outcome
 returns-clause-outcome g c =
     IfOk-weaker c.plan_rows.result _ _
-    (λ outcome right. whole-outcome c.args.plant.now c.in_ok-program.program c.args.budget outcome c.requires.sound c.in_ok-program.ensures.made c.in_ok-program.ensures.means right)
+    (λ outcome right. whole-outcome c.args.plant.now c.in_ok-program.field-0.program c.args.budget outcome c.requires.sound c.in_ok-program.ensures.made c.in_ok-program.ensures.means right)
     c.plan_rows.ensures.outcome
 
 pub returns-clause-proof : goal.returns-clause-proof
 returns-clause-proof g c =
     IfOk-weaker c.plan_rows.result _ _
-    (λ (outcome : Outcome) (has : HasProof c.args.plant.now c.in_ok-program.program c.in_ok-judged.judged None outcome). record { program = c.in_ok-program.program; made = c.in_ok-program.ensures.made; means = c.in_ok-program.ensures.means; has = subst (λ (ds : List Domain). HasProof c.args.plant.now c.in_ok-program.program ds None outcome) c.in_ok-judged.ensures has })
+    (λ (outcome : Outcome) (has : HasProof c.args.plant.now c.in_ok-program.field-0.program c.in_ok-program.field-0.judged None outcome). record { program = c.in_ok-program.field-0.program; made = c.in_ok-program.ensures.made; means = c.in_ok-program.ensures.means; has = subst (λ (ds : List Domain). HasProof c.args.plant.now c.in_ok-program.field-0.program ds None outcome) c.in_ok-program.ensures.judged has })
     c.plan_rows.ensures.proof
 
 pub returns-clause-begun : goal.returns-clause-begun
 returns-clause-begun g c =
-    begun-if c.args.plant.now c.in_ok-program.program c.args.start.now c.deref.result.now c.plan_rows.result c.requires.sound (whole-is_part c.args.plant.now c.in_ok-program.program c.in_ok-program.ensures.made c.in_ok-program.ensures.means)
-    c.in_ok-program.ensures.means (λ has. c.deref.ensures.value ∙ c.in_ok-point.ensures has) c.plan_rows.ensures.begun
+    begun-if c.args.plant.now c.in_ok-program.field-0.program c.args.start.now c.deref.result.now c.plan_rows.result c.requires.sound (whole-is_part c.args.plant.now c.in_ok-program.field-0.program c.in_ok-program.ensures.made c.in_ok-program.ensures.means)
+    c.in_ok-program.ensures.means (λ has. c.deref.ensures.value ∙ c.in_ok-program.ensures.point has) c.plan_rows.ensures.begun

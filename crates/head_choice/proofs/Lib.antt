@@ -1,0 +1,4 @@
+pub mod FactorsRise
+pub mod HeadChosen
+pub mod UnitsRise
+pub mod UnitsSet

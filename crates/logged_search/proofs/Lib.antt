@@ -1,0 +1,5 @@
+pub mod BegunLog
+pub mod Both
+pub mod EmptyLog
+pub mod EmptySearch
+pub mod LogsLeft

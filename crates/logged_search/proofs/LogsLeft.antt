@@ -1,0 +1,160 @@
+-- What the steps of writing a log leave of the files.
+use Rattle.std.proofs.Common.{◌≡◌, ◌≢◌, ℕ, Bool, true, false, List, [], ◌∷◌, ◌++◌, flat_map, string_bytes, Option, None, Some, IfSome, refl, sym, ap, ◌∙◌, subst, inl, inr}
+use Rattle.std.specs.Prelude.{◌⊎◌}
+use Rattle.std.specs.Option.{option_map}
+use Rattle.std.specs.FinMap.{get}
+use Rattle.std.proofs.lemmas.List.{append-nil}
+use Rattle.stn_edge.specs.Files.{FileMap, MayClear, OthersStay, cleared, file_of}
+use Rattle.stn_edge.proofs.FileLemmas.{get-cleared_other}
+use Rattle.stn_model.specs.declared.plant.Plant.{Plant}
+use Rattle.row_kit.specs.declared.domain.Domain.{Domain}
+use Rattle.row_kit.specs.declared.program.Program.{Program}
+use Rattle.row_relax.specs.declared.rows.Rows.{Rows}
+use Rattle.row_relax.specs.Choices.{plain}
+use Rattle.row_relax.specs.RowProofs.{RowItem, RowTree}
+use Rattle.row_relax.proofs.Choosing.{plain-rows}
+use Rattle.proof_tree.specs.Items.{tree_items}
+use Rattle.log_lines.specs.declared.line.Line.TheVariants.{Header, End}
+use Rattle.proof_log.specs.declared.claim.Claim.{Claim}
+use Rattle.proof_log.specs.Log.{claim_lines, item_lines, lines_text, log_lines, log_text}
+use Rattle.proof_log.specs.declared.writer.LogWriter.{LogWriter}
+use Rattle.proof_log.specs.Writer.{Broke, IsWhole, KeepsOthers, Took, Writing, writing, written}
+use Rattle.proof_log.proofs.Lines.{lines_text-append}
+use Rattle.proof_log.proofs.Writing.{IsWhole-took}
+use Rattle.sum_slots.specs.declared.sum.Sum.{Sum}
+use Rattle.derivations.specs.declared.derivation.Derivation.{Derivation}
+use Rattle.plan_told.specs.Heads.{CanHead, whole_head}
+use Rattle.plan_told.specs.Proofs.{LeavesSomeBegun, IsSomeLogBegun, bytes_in}
+use Rattle.logged_search.specs.Logging.{IsBegun, IsLogged, LeavesBegun, stored}
+use Rattle.logged_search.proofs.BegunLog.{begun-finish, begun-took}
+
+others_cleared : (name other : List ℕ) (files : Option FileMap) → other ≢ name → option_map (λ (m : FileMap). get m other) (option_map (cleared name) files) ≡ option_map (λ (m : FileMap). get m other) files
+others_cleared name other None apart = refl
+others_cleared name other (Some files) apart = ap Some (get-cleared_other name files other apart)
+
+-- to clear a file leaves the others as they are
+pub others-clear : (name : List ℕ) (old new : Option FileMap) → new ≡ option_map (cleared name) old → OthersStay name old new
+others-clear name old new is other apart = ap (option_map (λ (m : FileMap). get m other)) is ∙ others_cleared name other old apart
+
+pub others-may_clear : (name : List ℕ) (old new : Option FileMap) → MayClear name old new → OthersStay name old new
+others-may_clear name old new (inl same) other apart = ap (option_map (λ (m : FileMap). get m other)) same
+others-may_clear name old new (inr is) other apart = others-clear name old new is other apart
+
+-- a log that was begun is begun after an attempt that did not end
+pub left-then : (rows : Rows) (floors : Bool) (head name : List ℕ) (mid new : Option FileMap) → IfSome (bytes_in name mid) (IsBegun rows floors head) → LeavesBegun rows floors head name mid new → IfSome (bytes_in name new) (IsBegun rows floors head)
+left-then rows floors head name mid new begun (inl same) = subst (λ (files : Option FileMap). IfSome (bytes_in name files) (IsBegun rows floors head)) (sym same) begun
+left-then rows floors head name mid new begun (inr is) = is
+
+-- a log that lacks its claim is begun
+pub logged-begun : {Is : RowTree → Type 0} (rows : Rows) (floors : Bool) (head name : List ℕ) (at : Writing) → IsLogged Is rows floors head name at → IfSome (bytes_in name at.files) (IsBegun rows floors head)
+logged-begun rows floors head name at is =
+    let begun = begun-took rows floors head is.first at is.tree (tree_items is.tree) [] is.header (sym (append-nil (tree_items is.tree))) is.writable is.took in
+    subst (λ (own : List ℕ). IfSome (bytes_in own at.files) (IsBegun rows floors head)) (sym is.took.keeps.name ∙ is.named) begun
+
+-- a log whose claim was not written, or in part, is begun
+pub logged-broke : {Is : RowTree → Type 0} (rows : Rows) (floors : Bool) (head name : List ℕ) (at new : Writing) (claim : Claim) → IsLogged Is rows floors head name at
+    → Broke at new (lines_text (claim_lines claim ++ End ∷ [])) → IfSome (bytes_in name new.files) (IsBegun rows floors head)
+logged-broke rows floors head name at new claim is broke =
+    let begun = begun-finish rows floors head is.first at new is.tree claim is.header is.writable is.took broke in
+    subst (λ (own : List ℕ). IfSome (bytes_in own new.files) (IsBegun rows floors head)) (sym is.took.keeps.name ∙ is.named) begun
+
+-- what was taken or not wholly taken keeps the rest
+pub handed-keeps : (old new : Writing) (text : List ℕ) → Took old new text ⊎ Broke old new text → KeepsOthers old new
+handed-keeps old new text (inl took) = took.keeps
+handed-keeps old new text (inr broke) = broke.keeps
+
+-- what a log is begun in and what takes its items leave of a store
+pub kept-handed : {S : Type 0} (files : S → Option FileMap) (reads : S → ℕ) (may_read may_write : S → List ℕ → Bool) (name : List ℕ) (writer writer_after : LogWriter) (before store store_after : S)
+    → string_bytes writer.name ≡ name → OthersStay name (files before) (files store) → reads store ≡ reads before → may_read store ≡ may_read before → may_write store ≡ may_write before
+    → KeepsOthers (writing files reads may_read may_write writer store) (writing files reads may_read may_write writer_after store_after)
+    → KeepsOthers (stored files reads may_read may_write name before) (stored files reads may_read may_write name store_after)
+kept-handed files reads may_read may_write name writer writer_after before store store_after named others no_read readable writable keeps = record {
+  name = refl;
+  others = λ other apart. keeps.others other (λ is. apart (is ∙ named)) ∙ others other apart;
+  reads = keeps.reads ∙ no_read;
+  may_read = keeps.may_read ∙ readable;
+  may_write = keeps.may_write ∙ writable;
+}
+
+-- where nothing was done all stays
+pub keeps-none : (at : Writing) → KeepsOthers at at
+keeps-none at = record { name = refl; others = λ other apart. refl; reads = refl; may_read = refl; may_write = refl }
+
+-- what the steps before leave of a store, and what writes the end of a log
+pub kept-finished : {S : Type 0} (files : S → Option FileMap) (reads : S → ℕ) (may_read may_write : S → List ℕ → Bool) (name : List ℕ) (writer : LogWriter) (before store store_after : S)
+    → string_bytes writer.name ≡ name → KeepsOthers (stored files reads may_read may_write name before) (stored files reads may_read may_write name store)
+    → KeepsOthers (writing files reads may_read may_write writer store) (written files reads may_read may_write writer store_after)
+    → KeepsOthers (stored files reads may_read may_write name before) (stored files reads may_read may_write name store_after)
+kept-finished files reads may_read may_write name writer before store store_after named first keeps = record {
+  name = refl;
+  others = λ other apart. keeps.others other (λ is. apart (is ∙ named)) ∙ first.others other apart;
+  reads = keeps.reads ∙ first.reads;
+  may_read = keeps.may_read ∙ first.may_read;
+  may_write = keeps.may_write ∙ first.may_write;
+}
+
+-- all items of the proof stand behind the head in the log that lacks its claim
+pub logged-whole : {Is : RowTree → Type 0} (rows : Rows) (floors : Bool) (head name : List ℕ) (at : Writing) → (is : IsLogged Is rows floors head name at)
+    → IsWhole at (head ++ lines_text (flat_map item_lines (tree_items is.tree)))
+logged-whole rows floors head name at is = IsWhole-took is.first at head (lines_text (flat_map item_lines (tree_items is.tree))) is.header is.took
+
+-- what is known of the bytes that are told, weaker
+told_weaker : (told : Option (List ℕ)) (P Q : List ℕ → Type 0) → ((bytes : List ℕ) → P bytes → Q bytes) → IfSome told P → IfSome told Q
+told_weaker None P Q step is = tt
+told_weaker (Some bytes) P Q step is = step bytes is
+
+-- the text of a log of version 2 is that of its lines behind the header
+pub plain-text : (items : List RowItem) (claim : Claim) → lines_text (Header 2 ∷ []) ++ lines_text (flat_map item_lines items ++ (claim_lines claim ++ End ∷ [])) ≡ log_text 2 items claim
+unfolding log_lines log_text
+plain-text items claim = sym (lines_text-append (Header 2 ∷ []) (flat_map item_lines items ++ (claim_lines claim ++ End ∷ [])))
+
+-- the same of a log of which more is known
+pub logged-as : {Is Was : RowTree → Type 0} (rows : Rows) (floors : Bool) (head name : List ℕ) (at : Writing) → ((tree : RowTree) → Is tree → Was tree) → IsLogged Is rows floors head name at → IsLogged Was rows floors head name at
+logged-as rows floors head name at then' is =
+    record { tree = is.tree; is = then' is.tree is.is; writable = is.writable; named = is.named; first = is.first; header = is.header; took = is.took }
+
+-- a log with the header that was begun is one of version 2
+plain_begun : (plant : Plant) (part : Program) (judged : List Domain) (bytes : List ℕ) → IsBegun (plain part) false (lines_text (Header 2 ∷ [])) bytes → IsSomeLogBegun plant part judged bytes
+plain_begun plant part judged bytes begun = record {
+  sums = [];
+  units = [];
+  derivations = [];
+  rows = plain part;
+  tree = begun.tree;
+  own = begun.claim;
+  rest = begun.rest;
+  is = inl ((refl, refl, refl, refl, begun.text ∙ plain-text (tree_items begun.tree) begun.claim), begun.writable);
+}
+
+-- so it is what an attempt leaves that did not end
+pub plain-told : (plant : Plant) (rows : Rows) (judged : List Domain) (head name : List ℕ) (files : Option FileMap) → rows.choices ≡ None → head ≡ lines_text (Header 2 ∷ []) → IfSome (bytes_in name files) (IsBegun rows false head)
+    → IfSome (bytes_in name files) (IsSomeLogBegun plant rows.program judged)
+plain-told plant rows judged head name files none is begun =
+    told_weaker (bytes_in name files) (IsBegun rows false head) (IsSomeLogBegun plant rows.program judged)
+    (λ bytes b. plain_begun plant rows.program judged bytes (subst (λ (r : Rows). IsBegun r false (lines_text (Header 2 ∷ [])) bytes) (plain-rows rows none) (subst (λ (h : List ℕ). IsBegun rows false h bytes) is b))) begun
+
+pub plain-left : (plant : Plant) (rows : Rows) (judged : List Domain) (head name : List ℕ) (old new : Option FileMap) → rows.choices ≡ None → head ≡ lines_text (Header 2 ∷ []) → LeavesBegun rows false head name old new
+    → LeavesSomeBegun plant rows.program judged name old new
+plain-left plant rows judged head name old new none is (inl same) = inl same
+plain-left plant rows judged head name old new none is (inr begun) = inr (plain-told plant rows judged head name new none is begun)
+
+module _ (plant : Plant) (part : Program) (rows : Rows) (judged : List Domain) (sums : List Sum) (units : List ℕ) (derivations : List Derivation) (head name : List ℕ) (can : CanHead plant part judged sums units derivations rows)
+    (is : head ≡ whole_head sums units derivations) where
+  -- a log with a head that was begun is one of version 4
+  headed_begun : (bytes : List ℕ) → IsBegun rows true head bytes → IsSomeLogBegun plant part judged bytes
+  headed_begun bytes given =
+      let begun = subst (λ (h : List ℕ). IsBegun rows true h bytes) is given in
+      record { sums = sums; units = units; derivations = derivations; rows = rows; tree = begun.tree; own = begun.claim; rest = begun.rest; is = inr ((can.enlarged, begun.text), begun.writable) }
+
+  -- so it is what an attempt leaves that did not end
+  pub headed-told : (files : Option FileMap) → IfSome (bytes_in name files) (IsBegun rows true head) → IfSome (bytes_in name files) (IsSomeLogBegun plant part judged)
+  headed-told files begun = told_weaker (bytes_in name files) (IsBegun rows true head) (IsSomeLogBegun plant part judged) headed_begun begun
+
+  pub headed-left : (old new : Option FileMap) → LeavesBegun rows true head name old new → LeavesSomeBegun plant part judged name old new
+  headed-left old new (inl same) = inl same
+  headed-left old new (inr begun) = inr (headed-told new begun)
+
+-- the bytes of a file that is told are a text
+pub told-bytes : (name own : List ℕ) (files : Option FileMap) (text whole_text : List ℕ) → own ≡ name → text ≡ whole_text → IfSome files (λ m. file_of m own ≡ text) → IfSome (bytes_in name files) (λ bytes. bytes ≡ whole_text)
+told-bytes name own None text whole_text named same is = tt
+told-bytes name own (Some m) text whole_text named same is = ap (file_of m) (sym named) ∙ is ∙ same

@@ -1,0 +1,217 @@
+//! Searches whose proof is written to a log behind a head while they go on.
+ghost use Rattle.std.specs.Prelude.{◌≡◌, ◌≤◌, ◌↔◌, Bool, true, length, Err, IsTrue, IfOk, OnErr};
+ghost use Rattle.std.specs.List.{All};
+ghost use Rattle.stn_edge.specs.Count.{Rose};
+ghost use Rattle.row_kit.specs.Domain.{IsOpen};
+ghost use Rattle.row_relax.specs.Choices.{HaveImages, choices_of};
+ghost use Rattle.branch_tree.specs.Searched.{AreSearchable, IsExact, IsSearch, IsWorth};
+ghost use Rattle.plan_told.specs.Ended.{IsEmptyRoot, IsEnding};
+ghost use Rattle.proof_log.specs.Writer.{KeepsOthers, writing};
+ghost use Rattle.logged_search.specs.Logging.{HasFewSplits, IsLogged, LeavesBegun, stored};
+
+use crate::searching::empty_end;
+use crate::split_rules::SplitRules;
+use advised_search::{search_advised, search_hinted};
+use box_advice::Advisers;
+use branch_tree::{Ended, is_searchable};
+use log_lines::{Line, put_line};
+use proof_log::LogWriter;
+use proof_tree::TakeStop;
+use row_relax::Rows;
+use std::alloc::Global;
+use stn_edge::{Shelf, Stop};
+
+/// What a search ended with, and the writer of its log, which lacks the claim.
+#[derive(Drop)]
+pub struct Logged {
+    pub ended: Ended,
+    pub writer: LogWriter,
+}
+
+/// Searches the root with the advice on plans, and where its count is not exact anew without it, log and all. A root in which some slot
+/// has no value is one empty box. The log begins with a head.
+pub fn search_logged<A: Advisers, F: Shelf>(
+    alloc: Global,
+    rows: &Rows,
+    rules: SplitRules,
+    budget: u32,
+    start: &[u8],
+    head: &[u8],
+    files: &mut F,
+    name: &str,
+) -> Result<Logged, Stop>
+    requires images { HaveImages rows.now }
+    requires splits { HasFewSplits rows.now.program }
+    requires rows { length rows.now.program.rows ≤ 50000 }
+    requires budget { (1 ≤ budget) × (budget ≤ 100000) }
+    requires allowed { IsTrue (F.may_write files.old name.now) }
+    ensures logged { IfOk result (λ logged. IsLogged
+        (IsEnding rows.now rules.floors rules.given budget logged.ended)
+        rows.now rules.floors head.now name.now
+        (writing F.files F.read_faults F.may_read F.may_write logged.writer files.new)) }
+    ensures begun { IfOk result
+        (λ logged. IsWorth (choices_of rows.now) start.now logged.ended.best) }
+    ensures err { OnErr result (LeavesBegun rows.now rules.floors head.now name.now
+        (F.files files.old) (F.files files.new)) }
+    ensures kept { KeepsOthers
+        (stored F.files F.read_faults F.may_read F.may_write name.now files.old)
+        (stored F.files F.read_faults F.may_read F.may_write name.now files.new) }
+    ensures later { F.write_faults files.old ≤ F.write_faults files.new }
+    ensures failed { result ≡ Err Stop.Failed
+        → Rose (F.write_faults files.old) (F.write_faults files.new) }
+{
+    if !is_searchable(&rows.program) {
+        return log_empty(alloc, rows, head, files, name);
+    }
+    let (logged, exact) = log_advised::<A, _>(
+        alloc, rows, rules, budget, start, head, files, name,
+    )?;
+    if exact {
+        return Ok(logged);
+    }
+    log_hinted::<A, _>(alloc, rows, rules, budget, start, head, files, name)
+}
+
+// Begins a log and writes the proof of one empty box: some slot of the root has no value.
+fn log_empty<F: Shelf>(
+    alloc: Global,
+    rows: &Rows,
+    head: &[u8],
+    files: &mut F,
+    name: &str,
+) -> Result<Logged, Stop>
+    requires bare { ¬ All IsOpen rows.now.program.root }
+    requires allowed { IsTrue (F.may_write files.old name.now) }
+    ensures logged { (floors : Bool)
+        → IfOk result (λ logged. IsLogged (IsEmptyRoot rows.now.program logged.ended)
+        rows.now floors head.now name.now
+        (writing F.files F.read_faults F.may_read F.may_write logged.writer files.new)) }
+    ensures err { (floors : Bool)
+        → OnErr result (LeavesBegun rows.now floors head.now name.now
+        (F.files files.old) (F.files files.new)) }
+    ensures kept { KeepsOthers
+        (stored F.files F.read_faults F.may_read F.may_write name.now files.old)
+        (stored F.files F.read_faults F.may_read F.may_write name.now files.new) }
+    ensures later { F.write_faults files.old ≤ F.write_faults files.new }
+    ensures failed { result ≡ Err Stop.Failed
+        → Rose (F.write_faults files.old) (F.write_faults files.new) }
+{
+    let mut text = Vec::from_slice(alloc, head)?;
+    put_line(alloc, &Line::Node, &mut text)?;
+    put_line(alloc, &Line::Empty, &mut text)?;
+    let writer = LogWriter::begin_with(alloc, files, name, text.as_slice())?;
+    let ended = empty_end();
+    Ok(Logged { ended, writer })
+}
+
+// Begins a log and writes the proof of a search with both advisers. The answer also says whether its count is exact.
+fn log_advised<A: Advisers, F: Shelf>(
+    alloc: Global,
+    rows: &Rows,
+    rules: SplitRules,
+    budget: u32,
+    start: &[u8],
+    head: &[u8],
+    files: &mut F,
+    name: &str,
+) -> Result<(Logged, bool), Stop>
+    requires searchable { AreSearchable rows.now }
+    requires budget { (1 ≤ budget) × (budget ≤ 100000) }
+    requires allowed { IsTrue (F.may_write files.old name.now) }
+    ensures logged { IfOk result (λ found.
+        IsLogged
+        (λ tree. IsSearch rows.now rules.floors rules.given budget tree found.0.ended)
+        rows.now rules.floors head.now name.now
+        (writing F.files F.read_faults F.may_read F.may_write found.0.writer files.new)) }
+    ensures begun { IfOk result
+        (λ found. IsWorth (choices_of rows.now) start.now found.0.ended.best) }
+    ensures exact { IfOk result
+        (λ found. found.1 ≡ true → IsExact rows.now.program budget found.0.ended) }
+    ensures err { OnErr result (LeavesBegun rows.now rules.floors head.now name.now
+        (F.files files.old) (F.files files.new)) }
+    ensures kept { KeepsOthers
+        (stored F.files F.read_faults F.may_read F.may_write name.now files.old)
+        (stored F.files F.read_faults F.may_read F.may_write name.now files.new) }
+    ensures later { F.write_faults files.old ≤ F.write_faults files.new }
+    ensures failed { result ≡ Err Stop.Failed
+        → Rose (F.write_faults files.old) (F.write_faults files.new) }
+{
+    let mut writer = LogWriter::begin_with(alloc, files, name, head)?;
+    match search_advised::<A, _, _>(
+        alloc,
+        rows,
+        rules.given,
+        rules.floors,
+        budget,
+        start,
+        &mut writer,
+        files,
+    ) {
+        Ok(guided) => {
+            let exact = guided.exact;
+            let logged = Logged {
+                ended: guided.ended,
+                writer,
+            };
+            Ok((logged, exact))
+        }
+        Err(stop) => Err(stop_of(stop)),
+    }
+}
+
+// Begins a log and writes the proof of a search without a guide.
+fn log_hinted<A: Advisers, F: Shelf>(
+    alloc: Global,
+    rows: &Rows,
+    rules: SplitRules,
+    budget: u32,
+    start: &[u8],
+    head: &[u8],
+    files: &mut F,
+    name: &str,
+) -> Result<Logged, Stop>
+    requires searchable { AreSearchable rows.now }
+    requires budget { (1 ≤ budget) × (budget ≤ 100000) }
+    requires allowed { IsTrue (F.may_write files.old name.now) }
+    ensures logged { IfOk result (λ logged.
+        IsLogged
+        (λ tree. IsSearch rows.now rules.floors rules.given budget tree logged.ended)
+        rows.now rules.floors head.now name.now
+        (writing F.files F.read_faults F.may_read F.may_write logged.writer files.new)) }
+    ensures begun { IfOk result
+        (λ logged. IsWorth (choices_of rows.now) start.now logged.ended.best) }
+    ensures exact { IfOk result (λ logged. IsExact rows.now.program budget logged.ended) }
+    ensures err { OnErr result (LeavesBegun rows.now rules.floors head.now name.now
+        (F.files files.old) (F.files files.new)) }
+    ensures kept { KeepsOthers
+        (stored F.files F.read_faults F.may_read F.may_write name.now files.old)
+        (stored F.files F.read_faults F.may_read F.may_write name.now files.new) }
+    ensures later { F.write_faults files.old ≤ F.write_faults files.new }
+    ensures failed { result ≡ Err Stop.Failed
+        → Rose (F.write_faults files.old) (F.write_faults files.new) }
+{
+    let mut writer = LogWriter::begin_with(alloc, files, name, head)?;
+    match search_hinted::<A, _, _>(
+        alloc,
+        rows,
+        rules.given,
+        rules.floors,
+        budget,
+        start,
+        &mut writer,
+        files,
+    ) {
+        Ok(ended) => Ok(Logged { ended, writer }),
+        Err(stop) => Err(stop_of(stop)),
+    }
+}
+
+// Why an item was not written.
+fn stop_of(stop: TakeStop) -> Stop
+    ensures { result ≡ Stop.Failed ↔ stop ≡ TakeStop.Failed }
+{
+    match stop {
+        TakeStop::Failed => Stop::Failed,
+        TakeStop::Memory => Stop::Memory,
+    }
+}

@@ -1,9 +1,0 @@
--- There is room, so there is a program with the setups.
-use Rattle.std.proofs.Common.{ap, sym, ◌∙◌}
-use Rattle.std.specs.Prelude.{is_some}
-use Rattle.std.proofs.lemmas.Bool.{false≢true}
-use Rattle.stn_solve.proofs.UnitsSet.{room-enough}
-use Rattle.stn_solve.proofs.heading.with_units.Goals as goal
-
-pub unreachable-requires : goal.unreachable-requires
-unreachable-requires c = false≢true (sym (ap is_some c.in-None.is) ∙ c.in_ok-set.ensures.room.1 (room-enough c.args.plant.now c.args.between c.args.units.now c.requires.room))
