@@ -14,7 +14,7 @@ _stn_word() {
 }
 
 _stn() {
-    local current="${COMP_WORDS[COMP_CWORD]}" first=1 place kind
+    local current="${COMP_WORDS[COMP_CWORD]}" first=1 timed=0 place kind
     COMPREPLY=()
     while [[ "${COMP_WORDS[first]:-}" =~ ^--(quiet|prove|unproved)$ && $first -lt $COMP_CWORD ]]; do
         first=$((first + 1))
@@ -25,6 +25,12 @@ _stn() {
         mapfile -t COMPREPLY < <(compgen -W "$kind" -- "$current")
         return
     fi
+    # Behind `solve --seconds N [--gap PERCENT]` stand PLANT and LOG alone.
+    while [[ "${COMP_WORDS[first]}" == solve && "${COMP_WORDS[first + timed + 1]:-}" =~ ^--(seconds|gap)$ ]]; do
+        timed=$((timed + 2))
+    done
+    place=$((place - timed))
+    [ "$timed" -eq 0 ] || [ "$place" -ne 2 ] || place=3
     case "${COMP_WORDS[first]}" in
         help) kind=COMMAND ;;
         --install | --uninstall) kind=PREFIX ;;

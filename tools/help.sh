@@ -24,6 +24,9 @@ stn help COMMAND shows one command and its words. Before the words there may sta
     --quiet                  nothing is said beside the program's own answer
     --prove                  the program is proved and built first, and compared with the released one
     --unproved               it is compiled and run without proving anything
+behind `solve`, in the place of BUDGET,
+    --seconds N              it is planned for N seconds, by slices of `resume`; Ctrl-C ends with the best plan so far
+    --gap PERCENT            and no longer than until the gap between plan and cap is at most PERCENT
 and in their place
     --version                the version, and which program is run
     --path                   where the program stands

@@ -98,7 +98,7 @@ class Run:
     def status_6(self):
         budget = self.form.get("BUDGET", "")
         if self.line[:2] == ["#", "budget-spent"]:
-            return answers.spent(self.line[2:4], budget)
+            return answers.spent(self.line[2:4], budget, self.form.get("SECONDS", ""))
         if self.line[:2] == ["#", "conflict"]:
             return self.conflict()
         if self.line == ["#", "open"]:

@@ -8,13 +8,14 @@ def gap(profit, cap):
     return f"{tenths // 10}.{tenths % 10}"
 
 
-def spent(words, budget):
-    """`# budget-spent PROFIT CAP`; the budget is a text of digits, or nothing."""
+def spent(words, budget, seconds=""):
+    """`# budget-spent PROFIT CAP`; the budget, or the seconds in its place, is a text of digits, or nothing."""
     profit, cap = words
     begin = f"the budget of {count(int(budget), 'box')} was spent" if budget else "the budget was spent"
+    begin = f"planning for {count(int(seconds), 'second')} ended" if seconds else begin
     if profit == "-":
         return sentences(f"{begin} before a plan was found; none earns more than {grouped(int(cap))}",
-                         "Give more boxes; if none is found then either, `./stn least PLANT BUDGET` may say what a longer time would do")
+                         f"Give more {'seconds' if seconds else 'boxes'}; if none is found then either, `./stn least PLANT BUDGET` may say what a longer time would do")
     percent = gap(int(profit), int(cap))
     return sentences(f"{begin}: the plan that is printed earns {grouped(int(profit))}, and none earns more than {grouped(int(cap))}, a gap of {percent} percent",
                      do("answer", "budget spent"))

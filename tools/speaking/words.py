@@ -11,7 +11,9 @@ WRITES = {"solve": ("LOG", "STEM"), "replan": ("LOG",), "solve-part": ("LOG",), 
 
 
 def form_of(words):
-    """The form that the words have by their number, as pairs of a name and a word; or nothing."""
+    """The form that the words have by their number, as pairs of a name and a word; or nothing. `solve --seconds` is of the wrapper."""
+    if words[:2] == ["solve", "--seconds"]:
+        return dict(zip(("SECONDS", "PLANT", "LOG"), words[2:]))
     for form in FORMS:
         if words and form[0] == words[0] and len(form) == len(words):
             return dict(zip(form[1:], words[1:]))
@@ -24,7 +26,11 @@ def ends(command, name, form):
     if ("word", key) not in TABLE or choices(name):
         return None
     low, _, high = means("word", key).replace(",", "").partition(" to ")
-    return int(low), 2 ** int(form["LEVELS"]) - 1 if name == "PART" and number_of(form["LEVELS"], 1, 8) is not None else int(high)
+    if name == "PART" and number_of(form["LEVELS"], 1, 8) is not None:
+        high = 2 ** int(form["LEVELS"]) - 1
+    elif name == "SHARE" and number_of(form["SHARES"], 1, 256) is not None:
+        high = int(form["SHARES"]) - 1
+    return int(low), int(high)
 
 
 def choices(name):
@@ -55,8 +61,8 @@ def faults(words, form):
             yield f"{name} is an empty word, and should name a file"
     written = [it for it in ("LOG", "OUT") if it in form and it in WRITES.get(words[0], ())]
     for name in written:
-        for other in ("PLANT", "PLAN"):
-            if form.get(other) == form[name]:
+        for other in ("PLANT", "PLAN", "LOG"):
+            if other != name and form.get(other) == form[name]:
                 yield f"{name} and {other} are the same file, `{short(form[name], 60)}`: {name} is written, so it needs a name of its own"
     yield from stem_faults(words, form)
 

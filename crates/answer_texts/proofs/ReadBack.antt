@@ -193,9 +193,9 @@ first-remark (BudgetSpent plan earned bound) small =
     )
 
 -- the comment of a number
-number-remark : (word : List ℕ) (n : ℕ) → IsRemark word → n < 2 ^ 32 → IsRemark (word ++ decimal n) × (length (word ++ decimal n) ≤ length word + 10)
+number-remark : (word : List ℕ) (n : ℕ) → IsRemark word → n < 2 ^ 64 → IsRemark (word ++ decimal n) × (length (word ++ decimal n) ≤ length word + 20)
 number-remark word n plain small =
-    let digits = length-decimal-le_wide 10 n (omega (arith, small)) (omega arith) (omega arith) in
+    let digits = length-decimal-le_wide 20 n (omega (arith, small)) (omega arith) (omega arith) in
     let long = length-append word (decimal n) in
     (after_word word (decimal n) plain (decimal-remark n (omega (arith, small))), omega (arith, long, digits))
 
@@ -204,15 +204,15 @@ abbrev pub IsFew : Option ℕ → Type 0
 IsFew changed = IfSome changed (λ count. count < 2 ^ 32)
 
 -- the comments of an answer
-are_remarks : (answer : Answer) (used : ℕ) (changed : Option ℕ) → IsInMoney answer → used ≤ 100000 → IsFew changed → AreRemarks (remarks answer used changed)
+are_remarks : (answer : Answer) (used : ℕ) (changed : Option ℕ) → IsInMoney answer → used < 2 ^ 64 → IsFew changed → AreRemarks (remarks answer used changed)
 are_remarks answer used None small few count =
     let first = first-remark answer small in
-    let boxes = number-remark (codes " boxes ") used (plain_word (codes " boxes ") refl) (omega (arith, few)) in
+    let boxes = number-remark (codes " boxes ") used (plain_word (codes " boxes ") refl) few in
     both_remarks (first_remark answer) (codes " boxes " ++ decimal used) first.0 boxes.0 first.1 (omega (arith, boxes.1))
 are_remarks answer used (Some count) small few fewer =
     let first = first-remark answer small in
-    let boxes = number-remark (codes " boxes ") used (plain_word (codes " boxes ") refl) (omega (arith, few)) in
-    let changed = number-remark (codes " changed ") count (plain_word (codes " changed ") refl) fewer in
+    let boxes = number-remark (codes " boxes ") used (plain_word (codes " boxes ") refl) few in
+    let changed = number-remark (codes " changed ") count (plain_word (codes " changed ") refl) (omega (arith, fewer)) in
     three_remarks (first_remark answer) (codes " boxes " ++ decimal used) (codes " changed " ++ decimal count) first.0 boxes.0 changed.0 first.1 (omega (arith, boxes.1)) (omega (arith, changed.1))
 
 -- ---- the plan
@@ -284,7 +284,13 @@ reads-answer plant admits least count budget used (BudgetSpent (Some plan) earne
 pub reads-back : (plant : Plant) (admits : List Start → Type 0) (least : List Start) (count budget used : ℕ) (changed : Option ℕ) (answer : Answer) → Sound plant → ((plan : List Start) → admits plan → Feasible plant plan)
     → IsAnswerOf plant admits least count budget used answer → IsInMoney answer → used ≤ 100000 → IsFew changed → plan_of_text plant (answer_text plant used changed answer) ≡ Ok (printed_plan answer)
 reads-back plant admits least count budget used changed answer sound some right small few fewer =
-    ap (plan_of_text plant) (answer-lines plant used changed answer) ∙ reads-answer plant admits least count budget used answer (remarks answer used changed) sound some right (are_remarks answer used changed small few fewer)
+    ap (plan_of_text plant) (answer-lines plant used changed answer) ∙ reads-answer plant admits least count budget used answer (remarks answer used changed) sound some right (are_remarks answer used changed small (omega (arith, few)) fewer)
+
+-- the text of an answer whose plan is short and can be written says it
+pub reads-printed : (plant : Plant) (used : ℕ) (changed : Option ℕ) (answer : Answer) → Sound plant → length (printed_plan answer) ≤ 512 → All (IsWritable plant) (printed_plan answer) → IsInMoney answer → used < 2 ^ 64 → IsFew changed
+    → plan_of_text plant (answer_text plant used changed answer) ≡ Ok (printed_plan answer)
+reads-printed plant used changed answer sound short can small few fewer =
+    ap (plan_of_text plant) (answer-lines plant used changed answer) ∙ reads-lines plant (printed_plan answer) (remarks answer used changed) sound short can (are_remarks answer used changed small few fewer)
 
 -- an outcome that is right of the admitted plans, and more than that, and its text are an answer of planning among them
 pub planned_if : {E : Type 0} (plant : Plant) (admits : List Start → Type 0) (least : List Start) (count budget : ℕ) (changed : Answer → Option ℕ) (IsRight HasProof : Outcome → Type 0) (outcome : Outcome) (r : Result Reply E)

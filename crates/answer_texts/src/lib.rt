@@ -18,5 +18,5 @@ pub use checking::{checked, claim_line};
 pub use kept::broken;
 pub use levels::{has_slots, refused_levels};
 pub use lines::{amount_line, numbered_defect};
-pub use planning::{bounded, in_money, planned, with_plan};
+pub use planning::{answered, bounded, in_money, planned, with_plan};
 pub use simulation::simulate_plan;

@@ -28,9 +28,30 @@ pub fn planned(
         × (reply.text.items
         ≡ answer_text plant.now outcome.now.boxes changed outcome.now.answer)) }
 {
-    let counts = boxes_lines(alloc, outcome.boxes, changed)?;
+    answered(
+        alloc,
+        plant,
+        &outcome.answer,
+        u64::from(outcome.boxes),
+        changed,
+    )
+}
+
+/// An answer with so many boxes, which says how many starts have changed where they are counted. It takes memory for its text.
+pub fn answered(
+    alloc: Global,
+    plant: &Plant,
+    answer: &Answer,
+    boxes: u64,
+    changed: Option<usize>,
+) -> Result<Reply, AllocError>
+    requires { IsNamedIn plant.now answer.now }
+    ensures { IfOk result (λ reply. (reply.status ≡ status_of answer.now)
+        × (reply.text.items ≡ answer_text plant.now boxes changed answer.now)) }
+{
+    let counts = boxes_lines(alloc, boxes, changed)?;
     let lines = counts.as_str();
-    match &outcome.answer {
+    match answer {
         Answer::Optimal { plan, profit } => {
             let text = optimal_text(alloc, plant, lines, plan, profit)?;
             Ok(Reply { status: 0, text })
@@ -75,7 +96,7 @@ pub fn bounded(amount: &i128)
 }
 
 // The line of the boxes, and that of the starts that have changed.
-fn boxes_lines(alloc: Global, boxes: u32, changed: Option<usize>) -> Result<String, AllocError>
+fn boxes_lines(alloc: Global, boxes: u64, changed: Option<usize>) -> Result<String, AllocError>
     ensures { IfOk result (λ lines. string_bytes lines ≡ boxes_lines boxes changed) }
 {
     match changed {

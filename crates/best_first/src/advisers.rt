@@ -4,13 +4,15 @@ ghost use Rattle.std.specs.List.{All};
 ghost use Rattle.row_kit.specs.Area.{present};
 ghost use Rattle.row_kit.specs.Domain.{IsOpen};
 
-use crate::explorer::{Explored, explore};
+use crate::explorer::{Explored, explore, explore_on};
 use crate::kept_guide::KeptGuide;
 use crate::kept_hinter::KeptHinter;
 use box_advice::{Advice, Advisers, Guide, Hinter};
 use derivations::Derivation;
-use explored_tree::Lead;
+use end_advice::{EndAdvisers, EndGuide, OpenEnd};
+use explored_tree::{Lead, Tree};
 use plan_hints::PlanHinter;
+use plan_repair::Kept;
 use row_activity::numbered;
 use row_kit::{Area, Domain, List, Program};
 use row_separation::{Effort, separate};
@@ -106,6 +108,65 @@ fn explored(
     Ok((SearchGuide::Best(guide), SearchHinter::Best(hinter)))
 }
 
+impl EndAdvisers for BestFirst {
+    type Guide = SearchGuide;
+
+    type Hinter = SearchHinter;
+
+    fn resumed(
+        alloc: Global,
+        program: &Program,
+        choices: &Program,
+        given: u32,
+        budget: u32,
+        ends: Vec<OpenEnd>,
+        start: &[u8],
+    ) -> Result<(SearchGuide, SearchHinter, Vec<u8>), AllocError> {
+        let roots = numbered(ends.len());
+        let tree = tree_of(alloc, program, ends)?;
+        let Explored { tree, best } = explore_on(
+            alloc, program, choices, given, budget, tree, start,
+        )?;
+        let lead = Lead::over(alloc, program, tree.nodes, roots, best.worth, budget)?;
+        let points = numbered(choices.root.len());
+        let guide = KeptGuide::new(alloc, program, given, points, lead)?;
+        let plan = values_of(alloc, &best)?;
+        let hinter = KeptHinter::new(best);
+        Ok((SearchGuide::Best(guide), SearchHinter::Best(hinter), plan))
+    }
+
+    fn in_order(
+        alloc: Global,
+        program: &Program,
+        choices: &Program,
+        given: u32,
+    ) -> Result<(SearchGuide, SearchHinter), AllocError> {
+        <BestFirst as Advisers>::hinted(alloc, program, choices, given, &[])
+    }
+}
+
+// The values of a plan; empty, where none is known.
+fn values_of(alloc: Global, best: &Kept) -> Result<Vec<u8>, AllocError> {
+    match best.worth {
+        Some(_) => Vec::from_slice(alloc, best.values.as_slice()),
+        None => Ok(Vec::new(alloc)),
+    }
+}
+
+// The tree of open ends.
+fn tree_of(alloc: Global, program: &Program, ends: Vec<OpenEnd>) -> Result<Tree, AllocError> {
+    let mut tree = Tree::empty(alloc, program);
+    for end in ends {
+        let OpenEnd {
+            depth,
+            cap,
+            domains,
+        } = end;
+        tree.put_root(depth, cap, domains)?;
+    }
+    Ok(tree)
+}
+
 // The number of points of a root, or the greatest number of 64 bits.
 fn point_count(program: &Program) -> u64 {
     let mut count = 1u64;
@@ -137,6 +198,16 @@ impl Guide for SearchGuide {
             SearchGuide::Depth(guide) => guide.advise(alloc, program, area, depth, best, point),
             SearchGuide::Best(guide) => guide.advise(alloc, program, area, depth, best, point),
             SearchGuide::Plain(guide) => guide.advise(alloc, program, area, depth, best, point),
+        }
+    }
+}
+
+impl EndGuide for SearchGuide {
+    fn enters(&mut self, _program: &Program, number: u32, depth: u32) -> bool {
+        match self {
+            SearchGuide::Depth(_) => true,
+            SearchGuide::Best(guide) => guide.enters(number, depth),
+            SearchGuide::Plain(_) => true,
         }
     }
 }

@@ -53,7 +53,21 @@ pub fn explore(
     budget: u32,
     start: &[u8],
 ) -> Result<Explored, AllocError> {
-    let mut explorer = Explorer::new(alloc, program, choices, given, start)?;
+    let tree = Tree::new(alloc, program)?;
+    explore_on(alloc, program, choices, given, budget, tree, start)
+}
+
+/// Searches on from the boxes of a tree that are still to be explored, in the same way. Plans are looked for from the point `start` on.
+pub fn explore_on(
+    alloc: Global,
+    program: &Program,
+    choices: &Program,
+    given: u32,
+    budget: u32,
+    tree: Tree,
+    start: &[u8],
+) -> Result<Explored, AllocError> {
+    let mut explorer = Explorer::new(alloc, program, choices, given, tree, start)?;
     match explorer.look_on(program, budget) {
         Ok(()) => Ok(explorer.ended()),
         Err(error) => {
@@ -73,9 +87,9 @@ impl<'a> Explorer<'a> {
         program: &Program,
         choices: &'a Program,
         given: u32,
+        tree: Tree,
         start: &[u8],
     ) -> Result<Explorer<'a>, AllocError> {
-        let tree = Tree::new(alloc, program)?;
         let points = numbered(choices.root.len());
         let best = Kept::new(alloc, choices)?;
         let guide = PlanGuide::new(alloc, program, given, points)?;

@@ -31,6 +31,11 @@ impl KeptGuide {
         let plain = PlanGuide::new(alloc, program, given, points)?;
         Ok(KeptGuide { lead, plain })
     }
+
+    /// Comes to an open end below so many splits; whether to search it.
+    pub fn enters(&mut self, number: u32, depth: u32) -> bool {
+        self.lead.enters(number, depth)
+    }
 }
 
 impl Guide for KeptGuide {

@@ -3,6 +3,7 @@ pub mod Caps
 pub mod CutsMade
 pub mod Depths
 pub mod Forgotten
+pub mod GoingOns
 pub mod Growing
 pub mod Handing
 pub mod Opened

@@ -28,7 +28,7 @@ use Rattle.proof_tree.specs.declared.capped.Capped.TheVariants.{AtMost, NoPoint,
 use Rattle.proof_tree.specs.Views.{KeepsViews, MovesTo, View, present as last_view}
 use Rattle.row_relax.specs.declared.pick.RowPick.{RowPick}
 use Rattle.row_relax.specs.Steps.{kept_at, row_steps, shown_if}
-use Rattle.row_relax.specs.View.{Fits, IsIn, domains_of, points_in}
+use Rattle.row_relax.specs.View.{Fits, domains_of, points_in}
 use Rattle.row_relax.specs.laws.Laws.{rows_sound}
 use Rattle.row_relax.specs.laws.Shown.{domains_there}
 use Rattle.row_relax.proofs.Marks.{domains-views}

@@ -12,7 +12,7 @@ use Rattle.row_kit.specs.declared.found.Found.{Found}
 use Rattle.row_kit.specs.declared.program.Program.{Program}
 use Rattle.row_kit.specs.declared.row.Row.{Row}
 use Rattle.row_kit.specs.Area.{present}
-use Rattle.row_kit.specs.Domain.{IsBare, IsNormal, IsOpen, IsSingle, count_of, domain_at, no_values, over, shared}
+use Rattle.row_kit.specs.Domain.{IsBare, IsNormal, IsOpen, count_of, domain_at, no_values, over, shared}
 use Rattle.range_prop.specs.Cut.{is_bare}
 use Rattle.range_prop.specs.Cuts.{AreDone, IsStill}
 use Rattle.dual_bound.specs.declared.cert.Cert.{Cert}
@@ -24,7 +24,7 @@ use Rattle.proof_tree.specs.declared.item.Item.TheVariants.{Node, Cut, Found as 
 use Rattle.proof_tree.specs.Views.{View}
 use Rattle.row_relax.specs.declared.pick.RowPick.{RowPick}
 use Rattle.row_relax.specs.Steps.{row_steps}
-use Rattle.row_relax.specs.View.{Fits, IsIn, domains_of}
+use Rattle.row_relax.specs.View.{Fits, domains_of}
 use Rattle.row_relax.specs.laws.Laws.{rows_sound}
 use Rattle.row_relax.proofs.Marks.{domains-views}
 use Rattle.row_relax.specs.declared.rows.Rows.{Rows}

@@ -1,3 +1,4 @@
+pub mod Deep
 pub mod Justified
 pub mod Searched
 pub mod Splits

@@ -10,6 +10,7 @@ mod cutting;
 mod ended;
 mod flooring;
 mod found;
+mod going_on;
 mod judging;
 mod picking;
 mod putting;
@@ -19,5 +20,6 @@ mod searching;
 
 pub use box_advice::{Advice, Guide, Hinter};
 pub use ended::{Ended, Guided, Searched};
+pub use going_on::{GoingOn, is_deep};
 pub use searchable::{are_plain_searchable, is_searchable};
 pub use searching::{search, search_guided, search_guided_to, search_to};

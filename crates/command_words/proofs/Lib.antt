@@ -3,3 +3,4 @@ pub mod StepWords
 pub mod LogWords
 pub mod PartWords
 pub mod UseWords
+pub mod ShareWords

@@ -7,7 +7,7 @@ use Rattle.std.specs.Prelude.{Option, Some, None, MatchOption}
 use Rattle.command_words.specs.declared.command.Command.{Command}
 use Rattle.command_words.specs.declared.command.PlanUse.TheVariants.{Simulate, Report, Picture, Table, Violations}
 use Rattle.plan_tables.specs.declared.kind.TableKind.{TableKind}
-use Rattle.command_words.specs.Words.{texts, Request, Says, HasNoForm, Solving, Logging, Simulating, Checking, Telling, Numbering, Upgrading, Showing, Replanning, ReplanLogging, CheckingReplan, Improving, Estimating, Seeking, Tracing, Auditing, Parting, PartSolving, Joining, NoListing, NoHorizons, NoParts, meaning, NoConflicts, Conflicting, ConflictLogging, CheckingConflict}
+use Rattle.command_words.specs.Words.{texts, Request, Says, HasNoForm, Solving, Logging, Simulating, Checking, Telling, Numbering, Upgrading, Showing, Replanning, ReplanLogging, CheckingReplan, Improving, Estimating, Seeking, Tracing, Auditing, Parting, PartSolving, Joining, Resuming, NoListing, NoHorizons, NoParts, meaning, NoConflicts, Conflicting, ConflictLogging, CheckingConflict}
 
 -- three words are the list of their texts
 pub three_texts : (words : List (Bor (List ℕ))) (d : Bor (List ℕ)) → 3 ≤ length words → length words < 4 → texts words ≡ (get_or words 0 d).now ∷ (get_or words 1 d).now ∷ (get_or words 2 d).now ∷ []
@@ -96,12 +96,13 @@ NoFiles words request = (first second : List ℕ) → ¬ Says words (request fir
 abbrev NoPlanning : List (List ℕ) → Type 0
 NoPlanning words = ((plant : List ℕ) (budget : ℕ) → ¬ Says words (Solving plant budget)) × ((plant log : List ℕ) (budget : ℕ) → ¬ Says words (Logging plant budget log))
 
--- the words say no planning from a plan that is given, with or without a log, and no check of one
+-- the words say no planning from a plan or a log that is given, with or without a log, and no check of one
 pub record NoReplanning (words : List (List ℕ)) : Type 0 where
   pub replan : (plant plan : List ℕ) (period budget : ℕ) → ¬ Says words (Replanning plant plan period budget)
   pub log : (plant plan log : List ℕ) (period budget : ℕ) → ¬ Says words (ReplanLogging plant plan period budget log)
   pub check : (plant plan log : List ℕ) (period : ℕ) → ¬ Says words (CheckingReplan plant plan period log)
   pub improve : (plant plan : List ℕ) (budget : ℕ) (log : Option (List ℕ)) → ¬ Says words (Improving plant plan budget log)
+  pub resume : (plant log out : List ℕ) (budget : ℕ) (share : Option (ℕ × ℕ)) → ¬ Says words (Resuming plant log budget out share)
 
 -- the words say no estimate by an old log
 abbrev NoEstimate : List (List ℕ) → Type 0
@@ -143,6 +144,7 @@ has_no_form words solve simulate report picture violations check replan estimate
 has_no_form words solve simulate report picture violations check replan estimate list other least conflict parts (Parting plant levels) = parts.parting plant levels
 has_no_form words solve simulate report picture violations check replan estimate list other least conflict parts (PartSolving plant levels part budget log) = parts.solving plant log levels part budget
 has_no_form words solve simulate report picture violations check replan estimate list other least conflict parts (Joining plant levels stem log) = parts.joining plant stem log levels
+has_no_form words solve simulate report picture violations check replan estimate list other least conflict parts (Resuming plant log budget out share) = replan.resume plant log out budget share
 
 -- the last form decides
 pub last_form : (words : List (List ℕ)) (command : Option Command) → NoPlanning words → NoFiles words (Simulating Simulate) → NoFiles words (Simulating Report) → NoFiles words (Simulating Picture) → NoFiles words (Simulating Violations) → NoFiles words Checking → NoReplanning words → NoEstimate words → NoListing words → NoOther words → NoHorizons words → NoConflicts words
@@ -180,3 +182,36 @@ pub last_conflict_form : (words : List (List ℕ)) (command : Option Command) �
     → MatchOption command ((plant stem : List ℕ) → ¬ Says words (CheckingConflict plant stem)) (λ c. Says words (meaning c)) → MatchOption command (NoConflicts words) (λ c. Says words (meaning c))
 last_conflict_form words None find log check = record { finding = find; logging = log; checking = check }
 last_conflict_form words (Some command) find log check = check
+
+-- going on from a log is said with a share or without one
+no_resuming : (words : List (List ℕ)) → ((plant log out : List ℕ) (budget : ℕ) → ¬ Says words (Resuming plant log budget out None)) → ((plant log out : List ℕ) (budget : ℕ) (share : ℕ × ℕ) → ¬ Says words (Resuming plant log budget out (Some share)))
+    → (plant log out : List ℕ) (budget : ℕ) (share : Option (ℕ × ℕ)) → ¬ Says words (Resuming plant log budget out share)
+no_resuming words all shared plant log out budget None = all plant log out budget
+no_resuming words all shared plant log out budget (Some share) = shared plant log out budget share
+
+-- the last form of going on from a log
+pub last_resume_form : (words : List (List ℕ)) (command : Option Command) → ((plant log out : List ℕ) (budget : ℕ) → ¬ Says words (Resuming plant log budget out None))
+    → MatchOption command ((plant log out : List ℕ) (budget : ℕ) (share : ℕ × ℕ) → ¬ Says words (Resuming plant log budget out (Some share))) (λ c. Says words (meaning c))
+    → MatchOption command ((plant log out : List ℕ) (budget : ℕ) (share : Option (ℕ × ℕ)) → ¬ Says words (Resuming plant log budget out share)) (λ c. Says words (meaning c))
+last_resume_form words None all shared = no_resuming words all shared
+last_resume_form words (Some command) all shared = shared
+
+-- seven words are the list of their texts
+pub seven_texts : (words : List (Bor (List ℕ))) (d : Bor (List ℕ)) → 7 ≤ length words → length words < 8 →
+    texts words ≡ (get_or words 0 d).now ∷ (get_or words 1 d).now ∷ (get_or words 2 d).now ∷ (get_or words 3 d).now ∷ (get_or words 4 d).now ∷ (get_or words 5 d).now ∷ (get_or words 6 d).now ∷ []
+seven_texts [] d least most = absurd (omega arith)
+seven_texts (a ∷ []) d least most = absurd (omega arith)
+seven_texts (a ∷ b ∷ []) d least most = absurd (omega arith)
+seven_texts (a ∷ b ∷ e ∷ []) d least most = absurd (omega arith)
+seven_texts (a ∷ b ∷ e ∷ f ∷ []) d least most = absurd (omega arith)
+seven_texts (a ∷ b ∷ e ∷ f ∷ g ∷ []) d least most = absurd (omega arith)
+seven_texts (a ∷ b ∷ e ∷ f ∷ g ∷ h ∷ []) d least most = absurd (omega arith)
+seven_texts (a ∷ b ∷ e ∷ f ∷ g ∷ h ∷ i ∷ []) d least most = refl
+seven_texts (a ∷ b ∷ e ∷ f ∷ g ∷ h ∷ i ∷ j ∷ rest) d least most = absurd (omega arith)
+
+-- seven words, of which the first is known
+pub seven_words : (words : List (Bor (List ℕ))) (d : Bor (List ℕ)) (first : List ℕ) → 7 ≤ length words → length words < 8 → true ≡ pointwise nat_eq (get_or words 0 d).now first →
+    texts words ≡ first ∷ (get_or words 1 d).now ∷ (get_or words 2 d).now ∷ (get_or words 3 d).now ∷ (get_or words 4 d).now ∷ (get_or words 5 d).now ∷ (get_or words 6 d).now ∷ []
+seven_words words d first least most same =
+    seven_texts words d least most
+    ∙ ap (λ (x : List ℕ). x ∷ (get_or words 1 d).now ∷ (get_or words 2 d).now ∷ (get_or words 3 d).now ∷ (get_or words 4 d).now ∷ (get_or words 5 d).now ∷ (get_or words 6 d).now ∷ []) (same_text _ _ same)

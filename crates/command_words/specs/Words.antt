@@ -8,6 +8,7 @@ use Rattle.command_words.specs.declared.command.PlanUse.{PlanUse}
 use Rattle.command_words.specs.declared.command.PlanUse.TheVariants.{Simulate, Report, Picture, Table, Violations}
 use Rattle.plan_tables.specs.declared.kind.TableKind.{TableKind}
 use Rattle.plan_tables.specs.declared.kind.TableKind.TheVariants.{Batches, Stocks, Loads, Units, Deliveries}
+use Rattle.command_words.specs.declared.share.Share.{Share}
 use Rattle.command_words.specs.declared.command.Command as declared
 use Rattle.command_words.specs.declared.command.Command.TheVariants as variants
 
@@ -35,6 +36,7 @@ pub data Request : Type 0 where
   Parting : (plant : List ℕ) (levels : ℕ) → Request
   PartSolving : (plant : List ℕ) (levels part budget : ℕ) (log : List ℕ) → Request
   Joining : (plant : List ℕ) (levels : ℕ) (stem log : List ℕ) → Request
+  Resuming : (plant log : List ℕ) (budget : ℕ) (out : List ℕ) (share : Option (ℕ × ℕ)) → Request
 
 -- the first word of a command that simulates a plan
 abbrev pub use_word : PlanUse → List ℕ
@@ -125,7 +127,19 @@ abbrev pub log_words : Option (List ℕ) → List (List ℕ)
 log_words None = []
 log_words (Some log) = log ∷ []
 
--- a log has a name, and is not written over the plant or the plan
+-- the words are the number of a share and how many shares there are, in decimal digits, without sign and leading zeros
+pub record AreShares (word words : List ℕ) (number shares : ℕ) : Type 0 where
+  pub digits : word ≡ decimal number
+  pub all_digits : words ≡ decimal shares
+  pub within : number < shares
+  pub most : shares ≤ 256
+
+-- the words that say a share are these, if there is one
+abbrev pub SayShare : List (List ℕ) → Option (ℕ × ℕ) → Type 0
+SayShare words None = words ≡ []
+SayShare words (Some share) = (word : List ℕ) × ((all : List ℕ) × ((words ≡ word ∷ all ∷ []) × AreShares word all share.0 share.1))
+
+-- a log has a name, and is not written over the plant or the other file that is read
 pub record IsLogBeside (plant plan log : List ℕ) : Type 0 where
   pub named : log ≢ []
   pub no_plant : log ≢ plant
@@ -169,6 +183,8 @@ Says words (PartSolving plant levels part budget log) =
 Says words (Joining plant levels stem log) =
     (parts : List ℕ) × ((words ≡ codes "join" ∷ plant ∷ parts ∷ stem ∷ log ∷ [])
     × (plant ≢ []) × (stem ≢ []) × (log ≢ []) × (log ≢ plant) × IsNoPartLog log stem levels × IsLevels parts levels)
+Says words (Resuming plant log budget out share) =
+    (most : List ℕ) × ((last : List (List ℕ)) × ((words ≡ codes "resume" ∷ plant ∷ log ∷ most ∷ out ∷ last) × (plant ≢ []) × (log ≢ []) × IsLogBeside plant log out × IsBudget most budget × SayShare last share))
 
 -- the words have the form of no command
 abbrev pub HasNoForm : List (List ℕ) → Type 0
@@ -201,6 +217,10 @@ pub record NoParts (words : List (List ℕ)) : Type 0 where
 abbrev pub named_log : Option (Bor (List ℕ)) → Option (List ℕ)
 named_log log = option_map (λ word. word.now) log
 
+-- the number of a share, and how many there are
+abbrev pub share_numbers : Share → ℕ × ℕ
+share_numbers share = (share.number, share.shares)
+
 -- what a command asks for
 abbrev pub meaning : declared.Command → Request
 meaning (variants.Solve plant budget) = Solving plant.now budget.boxes
@@ -225,3 +245,4 @@ meaning (variants.CheckConflict plant stem) = CheckingConflict plant.now stem.no
 meaning (variants.Parts plant levels) = Parting plant.now levels.number
 meaning (variants.SolvePart plant part budget log) = PartSolving plant.now part.levels.number part.number budget.boxes log.now
 meaning (variants.Join plant levels stem log) = Joining plant.now levels.number stem.now log.now
+meaning (variants.Resume plant log budget out share) = Resuming plant.now log.now budget.boxes out.now (option_map share_numbers share)

@@ -10,6 +10,8 @@ use crate::levels::{Levels, Part};
 use crate::listing_words::listing_form;
 use crate::part_words::part_form;
 use crate::period::Period;
+use crate::resume_words::resume_form;
+use crate::share::Share;
 use crate::steps::{MAX_STEP, MAX_STEPS, Steps};
 use crate::table_words::table_of;
 use plan_tables::TableKind;
@@ -156,6 +158,15 @@ pub enum Command<'a> {
         budget: Budget,
         log: &'a str,
     },
+    /// `resume PLANT LOG BUDGET OUT` and the same with SHARE SHARES: go on from a log, at all of its open ends or at a share of them, with
+    /// at most this many boxes more.
+    Resume {
+        plant: &'a str,
+        log: &'a str,
+        budget: Budget,
+        out: &'a str,
+        share: Option<Share>,
+    },
     /// `join PLANT LEVELS STEM LOG`: check the logs of all parts, and write the log of the plant that they make up.
     Join {
         plant: &'a str,
@@ -210,6 +221,9 @@ pub fn command_of<'a>(words: &[&'a str]) -> Option<Command<'a>>
         return Some(command);
     }
     if let Some(command) = improve_form(words) {
+        return Some(command);
+    }
+    if let Some(command) = resume_form(words) {
         return Some(command);
     }
     if let Some(command) = estimate_of(words) {

@@ -12,6 +12,8 @@ pub mod levels;
 mod listing_words;
 mod part_words;
 pub mod period;
+mod resume_words;
+pub mod share;
 pub mod steps;
 mod table_words;
 
@@ -19,4 +21,5 @@ pub use budget::{Budget, MAX_BUDGET};
 pub use command::{Command, PlanUse, command_of};
 pub use levels::{Levels, Part, part_count};
 pub use period::Period;
+pub use share::Share;
 pub use steps::{MAX_STEP, MAX_STEPS, Steps};

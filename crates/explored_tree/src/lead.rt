@@ -17,17 +17,34 @@ pub struct Lead {
     counted: u32,
     // How many boxes the loop is to count after the present one.
     ahead: u32,
+    // How many boxes the loop is to count in all.
+    planned: u32,
 }
 
 // How often a slot can be split on the way to a box, at most.
 const MOST_SPLITS: usize = 9;
 
 impl Lead {
-    /// The way through boxes of a program, where so much is the worth of the best plan, and so many may be counted.
+    /// The way through boxes of a program, of which the first is the root, where so much is the worth of the best plan, and so many may
+    /// be counted.
     pub fn new(
         alloc: Global,
         program: &Program,
         nodes: Vec<Node>,
+        best: Option<i128>,
+        budget: u32,
+    ) -> Result<Lead, AllocError> {
+        let mut lead = Lead::over(alloc, program, nodes, 1, best, budget)?;
+        let _ = lead.come_to(0, 0);
+        Ok(lead)
+    }
+
+    /// The way through boxes of which the first, so many, are parts of no split: the loop comes to one after another.
+    pub fn over(
+        alloc: Global,
+        program: &Program,
+        nodes: Vec<Node>,
+        roots: u32,
         best: Option<i128>,
         budget: u32,
     ) -> Result<Lead, AllocError> {
@@ -39,11 +56,17 @@ impl Lead {
             budget,
             counted: 0,
             ahead: 0,
+            planned: 0,
         };
         lead.put_sizes();
+        lead.put_roots(roots);
         lead.put_befores();
-        let _ = lead.come_to(0, 0);
         Ok(lead)
+    }
+
+    /// Comes to a box that is a part of no split, and stands below so many; whether to search it. Then it is counted.
+    pub fn enters(&mut self, number: u32, depth: u32) -> bool {
+        !self.come_to(depth, number)
     }
 
     /// Comes to the next part of a split, which stands below so many; whether to leave it open. Else it is counted. A part that
@@ -151,7 +174,7 @@ impl Lead {
             let node = &self.nodes[place];
             if self.is_planned(node) {
                 let first = self.size_of(node.parts);
-                let second = self.size_of(node.parts.wrapping_add(1));
+                let second = self.size_of(node.parts.saturating_add(1));
                 self.nodes[place].size = first.saturating_add(second).saturating_add(1);
             }
         }
@@ -162,6 +185,14 @@ impl Lead {
         match self.nodes.get(number as usize) {
             None => 0,
             Some(node) => node.size,
+        }
+    }
+
+    // Notes for each of the first boxes, so many, how many are to be counted before it, and how many in all.
+    fn put_roots(&mut self, roots: u32) {
+        for number in 0..roots {
+            self.put_before(number, self.planned);
+            self.planned = self.planned.saturating_add(self.size_of(number));
         }
     }
 
@@ -181,7 +212,7 @@ impl Lead {
         let first = node.before.saturating_add(1);
         let second = first.saturating_add(self.size_of(parts));
         self.put_before(parts, first);
-        self.put_before(parts.wrapping_add(1), second);
+        self.put_before(parts.saturating_add(1), second);
     }
 
     // Notes how many boxes are to be counted before one.
@@ -251,7 +282,7 @@ impl Lead {
         };
         let is_planned = self.is_planned(node);
         self.ahead = self
-            .size_of(0)
+            .planned
             .saturating_sub(node.before)
             .saturating_sub(u32::from(is_planned));
     }

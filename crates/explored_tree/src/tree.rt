@@ -37,20 +37,36 @@ const BASIS_BYTES: u64 = 26;
 const MULT_BYTES: u64 = 16;
 
 impl Tree {
-    /// A tree whose root is still to be explored.
-    pub fn new(alloc: Global, program: &Program) -> Result<Tree, AllocError> {
+    /// A tree of no boxes yet.
+    pub fn empty(alloc: Global, program: &Program) -> Tree {
         let slots = program.root.len() as u64;
         let rows = program.rows.len() as u64;
-        let mut tree = Tree {
+        Tree {
             nodes: Vec::new(alloc),
             open: BinaryHeap::new(alloc),
             slots,
             basis: BASIS_BYTES.saturating_mul(slots).saturating_add(rows),
             held: 0,
-        };
+        }
+    }
+
+    /// A tree whose root is still to be explored.
+    pub fn new(alloc: Global, program: &Program) -> Result<Tree, AllocError> {
+        let mut tree = Tree::empty(alloc, program);
         let domains = Vec::from_slice(alloc, program.root.as_slice())?;
-        tree.put(Node::new(NONE, 0, i128::MAX, NONE, domains))?;
+        tree.put_root(0, i128::MAX, domains)?;
         Ok(tree)
+    }
+
+    /// Puts a box that is a part of no split, below so many, with this cap and these domains. All such boxes come before any box is
+    /// explored.
+    pub fn put_root(
+        &mut self,
+        depth: u32,
+        cap: i128,
+        domains: Vec<Domain>,
+    ) -> Result<(), AllocError> {
+        self.put(Node::new(NONE, depth, cap, NONE, domains))
     }
 
     // Puts a box that is still to be explored.
@@ -183,7 +199,7 @@ impl Tree {
         match self.nodes.get(place) {
             None => false,
             Some(node) => {
-                self.is_explored(node.parts) && self.is_explored(node.parts.wrapping_add(1))
+                self.is_explored(node.parts) && self.is_explored(node.parts.saturating_add(1))
             }
         }
     }

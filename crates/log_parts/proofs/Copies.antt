@@ -47,14 +47,14 @@ stays_said P name (Some m) (Some n) same is =
     let here : file_of m name ≡ file_of n name = cc in subst P here is
 
 -- what a reader has read of a file it has read where the file stays
-pub read_stays : (head : ℕ) (name : List ℕ) (limits : Limits) (items : List RowItem) (claim : Option Claim) (r : LogReader) (old new : Option FileMap)
-    → option_map (λ (m : FileMap). file_of m name) new ≡ option_map (λ (m : FileMap). file_of m name) old → HasRead old name 4 head limits items claim r → HasRead new name 4 head limits items claim r
-read_stays head name limits items claim r old new same read = record {
+pub read_stays : (version head : ℕ) (name : List ℕ) (limits : Limits) (items : List RowItem) (claim : Option Claim) (r : LogReader) (old new : Option FileMap)
+    → option_map (λ (m : FileMap). file_of m name) new ≡ option_map (λ (m : FileMap). file_of m name) old → HasRead old name version head limits items claim r → HasRead new name version head limits items claim r
+read_stays version head name limits items claim r old new same read = record {
   lines = read.lines;
   gathered = read.gathered;
   limited = read.limited;
-  read = stays_said (λ (bytes : List ℕ). behind 4 head bytes ≡ lines_text read.lines ++ drop r.lines.place bytes) name old new same read.read;
-  left = stays_said (λ (bytes : List ℕ). log_text_defect limits (behind 4 head bytes) ≡ rest_defect limits r.gatherer.grammar (1 + length read.lines) (drop r.lines.place bytes)) name old new same read.left;
+  read = stays_said (λ (bytes : List ℕ). behind version head bytes ≡ lines_text read.lines ++ drop r.lines.place bytes) name old new same read.read;
+  left = stays_said (λ (bytes : List ℕ). log_text_defect limits (behind version head bytes) ≡ rest_defect limits r.gatherer.grammar (1 + length read.lines) (drop r.lines.place bytes)) name old new same read.left;
   ahead = stays_said (λ (bytes : List ℕ). IsAhead bytes r.lines.place r.lines.ahead) name old new same read.ahead;
   going = read.going;
 }
@@ -150,7 +150,7 @@ pub item_copied : (limits : Limits) (head : ℕ) (name : List ℕ) (old now new 
 item_copied limits head name old now new writer mid later r s line item on part stays took = record {
   items = on.items ++ item ∷ [];
   claim = None;
-  read = read_stays head name limits (on.items ++ item ∷ []) None s now new stays part.4;
+  read = read_stays 4 head name limits (on.items ++ item ∷ []) None s now new stays part.4;
   same = stays ∙ on.same;
   has = λ front before has. subst (HasItems front later new) (append_assoc before on.items (item ∷ [])) (took front (before ++ on.items) (on.has front before has));
 }

@@ -117,6 +117,17 @@ pub fn compared(declared: &Declared, front: &LogFront, claim: Claim) -> PartChec
     }
 }
 
+/// Whether a log with this head declares the same as what is given.
+pub fn declares_same(declared: &Declared, own: &LogHead) -> bool
+    requires { own.now.lines ≡ lines_on own.now.declared }
+    ensures { IsTrue result → own.now.declared ≡ declared.now }
+{
+    match other_line(declared, &own.declared, own.lines.as_slice()) {
+        Some(_) => false,
+        None => true,
+    }
+}
+
 // The same of a log with this head.
 fn with_head(declared: &Declared, own: &LogHead, claim: Claim) -> PartCheck
     requires { own.now.lines ≡ lines_on own.now.declared }

@@ -15,8 +15,8 @@ mod sameness;
 mod writing;
 
 pub use checked::Checked;
-pub use fronts::{PartCheck, compared, head_with, no_head};
+pub use fronts::{PartCheck, compared, declares_same, head_with, no_head};
 pub use heads::{Declared, LogFront, LogHead};
 pub use joining::joined;
 pub use joins::{JoinStop, Joined};
-pub use writing::{joined_version, write_joined};
+pub use writing::{head_text, joined_version, write_joined};

@@ -257,6 +257,15 @@ fn put_front(
     Ok(())
 }
 
+/// The head of a log of version 4 that declares this.
+pub fn head_text(alloc: Global, declared: &Declared) -> Result<Vec<u8>, AllocError>
+    ensures { IfOk result (λ head. head.items ≡ front_text 4 declared.now) }
+{
+    let mut front = Vec::new(alloc);
+    put_front(alloc, 4, declared, &mut front)?;
+    Ok(front)
+}
+
 // Begins the log of this version, which declares this.
 fn begin_log<F: Shelf>(
     alloc: Global,

@@ -6,8 +6,8 @@ use Rattle.stn_edge.specs.Count.{Rose}
 use Rattle.stn_edge.specs.Files.{FileMap}
 use Rattle.stn_edge.specs.Text.{extended}
 use Rattle.command_words.specs.Words.{Request, Says, HasNoForm}
-use Rattle.stn_top.specs.Requests.{IsAnswer, GetsToWriting, IsNoJoining, WritesApart}
-use Rattle.stn_top.specs.Replies.{IsReply, IsCutOff, LogFailed, PutFailed, SayNoJoining, words_text}
+use Rattle.stn_top.specs.Requests.{IsAnswer, GetsToWriting, ReadsFirst, WritesApart}
+use Rattle.stn_top.specs.Replies.{IsReply, IsCutOff, LogFailed, PutFailed, SayReadsFirst, words_text}
 
 -- a first part of an answer that was put is one of a reply to the words that say its request
 pub cut_off : (words : List (List ℕ)) (files after : Option FileMap) (request : Request) (old new : Option (List ℕ)) → Says words request
@@ -42,10 +42,16 @@ said_stopped words files after request faults faults_new writes writes_new old n
     inl (record { rose = is.rose; reply = record { status = part.status; text = part.text; reply = inr (request, (says, part.reply)); count = part.count; put = part.put } })
 said_stopped words files after request faults faults_new writes writes_new old new says (inr (rose, begun)) = inr (rose, (request, (says, begun)))
 
--- a request that the words say writes none of the logs that it joins
+-- a request that the words say writes none of the logs that it joins or goes on from
 pub says_apart : (words : List (List ℕ)) (request : Request) → Says words request → WritesApart request
-says_apart words request says = λ plant levels stem log is. (subst (Says words) is says).1.5
+says_apart words request says = record {
+  joining = λ plant levels stem log is. (subst (Says words) is says).1.5;
+  resuming = λ plant log budget out share is. (subst (Says words) is says).1.1.3.no_plan;
+}
 
--- and is not to join logs where the words say no joining
-pub says_no_joining : (words : List (List ℕ)) (request : Request) → Says words request → SayNoJoining words → IsNoJoining request
-says_no_joining words request says none = λ plant levels stem log is. none plant stem log levels (subst (Says words) is says)
+-- and reads all of its files first where the words say so
+pub says_reads_first : (words : List (List ℕ)) (request : Request) → Says words request → SayReadsFirst words → ReadsFirst request
+says_reads_first words request says none = record {
+  joins_none = λ plant levels stem log is. none.join plant stem log levels (subst (Says words) is says);
+  resumes_none = λ plant log budget out share is. none.resume plant log out budget share (subst (Says words) is says);
+}

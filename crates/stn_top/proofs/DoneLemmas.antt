@@ -11,7 +11,7 @@ use Rattle.command_replies.specs.Answers.{IsUnwritten}
 use Rattle.command_replies.specs.Sources.{IfReplied}
 use Rattle.command_replies.proofs.AnswerLemmas.{replied, replied_from}
 use Rattle.demo_commands.specs.Demo.{Shown}
-use Rattle.stn_top.specs.Requests.{IsAnswer, IsLeft, IsNoJoining, GetsToWriting, OthersKept}
+use Rattle.stn_top.specs.Requests.{IsAnswer, IsLeft, ReadsFirst, GetsToWriting, OthersKept}
 use Rattle.stn_top.specs.Done.{IsDone}
 use Rattle.stn_top.proofs.FileLemmas.{kept_same, left_same}
 
@@ -34,7 +34,7 @@ only_read request old new reads reads_new writes writes_new result answer fault 
 -- a request that writes
 pub wrote : (request : Request) (old new : Option FileMap) (reads reads_new writes writes_new : ℕ) (result : Result Reply Stopped)
     → IfReplied result (λ reply. IsAnswer old new request reply.status reply.text.items) → IfReplied result (λ reply. IsUnwritten reply.status → new ≡ old)
-    → (result ≡ Err ReadFault → Rose reads reads_new) → (result ≡ Err ReadFault → IsNoJoining request → new ≡ old)
+    → (result ≡ Err ReadFault → Rose reads reads_new) → (result ≡ Err ReadFault → ReadsFirst request → new ≡ old)
     → (result ≡ Err WriteFault → Rose writes writes_new) → (result ≡ Err WriteFault → GetsToWriting old request)
     → OthersKept request old new → IsLeft request old new → reads ≤ reads_new → writes ≤ writes_new → IsDone request old new reads reads_new writes writes_new result
 wrote request old new reads reads_new writes writes_new result answer refused fault unread failed begun others left later more = record {

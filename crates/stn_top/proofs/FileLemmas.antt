@@ -6,7 +6,9 @@ use Rattle.std.specs.FinMap.{get}
 use Rattle.std.proofs.lemmas.Fmt.{decimal_injective}
 use Rattle.stn_edge.specs.Files.{FileMap, OthersStay}
 use Rattle.least_horizon.specs.LogNames.{OthersStayBelow}
-use Rattle.command_words.specs.Words.{Request, Solving, Logging, Simulating, Checking, Telling, Numbering, Upgrading, Showing, Replanning, ReplanLogging, CheckingReplan, Improving, Estimating, Seeking, Tracing, Auditing, Parting, PartSolving, Joining, Says, Conflicting, ConflictLogging, CheckingConflict}
+use Rattle.command_words.specs.Words.{Request, Solving, Logging, Simulating, Checking, Telling, Numbering, Upgrading, Showing, Replanning, ReplanLogging, CheckingReplan, Improving, Estimating, Seeking, Tracing, Auditing, Parting, PartSolving, Joining, Resuming, Says, Conflicting, ConflictLogging, CheckingConflict, use_word}
+use Rattle.command_words.specs.declared.command.PlanUse.{PlanUse}
+use Rattle.command_words.specs.declared.command.PlanUse.TheVariants.{Simulate, Report, Picture, Table, Violations}
 use Rattle.planning_commands.specs.NamedLog.{LogLeft}
 use Rattle.stn_top.specs.Requests.{IsLeft, OthersKept}
 use Rattle.command_words.specs.Words.{IsLevels, IsPartNumber}
@@ -46,6 +48,7 @@ left_same (CheckingConflict plant stem) old new same = same
 left_same (Parting plant levels) old new same = same
 left_same (PartSolving plant levels part budget log) old new same = inl same
 left_same (Joining plant levels stem log) old new same = inl same
+left_same (Resuming plant log budget out share) old new same = inl same
 
 -- ---- a log
 
@@ -69,6 +72,10 @@ kept_part plant levels part budget log old new stay = λ name others. stay name 
 -- every file but the joined log is as before
 pub kept_joined : (plant : List ℕ) (levels : ℕ) (stem log : List ℕ) (old new : Option FileMap) → OthersStay log old new → OthersKept (Joining plant levels stem log) old new
 kept_joined plant levels stem log old new stay = λ name others. stay name (others 0 [] (omega arith))
+
+-- every file but the log that goes on is as before
+pub kept_resumed : (plant log : List ℕ) (budget : ℕ) (out : List ℕ) (share : Option (ℕ × ℕ)) (old new : Option FileMap) → OthersStay out old new → OthersKept (Resuming plant log budget out share) old new
+kept_resumed plant log budget out share old new stay = λ name others. stay name (others 0 [] (omega arith))
 
 -- every file but the logs of a stem is as before
 pub kept_logs : (plant : List ℕ) (budget : ℕ) (stem : List ℕ) (old new : Option FileMap) → OthersStayBelow stem 337 old new → OthersKept (Tracing plant budget stem) old new
@@ -95,9 +102,22 @@ first_length words = length (get_or words 0 [])
 abbrev first_byte : List (List ℕ) → ℕ
 first_byte words = get_or (get_or words 0 []) 0 0
 
+-- the third byte of the first word
+abbrev third_byte : List (List ℕ) → ℕ
+third_byte words = get_or (get_or words 0 []) 2 0
+
+-- that of a command that simulates a plan is no s (115)
+third_use : (usage : PlanUse) → get_or (use_word usage) 2 0 ≢ 115
+third_use Simulate same = omega (arith, same)
+third_use Report same = omega (arith, same)
+third_use Picture same = omega (arith, same)
+third_use Violations same = omega (arith, same)
+third_use (Table kind) same = omega (arith, same)
+
 -- the words of a planning with a log say no other request
 leaves_log : (words : List (List ℕ)) (plant : List ℕ) (budget : ℕ) (log : List ℕ) (other : Request) (old new : Option FileMap) → Says words (Logging plant budget log) → Says words other
     → Leaves (Logging plant budget log) old new → Leaves other old new
+leaves_log words plant budget log (Resuming plant2 log2 budget2 out2 share2) old new says also is = (let same = ap third_byte (sym says.1.0 ∙ also.1.1.0) in absurd (omega (arith, same)))
 leaves_log words plant budget log (Solving plant2 budget2) old new says also is = (let same = ap length (sym says.1.0 ∙ also.1.0) in absurd (omega (arith, same)))
 leaves_log words plant budget log (Simulating usage plant2 plan2) old new says also is = absurd (no_use words usage plant2 plan2 also.0 (let long = ap length says.1.0 in omega (arith, long)) (λ t. let first = ap first_byte says.1.0 in omega (arith, t, first)))
 leaves_log words plant budget log (Checking plant2 log2) old new says also is = (let same = ap length (sym says.1.0 ∙ also.0) in absurd (omega (arith, same)))
@@ -131,6 +151,7 @@ leaves_log words plant budget log (Logging plant2 budget2 log2) old new says als
 -- the words of a replanning with a log say no other request
 leaves_replan : (words : List (List ℕ)) (plant plan : List ℕ) (period budget : ℕ) (log : List ℕ) (other : Request) (old new : Option FileMap) → Says words (ReplanLogging plant plan period budget log) → Says words other
     → Leaves (ReplanLogging plant plan period budget log) old new → Leaves other old new
+leaves_replan words plant plan period budget log (Resuming plant2 log2 budget2 out2 share2) old new says also is = (let same = ap third_byte (sym says.1.1.0 ∙ also.1.1.0) in absurd (omega (arith, same)))
 leaves_replan words plant plan period budget log (Solving plant2 budget2) old new says also is = (let same = ap length (sym says.1.1.0 ∙ also.1.0) in absurd (omega (arith, same)))
 leaves_replan words plant plan period budget log (Logging plant2 budget2 log2) old new says also is = (let same = ap length (sym says.1.1.0 ∙ also.1.0) in absurd (omega (arith, same)))
 leaves_replan words plant plan period budget log (Simulating usage plant2 plan2) old new says also is = absurd (no_use words usage plant2 plan2 also.0 (let long = ap length says.1.1.0 in omega (arith, long)) (λ t. let first = ap first_byte says.1.1.0 in omega (arith, t, first)))
@@ -169,6 +190,7 @@ leaves_replan words plant plan period budget log (ReplanLogging plant2 plan2 per
 -- the words of finding a least horizon with logs say no other request
 leaves_logs : (words : List (List ℕ)) (plant : List ℕ) (budget : ℕ) (stem : List ℕ) (other : Request) (old new : Option FileMap) → Says words (Tracing plant budget stem) → Says words other
     → Leaves (Tracing plant budget stem) old new → Leaves other old new
+leaves_logs words plant budget stem (Resuming plant2 log2 budget2 out2 share2) old new says also is = (let same = ap third_byte (sym says.1.0 ∙ also.1.1.0) in absurd (omega (arith, same)))
 leaves_logs words plant budget stem (Solving plant2 budget2) old new says also is = (let same = ap length (sym says.1.0 ∙ also.1.0) in absurd (omega (arith, same)))
 leaves_logs words plant budget stem (Logging plant2 budget2 log2) old new says also is = (let same = ap first_byte (sym says.1.0 ∙ also.1.0) in absurd (omega (arith, same)))
 leaves_logs words plant budget stem (Simulating usage plant2 plan2) old new says also is = absurd (no_use words usage plant2 plan2 also.0 (let long = ap length says.1.0 in omega (arith, long)) (λ t. let first = ap first_byte says.1.0 in omega (arith, t, first)))
@@ -206,6 +228,7 @@ leaves_logs words plant budget stem (Tracing plant2 budget2 stem2) old new says 
 -- the words of finding a conflict with its log say no other request
 leaves_conflict : (words : List (List ℕ)) (plant : List ℕ) (budget : ℕ) (stem : List ℕ) (other : Request) (old new : Option FileMap) → Says words (ConflictLogging plant budget stem) → Says words other
     → Leaves (ConflictLogging plant budget stem) old new → Leaves other old new
+leaves_conflict words plant budget stem (Resuming plant2 log2 budget2 out2 share2) old new says also is = (let same = ap third_byte (sym says.1.0 ∙ also.1.1.0) in absurd (omega (arith, same)))
 leaves_conflict words plant budget stem (Solving plant2 budget2) old new says also is = (let same = ap length (sym says.1.0 ∙ also.1.0) in absurd (omega (arith, same)))
 leaves_conflict words plant budget stem (Logging plant2 budget2 log2) old new says also is = (let same = ap first_byte (sym says.1.0 ∙ also.1.0) in absurd (omega (arith, same)))
 leaves_conflict words plant budget stem (Simulating usage plant2 plan2) old new says also is = absurd (no_use words usage plant2 plan2 also.0 (let long = ap length says.1.0 in omega (arith, long)) (λ t. let first = ap first_byte says.1.0 in omega (arith, t, first)))
@@ -243,6 +266,7 @@ leaves_conflict words plant budget stem (ConflictLogging plant2 budget2 stem2) o
 -- the words of planning a part say no other request
 leaves_part : (words : List (List ℕ)) (plant : List ℕ) (levels part budget : ℕ) (log : List ℕ) (other : Request) (old new : Option FileMap) → Says words (PartSolving plant levels part budget log) → Says words other
     → Leaves (PartSolving plant levels part budget log) old new → Leaves other old new
+leaves_part words plant levels part budget log (Resuming plant2 log2 budget2 out2 share2) old new says also is = (let same = ap third_byte (sym says.1.1.1.0 ∙ also.1.1.0) in absurd (omega (arith, same)))
 leaves_part words plant levels part budget log (Solving plant2 budget2) old new says also is = (let same = ap length (sym says.1.1.1.0 ∙ also.1.0) in absurd (omega (arith, same)))
 leaves_part words plant levels part budget log (Logging plant2 budget2 log2) old new says also is = (let same = ap length (sym says.1.1.1.0 ∙ also.1.0) in absurd (omega (arith, same)))
 leaves_part words plant levels part budget log (Simulating usage plant2 plan2) old new says also is = absurd (no_use words usage plant2 plan2 also.0 (let long = ap length says.1.1.1.0 in omega (arith, long)) (λ t. let first = ap first_byte says.1.1.1.0 in omega (arith, t, first)))
@@ -279,6 +303,7 @@ leaves_part words plant levels part budget log (PartSolving plant2 levels2 part2
 -- the words of joining logs say no other request
 leaves_join : (words : List (List ℕ)) (plant : List ℕ) (levels : ℕ) (stem log : List ℕ) (other : Request) (old new : Option FileMap) → Says words (Joining plant levels stem log) → Says words other
     → Leaves (Joining plant levels stem log) old new → Leaves other old new
+leaves_join words plant levels stem log (Resuming plant2 log2 budget2 out2 share2) old new says also is = (let same = ap third_byte (sym says.1.0 ∙ also.1.1.0) in absurd (omega (arith, same)))
 leaves_join words plant levels stem log (Solving plant2 budget2) old new says also is = (let same = ap length (sym says.1.0 ∙ also.1.0) in absurd (omega (arith, same)))
 leaves_join words plant levels stem log (Logging plant2 budget2 log2) old new says also is = (let same = ap length (sym says.1.0 ∙ also.1.0) in absurd (omega (arith, same)))
 leaves_join words plant levels stem log (Simulating usage plant2 plan2) old new says also is = absurd (no_use words usage plant2 plan2 also.0 (let long = ap length says.1.0 in omega (arith, long)) (λ t. let first = ap first_byte says.1.0 in omega (arith, t, first)))
@@ -314,6 +339,7 @@ leaves_join words plant levels stem log (Joining plant2 levels2 stem2 log2) old 
 -- the words of planning that begins with a plan, with a log, say no other request
 leaves_improve : (words : List (List ℕ)) (plant plan : List ℕ) (budget : ℕ) (log : List ℕ) (other : Request) (old new : Option FileMap) → Says words (Improving plant plan budget (Some log)) → Says words other
     → Leaves (Improving plant plan budget (Some log)) old new → Leaves other old new
+leaves_improve words plant plan budget log (Resuming plant2 log2 budget2 out2 share2) old new says also is = (let same = ap third_byte (sym says.1.0 ∙ also.1.1.0) in absurd (omega (arith, same)))
 leaves_improve words plant plan budget log (Solving plant2 budget2) old new says also is = (let same = ap first_byte (sym says.1.0 ∙ also.1.0) in absurd (omega (arith, same)))
 leaves_improve words plant plan budget log (Logging plant2 budget2 log2) old new says also is = (let same = ap first_byte (sym says.1.0 ∙ also.1.0) in absurd (omega (arith, same)))
 leaves_improve words plant plan budget log (Checking plant2 log2) old new says also is = (let same = ap first_byte (sym says.1.0 ∙ also.0) in absurd (omega (arith, same)))
@@ -345,6 +371,39 @@ leaves_improve words plant plan budget log (Improving plant2 plan2 budget2 (Some
           (subst (λ (p : List ℕ). IsLeft (Improving plant2 p budget2 (Some log)) old new) (word 2) (subst (λ (p : List ℕ). IsLeft (Improving p plan budget2 (Some log)) old new) (word 1) is.left));
     }
 
+-- the words of going on from a log say no other request
+leaves_resume : (words : List (List ℕ)) (plant log : List ℕ) (budget : ℕ) (out : List ℕ) (share : Option (ℕ × ℕ)) (other : Request) (old new : Option FileMap) → Says words (Resuming plant log budget out share) → Says words other
+    → Leaves (Resuming plant log budget out share) old new → Leaves other old new
+leaves_resume words plant log budget out share (Solving plant2 budget2) old new says also is = (let same = ap third_byte (sym says.1.1.0 ∙ also.1.0) in absurd (omega (arith, same)))
+leaves_resume words plant log budget out share (Logging plant2 budget2 log2) old new says also is = (let same = ap third_byte (sym says.1.1.0 ∙ also.1.0) in absurd (omega (arith, same)))
+leaves_resume words plant log budget out share (Checking plant2 log2) old new says also is = (let same = ap third_byte (sym says.1.1.0 ∙ also.0) in absurd (omega (arith, same)))
+leaves_resume words plant log budget out share (Telling plant2 log2) old new says also is = (let same = ap third_byte (sym says.1.1.0 ∙ also.0) in absurd (omega (arith, same)))
+leaves_resume words plant log budget out share (Upgrading plant2) old new says also is = (let same = ap third_byte (sym says.1.1.0 ∙ also.0) in absurd (omega (arith, same)))
+leaves_resume words plant log budget out share (Numbering plant2) old new says also is = (let same = ap third_byte (sym says.1.1.0 ∙ also.0) in absurd (omega (arith, same)))
+leaves_resume words plant log budget out share (Showing seed) old new says also is = (let same = ap third_byte (sym says.1.1.0 ∙ also.1.0) in absurd (omega (arith, same)))
+leaves_resume words plant log budget out share (Replanning plant2 plan2 period2 budget2) old new says also is = (let same = ap third_byte (sym says.1.1.0 ∙ also.1.1.0) in absurd (omega (arith, same)))
+leaves_resume words plant log budget out share (ReplanLogging plant2 plan2 period2 budget2 log2) old new says also is = (let same = ap third_byte (sym says.1.1.0 ∙ also.1.1.0) in absurd (omega (arith, same)))
+leaves_resume words plant log budget out share (CheckingReplan plant2 plan2 period2 log2) old new says also is = (let same = ap third_byte (sym says.1.1.0 ∙ also.1.0) in absurd (omega (arith, same)))
+leaves_resume words plant log budget out share (Improving plant2 plan2 budget2 log2) old new says also is = (let same = ap third_byte (sym says.1.1.0 ∙ also.1.0) in absurd (omega (arith, same)))
+leaves_resume words plant log budget out share (Estimating plant2 log2 state step count) old new says also is = (let same = ap third_byte (sym says.1.1.0 ∙ also.1.1.0) in absurd (omega (arith, same)))
+leaves_resume words plant log budget out share (Seeking plant2 budget2) old new says also is = (let same = ap third_byte (sym says.1.1.0 ∙ also.1.0) in absurd (omega (arith, same)))
+leaves_resume words plant log budget out share (Tracing plant2 budget2 stem2) old new says also is = (let same = ap third_byte (sym says.1.1.0 ∙ also.1.0) in absurd (omega (arith, same)))
+leaves_resume words plant log budget out share (Auditing plant2 horizon2 stem2) old new says also is = (let same = ap third_byte (sym says.1.1.0 ∙ also.1.0) in absurd (omega (arith, same)))
+leaves_resume words plant log budget out share (Conflicting plant2 budget2) old new says also is = (let same = ap third_byte (sym says.1.1.0 ∙ also.1.0) in absurd (omega (arith, same)))
+leaves_resume words plant log budget out share (ConflictLogging plant2 budget2 stem2) old new says also is = (let same = ap third_byte (sym says.1.1.0 ∙ also.1.0) in absurd (omega (arith, same)))
+leaves_resume words plant log budget out share (CheckingConflict plant2 stem2) old new says also is = (let same = ap third_byte (sym says.1.1.0 ∙ also.0) in absurd (omega (arith, same)))
+leaves_resume words plant log budget out share (Parting plant2 levels2) old new says also is = (let same = ap third_byte (sym says.1.1.0 ∙ also.1.0) in absurd (omega (arith, same)))
+leaves_resume words plant log budget out share (PartSolving plant2 levels2 part2 budget2 log2) old new says also is = (let same = ap third_byte (sym says.1.1.0 ∙ also.1.1.1.0) in absurd (omega (arith, same)))
+leaves_resume words plant log budget out share (Joining plant2 levels2 stem2 log2) old new says also is = (let same = ap third_byte (sym says.1.1.0 ∙ also.1.0) in absurd (omega (arith, same)))
+leaves_resume words plant log budget out share (Simulating usage plant2 plan2) old new says also is = absurd (third_use usage (ap third_byte (sym also.0 ∙ says.1.1.0)))
+leaves_resume words plant log budget out share (Resuming plant2 log2 budget2 out2 share2) old new says also is =
+    let same : codes "resume" ∷ plant ∷ log ∷ says.0 ∷ out ∷ says.1.0 ≡ codes "resume" ∷ plant2 ∷ log2 ∷ also.0 ∷ out2 ∷ also.1.0 = sym says.1.1.0 ∙ also.1.1.0 in
+    let word = λ (k : ℕ). ap (λ (ws : List (List ℕ)). get_or ws k []) same in
+    record {
+      kept = subst (λ (o : List ℕ). OthersKept (Resuming plant2 log2 budget2 o share2) old new) (word 4) is.kept;
+      left = subst (λ (l : List ℕ). IsLeft (Resuming plant2 l budget2 out2 share2) old new) (word 2) (subst (λ (p : List ℕ). IsLeft (Resuming p log budget2 out2 share2) old new) (word 1) is.left);
+    }
+
 -- what one request leaves that the words say, each leaves that they say
 leaves : (words : List (List ℕ)) (request other : Request) (old new : Option FileMap) → Says words request → Says words other → Leaves request old new → Leaves other old new
 leaves words (Solving plant budget) other old new says also is = leaves_same other old new is.left
@@ -370,6 +429,7 @@ leaves words (CheckingConflict plant stem) other old new says also is = leaves_s
 leaves words (Parting plant levels) other old new says also is = leaves_same other old new is.left
 leaves words (PartSolving plant levels part budget log) other old new says also is = leaves_part words plant levels part budget log other old new says also is
 leaves words (Joining plant levels stem log) other old new says also is = leaves_join words plant levels stem log other old new says also is
+leaves words (Resuming plant log budget out share) other old new says also is = leaves_resume words plant log budget out share other old new says also is
 
 -- the two facts apart
 pub kept_all : (words : List (List ℕ)) (request : Request) (old new : Option FileMap) → Says words request → OthersKept request old new → IsLeft request old new → (other : Request) → Says words other → OthersKept other old new

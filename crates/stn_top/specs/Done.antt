@@ -8,7 +8,7 @@ use Rattle.command_replies.specs.declared.stopped.Stopped.{Stopped}
 use Rattle.command_replies.specs.declared.stopped.Stopped.TheVariants.{ReadFault, WriteFault}
 use Rattle.command_replies.specs.Answers.{IsUnwritten}
 use Rattle.command_replies.specs.Sources.{IfReplied}
-use Rattle.stn_top.specs.Requests.{IsAnswer, IsLeft, IsNoJoining, GetsToWriting, OthersKept}
+use Rattle.stn_top.specs.Requests.{IsAnswer, IsLeft, ReadsFirst, GetsToWriting, OthersKept}
 
 -- What the work on a request comes to, with the files and the counts of faults of reading and of writing before and after: what is
 -- replied is its answer, a fault rose where one stopped it, and the files are what it leaves.
@@ -16,7 +16,7 @@ pub record IsDone (request : Request) (old new : Option FileMap) (reads reads_ne
   pub answer : IfReplied result (λ reply. IsAnswer old new request reply.status reply.text.items)
   pub unwritten : IfReplied result (λ reply. IsUnwritten reply.status → new ≡ old)
   pub fault : result ≡ Err ReadFault → Rose reads reads_new
-  pub unread : result ≡ Err ReadFault → IsNoJoining request → new ≡ old
+  pub unread : result ≡ Err ReadFault → ReadsFirst request → new ≡ old
   pub write_fault : result ≡ Err WriteFault → Rose writes writes_new × GetsToWriting old request
   pub files : OthersKept request old new
   pub left : IsLeft request old new

@@ -11,7 +11,7 @@ use Rattle.plan_told.specs.Proofs.{bytes_in}
 use Rattle.least_horizon.specs.LogNames.{logs_in, OthersStayBelow}
 use Rattle.time_grid.specs.Slots.{slots}
 use Rattle.log_parts.specs.PartLogs.{AllAreValid}
-use Rattle.command_words.specs.Words.{Request, IsNoPartLog, Solving, Logging, Simulating, Checking, Telling, Numbering, Upgrading, Showing, Replanning, ReplanLogging, CheckingReplan, Improving, Estimating, Seeking, Tracing, Auditing, Parting, PartSolving, Joining, log_words, Conflicting, ConflictLogging, CheckingConflict}
+use Rattle.command_words.specs.Words.{Request, IsNoPartLog, Solving, Logging, Simulating, Checking, Telling, Numbering, Upgrading, Showing, Replanning, ReplanLogging, CheckingReplan, Improving, Estimating, Seeking, Tracing, Auditing, Parting, PartSolving, Joining, Resuming, log_words, Conflicting, ConflictLogging, CheckingConflict}
 use Rattle.command_replies.specs.Answers.{IsAnswerOver, content}
 use Rattle.command_replies.specs.Sources.{IsReadOf, OnPlant, OnPlan}
 use Rattle.answer_texts.specs.Levels.{OnLevels}
@@ -37,9 +37,11 @@ use Rattle.conflict_commands.specs.Logging.{FoundWithLog, HoldsConflict}
 use Rattle.conflict_commands.specs.Checking.{ConflictChecked}
 use Rattle.part_commands.specs.Parting.{Parted}
 use Rattle.part_commands.specs.JoiningParts.{HoldsJoined, JoinAnswered, part_names}
+use Rattle.resume_commands.specs.Resuming.{HoldsResumed, ResumeAnswered}
 
--- the names of the files that a request reads, in the order of its words: the plant, then the plan, or the log to check or to list, or the
--- logs of the shorter horizons or of the parts, or the text of a conflict and its log
+-- the names of the files that a request reads, in the order of its words: the plant, then the plan, or the log to check or to list, or
+-- the one to go on from and that which was written then, or the logs of the shorter horizons or of the parts, or the text of a conflict
+-- and its log
 abbrev pub read_names : Request → List (List ℕ)
 read_names (Solving plant budget) = plant ∷ []
 read_names (Logging plant budget log) = plant ∷ []
@@ -63,6 +65,7 @@ read_names (CheckingConflict plant stem) = plant ∷ log_name stem 0 ∷ log_nam
 read_names (Parting plant levels) = plant ∷ []
 read_names (PartSolving plant levels part budget log) = plant ∷ []
 read_names (Joining plant levels stem log) = plant ∷ part_names stem levels
+read_names (Resuming plant log budget out share) = plant ∷ log ∷ out ∷ []
 
 -- the names of the files that a request writes: the log of a planning or of a joining, those of all horizons that a plant may have, or the
 -- text of a conflict and its log
@@ -89,6 +92,7 @@ written_names (CheckingConflict plant stem) = []
 written_names (Parting plant levels) = []
 written_names (PartSolving plant levels part budget log) = log ∷ []
 written_names (Joining plant levels stem log) = log ∷ []
+written_names (Resuming plant log budget out share) = out ∷ []
 
 -- the files that a request reads may be read
 abbrev pub MayRead : (List ℕ → Bool) → Request → Type 0
@@ -135,6 +139,7 @@ AnswersTo old new contents (PartSolving plant levels part budget log) status tex
     OnPlant (reading (content contents 0)) (λ p. OnLevels p levels (PartSolved budget p levels part (bytes_in log new))) status text
 AnswersTo old new contents (Joining plant levels stem log) status text =
     OnPlant (reading (content contents 0)) (λ p. OnLevels p levels (JoinAnswered old new levels stem log p)) status text
+AnswersTo old new contents (Resuming plant log budget out share) status text = OnPlant (reading (content contents 0)) (ResumeAnswered old new budget share log out) status text
 
 -- The answer to a request, with the files before and after: there are contents of the files that it reads, which are those of
 -- the files before where the store tells them, and it is the answer over these contents. A refusal of the plant or of the plan
@@ -166,6 +171,7 @@ IsLeft (CheckingConflict plant stem) old new = new ≡ old
 IsLeft (Parting plant levels) old new = new ≡ old
 IsLeft (PartSolving plant levels part budget log) old new = (new ≡ old) ⊎ HoldsPart old new plant levels part log
 IsLeft (Joining plant levels stem log) old new = (new ≡ old) ⊎ HoldsJoined old new plant levels stem log
+IsLeft (Resuming plant log budget out share) old new = (new ≡ old) ⊎ HoldsResumed old new plant log
 
 -- a request gets to writing a file: it names a log, and its plant was read, and its plan where it has one, of which the kept starts
 -- stand together, or which is feasible where none are kept; where it speaks of parts, the plant has a slot for each level, and the logs that it joins are valid
@@ -193,11 +199,14 @@ GetsToWriting files (Parting plant levels) = ⊥
 GetsToWriting files (PartSolving plant levels part budget log) = (p : Plant) × (IsReadOf reading files plant (Ok p) × (levels ≤ length (slots p)))
 GetsToWriting files (Joining plant levels stem log) =
     (p : Plant) × (IsReadOf reading files plant (Ok p) × (levels ≤ length (slots p)) × AllAreValid p levels stem files)
+GetsToWriting files (Resuming plant log budget out share) = (p : Plant) × IsReadOf reading files plant (Ok p)
 
--- the request is not to join logs
-abbrev pub IsNoJoining : Request → Type 0
-IsNoJoining request = (plant : List ℕ) (levels : ℕ) (stem log : List ℕ) → request ≢ Joining plant levels stem log
+-- the request reads all of its files before it writes one: it is neither to join logs nor to go on from one
+pub record ReadsFirst (request : Request) : Type 0 where
+  pub joins_none : (plant : List ℕ) (levels : ℕ) (stem log : List ℕ) → request ≢ Joining plant levels stem log
+  pub resumes_none : (plant log : List ℕ) (budget : ℕ) (out : List ℕ) (share : Option (ℕ × ℕ)) → request ≢ Resuming plant log budget out share
 
--- where the request is to join logs, it writes none of those that it joins
-abbrev pub WritesApart : Request → Type 0
-WritesApart request = (plant : List ℕ) (levels : ℕ) (stem log : List ℕ) → request ≡ Joining plant levels stem log → IsNoPartLog log stem levels
+-- the request writes none of the logs that it joins, and not the one that it goes on from
+pub record WritesApart (request : Request) : Type 0 where
+  pub joining : (plant : List ℕ) (levels : ℕ) (stem log : List ℕ) → request ≡ Joining plant levels stem log → IsNoPartLog log stem levels
+  pub resuming : (plant log : List ℕ) (budget : ℕ) (out : List ℕ) (share : Option (ℕ × ℕ)) → request ≡ Resuming plant log budget out share → out ≢ log

@@ -7,8 +7,8 @@ ghost use Rattle.command_words.specs.Words.{Request, Says, HasNoForm, texts, mea
 ghost use Rattle.command_replies.specs.Answers.{IsUnwritten};
 ghost use Rattle.command_replies.specs.Sources.{IfReplied};
 ghost use Rattle.demo_commands.specs.Demo.{Shown};
-ghost use Rattle.stn_top.specs.Requests.{MayRead, MayWrite, WritesApart, OthersKept, IsAnswer, IsLeft, GetsToWriting, IsNoJoining};
-ghost use Rattle.stn_top.specs.Replies.{IsReply, Answered, IsCutOff, MayReadAll, MayWriteAll, LogFailed, PutFailed, SayNoJoining, IsPutOnce};
+ghost use Rattle.stn_top.specs.Requests.{MayRead, MayWrite, WritesApart, OthersKept, IsAnswer, IsLeft, GetsToWriting, ReadsFirst};
+ghost use Rattle.stn_top.specs.Replies.{IsReply, Answered, IsCutOff, MayReadAll, MayWriteAll, LogFailed, PutFailed, SayReadsFirst, IsPutOnce};
 ghost use Rattle.stn_top.specs.Done.{IsDone};
 
 use best_first::BestFirst;
@@ -22,6 +22,7 @@ use log_commands::{check_file, check_replan_file};
 use part_commands::{join_file, parts_file};
 use plan_commands::{simulate_file, upgrade_file};
 use planning_commands::{plan_on_file, solve_file, solve_part_file};
+use resume_commands::resume_file;
 use std::alloc::Global;
 use stn_edge::{Shelf, Sink, Stop};
 use tank_commands::estimate_file;
@@ -58,10 +59,13 @@ use tank_commands::estimate_file;
 /// | `parts PLANT LEVELS` | prints the parts that LEVELS (1 to 8) cut the plant into, two to the power of LEVELS, and the slots that tell them apart: in each of the first LEVELS slots, a part has a batch or has none |
 /// | `solve-part PLANT LEVELS PART BUDGET LOG` | plans the part of this number as `solve` does, and writes the log of the proof; LOG is not the word PLANT |
 /// | `join PLANT LEVELS STEM LOG` | checks the logs STEM.0, STEM.1 and so on of all parts, and writes the log of the plant that they make up, or says what speaks against the first that is not valid; LOG is neither the word PLANT nor the name of one of these logs |
+/// | `resume PLANT LOG BUDGET OUT` | goes on from a proof log, with at most BUDGET boxes more, and writes the log of that, or says the first defect of LOG; OUT is neither the word PLANT nor LOG |
+/// | `resume PLANT LOG BUDGET OUT SHARE SHARES` | the same, at the open ends alone whose number leaves the rest SHARE when it is divided by SHARES (1 to 256) |
 ///
 /// Statuses: 0 optimal, feasible, reported, upgraded, valid, estimated, listed or joined; 1 no plan is feasible, the plan is not or what is kept of it can't be, or a log is not valid; 2 the words have no
 /// form; 3 the plant file has a fault; 4 the plan file has one; 5 STATE is not the name of a state with limits, or the plant has fewer slots than LEVELS; 6 the budget was spent; 7 a file could not be
-/// read; 8 the log could not be written or the answer could not be put; 9 no memory. The answer is put at once, after all work. No file changes but the logs that the words name.
+/// read; 8 the log could not be written or the answer could not be put; 9 no memory, or the log that was gone on from does not hold once it is written. The answer is put at once, after all
+/// work. No file changes but the logs that the words name.
 pub fn run<F: Shelf, K: Sink>(alloc: Global, words: &[&str], files: &mut F, out: &mut K) -> u8
     requires may_read { MayReadAll (F.may_read files.old) (texts words.now) }
     requires may_write { MayWriteAll (F.may_write files.old) (texts words.now) }
@@ -89,13 +93,13 @@ pub fn run<F: Shelf, K: Sink>(alloc: Global, words: &[&str], files: &mut F, out:
     ensures known { result ≤ 9 }
 
     // Only the logs that the request writes may have changed, and they hold logs, begun or whole. After
-    // 2, 3, 4 and 5 no file has, and after 7 none has but where logs are joined.
+    // 2, 3, 4 and 5 no file has, and after 7 none has but where logs are joined or gone on from.
     ensures files { (request : Request) → Says (texts words.now) request
         → OthersKept request (F.files files.old) (F.files files.new) }
     ensures left { (request : Request) → Says (texts words.now) request
         → IsLeft request (F.files files.old) (F.files files.new) }
     ensures unwritten { IsUnwritten result → F.files files.new ≡ F.files files.old }
-    ensures unread { result ≡ 7 → SayNoJoining (texts words.now)
+    ensures unread { result ≡ 7 → SayReadsFirst (texts words.now)
         → F.files files.new ≡ F.files files.old }
     ensures no_files { HasNoForm (texts words.now) → F.files files.new ≡ F.files files.old }
     ensures readable { F.may_read files.new ≡ F.may_read files.old }
@@ -136,7 +140,7 @@ fn answer<F: Shelf, K: Sink>(alloc: Global, command: Command, files: &mut F, out
     ensures files { OthersKept (meaning command.entry) (F.files files.old) (F.files files.new) }
     ensures left { IsLeft (meaning command.entry) (F.files files.old) (F.files files.new) }
     ensures unwritten { IsUnwritten result → F.files files.new ≡ F.files files.old }
-    ensures unread { result ≡ 7 → IsNoJoining (meaning command.entry)
+    ensures unread { result ≡ 7 → ReadsFirst (meaning command.entry)
         → F.files files.new ≡ F.files files.old }
     ensures readable { F.may_read files.new ≡ F.may_read files.old }
     ensures writable { F.may_write files.new ≡ F.may_write files.old }
@@ -282,6 +286,13 @@ fn reply_to<F: Shelf>(alloc: Global, command: Command, files: &mut F) -> Result<
             stem,
             log,
         } => join_file(alloc, files, plant, levels, stem, log),
+        Command::Resume {
+            plant,
+            log,
+            budget,
+            out,
+            share,
+        } => resume_file::<BestFirst, _>(alloc, files, plant, log, budget, out, share),
     }
 }
 

@@ -1,5 +1,5 @@
 -- Where some slot that points have has several values, some slot has.
-use Rattle.std.proofs.Common.{◌≡◌, ◌∙◌, Bool, true, false, sym}
+use Rattle.std.proofs.Common.{◌≡◌, ◌∙◌, Bool, true, false}
 use Rattle.row_kit.specs.Area.{present}
 use Rattle.branch_tree.specs.laws.Grounds.{rows_of}
 use Rattle.branch_tree.proofs.Singles.{chosen_single}

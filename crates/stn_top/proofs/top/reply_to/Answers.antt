@@ -1,9 +1,10 @@
 -- Each command's work comes to what its call promises.
 use Rattle.std.proofs.Common.{ap, refl, [], arith}
-use Rattle.command_words.specs.Words.{meaning, Solving, Logging, Simulating, Checking, Telling, Numbering, Upgrading, Replanning, ReplanLogging, CheckingReplan, Improving, named_log, Estimating, Seeking, Tracing, Auditing, Parting, PartSolving, Joining, Conflicting, ConflictLogging, CheckingConflict}
+use Rattle.std.specs.Option.{option_map}
+use Rattle.command_words.specs.Words.{meaning, Solving, Logging, Simulating, Checking, Telling, Numbering, Upgrading, Replanning, ReplanLogging, CheckingReplan, Improving, named_log, Estimating, Seeking, Tracing, Auditing, Parting, PartSolving, Joining, Resuming, Conflicting, ConflictLogging, CheckingConflict, share_numbers}
 use Rattle.horizon_commands.proofs.Horizons.{logs_allowed, all_logs_allowed}
 use Rattle.part_commands.proofs.JoinLemmas.{parts_allowed}
-use Rattle.stn_top.proofs.FileLemmas.{kept_log, kept_replan, kept_improve, kept_logs, kept_part, kept_joined, kept_conflict}
+use Rattle.stn_top.proofs.FileLemmas.{kept_log, kept_replan, kept_improve, kept_logs, kept_part, kept_joined, kept_resumed, kept_conflict}
 use Rattle.stn_top.proofs.DoneLemmas.{only_read, wrote, demonstrated}
 use Rattle.stn_top.proofs.top.reply_to.Goals as goal
 
@@ -142,8 +143,19 @@ pub returns-in-Join-clause-done : goal.returns-in-Join-clause-done
 returns-in-Join-clause-done g c =
     rw c.in-Join.is (wrote (Joining c.in-Join.plant.now c.in-Join.levels.number c.in-Join.stem.now c.in-Join.log.now) (g.F.Shelf.files c.args.files.now) (g.F.Shelf.files c.join_file.new.files) (g.F.Shelf.read_faults c.args.files.now) (g.F.Shelf.read_faults c.join_file.new.files)
     (g.F.Shelf.write_faults c.args.files.now) (g.F.Shelf.write_faults c.join_file.new.files) c.join_file.result
-    c.join_file.ensures.answer c.join_file.ensures.refused c.join_file.ensures.fault (λ _ no. absurd (no c.in-Join.plant.now c.in-Join.levels.number c.in-Join.stem.now c.in-Join.log.now refl)) c.join_file.ensures.write_fault c.join_file.ensures.begun
+    c.join_file.ensures.answer c.join_file.ensures.refused c.join_file.ensures.fault (λ _ first. absurd (first.joins_none c.in-Join.plant.now c.in-Join.levels.number c.in-Join.stem.now c.in-Join.log.now refl)) c.join_file.ensures.write_fault c.join_file.ensures.begun
     (kept_joined c.in-Join.plant.now c.in-Join.levels.number c.in-Join.stem.now c.in-Join.log.now (g.F.Shelf.files c.args.files.now) (g.F.Shelf.files c.join_file.new.files) c.join_file.ensures.others) c.join_file.ensures.left c.join_file.ensures.kept.later c.join_file.ensures.kept.writes)
+
+pub returns-in-Resume-clause-done : goal.returns-in-Resume-clause-done
+returns-in-Resume-clause-done g c =
+    let share = option_map share_numbers c.in-Resume.share in
+    rw c.in-Resume.is (wrote (Resuming c.in-Resume.plant.now c.in-Resume.log.now c.in-Resume.budget.boxes c.in-Resume.out.now share) (g.F.Shelf.files c.args.files.now) (g.F.Shelf.files c.resume_file.new.files) (g.F.Shelf.read_faults c.args.files.now) (g.F.Shelf.read_faults c.resume_file.new.files)
+    (g.F.Shelf.write_faults c.args.files.now) (g.F.Shelf.write_faults c.resume_file.new.files) c.resume_file.result
+    c.resume_file.ensures.answer c.resume_file.ensures.refused c.resume_file.ensures.fault (λ _ first. absurd (first.resumes_none c.in-Resume.plant.now c.in-Resume.log.now c.in-Resume.budget.boxes c.in-Resume.out.now share refl)) c.resume_file.ensures.write_fault c.resume_file.ensures.begun
+    (kept_resumed c.in-Resume.plant.now c.in-Resume.log.now c.in-Resume.budget.boxes c.in-Resume.out.now share (g.F.Shelf.files c.args.files.now) (g.F.Shelf.files c.resume_file.new.files) c.resume_file.ensures.others) c.resume_file.ensures.left c.resume_file.ensures.kept.later c.resume_file.ensures.kept.writes)
+
+pub resume_file-requires-clause-apart : goal.resume_file-requires-clause-apart
+resume_file-requires-clause-apart g c = c.requires.apart.resuming c.in-Resume.plant.now c.in-Resume.log.now c.in-Resume.budget.boxes c.in-Resume.out.now (option_map share_numbers c.in-Resume.share) (ap meaning c.in-Resume.is)
 
 pub trace_file-requires-clause-logs_writable : goal.trace_file-requires-clause-logs_writable
 trace_file-requires-clause-logs_writable g c =
@@ -164,7 +176,7 @@ join_file-requires-clause-logs_readable g c =
     parts_allowed may c.in-Join.plant.now c.in-Join.stem.now c.in-Join.levels.number (rw is at c.requires.may_read)
 
 pub join_file-requires-clause-apart : goal.join_file-requires-clause-apart
-join_file-requires-clause-apart g c = c.requires.apart c.in-Join.plant.now c.in-Join.levels.number c.in-Join.stem.now c.in-Join.log.now (ap meaning c.in-Join.is)
+join_file-requires-clause-apart g c = c.requires.apart.joining c.in-Join.plant.now c.in-Join.levels.number c.in-Join.stem.now c.in-Join.log.now (ap meaning c.in-Join.is)
 
 pub find_log_file-requires-clause-text_writable : goal.find_log_file-requires-clause-text_writable
 find_log_file-requires-clause-text_writable g c = let is = c.in-ConflictLogs.is in let all = rw is at c.requires.may_write in all 0 [] (omega arith)

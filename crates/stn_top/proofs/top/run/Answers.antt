@@ -1,6 +1,6 @@
 use Rattle.std.proofs.Common.{inl, arith}
 use Rattle.command_words.specs.Words.{texts, meaning}
-use Rattle.stn_top.proofs.AnswerLemmas.{cut_off, none_cut_off, none_failed, said_stopped, says_apart, says_no_joining}
+use Rattle.stn_top.proofs.AnswerLemmas.{cut_off, none_cut_off, none_failed, said_stopped, says_apart, says_reads_first}
 use Rattle.stn_top.proofs.FileLemmas.{kept_all, left_all}
 use Rattle.stn_top.proofs.top.run.Goals as goal
 
@@ -28,7 +28,7 @@ pub answer-requires-clause-apart : goal.answer-requires-clause-apart
 answer-requires-clause-apart g c = says_apart (texts c.args.words.now) (meaning c.in-Some.command) c.in-Some.ensures
 
 pub returns-in-Some-clause-unread : goal.returns-in-Some-clause-unread
-returns-in-Some-clause-unread g c = λ seven none. c.answer.ensures.unread seven (says_no_joining (texts c.args.words.now) (meaning c.in-Some.command) c.in-Some.ensures none)
+returns-in-Some-clause-unread g c = λ seven none. c.answer.ensures.unread seven (says_reads_first (texts c.args.words.now) (meaning c.in-Some.command) c.in-Some.ensures none)
 
 pub returns-in-Some-clause-write_fault : goal.returns-in-Some-clause-write_fault
 returns-in-Some-clause-write_fault g c = λ eight.

@@ -1,0 +1,4 @@
+pub mod Growth
+pub mod Logs
+pub mod Reading
+pub mod laws

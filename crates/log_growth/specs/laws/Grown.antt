@@ -1,0 +1,56 @@
+-- How a proof has grown that was read beside another. Only clauses of private functions cite it.
+use Rattle.std.specs.Prelude.{◌≡◌, ℕ, ℤ, ◌+◌, List, map, ◌++◌, Option, Some, IsSomeAnd}
+use Rattle.row_kit.specs.declared.domain.Domain.{Domain}
+use Rattle.proof_tree.specs.Items.{tree_items}
+use Rattle.proof_tree.specs.Nodes.{counted}
+use Rattle.proof_tree.specs.Tree.{after_cuts}
+use Rattle.proof_tree.specs.Views.{View, present}
+use Rattle.row_relax.specs.declared.pick.RowPick.{RowPick}
+use Rattle.row_relax.specs.declared.rows.Rows.{Rows}
+use Rattle.row_relax.specs.RowProofs.{RowItem, RowTree}
+use Rattle.row_relax.specs.Steps.{row_steps}
+use Rattle.row_relax.specs.View.{view_of}
+use Rattle.branch_tree.specs.Deep.{is_deep}
+use Rattle.log_growth.specs.declared.pair.Growth.{Growth}
+use Rattle.log_growth.specs.declared.pair.Share.{Share}
+use Rattle.log_growth.specs.declared.node.Node.{Node}
+use Rattle.log_growth.specs.Growth.{GoesOn, IsGrowth, count_if, deep_ends, floors_above, in_share, open_ends}
+use Rattle.log_growth.specs.laws.Nodes.{Below, below_items, tree_with}
+
+-- the view that an area shows
+abbrev pub seen : List (List Domain) → View
+seen marks = present (map view_of marks)
+
+-- two proofs were read, of which the second goes on from the first
+pub record HasGrown (rows : Rows) (profit : Option ℤ) (share : Option Share) (depth n : ℕ) (view : View) (reads reads_out : List RowItem → Type 0) (growth : Growth) : Type 0 where
+  pub tree : RowTree
+  pub grown : RowTree
+  pub read : reads (tree_items tree)
+  pub read_out : reads_out (tree_items grown)
+  pub is : IsGrowth rows profit share depth n view tree grown growth
+
+-- what stands below two nodes was read, over a view after the cuts of the first, and the proof of the second goes on from that of the first
+pub record HasGrownBelow (rows : Rows) (profit : Option ℤ) (share : Option Share) (depth n : ℕ) (view : View) (node other : Node) (reads reads_out : List RowItem → Type 0) (growth : Growth) : Type 0 where
+  pub below : Below node.end
+  pub below_out : Below other.end
+  pub read : reads (below_items node.end below)
+  pub read_out : reads_out (below_items other.end below_out)
+  pub is : (v : View) → after_cuts (row_steps rows.program) v node.cuts ≡ Some view
+      → IsGrowth rows profit share depth n v (tree_with node.cuts node.found node.end below) (tree_with other.cuts other.found other.end below_out) growth
+
+-- both parts of a split of a view were read in both logs, and those of the second go on from those of the first
+pub record HasGrownParts (rows : Rows) (profit : Option ℤ) (share : Option Share) (depth n : ℕ) (view : View) (pick : RowPick) (reads reads_out : List RowItem → Type 0) (growth : Growth) : Type 0 where
+  pub first : RowTree
+  pub second : RowTree
+  pub first_out : RowTree
+  pub second_out : RowTree
+  pub read : reads (tree_items first ++ tree_items second)
+  pub read_out : reads_out (tree_items first_out ++ tree_items second_out)
+  pub goes_on : IsSomeAnd ((row_steps rows.program).left view pick) (λ x. GoesOn (row_steps rows.program) profit (in_share share) n x first first_out
+      × IsSomeAnd ((row_steps rows.program).right view pick) (λ y. GoesOn (row_steps rows.program) profit (in_share share) (n + open_ends (row_steps rows.program) profit x first) y second second_out))
+  pub ends : growth.ends ≡ count_if ((row_steps rows.program).left view pick) (λ x. open_ends (row_steps rows.program) profit x first) + count_if ((row_steps rows.program).right view pick) (λ y. open_ends (row_steps rows.program) profit y second)
+  pub deep : growth.deep ≡ count_if ((row_steps rows.program).left view pick) (λ x. deep_ends (row_steps rows.program) profit is_deep (depth + 1) x first)
+      + count_if ((row_steps rows.program).right view pick) (λ y. deep_ends (row_steps rows.program) profit is_deep (depth + 1) y second)
+  pub floors : growth.floors ≡ count_if ((row_steps rows.program).left view pick) (λ x. floors_above (row_steps rows.program) profit x first) + count_if ((row_steps rows.program).right view pick) (λ y. floors_above (row_steps rows.program) profit y second)
+  pub before : growth.before ≡ counted first + counted second
+  pub after : growth.after ≡ counted first_out + counted second_out

@@ -1,0 +1,438 @@
+//! Two proofs read side by side.
+ghost use Rattle.std.specs.Prelude.{◌≡◌, ◌≤◌, ◌<◌, ◌+◌, ◌&&◌, ◌++◌, if◌then◌else◌, List as Items, Some, map, Err, IsTrue, IfOk, IfSome};
+ghost use Rattle.stn_edge.specs.Count.{Rose};
+ghost use Rattle.range_prop.specs.declared.row_cut.RowCut.{RowCut};
+ghost use Rattle.proof_tree.specs.Tree.{after_cuts};
+ghost use Rattle.proof_tree.specs.Views.{KeepsViews};
+ghost use Rattle.row_relax.specs.Steps.{row_steps};
+ghost use Rattle.row_relax.specs.View.{Fits, view_of};
+ghost use Rattle.branch_tree.specs.Deep.{is_deep};
+ghost use Rattle.log_growth.specs.Growth.{in_share};
+ghost use Rattle.log_growth.specs.Reading.{IsReading, ReadsOn};
+ghost use Rattle.log_growth.specs.declared.node.Ending.TheVariants.{Split};
+ghost use Rattle.log_growth.specs.laws.Grown.{HasGrown, HasGrownBelow, HasGrownParts, seen};
+ghost use Rattle.log_growth.specs.laws.Nodes.{IsLeafEnd, counted_leaf, leaf_of};
+
+use crate::leaves::{boxes_of, in_share, is_open, leaves_open};
+use crate::node::{Ending, Node};
+use crate::pair::{Growth, Pair};
+use crate::reading::read_node;
+use crate::sameness::{begins_with, is_same_node};
+use crate::skipping::{skip_below, sum};
+use branch_tree::is_deep;
+use dual_bound::Cert;
+use proof_log::LogReader;
+use proof_tree::{Relaxation, floor_cap};
+use range_prop::RowCut;
+use row_kit::Area;
+use row_relax::{RowPick, Rows};
+use std::alloc::Global;
+use stn_edge::{Shelf, Stop};
+
+/// So many nodes may stand one below another in a log.
+pub const MOST_NODES: u32 = 4_609;
+
+/// Both logs, as far as they were read.
+#[derive(Drop)]
+pub struct Readers {
+    pub log: LogReader,
+    pub out: LogReader,
+}
+
+/// Where two proofs stand that are read side by side.
+#[derive(Clone, Copy)]
+pub struct Place {
+    /// How many splits they stand below.
+    pub depth: u32,
+    /// The number of the first open end of the old one.
+    pub number: u64,
+}
+
+/// Makes the cuts of a node; false where one of them names nothing that is there.
+pub fn cut_down(rows: &Rows, area: &mut Area, cuts: &[RowCut]) -> bool
+    requires fits { Fits rows.now.program (seen area.old) }
+    ensures fits { Fits rows.now.program (seen area.new) }
+    ensures cuts { IsTrue result → after_cuts (row_steps rows.now.program) (seen area.old) cuts.now
+        ≡ Some (seen area.new) }
+    ensures keeps { KeepsViews (map view_of area.old) (map view_of area.new) }
+{
+    for cut in cuts {
+        if !rows.cut(area, cut) {
+            return false;
+        }
+    }
+    true
+}
+
+/// Reads two proofs over an area side by side; none where the second does not go on from the first. Else the area is afterwards as
+/// before.
+#[cycle(growing)]
+pub fn grown<F: Shelf>(
+    alloc: Global,
+    pair: Pair,
+    files: &mut F,
+    readers: &mut Readers,
+    area: &mut Area,
+    place: Place,
+) -> Result<Option<Growth>, Stop>
+    requires log_allowed { IsTrue (F.may_read files.old pair.log.now) }
+    requires out_allowed { IsTrue (F.may_read files.old pair.out.now) }
+    requires log_reading { IsReading (F.files files.old) pair.log.now readers.old.log }
+    requires out_reading { IsReading (F.files files.old) pair.out.now readers.old.out }
+    requires fits { Fits pair.rows.now.program (seen area.old) }
+    ensures grown { IfOk result (λ growth. IfSome growth (HasGrown pair.entry.rows.now
+        pair.entry.profit pair.entry.share place.depth place.number (seen area.old)
+        (λ items. ReadsOn (F.files files.old) pair.entry.log.now readers.old.log items
+        readers.new.log)
+        (λ items. ReadsOn (F.files files.old) pair.entry.out.now readers.old.out items
+        readers.new.out))) }
+    ensures log_reading { IfOk result (λ growth. IfSome growth (λ _.
+        IsReading (F.files files.old) pair.entry.log.now readers.new.log)) }
+    ensures out_reading { IfOk result (λ growth. IfSome growth (λ _.
+        IsReading (F.files files.old) pair.entry.out.now readers.new.out)) }
+    ensures as_before { IfOk result (λ growth. IfSome growth (λ _.
+        map view_of area.new ≡ map view_of area.old)) }
+    ensures same { F.files files.new ≡ F.files files.old }
+    ensures readable { F.may_read files.new ≡ F.may_read files.old }
+    ensures writable { F.may_write files.new ≡ F.may_write files.old }
+    ensures later { F.read_faults files.old ≤ F.read_faults files.new }
+    ensures no_write { F.write_faults files.new ≡ F.write_faults files.old }
+    ensures fault { result ≡ Err Stop.Failed
+        → Rose (F.read_faults files.old) (F.read_faults files.new) }
+{
+    let Some(node) = read_node(alloc, files, pair.log, &mut readers.log)? else {
+        return Ok(None);
+    };
+    let Some(other) = read_node(alloc, files, pair.out, &mut readers.out)? else {
+        return Ok(None);
+    };
+    let mark = pair.rows.mark(area);
+    if !cut_down(pair.rows, area, node.cuts.as_slice()) {
+        return Ok(None);
+    }
+    match grown_below(alloc, pair, files, readers, area, place, &node, &other)? {
+        Some(growth) => {
+            pair.rows.back(area, mark);
+            Ok(Some(growth))
+        }
+        None => Ok(None),
+    }
+}
+
+// Reads on below two nodes over an area after the cuts of the first.
+#[cycle(growing)]
+fn grown_below<F: Shelf>(
+    alloc: Global,
+    pair: Pair,
+    files: &mut F,
+    readers: &mut Readers,
+    area: &mut Area,
+    place: Place,
+    node: &Node,
+    other: &Node,
+) -> Result<Option<Growth>, Stop>
+    requires log_allowed { IsTrue (F.may_read files.old pair.log.now) }
+    requires out_allowed { IsTrue (F.may_read files.old pair.out.now) }
+    requires log_reading { IsReading (F.files files.old) pair.log.now readers.old.log }
+    requires out_reading { IsReading (F.files files.old) pair.out.now readers.old.out }
+    requires fits { Fits pair.rows.now.program (seen area.old) }
+    ensures grown { IfOk result (λ growth. IfSome growth (HasGrownBelow pair.entry.rows.now
+        pair.entry.profit pair.entry.share place.depth place.number (seen area.old) node.now
+        other.now
+        (λ items. ReadsOn (F.files files.old) pair.entry.log.now readers.old.log items
+        readers.new.log)
+        (λ items. ReadsOn (F.files files.old) pair.entry.out.now readers.old.out items
+        readers.new.out))) }
+    ensures log_reading { IfOk result (λ growth. IfSome growth (λ _.
+        IsReading (F.files files.old) pair.entry.log.now readers.new.log)) }
+    ensures out_reading { IfOk result (λ growth. IfSome growth (λ _.
+        IsReading (F.files files.old) pair.entry.out.now readers.new.out)) }
+    ensures as_before { IfOk result (λ growth. IfSome growth (λ _.
+        map view_of area.new ≡ map view_of area.old)) }
+    ensures same { F.files files.new ≡ F.files files.old }
+    ensures readable { F.may_read files.new ≡ F.may_read files.old }
+    ensures writable { F.may_write files.new ≡ F.may_write files.old }
+    ensures later { F.read_faults files.old ≤ F.read_faults files.new }
+    ensures no_write { F.write_faults files.new ≡ F.write_faults files.old }
+    ensures fault { result ≡ Err Stop.Failed
+        → Rose (F.read_faults files.old) (F.read_faults files.new) }
+{
+    match &node.end {
+        Ending::Split(pick, cert) => grown_split(
+            alloc, pair, files, readers, area, place, node, other, pick, cert,
+        ),
+        _ => grown_leaf(alloc, pair, files, readers, area, place, node, other),
+    }
+}
+
+// The same of a node that splits.
+#[cycle(growing)]
+fn grown_split<F: Shelf>(
+    alloc: Global,
+    pair: Pair,
+    files: &mut F,
+    readers: &mut Readers,
+    area: &mut Area,
+    place: Place,
+    node: &Node,
+    other: &Node,
+    pick: &RowPick,
+    cert: &Cert,
+) -> Result<Option<Growth>, Stop>
+    requires log_allowed { IsTrue (F.may_read files.old pair.log.now) }
+    requires out_allowed { IsTrue (F.may_read files.old pair.out.now) }
+    requires log_reading { IsReading (F.files files.old) pair.log.now readers.old.log }
+    requires out_reading { IsReading (F.files files.old) pair.out.now readers.old.out }
+    requires fits { Fits pair.rows.now.program (seen area.old) }
+    requires splits { node.now.end ≡ Split pick.now cert.now }
+    ensures grown { IfOk result (λ growth. IfSome growth (HasGrownBelow pair.entry.rows.now
+        pair.entry.profit pair.entry.share place.depth place.number (seen area.old) node.now
+        other.now
+        (λ items. ReadsOn (F.files files.old) pair.entry.log.now readers.old.log items
+        readers.new.log)
+        (λ items. ReadsOn (F.files files.old) pair.entry.out.now readers.old.out items
+        readers.new.out))) }
+    ensures log_reading { IfOk result (λ growth. IfSome growth (λ _.
+        IsReading (F.files files.old) pair.entry.log.now readers.new.log)) }
+    ensures out_reading { IfOk result (λ growth. IfSome growth (λ _.
+        IsReading (F.files files.old) pair.entry.out.now readers.new.out)) }
+    ensures as_before { IfOk result (λ growth. IfSome growth (λ _.
+        map view_of area.new ≡ map view_of area.old)) }
+    ensures same { F.files files.new ≡ F.files files.old }
+    ensures readable { F.may_read files.new ≡ F.may_read files.old }
+    ensures writable { F.may_write files.new ≡ F.may_write files.old }
+    ensures later { F.read_faults files.old ≤ F.read_faults files.new }
+    ensures no_write { F.write_faults files.new ≡ F.write_faults files.old }
+    ensures fault { result ≡ Err Stop.Failed
+        → Rose (F.read_faults files.old) (F.read_faults files.new) }
+{
+    if place.depth >= MOST_NODES || !is_same_node(node, other) {
+        return Ok(None);
+    }
+    let mark = pair.rows.mark(area);
+    let floor = floor_cap(pair.rows.trim(area, pick, cert));
+    match grown_parts(alloc, pair, files, readers, area, place, pick)? {
+        Some(growth) => {
+            pair.rows.back(area, mark);
+            Ok(with_split(leaves_open(&pair.profit, floor), growth))
+        }
+        None => Ok(None),
+    }
+}
+
+// Reads both parts of a split of an area in both logs.
+#[cycle(growing)]
+fn grown_parts<F: Shelf>(
+    alloc: Global,
+    pair: Pair,
+    files: &mut F,
+    readers: &mut Readers,
+    area: &mut Area,
+    place: Place,
+    pick: &RowPick,
+) -> Result<Option<Growth>, Stop>
+    requires log_allowed { IsTrue (F.may_read files.old pair.log.now) }
+    requires out_allowed { IsTrue (F.may_read files.old pair.out.now) }
+    requires log_reading { IsReading (F.files files.old) pair.log.now readers.old.log }
+    requires out_reading { IsReading (F.files files.old) pair.out.now readers.old.out }
+    requires fits { Fits pair.rows.now.program (seen area.old) }
+    requires depth { place.depth < 4609 }
+    ensures grown { IfOk result (λ growth. IfSome growth (HasGrownParts pair.entry.rows.now
+        pair.entry.profit pair.entry.share place.depth place.number (seen area.old) pick.now
+        (λ items. ReadsOn (F.files files.old) pair.entry.log.now readers.old.log items
+        readers.new.log)
+        (λ items. ReadsOn (F.files files.old) pair.entry.out.now readers.old.out items
+        readers.new.out))) }
+    ensures log_reading { IfOk result (λ growth. IfSome growth (λ _.
+        IsReading (F.files files.old) pair.entry.log.now readers.new.log)) }
+    ensures out_reading { IfOk result (λ growth. IfSome growth (λ _.
+        IsReading (F.files files.old) pair.entry.out.now readers.new.out)) }
+    ensures as_before { IfOk result (λ growth. IfSome growth (λ _.
+        map view_of area.new ≡ map view_of area.old)) }
+    ensures same { F.files files.new ≡ F.files files.old }
+    ensures readable { F.may_read files.new ≡ F.may_read files.old }
+    ensures writable { F.may_write files.new ≡ F.may_write files.old }
+    ensures later { F.read_faults files.old ≤ F.read_faults files.new }
+    ensures no_write { F.write_faults files.new ≡ F.write_faults files.old }
+    ensures fault { result ≡ Err Stop.Failed
+        → Rose (F.read_faults files.old) (F.read_faults files.new) }
+{
+    let mark = pair.rows.mark(area);
+    if !pair.rows.left(area, pick) {
+        return Ok(None);
+    }
+    let left = Place {
+        depth: place.depth + 1,
+        number: place.number,
+    };
+    let Some(first) = grown(alloc, pair, files, readers, area, left)? else {
+        return Ok(None);
+    };
+    pair.rows.back(area, mark);
+    if !pair.rows.right(area, pick) {
+        return Ok(None);
+    }
+    let Some(number) = sum(place.number, first.ends) else {
+        return Ok(None);
+    };
+    let right = Place {
+        depth: place.depth + 1,
+        number,
+    };
+    let Some(second) = grown(alloc, pair, files, readers, area, right)? else {
+        return Ok(None);
+    };
+    pair.rows.back(area, mark);
+    Ok(both(first, second))
+}
+
+// The counts of two parts together, where they are numbers of 64 bits.
+fn both(first: Growth, second: Growth) -> Option<Growth>
+    ensures { IfSome result (λ growth. (growth.ends ≡ first.ends + second.ends)
+        × (growth.deep ≡ first.deep + second.deep) × (growth.floors ≡ first.floors + second.floors)
+        × (growth.before ≡ first.before + second.before)
+        × (growth.after ≡ first.after + second.after)) }
+{
+    let Some(ends) = sum(first.ends, second.ends) else {
+        return None;
+    };
+    let Some(deep) = sum(first.deep, second.deep) else {
+        return None;
+    };
+    let Some(floors) = sum(first.floors, second.floors) else {
+        return None;
+    };
+    let Some(before) = sum(first.before, second.before) else {
+        return None;
+    };
+    let Some(after) = sum(first.after, second.after) else {
+        return None;
+    };
+    Some(Growth {
+        ends,
+        deep,
+        floors,
+        before,
+        after,
+    })
+}
+
+// The counts with those of the split, which is a box of both proofs, and whose floor may be above the profit.
+fn with_split(above: bool, growth: Growth) -> Option<Growth>
+    ensures { IfSome result (λ whole. (whole.ends ≡ growth.ends) × (whole.deep ≡ growth.deep)
+        × (whole.floors ≡ (if above then 1 else 0) + growth.floors)
+        × (whole.before ≡ 1 + growth.before) × (whole.after ≡ 1 + growth.after)) }
+{
+    let Some(floors) = sum(u64::from(above), growth.floors) else {
+        return None;
+    };
+    let Some(before) = sum(1, growth.before) else {
+        return None;
+    };
+    let Some(after) = sum(1, growth.after) else {
+        return None;
+    };
+    Some(Growth {
+        ends: growth.ends,
+        deep: growth.deep,
+        floors,
+        before,
+        after,
+    })
+}
+
+// Whether an end stands too deep that may be open.
+fn is_deep_end(open: bool, area: &Area, depth: u32) -> bool
+    ensures { result ≡ («open» && is_deep depth (seen area.now)) }
+{
+    open && is_deep(area, depth)
+}
+
+// The counts of an end that is as it was, which may be open, and too deep.
+fn leaf_growth(open: bool, deep: bool, end: &Ending) -> Growth
+    requires { IsLeafEnd end.now }
+    ensures ends { result.ends ≡ (if «open» then 1 else 0) }
+    ensures deep { result.deep ≡ (if deep then 1 else 0) }
+    ensures floors { result.floors ≡ 0 }
+    ensures before { result.before ≡ counted_leaf (leaf_of end.now) }
+    ensures after { result.after ≡ result.before }
+{
+    let before = boxes_of(end);
+    Growth {
+        ends: u64::from(open),
+        deep: u64::from(deep),
+        floors: 0,
+        before,
+        after: before,
+    }
+}
+
+// Whether the proof of another node may stand in the place of an end: this one is open, its number is one of those that may be
+// searched on, and the other begins with its cuts.
+fn may_grow(pair: &Pair, open: bool, number: u64, node: &Node, other: &Node) -> bool
+    ensures opened { IsTrue result → IsTrue «open» }
+    ensures searched { IsTrue result → IsTrue (in_share pair.now.share number) }
+    ensures begins { IsTrue result
+        → (more : Items RowCut) × (other.now.cuts ≡ node.now.cuts ++ more) }
+{
+    open && in_share(&pair.share, number)
+        && begins_with(other.cuts.as_slice(), node.cuts.as_slice())
+}
+
+// The same of a node that does not split: the other is the same, or another proof stands in its place, where it is open and its
+// number is one of those that may be searched on.
+fn grown_leaf<F: Shelf>(
+    alloc: Global,
+    pair: Pair,
+    files: &mut F,
+    readers: &mut Readers,
+    area: &Area,
+    place: Place,
+    node: &Node,
+    other: &Node,
+) -> Result<Option<Growth>, Stop>
+    requires out_allowed { IsTrue (F.may_read files.old pair.out.now) }
+    requires log_reading { IsReading (F.files files.old) pair.log.now readers.old.log }
+    requires out_reading { IsReading (F.files files.old) pair.out.now readers.old.out }
+    requires fits { Fits pair.rows.now.program (seen area.now) }
+    requires leaf { IsLeafEnd node.now.end }
+    ensures grown { IfOk result (λ growth. IfSome growth (HasGrownBelow pair.entry.rows.now
+        pair.entry.profit pair.entry.share place.depth place.number (seen area.now) node.now
+        other.now
+        (λ items. ReadsOn (F.files files.old) pair.entry.log.now readers.old.log items
+        readers.new.log)
+        (λ items. ReadsOn (F.files files.old) pair.entry.out.now readers.old.out items
+        readers.new.out))) }
+    ensures log_reading { IfOk result (λ growth. IfSome growth (λ _.
+        IsReading (F.files files.old) pair.entry.log.now readers.new.log)) }
+    ensures out_reading { IfOk result (λ growth. IfSome growth (λ _.
+        IsReading (F.files files.old) pair.entry.out.now readers.new.out)) }
+    ensures same { F.files files.new ≡ F.files files.old }
+    ensures readable { F.may_read files.new ≡ F.may_read files.old }
+    ensures writable { F.may_write files.new ≡ F.may_write files.old }
+    ensures later { F.read_faults files.old ≤ F.read_faults files.new }
+    ensures no_write { F.write_faults files.new ≡ F.write_faults files.old }
+    ensures fault { result ≡ Err Stop.Failed
+        → Rose (F.read_faults files.old) (F.read_faults files.new) }
+{
+    let open = is_open(pair.rows, area, &pair.profit, &node.end);
+    let deep = is_deep_end(open, area, place.depth);
+    let as_before = leaf_growth(open, deep, &node.end);
+    if is_same_node(node, other) {
+        return Ok(Some(as_before));
+    }
+    if !may_grow(&pair, open, place.number, node, other) {
+        return Ok(None);
+    }
+    match skip_below(
+        alloc,
+        files,
+        pair.out,
+        &mut readers.out,
+        &other.end,
+        MOST_NODES,
+    )? {
+        Some(after) => Ok(Some(Growth { after, ..as_before })),
+        None => Ok(None),
+    }
+}

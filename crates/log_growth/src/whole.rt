@@ -1,0 +1,111 @@
+//! Two whole logs read side by side.
+ghost use Rattle.std.specs.Prelude.{◌≡◌, ◌≤◌, ℕ, Err, IsTrue, IfOk, IfSome};
+ghost use Rattle.stn_edge.specs.Count.{Rose};
+ghost use Rattle.stn_edge.specs.Files.{file_of};
+ghost use Rattle.proof_log.specs.declared.claim.Claim.{Claim};
+ghost use Rattle.proof_log.specs.declared.log_reader.LogPart.TheVariants.{Claim as ClaimPart, End as EndPart};
+ghost use Rattle.log_growth.specs.Logs.{AreGrown};
+ghost use Rattle.log_growth.specs.Reading.{EndsClean, IsReading};
+
+use crate::growing::{Place, Readers, grown};
+use crate::pair::{Growth, Pair};
+use log_lines::Limits;
+use proof_log::{LogPart, LogReader};
+use std::alloc::Global;
+use stn_edge::{Shelf, Stop};
+
+/// Where the proof of a log begins, and the limits that it keeps.
+#[derive(Clone, Copy)]
+pub struct Front {
+    pub limits: Limits,
+    /// The version of the head before it; 2 where there is none.
+    pub version: u8,
+    /// How many bytes the head has; none where there is none.
+    pub head: u64,
+}
+
+// Reads the claim and the end of a log; whether they come, and nothing behind them.
+fn read_end<F: Shelf>(files: &mut F, name: &str, reader: &mut LogReader) -> Result<bool, Stop>
+    requires allowed { IsTrue (F.may_read files.old name.now) }
+    requires reading { IsReading (F.files files.old) name.now reader.old }
+    ensures end { IfOk result (λ whole. IsTrue whole
+        → EndsClean (F.files files.old) name.now reader.old) }
+    ensures same { F.files files.new ≡ F.files files.old }
+    ensures readable { F.may_read files.new ≡ F.may_read files.old }
+    ensures writable { F.may_write files.new ≡ F.may_write files.old }
+    ensures later { F.read_faults files.old ≤ F.read_faults files.new }
+    ensures no_write { F.write_faults files.new ≡ F.write_faults files.old }
+    ensures fault { result ≡ Err Stop.Failed
+        → Rose (F.read_faults files.old) (F.read_faults files.new) }
+{
+    let claim = reader.next(files, name)?;
+    if !is_claim(&claim) {
+        return Ok(false);
+    }
+    let end = reader.next(files, name)?;
+    Ok(is_end(&end))
+}
+
+// Whether a part of a log is a claim.
+fn is_claim(part: &LogPart) -> bool
+    ensures { IsTrue result → (line : ℕ) × (claim : Claim) × (part.now ≡ ClaimPart line claim) }
+{
+    match part {
+        LogPart::Claim { line: _, claim: _ } => true,
+        _ => false,
+    }
+}
+
+// Whether a part of a log is its end.
+fn is_end(part: &LogPart) -> bool
+    ensures { IsTrue result → (version : ℕ) × (part.now ≡ EndPart version) }
+{
+    match part {
+        LogPart::End { version: _ } => true,
+        _ => false,
+    }
+}
+
+/// Reads both logs behind their heads side by side, and tells how the proof of the second has grown where it goes on from that of the
+/// first; none where it does not, or where one of them is no whole log. It reads each once, and holds the way down to the present
+/// node. The files are as before. `Failed` comes only where a read failed.
+pub fn growth<F: Shelf>(
+    alloc: Global,
+    pair: Pair,
+    log: Front,
+    out: Front,
+    files: &mut F,
+) -> Result<Option<Growth>, Stop>
+    requires log_allowed { IsTrue (F.may_read files.old pair.log.now) }
+    requires out_allowed { IsTrue (F.may_read files.old pair.out.now) }
+    ensures grown { IfOk result (λ growth. IfSome growth (λ g. IfSome (F.files files.old)
+        (λ m. AreGrown pair.entry.rows.now pair.entry.profit pair.entry.share log out
+        (file_of m pair.entry.log.now) (file_of m pair.entry.out.now) g))) }
+    ensures same { F.files files.new ≡ F.files files.old }
+    ensures readable { F.may_read files.new ≡ F.may_read files.old }
+    ensures writable { F.may_write files.new ≡ F.may_write files.old }
+    ensures later { F.read_faults files.old ≤ F.read_faults files.new }
+    ensures no_write { F.write_faults files.new ≡ F.write_faults files.old }
+    ensures fault { result ≡ Err Stop.Failed
+        → Rose (F.read_faults files.old) (F.read_faults files.new) }
+{
+    let mut readers = Readers {
+        log: LogReader::begin_behind(alloc, log.limits, log.version, log.head)?,
+        out: LogReader::begin_behind(alloc, out.limits, out.version, out.head)?,
+    };
+    let mut area = pair.rows.root_area(alloc)?;
+    let root = Place {
+        depth: 0,
+        number: 0,
+    };
+    let Some(growth) = grown(alloc, pair, files, &mut readers, &mut area, root)? else {
+        return Ok(None);
+    };
+    let ends = read_end(files, pair.log, &mut readers.log)?;
+    let out_ends = read_end(files, pair.out, &mut readers.out)?;
+    if ends && out_ends {
+        Ok(Some(growth))
+    } else {
+        Ok(None)
+    }
+}

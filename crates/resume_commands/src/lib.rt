@@ -1,0 +1,7 @@
+//! The commands that go on from logs: `resume`.
+#![tactic(auto)]
+
+mod answering;
+mod resuming;
+
+pub use resuming::resume_file;

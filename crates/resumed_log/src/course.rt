@@ -1,0 +1,20 @@
+//! How far the writing of a log has come.
+
+use crate::new_log::Out;
+use branch_tree::GoingOn;
+use proof_tree::Capped;
+
+/// How far the writing of a log has come.
+#[derive(Drop)]
+pub struct Course<'a> {
+    /// The search that goes on, with its best point.
+    pub going: GoingOn<'a>,
+    /// The log.
+    pub out: Out,
+    /// How many open ends of the old log were come to.
+    pub number: u64,
+    /// How many of them might be searched on.
+    pub entered: u32,
+    /// The greatest of the caps and floors so far, but for those of boxes of one point.
+    pub cap: Capped,
+}
