@@ -17,8 +17,8 @@ CRATES = ROOT / "crates"
 PAGE = ROOT / "docs" / "reading.md"
 TOP = CRATES / "stn_top" / "src" / "top.rt"
 # The crates of the commands: their definitions serve `run` alone, so the page names those that it does not reach.
-COMMANDS = ("command_", "answer_texts", "plan_commands", "log_commands", "tank_commands", "part_commands",
-            "planning_commands", "horizon_commands", "stn_top")
+COMMANDS = ("command_", "answer_texts", "plan_commands", "log_commands", "listing_commands", "tank_commands", "part_commands",
+            "planning_commands", "demo_commands", "horizon_commands", "conflict_commands", "resume_commands", "stn_top")
 WIDTH = 120
 
 # A name, with what follows a dot: `plan`, `plan.start`, `verdict.Broken`.

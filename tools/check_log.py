@@ -6,13 +6,14 @@
     python3 tools/check_log.py check-replan PLANT PLAN PERIOD LOG
     python3 tools/check_log.py whatif PLANT LOG STATE STEP COUNT
     python3 tools/check_log.py join PLANT LEVELS STEM LOG
+    python3 tools/check_log.py merge PLANT STEM COUNT OUT
 
 Written from docs/model.md and docs/formats.md alone, apart from the proved program, so that an auditor can have both
 read a log. It needs Python 3.11 and nothing else, counts in whole numbers, and is no part of what is proved. With
 `--ahead` as the first word it also reads what the program does not read yet: nothing today.
 
-The text of a log is read in log_text.py, what its head declares is in declared.py, log_judge.py judges it, and log_uses.py has
-`whatif` and `join`; plant files are read in plant_program.py, which also makes the rows, and plan files in plan_file.py.
+The text of a log is read in log_text.py, what its head declares is in declared.py, log_judge.py judges it, log_uses.py has
+`whatif` and `join`, and log_merge.py `merge`; plant files are read in plant_program.py, which also makes the rows, and plan files in plan_file.py.
 """
 
 import re
@@ -20,6 +21,7 @@ import sys
 from pathlib import Path
 
 from log_judge import judge
+from log_merge import merged, read_logs
 from log_text import Defect, LogText
 from log_uses import BadPart, joined, read_parts, whatif_lines
 from plan_file import Broken, PlanRefused, kept_root, read_plan
@@ -95,6 +97,15 @@ class Answer:
         self.write(log, text)
         return f"joined {claim}", 0
 
+    def merge(self, plant, stem, count, out):
+        """One log of the plant from several."""
+        if out in (plant, *(f"{stem}.{number}" for number in range(256))):
+            return "refused words", 2
+        program = self.program(plant)
+        claim, text = merged(program, read_logs(program, int(count), lambda number: self.read(f"{stem}.{number}"), self.ahead))
+        self.write(out, text)
+        return f"merged {claim}", 0
+
 
 def whole(least, most):
     """Whether a word is a whole number within these, as it is written here."""
@@ -107,6 +118,7 @@ FORMS = {
     "check-replan": (Answer.check_replan, (bool, bool, whole(0, 336), bool)),
     "whatif": (Answer.whatif, (bool, bool, bool, whole(-BILLION, BILLION), whole(1, 50))),
     "join": (Answer.join, (bool, whole(1, 8), bool, bool)),
+    "merge": (Answer.merge, (bool, bool, whole(1, 256), bool)),
 }
 
 

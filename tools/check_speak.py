@@ -557,6 +557,7 @@ def of_joins():
     head = ["stn-log 3", "sum 1 0 - - 1", "term 1 1 0", "node", "dual 1 0", "claim below 58", "end", ""]
     files = {"plant.toml": ODD, "p.0": "\n".join(head), "p.1": "\n".join([head[0], "sum 1 1 - - 1", *head[2:]])}
     yield Case("log: other sums", ["join", "plant.toml", "1", "p", "out.log"], "no 1 2 22", "p.1, line 2, `sum 1 1 - - 1`", "other sums", files=files, says=("log", "22"))
+    yield Case("log: other heads", ["merge", "plant.toml", "p", "2", "out.log"], "no 1 2 22", "p.1, line 2, `sum 1 1 - - 1`", "from one and the same log", files=files, says=("log", "22"))
 
 
 def of_words():
@@ -575,6 +576,9 @@ def of_words():
     yield case("PART", ["solve-part", "plant.toml", "2", "4", "1", "b.log"], "PART is `4`", "0 to 3")
     yield case("STEP", ["whatif", "plant.toml", "a.log", "prod", "-0", "1"], "STEP is `-0`", "-1,000,000,000 to 1,000,000,000")
     yield case("COUNT", ["whatif", "plant.toml", "a.log", "prod", "1", "51"], "COUNT is `51`", "1 to 50")
+    yield case("COUNT of merge", ["merge", "plant.toml", "s", "257", "b.log"], "COUNT is `257`", "1 to 256")
+    yield case("OUT of STEM", ["merge", "plant.toml", "s", "1", "s.255"], "`s.255`, is one of the files of STEM")
+    yield case("OUT is PLANT, merge", ["merge", "plant.toml", "s", "1", "plant.toml"], "OUT and PLANT are the same file")
     yield case("H", ["check-least", "plant.toml", "338", "s"], "H is `338`", "1 to 337")
     yield case("LOG is PLANT", ["solve", "plant.toml", "1", "plant.toml"], "LOG and PLANT are the same file, `plant.toml`")
     yield case("LOG is PLAN", ["replan", "plant.toml", "a.log", "1", "1", "a.log"], "LOG and PLAN are the same file")

@@ -6,7 +6,7 @@
 PROGRAM is the built `stn`; without it what STN names, or crates/stn/out/stn. The logs are those of examples/, what
 PROGRAM writes for the plants there, logs made at random over plants made at random, and mutants of all of them: numbers
 changed by one, lines changed, dropped, doubled or exchanged, logs cut off, other plants, plants with faults. Of the
-logs at random both are asked about another tank, too. KEEP may name a folder for the files of each difference. It exits
+logs at random both are asked about another tank, too, and logs of one head are merged. KEEP may name a folder for the files of each difference. It exits
 with 0 where all answers and statuses agree, with 1 where some differ, and with 2 where there is no program.
 """
 
@@ -21,11 +21,11 @@ from pathlib import Path
 
 from check_log import Answer
 from plant_program import Refused, program_of, read_plant
-from random_logs import random_log
+from random_logs import logs_of_one_head, random_log
 
 TOP = Path(__file__).resolve().parent.parent
 BUDGETS = ("1", "7", "60")
-MUTANTS, MUTANT_PLANTS, RANDOM_PLANTS, RANDOM_LOGS = 500, 250, 40, 8
+MUTANTS, MUTANT_PLANTS, RANDOM_PLANTS, RANDOM_LOGS, MERGES = 500, 250, 40, 8, 6
 GREATEST_MUTANT, SECONDS = 20_000, int(os.environ.get("SECONDS_EACH", 20))
 ODD_NUMBERS = (b"0", b"1", b"2", b"254", b"255", b"256", b"4608", b"50000", b"50001", b"1048576", b"1048577", b"1099511627776",
                b"1099511627777", b"9" * 30, b"9" * 31, b"-1", b"-0", b"00", b"01", b"-")
@@ -176,6 +176,23 @@ class Comparison:
             self.keep(what, plant, log)
             print(f"compare: {what}: the program answers {theirs}, check_log.py {own}", flush=True)
 
+    def ask_merge(self, what, plant, logs):
+        """Both merge logs of a plant, and leave the same file."""
+        stem, out = str(self.room / "log"), str(self.room / "out")
+        files = {str(self.room / "plant"): plant, **{f"{stem}.{number}": log for number, log in enumerate(logs)}}
+        for name, text in files.items():
+            Path(name).write_bytes(text)
+        Path(out).unlink(missing_ok=True)
+        words, left = ["merge", str(self.room / "plant"), stem, str(len(logs)), out], {}
+        theirs, own = self.run(*words), Answer(files.__getitem__, left.__setitem__).of(words)
+        written = Path(out).read_bytes() if os.path.exists(out) else None
+        self.asked += 1
+        self.seen[kind_of(own[0])] += 1
+        if theirs != own or written != left.get(out):
+            self.differ += 1
+            self.keep(what, plant, b"".join(logs))
+            print(f"compare: {what}: the program answers {theirs}, check_log.py {own}, or another file", flush=True)
+
     def keep(self, what, plant, log):
         """Leaves the files of a difference where KEEP names a folder."""
         if "KEEP" in os.environ:
@@ -227,6 +244,28 @@ def at_random(dice):
             yield f"random log {number} of {name}", plant, random_log(dice, program)
 
 
+def plan_of(comparison, plant, slots):
+    """A plan that the program finds with few boxes, as a profit and lines of its values, or nothing."""
+    place, log = comparison.room / "plant", comparison.room / "log"
+    place.write_bytes(plant)
+    comparison.run("solve", place, 7, log)
+    found = re.search(rb"claim (?:optimal|between) (-?[0-9]+).*\n((?:value .*\n)*)end", log.read_bytes())
+    lines = found[2].decode().splitlines() if found else []
+    return found and (int(found[1]), [it for it in lines if int(it.split()[1]) < slots])
+
+
+def mergings(comparison, dice):
+    """Logs at random over plants, some of one head each time."""
+    for name, plant in plants(dice):
+        try:
+            program = program_of(read_plant(plant))
+        except Refused:
+            continue
+        plan = plan_of(comparison, plant, len(program.slots)) if program.slots else None
+        for number in range(MERGES if program.slots else 0):
+            yield f"merge {number} of {name}", plant, [*logs_of_one_head(dice, program, dice.choice((1, 2, 2, 3, 4)), plan)]
+
+
 def tanks_of(plant):
     """The names of the states with limits."""
     return [state.name for state in read_plant(plant).states if state.limits is not None]
@@ -246,6 +285,8 @@ def main(words):
         for what, plant, log in logs:
             if what.startswith("random") and (tanks := tanks_of(plant)):
                 comparison.ask(f"{what}, tank", plant, log, "whatif", dice.choice(tanks), dice.choice(("-2", "1", "3")), "2")
+        for what, plant, logs_there in mergings(comparison, dice):
+            comparison.ask_merge(what, plant, logs_there)
         small = [it for it in logs if len(it[2]) <= GREATEST_MUTANT]
         for number in range(MUTANTS):
             name, plant, log = dice.choice(small)

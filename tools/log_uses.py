@@ -129,21 +129,30 @@ def other_line(head, first):
     return differ[0] if differ else int(len(head) != len(first))
 
 
-def joined(program, logs):
-    """The claim and the text of the log that has the trees of all parts in their places."""
+def claim_of(logs, cap):
+    """What the best plan that logs claim and a cap claim, and the lines that say it and end a log."""
     plans = [log.plan for log in logs if log.plan.profit is not None]
-    caps = [log.cap for log in logs if log.cap is not None]
-    best, cap = max(plans, key=lambda it: it.profit, default=None), max(caps, default=None)
+    best = max(plans, key=lambda it: it.profit, default=None)
     if best is None:
         claim = "infeasible" if cap is None else f"below {cap}"
     else:
-        claim = f"optimal {best.profit}" if cap <= best.profit else f"between {best.profit} {cap}"
-    first = logs[0]
-    version = max(2, *(log.version for log in logs)) if max(log.version for log in logs) > 3 else 3 if first.head else 2
+        claim = f"optimal {best.profit}" if cap is None or cap <= best.profit else f"between {best.profit} {cap}"
     values = sorted(best.point.items()) if best else []
-    ends = [f"claim {claim}" + f" {len(values)}" * bool(best), *(f"value {j} {v}" for j, v in values), "end", ""]
-    head = f"stn-log {version}\n".encode() + b"".join(it.text for it in first.head)
-    return claim, head + tree_of(logs) + "\n".join(ends).encode()
+    return claim, [f"claim {claim}" + f" {len(values)}" * bool(best), *(f"value {j} {v}" for j, v in values), "end", ""]
+
+
+def head_text(logs):
+    """The head that logs have, in the version of a log that is made of them."""
+    first, newest = logs[0], max(log.version for log in logs)
+    version = max(2, newest) if newest > 3 else 3 if first.head else 2
+    return f"stn-log {version}\n".encode() + b"".join(it.text for it in first.head)
+
+
+def joined(program, logs):
+    """The claim and the text of the log that has the trees of all parts in their places."""
+    caps = [log.cap for log in logs if log.cap is not None]
+    claim, ends = claim_of(logs, max(caps, default=None))
+    return claim, head_text(logs) + tree_of(logs) + "\n".join(ends).encode()
 
 
 def tree_of(logs, level=0):

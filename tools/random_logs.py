@@ -22,6 +22,25 @@ def random_log(dice, program):
     return "\n".join([*lines, f"claim {claim}", "end", ""]).encode()
 
 
+def logs_of_one_head(dice, program, count, plan=None):
+    """Logs of small trees over a program, so many, with the same head; what each claims is its tree's cap, or seldom a number beside it,
+    and some name the plan, a profit and lines of its values, where no sums are declared."""
+    version = dice.choice((2, 2, *[3, 4][: NEWEST - 2]))
+    larger, head = program.copy(), [f"stn-log {version}"]
+    if version > 2:
+        head += [line for it in range(dice.choice((0, 1, 2))) for line in random_sum(dice, program, larger)]
+    if version > 3:
+        head += [line for it in range(dice.choice((0, 1, 2))) for line in random_derivation(dice, larger)]
+    for tree in random_trees(dice, len(larger.domains), len(larger.rows), dice.randint(0, 3), count):
+        lines = head + tree
+        cap = mended(lines, program)
+        claim = "infeasible" if cap is None else f"below {cap + dice.choice((0,) * 12 + (3, -1))}"
+        if plan and cap is not None and not head[1:2] and dice.random() < 0.4:
+            profit, values = plan
+            claim = "\n".join([f"{f'optimal {profit}' if cap <= profit else f'between {profit} {cap}'} {len(values)}", *values])
+        yield "\n".join([*lines, f"claim {claim}", "end", ""]).encode()
+
+
 def mended(lines, program):
     """The cap of a log's tree, after ends that do not stand were changed to ends that do; 0 where its head has a defect."""
     for _ in range(len(lines)):
@@ -121,17 +140,43 @@ def fitted(larger, row):
 
 # ---------------------------------------------------------------- trees
 
-def random_tree(dice, slots, rows, depth):
-    """Nodes with cuts, certificates of few rows, and splits."""
+def random_node(dice, slots, rows):
+    """The lines of a node up to its end, the certificate of its end, and the rows of that."""
     rows = max(rows, 1)
     lines = ["node"] + [f"cut {dice.randrange(rows)} {dice.randrange(slots)}" for _ in range(dice.choice((0, 0, 1, 3)))]
     factors = sorted(dice.sample(range(rows), min(rows, dice.choice((0, 1, 2, 5)))))
-    certificate = [f"mult {row} {dice.randint(1, 6)}" for row in factors]
+    return lines, [f"mult {row} {dice.randint(1, 6)}" for row in factors], factors
+
+
+def random_split(dice, slots, factors):
+    return f"split {dice.randrange(slots)} {dice.choice((0, 0, 1, 2))} {dice.choice((0, 1, 3))} {len(factors)}"
+
+
+def random_tree(dice, slots, rows, depth):
+    """Nodes with cuts, certificates of few rows, and splits."""
+    lines, certificate, factors = random_node(dice, slots, rows)
     if depth and dice.random() < 0.8:
-        split = f"split {dice.randrange(slots)} {dice.choice((0, 0, 1, 2))} {dice.choice((0, 1, 3))} {len(factors)}"
+        split = random_split(dice, slots, factors)
         parts = random_tree(dice, slots, rows, depth - 1) + random_tree(dice, slots, rows, depth - 1)
         return lines + [split, *certificate, *parts]
     return lines + random_end(dice, certificate, factors)
+
+
+def random_trees(dice, slots, rows, depth, count):
+    """So many trees, of which most split in the same way where they do."""
+    lines, certificate, factors = random_node(dice, slots, rows)
+    split, firsts, seconds = random_split(dice, slots, factors), None, None
+    if depth:
+        firsts, seconds = (random_trees(dice, slots, rows, depth - 1, count) for _ in range(2))
+    trees = []
+    for at in range(count):
+        if depth and dice.random() < 0.65:
+            trees.append(lines + [split, *certificate, *firsts[at], *seconds[at]])
+        elif depth and dice.random() < 0.2:
+            trees.append(random_tree(dice, slots, rows, depth - 1))
+        else:
+            trees.append(lines + random_end(dice, certificate, factors))
+    return trees
 
 
 def random_end(dice, certificate, factors):

@@ -70,7 +70,7 @@ class Run:
         if self.command == "check-conflict":
             return orders.objection(self.form["STEM"], *numbers)
         file = f"{self.form['STEM']}.{numbers.pop(0)}" if "STEM" in self.form else self.form["LOG"]
-        return logs.said(file, *numbers, None if self.command == "check-least" else self.root())
+        return logs.said(file, *numbers, None if self.command == "check-least" else self.root(), "no of merge" if self.command == "merge" else "no at P")
 
     def status_2(self):
         return forms.refused(self.words)

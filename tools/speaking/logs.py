@@ -47,8 +47,8 @@ def range_of(root, file, kind, number):
     return f": there are {'rows' if kind == 4 else 'slots'} 0 to {grouped(last)}" + (f", with those of {sums} sums" if sums else "")
 
 
-def said(file, number, kind, root=None):
-    """The log's line and what it breaks, in sentences."""
+def said(file, number, kind, root=None, other="no at P"):
+    """The log's line and what it breaks, in sentences; `other` is the row that says what to do where its head is another."""
     what = means("log", kind)
     if kind == 19:
         return sentences(f"{file}: {what}: `{short(claim_of(file), 60)}`", do("answer", "no at G"))
@@ -58,4 +58,4 @@ def said(file, number, kind, root=None):
     if kind == 1:
         what = "the line has more than 200 bytes" if len(line.rstrip("\n")) > 200 else what
     where = f"{file}, line {number}" + (f", `{short(line.rstrip(chr(10)))}`" if line.strip() else ", which is empty" if line else ", the end of the file")
-    return sentences(f"{where}: {what}{range_of(root, file, kind, number)}", do("answer", "no at P") if kind == 22 else ADVICE)
+    return sentences(f"{where}: {what}{range_of(root, file, kind, number)}", do("answer", other) if kind == 22 else ADVICE)

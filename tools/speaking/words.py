@@ -70,10 +70,10 @@ def faults(words, form):
 def stem_faults(words, form):
     """A file of a stem that another word names."""
     few = words[0] in ("conflict", "check-conflict")
-    for name in ("PLANT", "LOG") if "STEM" in form else ():
+    for name in ("PLANT", "LOG", "OUT") if "STEM" in form else ():
         word = form.get(name, "")
         stem, _, number = word.rpartition(".")
-        if stem == form["STEM"] and number.isdigit() and not (name == "PLANT" and words[0] == "join") and not (few and number not in ("0", "1")):
+        if stem == form["STEM"] and number.isdigit() and not (name == "PLANT" and words[0] in ("join", "merge")) and not (few and number not in ("0", "1")):
             yield f"{name}, `{short(word, 60)}`, is one of the files of STEM: it needs a name of its own"
 
 

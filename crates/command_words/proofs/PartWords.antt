@@ -4,7 +4,7 @@ use Rattle.std.specs.Prelude.{Option, Some, None, MatchOption}
 use Rattle.std.proofs.lemmas.Fmt.{decimal_injective}
 use Rattle.std.proofs.Math.Pow.{pow_mono}
 use Rattle.command_words.specs.declared.command.Command.{Command}
-use Rattle.command_words.specs.Words.{Says, Parting, PartSolving, Joining, NoParts, IsLevels, IsPartNumber, IsNoPartLog, meaning}
+use Rattle.command_words.specs.Words.{Says, Parting, PartSolving, Joining, NoParts, IsLevels, IsLogCount, IsPartNumber, IsNoPartLog, meaning}
 
 -- one word says one number of levels
 pub same_levels : (word : List ℕ) (a b : ℕ) → IsLevels word a → IsLevels word b → a ≡ b
@@ -17,6 +17,10 @@ below_all levels a most within = (let few = pow_mono {i = levels} {j = 8} most i
 -- one word says the number of one part
 pub same_part : (word : List ℕ) (levels levels2 a b : ℕ) → levels ≤ 8 → levels2 ≤ 8 → IsPartNumber word levels a → IsPartNumber word levels2 b → a ≡ b
 same_part word levels levels2 a b most most2 is_a is_b = decimal_injective a b (below_all levels a most is_a.within) (below_all levels2 b most2 is_b.within) (sym is_a.digits ∙ is_b.digits)
+
+-- one word says one number of logs
+pub same_count : (word : List ℕ) (a b : ℕ) → IsLogCount word a → IsLogCount word b → a ≡ b
+same_count word a b is_a is_b = decimal_injective a b (omega (arith, is_a.most)) (omega (arith, is_b.most)) (sym is_a.digits ∙ is_b.digits)
 
 -- words of which the third says no levels, or those of a part's log, are no words of `join`
 pub no_join : (words : List (List ℕ)) (first second third fourth fifth : List ℕ) → words ≡ first ∷ second ∷ third ∷ fourth ∷ fifth ∷ [] → ((n : ℕ) → IsLevels third n → ¬ IsNoPartLog fifth fourth n)

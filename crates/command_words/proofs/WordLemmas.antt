@@ -7,7 +7,7 @@ use Rattle.std.specs.Prelude.{Option, Some, None, MatchOption}
 use Rattle.command_words.specs.declared.command.Command.{Command}
 use Rattle.command_words.specs.declared.command.PlanUse.TheVariants.{Simulate, Report, Picture, Table, Violations}
 use Rattle.plan_tables.specs.declared.kind.TableKind.{TableKind}
-use Rattle.command_words.specs.Words.{texts, Request, Says, HasNoForm, Solving, Logging, Simulating, Checking, Telling, Numbering, Upgrading, Showing, Replanning, ReplanLogging, CheckingReplan, Improving, Estimating, Seeking, Tracing, Auditing, Parting, PartSolving, Joining, Resuming, NoListing, NoHorizons, NoParts, meaning, NoConflicts, Conflicting, ConflictLogging, CheckingConflict}
+use Rattle.command_words.specs.Words.{texts, Request, Says, HasNoForm, Solving, Logging, Simulating, Checking, Telling, Numbering, Upgrading, Showing, Replanning, ReplanLogging, CheckingReplan, Improving, Estimating, Seeking, Tracing, Auditing, Parting, PartSolving, Joining, Resuming, Merging, NoListing, NoHorizons, NoParts, meaning, NoConflicts, Conflicting, ConflictLogging, CheckingConflict}
 
 -- three words are the list of their texts
 pub three_texts : (words : List (Bor (List ℕ))) (d : Bor (List ℕ)) → 3 ≤ length words → length words < 4 → texts words ≡ (get_or words 0 d).now ∷ (get_or words 1 d).now ∷ (get_or words 2 d).now ∷ []
@@ -103,6 +103,7 @@ pub record NoReplanning (words : List (List ℕ)) : Type 0 where
   pub check : (plant plan log : List ℕ) (period : ℕ) → ¬ Says words (CheckingReplan plant plan period log)
   pub improve : (plant plan : List ℕ) (budget : ℕ) (log : Option (List ℕ)) → ¬ Says words (Improving plant plan budget log)
   pub resume : (plant log out : List ℕ) (budget : ℕ) (share : Option (ℕ × ℕ)) → ¬ Says words (Resuming plant log budget out share)
+  pub merge : (plant stem out : List ℕ) (count : ℕ) → ¬ Says words (Merging plant stem count out)
 
 -- the words say no estimate by an old log
 abbrev NoEstimate : List (List ℕ) → Type 0
@@ -145,6 +146,7 @@ has_no_form words solve simulate report picture violations check replan estimate
 has_no_form words solve simulate report picture violations check replan estimate list other least conflict parts (PartSolving plant levels part budget log) = parts.solving plant log levels part budget
 has_no_form words solve simulate report picture violations check replan estimate list other least conflict parts (Joining plant levels stem log) = parts.joining plant stem log levels
 has_no_form words solve simulate report picture violations check replan estimate list other least conflict parts (Resuming plant log budget out share) = replan.resume plant log out budget share
+has_no_form words solve simulate report picture violations check replan estimate list other least conflict parts (Merging plant stem count out) = replan.merge plant stem out count
 
 -- the last form decides
 pub last_form : (words : List (List ℕ)) (command : Option Command) → NoPlanning words → NoFiles words (Simulating Simulate) → NoFiles words (Simulating Report) → NoFiles words (Simulating Picture) → NoFiles words (Simulating Violations) → NoFiles words Checking → NoReplanning words → NoEstimate words → NoListing words → NoOther words → NoHorizons words → NoConflicts words

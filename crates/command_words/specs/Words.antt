@@ -37,6 +37,7 @@ pub data Request : Type 0 where
   PartSolving : (plant : List ℕ) (levels part budget : ℕ) (log : List ℕ) → Request
   Joining : (plant : List ℕ) (levels : ℕ) (stem log : List ℕ) → Request
   Resuming : (plant log : List ℕ) (budget : ℕ) (out : List ℕ) (share : Option (ℕ × ℕ)) → Request
+  Merging : (plant stem : List ℕ) (count : ℕ) (out : List ℕ) → Request
 
 -- the first word of a command that simulates a plan
 abbrev pub use_word : PlanUse → List ℕ
@@ -139,6 +140,12 @@ abbrev pub SayShare : List (List ℕ) → Option (ℕ × ℕ) → Type 0
 SayShare words None = words ≡ []
 SayShare words (Some share) = (word : List ℕ) × ((all : List ℕ) × ((words ≡ word ∷ all ∷ []) × AreShares word all share.0 share.1))
 
+-- the word is a number of logs in decimal digits, without sign and leading zeros
+pub record IsLogCount (word : List ℕ) (count : ℕ) : Type 0 where
+  pub digits : word ≡ decimal count
+  pub some : 1 ≤ count
+  pub most : count ≤ 256
+
 -- a log has a name, and is not written over the plant or the other file that is read
 pub record IsLogBeside (plant plan log : List ℕ) : Type 0 where
   pub named : log ≢ []
@@ -185,6 +192,9 @@ Says words (Joining plant levels stem log) =
     × (plant ≢ []) × (stem ≢ []) × (log ≢ []) × (log ≢ plant) × IsNoPartLog log stem levels × IsLevels parts levels)
 Says words (Resuming plant log budget out share) =
     (most : List ℕ) × ((last : List (List ℕ)) × ((words ≡ codes "resume" ∷ plant ∷ log ∷ most ∷ out ∷ last) × (plant ≢ []) × (log ≢ []) × IsLogBeside plant log out × IsBudget most budget × SayShare last share))
+Says words (Merging plant stem count out) =
+    (many : List ℕ) × ((words ≡ codes "merge" ∷ plant ∷ stem ∷ many ∷ out ∷ [])
+    × (plant ≢ []) × (stem ≢ []) × (out ≢ []) × (out ≢ plant) × IsNoPartLog out stem 8 × IsLogCount many count)
 
 -- the words have the form of no command
 abbrev pub HasNoForm : List (List ℕ) → Type 0
@@ -246,3 +256,4 @@ meaning (variants.Parts plant levels) = Parting plant.now levels.number
 meaning (variants.SolvePart plant part budget log) = PartSolving plant.now part.levels.number part.number budget.boxes log.now
 meaning (variants.Join plant levels stem log) = Joining plant.now levels.number stem.now log.now
 meaning (variants.Resume plant log budget out share) = Resuming plant.now log.now budget.boxes out.now (option_map share_numbers share)
+meaning (variants.Merge plant stem count out) = Merging plant.now stem.now count.number out.now

@@ -8,6 +8,8 @@ use crate::conflict_words::conflict_form;
 use crate::improve_words::improve_form;
 use crate::levels::{Levels, Part};
 use crate::listing_words::listing_form;
+use crate::log_count::LogCount;
+use crate::merge_words::merge_of;
 use crate::part_words::part_form;
 use crate::period::Period;
 use crate::resume_words::resume_form;
@@ -167,6 +169,13 @@ pub enum Command<'a> {
         out: &'a str,
         share: Option<Share>,
     },
+    /// `merge PLANT STEM COUNT OUT`: check so many logs of the plant, and write the log that is merged of them.
+    Merge {
+        plant: &'a str,
+        stem: &'a str,
+        count: LogCount,
+        out: &'a str,
+    },
     /// `join PLANT LEVELS STEM LOG`: check the logs of all parts, and write the log of the plant that they make up.
     Join {
         plant: &'a str,
@@ -224,6 +233,9 @@ pub fn command_of<'a>(words: &[&'a str]) -> Option<Command<'a>>
         return Some(command);
     }
     if let Some(command) = resume_form(words) {
+        return Some(command);
+    }
+    if let Some(command) = merge_of(words) {
         return Some(command);
     }
     if let Some(command) = estimate_of(words) {

@@ -20,7 +20,6 @@ use Rattle.derivations.specs.declared.derivation.Derivation.{Derivation}
 use Rattle.derivations.specs.declared.derivation.Derivation.TheVariants.{Cut, Row}
 use Rattle.derivations.specs.Growth.{AreShown, rows_of}
 use Rattle.derivations.specs.Larger.{begun}
-use Rattle.plan_told.specs.Given.{least_found}
 use Rattle.plan_told.specs.Heads.{CanHead, whole_head}
 use Rattle.head_choice.specs.declared.heading.Headed.{Headed}
 use Rattle.head_choice.specs.declared.widening.Widened.{Widened}
@@ -77,14 +76,13 @@ pub record IsWidened (plant : Plant) (part : Program) (judged : List Domain) (wi
   pub choices : wide.set.choices ≡ choices_before wide.units between
   pub domains : wide.domains ≡ wide_domains plant part judged wide.sums wide.units
 
--- these are the rows of the part with sums, setups and derivations, the head that declares them and is judged over domains, the number of
--- the part's slots, and its least point where that is lawful; there are no more splits and rows than a search takes up
+-- these are the rows of the part with sums, setups and derivations, the head that declares them and is judged over domains, and the number
+-- of the part's slots; there are no more splits and rows than a search takes up
 pub record IsHeaded (plant : Plant) (part : Program) (judged : List Domain) (headed : Headed) : Type 0 where
   pub units : List ℕ
   pub derivations : List Derivation
   pub can : CanHead plant part judged headed.sums units derivations headed.rows
   pub head : headed.head.items ≡ whole_head headed.sums units derivations
   pub given : headed.given ≡ length part.root
-  pub least : headed.least ≡ least_found part
   pub few_splits : sum_by splits_of headed.rows.program.root + sum_by spared headed.rows.program.root ≤ 4608
   pub few_rows : length headed.rows.program.rows ≤ 50000

@@ -15,8 +15,7 @@ use crate::widening::{Widened, wide_part};
 use box_advice::Advisers;
 use derivation_lines::put_derivations;
 use derivations::{Derivation, with_derivations_anew};
-use plan_told::least_found;
-use row_kit::{Domain, Found, List, Program};
+use row_kit::{Domain, List, Program};
 use row_relax::Rows;
 use setup_lines::put_setups;
 use setup_slots::SetUp;
@@ -38,8 +37,6 @@ pub struct Headed {
     pub head: Vec<u8>,
     // The number of slots of the part.
     pub given: u32,
-    // The least point of the part, where it is lawful.
-    pub least: Option<Found>,
 }
 
 // Derivations, and the text of a head that declares them.
@@ -64,7 +61,6 @@ pub fn with_head<A: Advisers>(
     ensures { IfOk result (IsHeaded plant.now part judged) }
 {
     let given = part.root.len();
-    let least = least_found(alloc, &part)?;
     let wide = wide_part(alloc, plant, part, judged)?;
     let Declared { derivations, head } = with_declared::<A>(alloc, &wide)?;
     let rows = grown(
@@ -78,7 +74,6 @@ pub fn with_head<A: Advisers>(
         sums: wide.sums,
         head,
         given: given as u32,
-        least,
     })
 }
 

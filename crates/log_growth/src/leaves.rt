@@ -4,11 +4,11 @@ ghost use Rattle.row_relax.specs.Steps.{row_steps};
 ghost use Rattle.row_relax.specs.View.{Fits};
 ghost use Rattle.log_growth.specs.Growth.{in_share, is_open, leaves_open};
 ghost use Rattle.log_growth.specs.laws.Grown.{seen};
-ghost use Rattle.log_growth.specs.laws.Nodes.{IsLeafEnd, counted_leaf, leaf_of};
+ghost use Rattle.log_growth.specs.laws.Nodes.{IsLeafEnd, counted_leaf, item_of, leaf_of};
 
 use crate::node::Ending;
 use crate::pair::Share;
-use proof_tree::{Capped, Relaxation};
+use proof_tree::{Capped, Item, Relaxation};
 use row_kit::Area;
 use row_relax::Rows;
 
@@ -62,5 +62,18 @@ pub fn boxes_of(end: &Ending) -> u64
         Ending::Dual(_) => 1,
         Ending::Point => 1,
         Ending::Split(_, _) => 1,
+    }
+}
+
+/// The item of an end.
+pub fn item_of(end: Ending) -> Item<Rows>
+    ensures { result ≡ item_of end }
+{
+    match end {
+        Ending::Empty => Item::Empty,
+        Ending::Dual(cert) => Item::Dual(cert),
+        Ending::Point => Item::Point,
+        Ending::Pending(cert) => Item::Pending(cert),
+        Ending::Split(pick, cert) => Item::Split(pick, cert),
     }
 }

@@ -14,8 +14,10 @@ mod skipping;
 mod whole;
 
 pub use growing::{MOST_NODES, cut_down};
-pub use leaves::{in_share, is_open};
+pub use leaves::{in_share, is_open, item_of};
 pub use node::{Ending, Node};
 pub use pair::{Growth, Pair, Share};
 pub use reading::read_node;
-pub use whole::{Front, growth};
+pub use sameness::is_same_split;
+pub use skipping::skip_below;
+pub use whole::{Front, growth, read_end};

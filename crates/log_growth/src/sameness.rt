@@ -1,6 +1,7 @@
 //! Whether two nodes are the same.
 ghost use Rattle.std.specs.Prelude.{◌≡◌, ◌↔◌, ◌++◌, List as Items, IsTrue};
 ghost use Rattle.range_prop.specs.declared.row_cut.RowCut.{RowCut};
+ghost use Rattle.log_growth.specs.laws.Nodes.{IsLeafEnd};
 
 use crate::node::{Ending, Node};
 use dual_bound::{Cert, Mult};
@@ -108,6 +109,34 @@ pub fn is_same_node(one: &Node, other: &Node) -> bool
     are_same(one.cuts.as_slice(), other.cuts.as_slice())
         && is_same_found(&one.found, &other.found)
         && is_same_end(&one.end, &other.end)
+}
+
+// Whether two certificates have the same scale and the same multipliers.
+fn has_same_parts(one: &Cert, other: &Cert) -> bool
+    ensures { IsTrue result ↔ ((one.now.scale ≡ other.now.scale)
+        × (one.now.mults ≡ other.now.mults)) }
+{
+    one.scale == other.scale && are_same(one.mults.as_slice(), other.mults.as_slice())
+}
+
+/// Whether two nodes split in the same way: behind the same cuts, by the same pick, with the same certificate.
+pub fn is_same_split(one: &Node, other: &Node) -> bool
+    ensures same { IsTrue result
+        → (one.now.cuts ≡ other.now.cuts) × (one.now.end ≡ other.now.end) }
+    ensures differ { ¬ IsTrue result → ¬ IsLeafEnd one.now.end
+        → ¬ ((one.now.cuts ≡ other.now.cuts) × (one.now.end ≡ other.now.end)) }
+{
+    match &one.end {
+        Ending::Split(pick, cert) => match &other.end {
+            Ending::Split(own, own_cert) => {
+                are_same(one.cuts.as_slice(), other.cuts.as_slice())
+                    && *pick == *own
+                    && has_same_parts(cert, own_cert)
+            }
+            _ => false,
+        },
+        _ => false,
+    }
 }
 
 /// Whether a list of cuts begins with others.

@@ -24,8 +24,8 @@ pub struct Front {
     pub head: u64,
 }
 
-// Reads the claim and the end of a log; whether they come, and nothing behind them.
-fn read_end<F: Shelf>(files: &mut F, name: &str, reader: &mut LogReader) -> Result<bool, Stop>
+/// Reads the claim and the end of a log; whether they come, and nothing behind them.
+pub fn read_end<F: Shelf>(files: &mut F, name: &str, reader: &mut LogReader) -> Result<bool, Stop>
     requires allowed { IsTrue (F.may_read files.old name.now) }
     requires reading { IsReading (F.files files.old) name.now reader.old }
     ensures end { IfOk result (λ whole. IsTrue whole

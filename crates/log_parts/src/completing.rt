@@ -13,8 +13,8 @@ use row_kit::{List, Program, is_lawful};
 use std::alloc::{AllocError, Global};
 use sum_slots::{Sum, complete, is_shown};
 
-// The claim with the values of sums behind its point; none where a sum is not shown, or the point is not lawful.
-pub(crate) fn larger_claim(
+/// The claim with the values of sums behind its point; none where a sum is not shown, or the point is not lawful.
+pub fn larger_claim(
     alloc: Global,
     program: &Program,
     sums: &[Sum],

@@ -16,8 +16,8 @@ use stn_edge::Shelf;
 // The version with which each log is read again, which has the lines of all others.
 const NEWEST: u8 = 4;
 
-// Puts an item to the log.
-pub(crate) fn put_item<F: Shelf>(
+/// Puts an item to the log.
+pub fn put_item<F: Shelf>(
     writer: &mut LogWriter,
     files: &mut F,
     item: &Item<Rows>,

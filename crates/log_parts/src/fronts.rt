@@ -128,6 +128,21 @@ pub fn declares_same(declared: &Declared, own: &LogHead) -> bool
     }
 }
 
+/// The defect that a log with this head declares something else than what is given, if it does.
+pub fn other_head(declared: &Declared, own: &LogHead) -> Option<Defect>
+    requires { own.now.lines ≡ lines_on own.now.declared }
+    ensures { MatchOption result (declared.now ≡ own.now.declared) (λ defect.
+        (defect.kind ≡ 22) × IsOtherHead declared.now own.now.declared defect.line) }
+{
+    match other_line(declared, &own.declared, own.lines.as_slice()) {
+        Some(line) => Some(Defect {
+            line,
+            kind: OTHER_HEAD,
+        }),
+        None => None,
+    }
+}
+
 // The same of a log with this head.
 fn with_head(declared: &Declared, own: &LogHead, claim: Claim) -> PartCheck
     requires { own.now.lines ≡ lines_on own.now.declared }

@@ -7,11 +7,11 @@ ghost use Rattle.log_parts.specs.Joining.{plan_of, cap_of, better, greater, clai
 use proof_log::Claim;
 use row_kit::List;
 
-// The plan of a claim: its profit, and its values.
+/// The plan of a claim: its profit, and its values.
 #[derive(Drop)]
-struct ClaimedPlan {
-    profit: i128,
-    point: List<u8>,
+pub struct ClaimedPlan {
+    pub profit: i128,
+    pub point: List<u8>,
 }
 
 /// What the claims of the parts come to, in the order of the parts: the plan of greatest profit among theirs, the first of
@@ -31,8 +31,8 @@ pub fn joined(claims: Vec<Claim>) -> Claim
     claim_with(plan, cap)
 }
 
-// The plan of a claim.
-fn plan_of(claim: Claim) -> Option<ClaimedPlan>
+/// The plan of a claim.
+pub fn plan_of(claim: Claim) -> Option<ClaimedPlan>
     ensures { result ≡ plan_of claim }
 {
     match claim {
@@ -87,8 +87,8 @@ fn greater(first: Option<i128>, second: Option<i128>) -> Option<i128>
     }
 }
 
-// What a plan and a cap claim.
-fn claim_with(plan: Option<ClaimedPlan>, cap: Option<i128>) -> Claim
+/// What a plan and a cap claim.
+pub fn claim_with(plan: Option<ClaimedPlan>, cap: Option<i128>) -> Claim
     ensures { result ≡ claim_with plan cap }
 {
     match plan {

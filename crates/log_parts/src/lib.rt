@@ -15,8 +15,10 @@ mod sameness;
 mod writing;
 
 pub use checked::Checked;
-pub use fronts::{PartCheck, compared, declares_same, head_with, no_head};
+pub use completing::larger_claim;
+pub use copying::put_item;
+pub use fronts::{PartCheck, compared, declares_same, head_with, no_head, other_head};
 pub use heads::{Declared, LogFront, LogHead};
-pub use joining::joined;
+pub use joining::{ClaimedPlan, claim_with, joined, plan_of};
 pub use joins::{JoinStop, Joined};
-pub use writing::{head_text, joined_version, write_joined};
+pub use writing::{begin_log, finish_log, head_text, joined_version, write_joined};

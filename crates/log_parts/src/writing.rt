@@ -266,8 +266,8 @@ pub fn head_text(alloc: Global, declared: &Declared) -> Result<Vec<u8>, AllocErr
     Ok(front)
 }
 
-// Begins the log of this version, which declares this.
-fn begin_log<F: Shelf>(
+/// Begins the log of this version, which declares this.
+pub fn begin_log<F: Shelf>(
     alloc: Global,
     version: u8,
     declared: &Declared,
@@ -296,8 +296,8 @@ fn begin_log<F: Shelf>(
     }
 }
 
-// Writes the claim behind the items, and the end.
-fn finish_log<F: Shelf>(writer: LogWriter, files: &mut F, claim: &Claim) -> Result<(), JoinStop>
+/// Writes the claim behind the items, and the end.
+pub fn finish_log<F: Shelf>(writer: LogWriter, files: &mut F, claim: &Claim) -> Result<(), JoinStop>
     requires { IsTrue (F.may_write files.old (name_of writer)) }
     ensures ok { OnOk result ((front : Items ℕ) (items : Items RowItem)
         → HasItems front writer (F.files files.old) items

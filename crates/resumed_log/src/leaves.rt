@@ -6,20 +6,9 @@ ghost use Rattle.log_growth.specs.laws.Grown.{seen};
 
 use branch_tree::is_deep;
 use log_growth::{Ending, Pair, in_share};
-use proof_tree::{Capped, Item, Relaxation};
+use proof_tree::{Capped, Relaxation};
 use row_kit::Area;
 use row_relax::Rows;
-
-/// The item of an end.
-pub fn item_of(end: Ending) -> Item<Rows> {
-    match end {
-        Ending::Empty => Item::Empty,
-        Ending::Dual(cert) => Item::Dual(cert),
-        Ending::Point => Item::Point,
-        Ending::Pending(cert) => Item::Pending(cert),
-        Ending::Split(pick, cert) => Item::Split(pick, cert),
-    }
-}
 
 /// The cap of an end that has a certificate, over an area; no point for any other.
 pub fn cap_of(rows: &Rows, area: &Area, end: &Ending) -> Capped

@@ -12,13 +12,13 @@ ghost use Rattle.resumed_log.specs.laws.Beside.{out_name};
 
 use crate::claiming::exceeds;
 use crate::course::Course;
-use crate::leaves::{cap_of, item_of, may_search};
+use crate::leaves::{cap_of, may_search};
 use crate::new_log::Out;
 use box_advice::Hinter;
 use branch_tree::GoingOn;
 use dual_bound::Cert;
 use end_advice::EndGuide;
-use log_growth::{Ending, MOST_NODES, Node, Pair, cut_down, is_open, read_node};
+use log_growth::{Ending, MOST_NODES, Node, Pair, cut_down, is_open, item_of, read_node};
 use log_parts::JoinStop;
 use proof_log::LogReader;
 use proof_tree::{Item, NodeTaker, Relaxation, TakeStop, floor_cap, greater_cap};

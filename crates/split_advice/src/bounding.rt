@@ -9,7 +9,7 @@ use row_kit::{Area, Program};
 use std::alloc::{AllocError, Global};
 
 /// The most steps of a bound, before it goes on for the last time.
-pub const MOST_STEPS: u32 = 2_000;
+pub const MOST_STEPS: u32 = 5_000;
 
 // How often a bound may come to its aim.
 const MOST_ROUNDS: u32 = 64;

@@ -74,16 +74,9 @@ impl Picker {
             );
         }
         match self.tried(workspace, program, gap.saturating_mul(2)) {
-            Some(tried) if self.gains_much(&tried, gap) => Some(tried.candidate),
+            Some(tried) if tried.gain >= least_gain(gap) => Some(tried.candidate),
             _ => most_fractional(self.candidates.as_slice(), self.weights.as_slice()),
         }
-    }
-
-    // Whether a split gains much: by both sides together, or, where it is one of a sum, an even share of the gap among all slots on
-    // the lesser side.
-    fn gains_much(&self, tried: &Tried, gap: i64) -> bool {
-        let is_far = tried.candidate.sum && tried.lesser >= share_of(gap, self.weights.len());
-        is_far || tried.gain >= least_gain(gap, self.has_sums)
     }
 
     // The candidate that gains most by trial bounds. No side of a split counts more than so much.
@@ -112,20 +105,7 @@ fn gap_of(workspace: &Workspace) -> i64 {
     }
 }
 
-// An even share of a gap among so many slots.
-fn share_of(gap: i64, slots: usize) -> i64 {
-    match i64::try_from(slots) {
-        Ok(slots) if slots >= 1 => gap / slots,
-        _ => gap,
-    }
-}
-
-// The least that counts as a gain: a 10,000th of the square of the gap, and a 1,000th where there are sums.
-fn least_gain(gap: i64, sums: bool) -> i128 {
-    let square = i128::from(gap).saturating_mul(i128::from(gap));
-    if sums {
-        square / 1_000
-    } else {
-        square / 10_000
-    }
+// The least that counts as a gain: a 100,000th of the square of the gap.
+fn least_gain(gap: i64) -> i128 {
+    i128::from(gap).saturating_mul(i128::from(gap)) / 100_000
 }

@@ -20,13 +20,11 @@ const MOST_STEPS: u32 = 15;
 // What a side counts that closes: more than any product, 2 to the power 124.
 const CLOSING: i128 = 21_267_647_932_558_653_966_460_912_964_485_513_216;
 
-/// A candidate, what its split gains by trial bounds, and how far the profit falls on the side where it falls less; 0 where a side
-/// closes.
+/// A candidate, and what its split gains by trial bounds.
 #[derive(Clone, Copy)]
 pub struct Tried {
     pub candidate: Candidate,
     pub gain: i128,
-    pub lesser: i64,
 }
 
 // The best of the candidates that have been tried, and how many have been tried since.
@@ -106,7 +104,6 @@ fn trial_of(
     Tried {
         candidate: *candidate,
         gain: gain(low, high, most),
-        lesser: fall(low).min(fall(high)),
     }
 }
 

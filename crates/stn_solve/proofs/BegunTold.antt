@@ -85,16 +85,16 @@ module _ (plant : Plant) (part : Program) (judged : List Domain) (headed : Heade
   begun-bytes point lawful = claim-bytes plant part headed.rows judged headed.sums with_head.units with_head.derivations ranges with_head.can (claim.Optimal (pos 0) point) lawful
 
   -- a search that began with the completed point has as of the part a best point that is worth as much as the point
-  pub begun-given : (point whole : List ℕ) (ended own : Ended) → (IsLawful part point → whole ≡ completed headed.sums point) → IsWorth (choices_of headed.rows) whole ended.best
-      → own ≡ given_end headed.given headed.least ended → IsWorth part point own.best
-  begun-given point whole ended own same worth as_given lawful =
+  pub begun-given : (least : Option Found) (point whole : List ℕ) (ended own : Ended) → (IsLawful part point → whole ≡ completed headed.sums point) → IsWorth (choices_of headed.rows) whole ended.best
+      → own ≡ given_end headed.given least ended → IsWorth part point own.best
+  begun-given least point whole ended own same worth as_given lawful =
       let choices = choices_of headed.rows in
       let points = head-same plant part headed.rows judged headed.sums with_head.units with_head.derivations ranges with_head.can in
       let larger = points.there_is point lawful in
       let there : IsLawful choices whole = subst (IsLawful choices) (sym (same lawful)) larger.0 in
       let value : worth_of choices whole ≡ worth_of part point = ap (worth_of choices) (same lawful) ∙ larger.1 in
       let low : IsSomeAnd ended.best (λ f. worth_of part point ≤ℤ f.value) = subst (λ (z : ℤ). IsSomeAnd ended.best (λ f. z ≤ℤ f.value)) value (worth there) in
-      subst (λ (o : Ended). IsSomeAnd o.best (λ b. worth_of part point ≤ℤ b.value)) (sym as_given) (given-worth (worth_of part point) headed.given headed.least ended.best low)
+      subst (λ (o : Ended). IsSomeAnd o.best (λ b. worth_of part point ≤ℤ b.value)) (sym as_given) (given-worth (worth_of part point) headed.given least ended.best low)
 
 -- ---- plans to begin with
 

@@ -1,3 +1,4 @@
 pub mod SearchTold
 pub mod BegunTold
 pub mod Searchable
+pub mod ToldOver

@@ -1,5 +1,5 @@
 -- What is told of searches over a part's own program, and over the rows with what a head declares.
-use Rattle.std.proofs.Common.{◌≡◌, ℕ, true, false, ◌<◌, ◌≤◌, length, ap₂, ◌∙◌, subst, inl, inr, List, Option, None, IfSome}
+use Rattle.std.proofs.Common.{◌≡◌, ℕ, true, false, ◌<◌, ◌≤◌, length, ap₂, ◌∙◌, refl, subst, inl, inr, List, Option, None, IfSome}
 use Rattle.stn_model.specs.declared.plant.Plant.{Plant}
 use Rattle.stn_model.specs.Sound.{Sound}
 use Rattle.time_grid.specs.Slots.{slots}
@@ -15,15 +15,17 @@ use Rattle.row_relax.proofs.Choosing.{plain-rows}
 use Rattle.sum_slots.specs.Shown.{AreRanges}
 use Rattle.branch_tree.specs.declared.ended.Ended.{Ended}
 use Rattle.plan_told.specs.Ended.{IsEnding, IsSearchOf}
-use Rattle.plan_told.specs.Given.{IsGivenEnded, given_end}
+use Rattle.plan_told.specs.Given.{IsGivenEnded, given_end, least_found}
 use Rattle.plan_told.specs.Law.{IsToldByHead}
 use Rattle.plan_told.specs.Telling.{IsTold}
 use Rattle.plan_told.specs.declared.telling.Told.{Told}
+use Rattle.plan_told.proofs.Completing.{claim-bytes}
 use Rattle.plan_told.proofs.HeadImages.{head-images}
 use Rattle.plan_told.proofs.PlainTold.{IsToldRight, best-places, told-right}
 use Rattle.plan_told.proofs.ToldByHead.{given-places, told-by_head}
 use Rattle.head_choice.specs.declared.heading.Headed.{Headed}
 use Rattle.head_choice.specs.Heading.{IsHeaded}
+use Rattle.stn_solve.specs.laws.Telling.{CanBeTold}
 
 -- a search over rows whose points are judged by their own program is one over that program
 pub as-plain : (rows : Rows) (given budget : ℕ) (ended : Ended) (tree : RowTree) → rows.choices ≡ None → IsSearchOf rows false given budget ended tree → IsSearchOf (plain rows.program) false given budget ended tree
@@ -48,11 +50,11 @@ module _ (plant : Plant) (part : Program) (given budget : ℕ) (tree : RowTree) 
   pub plain-right : (told : Told) → IsTold plant ended told → IsToldRight plant part budget tree told
   plain-right told says = told-right plant part sound is budget tree ended (from-given part given (length part.root) budget tree ended same of) told says
 
-module _ (plant : Plant) (part : Program) (judged : List Domain) (headed : Headed) (budget : ℕ) (tree : RowTree) (ended own : Ended) (sound : Sound plant) (is : IsPartOf plant part) (ranges : AreRanges part judged) (with_head : IsHeaded plant part judged headed)
-    (some : 1 ≤ budget) (of : IsEnding headed.rows true headed.given budget ended tree) (as_given : own ≡ given_end headed.given headed.least ended) where
+module _ (plant : Plant) (part : Program) (judged : List Domain) (headed : Headed) (least : Option Found) (budget : ℕ) (tree : RowTree) (ended own : Ended) (sound : Sound plant) (is : IsPartOf plant part) (ranges : AreRanges part judged) (with_head : IsHeaded plant part judged headed) (least_is : least ≡ least_found part)
+    (some : 1 ≤ budget) (of : IsEnding headed.rows true headed.given budget ended tree) (as_given : own ≡ given_end headed.given least ended) where
   -- what the search ended with is as of the part
   own_is : IsGivenEnded part ended own
-  own_is = as_given ∙ ap₂ (λ (slots : ℕ) (least : Option Found). given_end slots least ended) with_head.given with_head.least
+  own_is = as_given ∙ ap₂ (λ (slots : ℕ) (point : Option Found). given_end slots point ended) with_head.given least_is
 
   -- it is a search in which the slots after the part's are sums and setups
   own_of : IsEnding headed.rows true (length part.root) budget ended tree
@@ -70,3 +72,13 @@ module _ (plant : Plant) (part : Program) (judged : List Domain) (headed : Heade
 -- each lawful point has an image among the rows of a head
 pub headed-images : (plant : Plant) (part : Program) (judged : List Domain) (headed : Headed) → Sound plant → IsPartOf plant part → AreRanges part judged → IsHeaded plant part judged headed → HaveImages headed.rows
 headed-images plant part judged headed sound is ranges with_head = head-images plant part headed.rows judged headed.sums with_head.units with_head.derivations sound is ranges with_head.can
+
+-- whatever a search over the rows of a head ends with, it can be told
+pub can-be-told : (plant : Plant) (part : Program) (judged : List Domain) (headed : Headed) (least : Option Found) (budget : ℕ) → Sound plant → IsPartOf plant part → AreRanges part judged → IsHeaded plant part judged headed → least ≡ least_found part
+    → 1 ≤ budget → 50000 < points_of part.root → budget ≤ 100000 → CanBeTold plant headed least budget
+can-be-told plant part judged headed least budget sound is ranges with_head least_is some many few = record {
+  places = λ ended tree of. headed-places plant part judged headed least budget tree ended (given_end headed.given least ended) sound is ranges with_head least_is some of refl;
+  bytes = λ ended tree told of says.
+      let right = headed-right plant part judged headed least budget tree ended (given_end headed.given least ended) sound is ranges with_head least_is some of refl many few told says in
+      claim-bytes plant part headed.rows judged headed.sums with_head.units with_head.derivations ranges with_head.can told.claim right.point;
+}

@@ -12,11 +12,8 @@ ghost use Rattle.stn_solve.specs.Begun.{EarnsPoint};
 ghost use Rattle.logged_search.specs.Logging.{stored};
 
 use crate::beginning::{Beginning, begun_at};
-use crate::telling::{told_given, told_larger};
+use crate::planning::{plan_over, solve_over};
 use box_advice::Advisers;
-use head_choice::Headed;
-use logged_search::{Logged, SplitRules, search_logged, search_only};
-use plan_told::Told;
 use row_kit::{Domain, List, Program};
 use std::alloc::{AllocError, Global};
 use stn_edge::{Shelf, Stop};
@@ -41,20 +38,12 @@ pub fn plan_headed<A: Advisers>(
     ensures proof { IfOk result (HasProof plant.now part judged None) }
     ensures begun { IfOk result (λ outcome. EarnsPoint part start.now outcome.answer) }
 {
-    let Beginning { headed, point } = begun_at::<A>(alloc, plant, part, judged, start)?;
-    let Headed {
-        rows,
-        given,
+    let Beginning {
+        headed,
+        point,
         least,
-        ..
-    } = headed;
-    let rules = SplitRules {
-        given,
-        floors: true,
-    };
-    let ended = search_only::<A>(alloc, &rows, rules, budget, point.as_slice())?;
-    let Told { outcome, .. } = told_given(alloc, plant, given, least, ended)?;
-    Ok(outcome)
+    } = begun_at::<A>(alloc, plant, part, judged, start)?;
+    plan_over::<A>(alloc, plant, &headed, least, budget, point.as_slice())
 }
 
 // Plans over the program of a part with the sums, the setups and the derivations that are chosen for it, and writes the log of the
@@ -88,29 +77,19 @@ pub fn solve_headed_to<A: Advisers, F: Shelf>(
     ensures failed { result ≡ Err Stop.Failed
         → Rose (F.write_faults files.old) (F.write_faults files.new) }
 {
-    let begun = begun_at::<A>(alloc, plant, part, judged, start)?;
-    let Headed {
-        rows,
-        sums,
-        head,
-        given,
+    let Beginning {
+        headed,
+        point,
         least,
-    } = begun.headed;
-    let rules = SplitRules {
-        given,
-        floors: true,
-    };
-    let Logged { ended, writer } = search_logged::<A, _>(
+    } = begun_at::<A>(alloc, plant, part, judged, start)?;
+    solve_over::<A, _>(
         alloc,
-        &rows,
-        rules,
+        plant,
+        &headed,
+        least,
         budget,
-        begun.point.as_slice(),
-        head.as_slice(),
+        point.as_slice(),
         files,
         name,
-    )?;
-    let told = told_larger(alloc, plant, sums.as_slice(), given, least, ended)?;
-    writer.finish(files, &told.claim)?;
-    Ok(told.outcome)
+    )
 }

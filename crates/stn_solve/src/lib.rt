@@ -9,6 +9,7 @@ mod beginning;
 mod headed;
 mod part;
 mod plain;
+mod planning;
 mod plant;
 mod solved;
 mod telling;

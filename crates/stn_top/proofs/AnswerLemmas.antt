@@ -42,11 +42,12 @@ said_stopped words files after request faults faults_new writes writes_new old n
     inl (record { rose = is.rose; reply = record { status = part.status; text = part.text; reply = inr (request, (says, part.reply)); count = part.count; put = part.put } })
 said_stopped words files after request faults faults_new writes writes_new old new says (inr (rose, begun)) = inr (rose, (request, (says, begun)))
 
--- a request that the words say writes none of the logs that it joins or goes on from
+-- a request that the words say writes none of the logs that it joins, merges or goes on from
 pub says_apart : (words : List (List ℕ)) (request : Request) → Says words request → WritesApart request
 says_apart words request says = record {
   joining = λ plant levels stem log is. (subst (Says words) is says).1.5;
   resuming = λ plant log budget out share is. (subst (Says words) is says).1.1.3.no_plan;
+  merging = λ plant stem count out is. (subst (Says words) is says).1.5;
 }
 
 -- and reads all of its files first where the words say so
@@ -54,4 +55,5 @@ pub says_reads_first : (words : List (List ℕ)) (request : Request) → Says wo
 says_reads_first words request says none = record {
   joins_none = λ plant levels stem log is. none.join plant stem log levels (subst (Says words) is says);
   resumes_none = λ plant log budget out share is. none.resume plant log out budget share (subst (Says words) is says);
+  merges_none = λ plant stem count out is. none.merge plant stem out count (subst (Says words) is says);
 }

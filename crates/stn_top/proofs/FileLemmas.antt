@@ -6,15 +6,15 @@ use Rattle.std.specs.FinMap.{get}
 use Rattle.std.proofs.lemmas.Fmt.{decimal_injective}
 use Rattle.stn_edge.specs.Files.{FileMap, OthersStay}
 use Rattle.least_horizon.specs.LogNames.{OthersStayBelow}
-use Rattle.command_words.specs.Words.{Request, Solving, Logging, Simulating, Checking, Telling, Numbering, Upgrading, Showing, Replanning, ReplanLogging, CheckingReplan, Improving, Estimating, Seeking, Tracing, Auditing, Parting, PartSolving, Joining, Resuming, Says, Conflicting, ConflictLogging, CheckingConflict, use_word}
+use Rattle.command_words.specs.Words.{Request, Solving, Logging, Simulating, Checking, Telling, Numbering, Upgrading, Showing, Replanning, ReplanLogging, CheckingReplan, Improving, Estimating, Seeking, Tracing, Auditing, Parting, PartSolving, Joining, Resuming, Merging, Says, Conflicting, ConflictLogging, CheckingConflict, use_word}
 use Rattle.command_words.specs.declared.command.PlanUse.{PlanUse}
 use Rattle.command_words.specs.declared.command.PlanUse.TheVariants.{Simulate, Report, Picture, Table, Violations}
 use Rattle.planning_commands.specs.NamedLog.{LogLeft}
 use Rattle.stn_top.specs.Requests.{IsLeft, OthersKept}
-use Rattle.command_words.specs.Words.{IsLevels, IsPartNumber}
+use Rattle.command_words.specs.Words.{IsLevels, IsLogCount, IsPartNumber}
 use Rattle.conflict_commands.specs.Logging.{OthersStayPair}
 use Rattle.horizon_commands.proofs.Horizons.{each_log}
-use Rattle.command_words.proofs.PartWords.{same_levels, same_part}
+use Rattle.command_words.proofs.PartWords.{same_count, same_levels, same_part}
 use Rattle.command_words.proofs.UseWords.{no_use}
 
 -- ---- files that are as before
@@ -49,6 +49,7 @@ left_same (Parting plant levels) old new same = same
 left_same (PartSolving plant levels part budget log) old new same = inl same
 left_same (Joining plant levels stem log) old new same = inl same
 left_same (Resuming plant log budget out share) old new same = inl same
+left_same (Merging plant stem count out) old new same = inl same
 
 -- ---- a log
 
@@ -76,6 +77,10 @@ kept_joined plant levels stem log old new stay = λ name others. stay name (othe
 -- every file but the log that goes on is as before
 pub kept_resumed : (plant log : List ℕ) (budget : ℕ) (out : List ℕ) (share : Option (ℕ × ℕ)) (old new : Option FileMap) → OthersStay out old new → OthersKept (Resuming plant log budget out share) old new
 kept_resumed plant log budget out share old new stay = λ name others. stay name (others 0 [] (omega arith))
+
+-- every file but the merged log is as before
+pub kept_merged : (plant stem : List ℕ) (count : ℕ) (out : List ℕ) (old new : Option FileMap) → OthersStay out old new → OthersKept (Merging plant stem count out) old new
+kept_merged plant stem count out old new stay = λ name others. stay name (others 0 [] (omega arith))
 
 -- every file but the logs of a stem is as before
 pub kept_logs : (plant : List ℕ) (budget : ℕ) (stem : List ℕ) (old new : Option FileMap) → OthersStayBelow stem 337 old new → OthersKept (Tracing plant budget stem) old new
@@ -118,6 +123,7 @@ third_use (Table kind) same = omega (arith, same)
 leaves_log : (words : List (List ℕ)) (plant : List ℕ) (budget : ℕ) (log : List ℕ) (other : Request) (old new : Option FileMap) → Says words (Logging plant budget log) → Says words other
     → Leaves (Logging plant budget log) old new → Leaves other old new
 leaves_log words plant budget log (Resuming plant2 log2 budget2 out2 share2) old new says also is = (let same = ap third_byte (sym says.1.0 ∙ also.1.1.0) in absurd (omega (arith, same)))
+leaves_log words plant budget log (Merging plant2 stem2 count2 out2) old new says also is = (let same = ap first_byte (sym says.1.0 ∙ also.1.0) in absurd (omega (arith, same)))
 leaves_log words plant budget log (Solving plant2 budget2) old new says also is = (let same = ap length (sym says.1.0 ∙ also.1.0) in absurd (omega (arith, same)))
 leaves_log words plant budget log (Simulating usage plant2 plan2) old new says also is = absurd (no_use words usage plant2 plan2 also.0 (let long = ap length says.1.0 in omega (arith, long)) (λ t. let first = ap first_byte says.1.0 in omega (arith, t, first)))
 leaves_log words plant budget log (Checking plant2 log2) old new says also is = (let same = ap length (sym says.1.0 ∙ also.0) in absurd (omega (arith, same)))
@@ -152,6 +158,7 @@ leaves_log words plant budget log (Logging plant2 budget2 log2) old new says als
 leaves_replan : (words : List (List ℕ)) (plant plan : List ℕ) (period budget : ℕ) (log : List ℕ) (other : Request) (old new : Option FileMap) → Says words (ReplanLogging plant plan period budget log) → Says words other
     → Leaves (ReplanLogging plant plan period budget log) old new → Leaves other old new
 leaves_replan words plant plan period budget log (Resuming plant2 log2 budget2 out2 share2) old new says also is = (let same = ap third_byte (sym says.1.1.0 ∙ also.1.1.0) in absurd (omega (arith, same)))
+leaves_replan words plant plan period budget log (Merging plant2 stem2 count2 out2) old new says also is = (let same = ap first_byte (sym says.1.1.0 ∙ also.1.0) in absurd (omega (arith, same)))
 leaves_replan words plant plan period budget log (Solving plant2 budget2) old new says also is = (let same = ap length (sym says.1.1.0 ∙ also.1.0) in absurd (omega (arith, same)))
 leaves_replan words plant plan period budget log (Logging plant2 budget2 log2) old new says also is = (let same = ap length (sym says.1.1.0 ∙ also.1.0) in absurd (omega (arith, same)))
 leaves_replan words plant plan period budget log (Simulating usage plant2 plan2) old new says also is = absurd (no_use words usage plant2 plan2 also.0 (let long = ap length says.1.1.0 in omega (arith, long)) (λ t. let first = ap first_byte says.1.1.0 in omega (arith, t, first)))
@@ -191,6 +198,7 @@ leaves_replan words plant plan period budget log (ReplanLogging plant2 plan2 per
 leaves_logs : (words : List (List ℕ)) (plant : List ℕ) (budget : ℕ) (stem : List ℕ) (other : Request) (old new : Option FileMap) → Says words (Tracing plant budget stem) → Says words other
     → Leaves (Tracing plant budget stem) old new → Leaves other old new
 leaves_logs words plant budget stem (Resuming plant2 log2 budget2 out2 share2) old new says also is = (let same = ap third_byte (sym says.1.0 ∙ also.1.1.0) in absurd (omega (arith, same)))
+leaves_logs words plant budget stem (Merging plant2 stem2 count2 out2) old new says also is = (let same = ap first_byte (sym says.1.0 ∙ also.1.0) in absurd (omega (arith, same)))
 leaves_logs words plant budget stem (Solving plant2 budget2) old new says also is = (let same = ap length (sym says.1.0 ∙ also.1.0) in absurd (omega (arith, same)))
 leaves_logs words plant budget stem (Logging plant2 budget2 log2) old new says also is = (let same = ap first_byte (sym says.1.0 ∙ also.1.0) in absurd (omega (arith, same)))
 leaves_logs words plant budget stem (Simulating usage plant2 plan2) old new says also is = absurd (no_use words usage plant2 plan2 also.0 (let long = ap length says.1.0 in omega (arith, long)) (λ t. let first = ap first_byte says.1.0 in omega (arith, t, first)))
@@ -229,6 +237,7 @@ leaves_logs words plant budget stem (Tracing plant2 budget2 stem2) old new says 
 leaves_conflict : (words : List (List ℕ)) (plant : List ℕ) (budget : ℕ) (stem : List ℕ) (other : Request) (old new : Option FileMap) → Says words (ConflictLogging plant budget stem) → Says words other
     → Leaves (ConflictLogging plant budget stem) old new → Leaves other old new
 leaves_conflict words plant budget stem (Resuming plant2 log2 budget2 out2 share2) old new says also is = (let same = ap third_byte (sym says.1.0 ∙ also.1.1.0) in absurd (omega (arith, same)))
+leaves_conflict words plant budget stem (Merging plant2 stem2 count2 out2) old new says also is = (let same = ap first_byte (sym says.1.0 ∙ also.1.0) in absurd (omega (arith, same)))
 leaves_conflict words plant budget stem (Solving plant2 budget2) old new says also is = (let same = ap length (sym says.1.0 ∙ also.1.0) in absurd (omega (arith, same)))
 leaves_conflict words plant budget stem (Logging plant2 budget2 log2) old new says also is = (let same = ap first_byte (sym says.1.0 ∙ also.1.0) in absurd (omega (arith, same)))
 leaves_conflict words plant budget stem (Simulating usage plant2 plan2) old new says also is = absurd (no_use words usage plant2 plan2 also.0 (let long = ap length says.1.0 in omega (arith, long)) (λ t. let first = ap first_byte says.1.0 in omega (arith, t, first)))
@@ -267,6 +276,7 @@ leaves_conflict words plant budget stem (ConflictLogging plant2 budget2 stem2) o
 leaves_part : (words : List (List ℕ)) (plant : List ℕ) (levels part budget : ℕ) (log : List ℕ) (other : Request) (old new : Option FileMap) → Says words (PartSolving plant levels part budget log) → Says words other
     → Leaves (PartSolving plant levels part budget log) old new → Leaves other old new
 leaves_part words plant levels part budget log (Resuming plant2 log2 budget2 out2 share2) old new says also is = (let same = ap third_byte (sym says.1.1.1.0 ∙ also.1.1.0) in absurd (omega (arith, same)))
+leaves_part words plant levels part budget log (Merging plant2 stem2 count2 out2) old new says also is = (let same = ap first_byte (sym says.1.1.1.0 ∙ also.1.0) in absurd (omega (arith, same)))
 leaves_part words plant levels part budget log (Solving plant2 budget2) old new says also is = (let same = ap length (sym says.1.1.1.0 ∙ also.1.0) in absurd (omega (arith, same)))
 leaves_part words plant levels part budget log (Logging plant2 budget2 log2) old new says also is = (let same = ap length (sym says.1.1.1.0 ∙ also.1.0) in absurd (omega (arith, same)))
 leaves_part words plant levels part budget log (Simulating usage plant2 plan2) old new says also is = absurd (no_use words usage plant2 plan2 also.0 (let long = ap length says.1.1.1.0 in omega (arith, long)) (λ t. let first = ap first_byte says.1.1.1.0 in omega (arith, t, first)))
@@ -304,6 +314,7 @@ leaves_part words plant levels part budget log (PartSolving plant2 levels2 part2
 leaves_join : (words : List (List ℕ)) (plant : List ℕ) (levels : ℕ) (stem log : List ℕ) (other : Request) (old new : Option FileMap) → Says words (Joining plant levels stem log) → Says words other
     → Leaves (Joining plant levels stem log) old new → Leaves other old new
 leaves_join words plant levels stem log (Resuming plant2 log2 budget2 out2 share2) old new says also is = (let same = ap third_byte (sym says.1.0 ∙ also.1.1.0) in absurd (omega (arith, same)))
+leaves_join words plant levels stem log (Merging plant2 stem2 count2 out2) old new says also is = (let same = ap first_byte (sym says.1.0 ∙ also.1.0) in absurd (omega (arith, same)))
 leaves_join words plant levels stem log (Solving plant2 budget2) old new says also is = (let same = ap length (sym says.1.0 ∙ also.1.0) in absurd (omega (arith, same)))
 leaves_join words plant levels stem log (Logging plant2 budget2 log2) old new says also is = (let same = ap length (sym says.1.0 ∙ also.1.0) in absurd (omega (arith, same)))
 leaves_join words plant levels stem log (Simulating usage plant2 plan2) old new says also is = absurd (no_use words usage plant2 plan2 also.0 (let long = ap length says.1.0 in omega (arith, long)) (λ t. let first = ap first_byte says.1.0 in omega (arith, t, first)))
@@ -340,6 +351,7 @@ leaves_join words plant levels stem log (Joining plant2 levels2 stem2 log2) old 
 leaves_improve : (words : List (List ℕ)) (plant plan : List ℕ) (budget : ℕ) (log : List ℕ) (other : Request) (old new : Option FileMap) → Says words (Improving plant plan budget (Some log)) → Says words other
     → Leaves (Improving plant plan budget (Some log)) old new → Leaves other old new
 leaves_improve words plant plan budget log (Resuming plant2 log2 budget2 out2 share2) old new says also is = (let same = ap third_byte (sym says.1.0 ∙ also.1.1.0) in absurd (omega (arith, same)))
+leaves_improve words plant plan budget log (Merging plant2 stem2 count2 out2) old new says also is = (let same = ap first_byte (sym says.1.0 ∙ also.1.0) in absurd (omega (arith, same)))
 leaves_improve words plant plan budget log (Solving plant2 budget2) old new says also is = (let same = ap first_byte (sym says.1.0 ∙ also.1.0) in absurd (omega (arith, same)))
 leaves_improve words plant plan budget log (Logging plant2 budget2 log2) old new says also is = (let same = ap first_byte (sym says.1.0 ∙ also.1.0) in absurd (omega (arith, same)))
 leaves_improve words plant plan budget log (Checking plant2 log2) old new says also is = (let same = ap first_byte (sym says.1.0 ∙ also.0) in absurd (omega (arith, same)))
@@ -395,6 +407,7 @@ leaves_resume words plant log budget out share (CheckingConflict plant2 stem2) o
 leaves_resume words plant log budget out share (Parting plant2 levels2) old new says also is = (let same = ap third_byte (sym says.1.1.0 ∙ also.1.0) in absurd (omega (arith, same)))
 leaves_resume words plant log budget out share (PartSolving plant2 levels2 part2 budget2 log2) old new says also is = (let same = ap third_byte (sym says.1.1.0 ∙ also.1.1.1.0) in absurd (omega (arith, same)))
 leaves_resume words plant log budget out share (Joining plant2 levels2 stem2 log2) old new says also is = (let same = ap third_byte (sym says.1.1.0 ∙ also.1.0) in absurd (omega (arith, same)))
+leaves_resume words plant log budget out share (Merging plant2 stem2 count2 out2) old new says also is = (let same = ap first_byte (sym says.1.1.0 ∙ also.1.0) in absurd (omega (arith, same)))
 leaves_resume words plant log budget out share (Simulating usage plant2 plan2) old new says also is = absurd (third_use usage (ap third_byte (sym also.0 ∙ says.1.1.0)))
 leaves_resume words plant log budget out share (Resuming plant2 log2 budget2 out2 share2) old new says also is =
     let same : codes "resume" ∷ plant ∷ log ∷ says.0 ∷ out ∷ says.1.0 ≡ codes "resume" ∷ plant2 ∷ log2 ∷ also.0 ∷ out2 ∷ also.1.0 = sym says.1.1.0 ∙ also.1.1.0 in
@@ -402,6 +415,50 @@ leaves_resume words plant log budget out share (Resuming plant2 log2 budget2 out
     record {
       kept = subst (λ (o : List ℕ). OthersKept (Resuming plant2 log2 budget2 o share2) old new) (word 4) is.kept;
       left = subst (λ (l : List ℕ). IsLeft (Resuming plant2 l budget2 out2 share2) old new) (word 2) (subst (λ (p : List ℕ). IsLeft (Resuming p log budget2 out2 share2) old new) (word 1) is.left);
+    }
+
+-- that of a command that simulates a plan begins with no m (109)
+merge_use : (usage : PlanUse) → get_or (use_word usage) 0 0 ≢ 109
+merge_use Simulate same = omega (arith, same)
+merge_use Report same = omega (arith, same)
+merge_use Picture same = omega (arith, same)
+merge_use Violations same = omega (arith, same)
+merge_use (Table kind) same = omega (arith, same)
+
+-- the words of merging logs say no other request
+leaves_merge : (words : List (List ℕ)) (plant stem : List ℕ) (count : ℕ) (out : List ℕ) (other : Request) (old new : Option FileMap) → Says words (Merging plant stem count out) → Says words other
+    → Leaves (Merging plant stem count out) old new → Leaves other old new
+leaves_merge words plant stem count out (Solving plant2 budget2) old new says also is = (let same = ap first_byte (sym says.1.0 ∙ also.1.0) in absurd (omega (arith, same)))
+leaves_merge words plant stem count out (Logging plant2 budget2 log2) old new says also is = (let same = ap first_byte (sym says.1.0 ∙ also.1.0) in absurd (omega (arith, same)))
+leaves_merge words plant stem count out (Checking plant2 log2) old new says also is = (let same = ap first_byte (sym says.1.0 ∙ also.0) in absurd (omega (arith, same)))
+leaves_merge words plant stem count out (Telling plant2 log2) old new says also is = (let same = ap first_byte (sym says.1.0 ∙ also.0) in absurd (omega (arith, same)))
+leaves_merge words plant stem count out (Upgrading plant2) old new says also is = (let same = ap first_byte (sym says.1.0 ∙ also.0) in absurd (omega (arith, same)))
+leaves_merge words plant stem count out (Numbering plant2) old new says also is = (let same = ap first_byte (sym says.1.0 ∙ also.0) in absurd (omega (arith, same)))
+leaves_merge words plant stem count out (Showing seed) old new says also is = (let same = ap first_byte (sym says.1.0 ∙ also.1.0) in absurd (omega (arith, same)))
+leaves_merge words plant stem count out (Replanning plant2 plan2 period2 budget2) old new says also is = (let same = ap first_byte (sym says.1.0 ∙ also.1.1.0) in absurd (omega (arith, same)))
+leaves_merge words plant stem count out (ReplanLogging plant2 plan2 period2 budget2 log2) old new says also is = (let same = ap first_byte (sym says.1.0 ∙ also.1.1.0) in absurd (omega (arith, same)))
+leaves_merge words plant stem count out (CheckingReplan plant2 plan2 period2 log2) old new says also is = (let same = ap first_byte (sym says.1.0 ∙ also.1.0) in absurd (omega (arith, same)))
+leaves_merge words plant stem count out (Improving plant2 plan2 budget2 log2) old new says also is = (let same = ap first_byte (sym says.1.0 ∙ also.1.0) in absurd (omega (arith, same)))
+leaves_merge words plant stem count out (Estimating plant2 log2 state step count2) old new says also is = (let same = ap first_byte (sym says.1.0 ∙ also.1.1.0) in absurd (omega (arith, same)))
+leaves_merge words plant stem count out (Seeking plant2 budget2) old new says also is = (let same = ap first_byte (sym says.1.0 ∙ also.1.0) in absurd (omega (arith, same)))
+leaves_merge words plant stem count out (Tracing plant2 budget2 stem2) old new says also is = (let same = ap first_byte (sym says.1.0 ∙ also.1.0) in absurd (omega (arith, same)))
+leaves_merge words plant stem count out (Auditing plant2 horizon2 stem2) old new says also is = (let same = ap first_byte (sym says.1.0 ∙ also.1.0) in absurd (omega (arith, same)))
+leaves_merge words plant stem count out (Conflicting plant2 budget2) old new says also is = (let same = ap first_byte (sym says.1.0 ∙ also.1.0) in absurd (omega (arith, same)))
+leaves_merge words plant stem count out (ConflictLogging plant2 budget2 stem2) old new says also is = (let same = ap first_byte (sym says.1.0 ∙ also.1.0) in absurd (omega (arith, same)))
+leaves_merge words plant stem count out (CheckingConflict plant2 stem2) old new says also is = (let same = ap first_byte (sym says.1.0 ∙ also.0) in absurd (omega (arith, same)))
+leaves_merge words plant stem count out (Parting plant2 levels2) old new says also is = (let same = ap first_byte (sym says.1.0 ∙ also.1.0) in absurd (omega (arith, same)))
+leaves_merge words plant stem count out (PartSolving plant2 levels2 part2 budget2 log2) old new says also is = (let same = ap first_byte (sym says.1.0 ∙ also.1.1.1.0) in absurd (omega (arith, same)))
+leaves_merge words plant stem count out (Joining plant2 levels2 stem2 log2) old new says also is = (let same = ap first_byte (sym says.1.0 ∙ also.1.0) in absurd (omega (arith, same)))
+leaves_merge words plant stem count out (Simulating usage plant2 plan2) old new says also is = absurd (merge_use usage (ap first_byte (sym also.0 ∙ says.1.0)))
+leaves_merge words plant stem count out (Resuming plant2 log2 budget2 out2 share2) old new says also is = (let same = ap first_byte (sym says.1.0 ∙ also.1.1.0) in absurd (omega (arith, same)))
+leaves_merge words plant stem count out (Merging plant2 stem2 count2 out2) old new says also is =
+    let same : codes "merge" ∷ plant ∷ stem ∷ says.0 ∷ out ∷ [] ≡ codes "merge" ∷ plant2 ∷ stem2 ∷ also.0 ∷ out2 ∷ [] = sym says.1.0 ∙ also.1.0 in
+    let word = λ (k : ℕ). ap (λ (ws : List (List ℕ)). get_or ws k []) same in
+    let count_is : count ≡ count2 = same_count also.0 count count2 (subst (λ (w : List ℕ). IsLogCount w count) (word 3) says.1.6) also.1.6 in
+    record {
+      kept = subst (λ (o : List ℕ). OthersKept (Merging plant2 stem2 count2 o) old new) (word 4) is.kept;
+      left = subst (λ (s : List ℕ). IsLeft (Merging plant2 s count2 out2) old new) (word 2)
+          (subst (λ (n : ℕ). IsLeft (Merging plant2 stem n out2) old new) count_is (subst (λ (p : List ℕ). IsLeft (Merging p stem count out2) old new) (word 1) is.left));
     }
 
 -- what one request leaves that the words say, each leaves that they say
@@ -430,6 +487,7 @@ leaves words (Parting plant levels) other old new says also is = leaves_same oth
 leaves words (PartSolving plant levels part budget log) other old new says also is = leaves_part words plant levels part budget log other old new says also is
 leaves words (Joining plant levels stem log) other old new says also is = leaves_join words plant levels stem log other old new says also is
 leaves words (Resuming plant log budget out share) other old new says also is = leaves_resume words plant log budget out share other old new says also is
+leaves words (Merging plant stem count out) other old new says also is = leaves_merge words plant stem count out other old new says also is
 
 -- the two facts apart
 pub kept_all : (words : List (List ℕ)) (request : Request) (old new : Option FileMap) → Says words request → OthersKept request old new → IsLeft request old new → (other : Request) → Says words other → OthersKept other old new

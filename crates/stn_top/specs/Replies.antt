@@ -4,7 +4,7 @@ use Rattle.std.specs.Option.{option_map}
 use Rattle.stn_edge.specs.Count.{Rose, next_count}
 use Rattle.stn_edge.specs.Text.{extended}
 use Rattle.stn_edge.specs.Files.{FileMap}
-use Rattle.command_words.specs.Words.{Request, Says, Joining, Resuming, HasNoForm}
+use Rattle.command_words.specs.Words.{Request, Says, Joining, Resuming, Merging, HasNoForm}
 use Rattle.stn_top.specs.Requests.{MayRead, MayWrite, IsAnswer, GetsToWriting}
 
 -- the line on words that have the form of no command
@@ -56,7 +56,8 @@ IsPutOnce puts puts_new = (puts_new ≡ puts) ⊎ (puts_new ≡ next_count puts)
 abbrev pub LogFailed : List (List ℕ) → Option FileMap → ℕ → ℕ → Type 0
 LogFailed words files old new = Rose old new × ((request : Request) × (Says words request × GetsToWriting files request))
 
--- the words say neither a joining of logs nor going on from one
+-- the words say neither a joining or merging of logs nor going on from one
 pub record SayReadsFirst (words : List (List ℕ)) : Type 0 where
   pub join : (plant stem log : List ℕ) (levels : ℕ) → ¬ Says words (Joining plant levels stem log)
   pub resume : (plant log out : List ℕ) (budget : ℕ) (share : Option (ℕ × ℕ)) → ¬ Says words (Resuming plant log budget out share)
+  pub merge : (plant stem out : List ℕ) (count : ℕ) → ¬ Says words (Merging plant stem count out)

@@ -1,5 +1,5 @@
 -- The files of a request, and its answer.
-use Rattle.std.specs.Prelude.{◌≡◌, ◌≢◌, ◌⊎◌, ◌≤◌, ℕ, Bool, IsTrue, All, List, [], ◌∷◌, Option, None, Some, Ok, length}
+use Rattle.std.specs.Prelude.{◌≡◌, ◌≢◌, ◌⊎◌, ◌≤◌, ℕ, Bool, IsTrue, All, List, [], ◌∷◌, ◌++◌, Option, None, Some, Ok, length}
 use Rattle.std.specs.Option.{option_map}
 use Rattle.std.specs.FinMap.{get}
 use Rattle.stn_edge.specs.Files.{FileMap}
@@ -11,7 +11,7 @@ use Rattle.plan_told.specs.Proofs.{bytes_in}
 use Rattle.least_horizon.specs.LogNames.{logs_in, OthersStayBelow}
 use Rattle.time_grid.specs.Slots.{slots}
 use Rattle.log_parts.specs.PartLogs.{AllAreValid}
-use Rattle.command_words.specs.Words.{Request, IsNoPartLog, Solving, Logging, Simulating, Checking, Telling, Numbering, Upgrading, Showing, Replanning, ReplanLogging, CheckingReplan, Improving, Estimating, Seeking, Tracing, Auditing, Parting, PartSolving, Joining, Resuming, log_words, Conflicting, ConflictLogging, CheckingConflict}
+use Rattle.command_words.specs.Words.{Request, IsNoPartLog, Solving, Logging, Simulating, Checking, Telling, Numbering, Upgrading, Showing, Replanning, ReplanLogging, CheckingReplan, Improving, Estimating, Seeking, Tracing, Auditing, Parting, PartSolving, Joining, Resuming, Merging, log_words, Conflicting, ConflictLogging, CheckingConflict}
 use Rattle.command_replies.specs.Answers.{IsAnswerOver, content}
 use Rattle.command_replies.specs.Sources.{IsReadOf, OnPlant, OnPlan}
 use Rattle.answer_texts.specs.Levels.{OnLevels}
@@ -38,10 +38,12 @@ use Rattle.conflict_commands.specs.Checking.{ConflictChecked}
 use Rattle.part_commands.specs.Parting.{Parted}
 use Rattle.part_commands.specs.JoiningParts.{HoldsJoined, JoinAnswered, part_names}
 use Rattle.resume_commands.specs.Resuming.{HoldsResumed, ResumeAnswered}
+use Rattle.resume_commands.specs.Merging.{HoldsMerged, MergeAnswered, merged_names}
+use Rattle.log_merging.specs.MergedLogs.{AreMergeable}
 
 -- the names of the files that a request reads, in the order of its words: the plant, then the plan, or the log to check or to list, or
--- the one to go on from and that which was written then, or the logs of the shorter horizons or of the parts, or the text of a conflict
--- and its log
+-- the one to go on from and that which was written then, or the logs of the shorter horizons, of the parts, or to merge, or the text
+-- of a conflict and its log
 abbrev pub read_names : Request → List (List ℕ)
 read_names (Solving plant budget) = plant ∷ []
 read_names (Logging plant budget log) = plant ∷ []
@@ -66,9 +68,10 @@ read_names (Parting plant levels) = plant ∷ []
 read_names (PartSolving plant levels part budget log) = plant ∷ []
 read_names (Joining plant levels stem log) = plant ∷ part_names stem levels
 read_names (Resuming plant log budget out share) = plant ∷ log ∷ out ∷ []
+read_names (Merging plant stem count out) = plant ∷ (merged_names stem count ++ out ∷ [])
 
--- the names of the files that a request writes: the log of a planning or of a joining, those of all horizons that a plant may have, or the
--- text of a conflict and its log
+-- the names of the files that a request writes: the log of a planning, of a joining or of a merging, or that goes on from another,
+-- those of all horizons that a plant may have, or the text of a conflict and its log
 abbrev pub written_names : Request → List (List ℕ)
 written_names (Solving plant budget) = []
 written_names (Logging plant budget log) = log ∷ []
@@ -93,6 +96,7 @@ written_names (Parting plant levels) = []
 written_names (PartSolving plant levels part budget log) = log ∷ []
 written_names (Joining plant levels stem log) = log ∷ []
 written_names (Resuming plant log budget out share) = out ∷ []
+written_names (Merging plant stem count out) = out ∷ []
 
 -- the files that a request reads may be read
 abbrev pub MayRead : (List ℕ → Bool) → Request → Type 0
@@ -140,6 +144,7 @@ AnswersTo old new contents (PartSolving plant levels part budget log) status tex
 AnswersTo old new contents (Joining plant levels stem log) status text =
     OnPlant (reading (content contents 0)) (λ p. OnLevels p levels (JoinAnswered old new levels stem log p)) status text
 AnswersTo old new contents (Resuming plant log budget out share) status text = OnPlant (reading (content contents 0)) (ResumeAnswered old new budget share log out) status text
+AnswersTo old new contents (Merging plant stem count out) status text = OnPlant (reading (content contents 0)) (MergeAnswered old new count stem out) status text
 
 -- The answer to a request, with the files before and after: there are contents of the files that it reads, which are those of
 -- the files before where the store tells them, and it is the answer over these contents. A refusal of the plant or of the plan
@@ -172,9 +177,10 @@ IsLeft (Parting plant levels) old new = new ≡ old
 IsLeft (PartSolving plant levels part budget log) old new = (new ≡ old) ⊎ HoldsPart old new plant levels part log
 IsLeft (Joining plant levels stem log) old new = (new ≡ old) ⊎ HoldsJoined old new plant levels stem log
 IsLeft (Resuming plant log budget out share) old new = (new ≡ old) ⊎ HoldsResumed old new plant log
+IsLeft (Merging plant stem count out) old new = (new ≡ old) ⊎ HoldsMerged old new plant count stem
 
 -- a request gets to writing a file: it names a log, and its plant was read, and its plan where it has one, of which the kept starts
--- stand together, or which is feasible where none are kept; where it speaks of parts, the plant has a slot for each level, and the logs that it joins are valid
+-- stand together, or which is feasible where none are kept; where it speaks of parts, the plant has a slot for each level, and the logs that it joins or merges are valid
 abbrev pub GetsToWriting : Option FileMap → Request → Type 0
 GetsToWriting files (Solving plant budget) = ⊥
 GetsToWriting files (Logging plant budget log) = (p : Plant) × IsReadOf reading files plant (Ok p)
@@ -200,13 +206,16 @@ GetsToWriting files (PartSolving plant levels part budget log) = (p : Plant) × 
 GetsToWriting files (Joining plant levels stem log) =
     (p : Plant) × (IsReadOf reading files plant (Ok p) × (levels ≤ length (slots p)) × AllAreValid p levels stem files)
 GetsToWriting files (Resuming plant log budget out share) = (p : Plant) × IsReadOf reading files plant (Ok p)
+GetsToWriting files (Merging plant stem count out) = (p : Plant) × (IsReadOf reading files plant (Ok p) × AreMergeable p count stem files)
 
--- the request reads all of its files before it writes one: it is neither to join logs nor to go on from one
+-- the request reads all of its files before it writes one: it is neither to join or merge logs nor to go on from one
 pub record ReadsFirst (request : Request) : Type 0 where
   pub joins_none : (plant : List ℕ) (levels : ℕ) (stem log : List ℕ) → request ≢ Joining plant levels stem log
   pub resumes_none : (plant log : List ℕ) (budget : ℕ) (out : List ℕ) (share : Option (ℕ × ℕ)) → request ≢ Resuming plant log budget out share
+  pub merges_none : (plant stem : List ℕ) (count : ℕ) (out : List ℕ) → request ≢ Merging plant stem count out
 
--- the request writes none of the logs that it joins, and not the one that it goes on from
+-- the request writes none of the logs that it joins or merges, and not the one that it goes on from
 pub record WritesApart (request : Request) : Type 0 where
   pub joining : (plant : List ℕ) (levels : ℕ) (stem log : List ℕ) → request ≡ Joining plant levels stem log → IsNoPartLog log stem levels
   pub resuming : (plant log : List ℕ) (budget : ℕ) (out : List ℕ) (share : Option (ℕ × ℕ)) → request ≡ Resuming plant log budget out share → out ≢ log
+  pub merging : (plant stem : List ℕ) (count : ℕ) (out : List ℕ) → request ≡ Merging plant stem count out → IsNoPartLog out stem 8

@@ -22,7 +22,7 @@ use log_commands::{check_file, check_replan_file};
 use part_commands::{join_file, parts_file};
 use plan_commands::{simulate_file, upgrade_file};
 use planning_commands::{plan_on_file, solve_file, solve_part_file};
-use resume_commands::resume_file;
+use resume_commands::{merge_files, resume_file};
 use std::alloc::Global;
 use stn_edge::{Shelf, Sink, Stop};
 use tank_commands::estimate_file;
@@ -61,10 +61,11 @@ use tank_commands::estimate_file;
 /// | `join PLANT LEVELS STEM LOG` | checks the logs STEM.0, STEM.1 and so on of all parts, and writes the log of the plant that they make up, or says what speaks against the first that is not valid; LOG is neither the word PLANT nor the name of one of these logs |
 /// | `resume PLANT LOG BUDGET OUT` | goes on from a proof log, with at most BUDGET boxes more, and writes the log of that, or says the first defect of LOG; OUT is neither the word PLANT nor LOG |
 /// | `resume PLANT LOG BUDGET OUT SHARE SHARES` | the same, at the open ends alone whose number leaves the rest SHARE when it is divided by SHARES (1 to 256) |
+/// | `merge PLANT STEM COUNT OUT` | checks COUNT logs (1 to 256), STEM.0, STEM.1 and so on, and writes the log that is merged of them, or says what speaks against the first that is not valid; OUT is neither the word PLANT nor the name of one of STEM.0 to STEM.255 |
 ///
-/// Statuses: 0 optimal, feasible, reported, upgraded, valid, estimated, listed or joined; 1 no plan is feasible, the plan is not or what is kept of it can't be, or a log is not valid; 2 the words have no
+/// Statuses: 0 optimal, feasible, reported, upgraded, valid, estimated, listed, joined or merged; 1 no plan is feasible, the plan is not or what is kept of it can't be, or a log is not valid; 2 the words have no
 /// form; 3 the plant file has a fault; 4 the plan file has one; 5 STATE is not the name of a state with limits, or the plant has fewer slots than LEVELS; 6 the budget was spent; 7 a file could not be
-/// read; 8 the log could not be written or the answer could not be put; 9 no memory, or the log that was gone on from does not hold once it is written. The answer is put at once, after all
+/// read; 8 the log could not be written or the answer could not be put; 9 no memory, or the log that `resume` or `merge` wrote does not stand its judgement. The answer is put at once, after all
 /// work. No file changes but the logs that the words name.
 pub fn run<F: Shelf, K: Sink>(alloc: Global, words: &[&str], files: &mut F, out: &mut K) -> u8
     requires may_read { MayReadAll (F.may_read files.old) (texts words.now) }
@@ -93,7 +94,7 @@ pub fn run<F: Shelf, K: Sink>(alloc: Global, words: &[&str], files: &mut F, out:
     ensures known { result ≤ 9 }
 
     // Only the logs that the request writes may have changed, and they hold logs, begun or whole. After
-    // 2, 3, 4 and 5 no file has, and after 7 none has but where logs are joined or gone on from.
+    // 2, 3, 4 and 5 no file has, and after 7 none has but where logs are joined, merged or gone on from.
     ensures files { (request : Request) → Says (texts words.now) request
         → OthersKept request (F.files files.old) (F.files files.new) }
     ensures left { (request : Request) → Says (texts words.now) request
@@ -293,6 +294,12 @@ fn reply_to<F: Shelf>(alloc: Global, command: Command, files: &mut F) -> Result<
             out,
             share,
         } => resume_file::<BestFirst, _>(alloc, files, plant, log, budget, out, share),
+        Command::Merge {
+            plant,
+            stem,
+            count,
+            out,
+        } => merge_files(alloc, files, plant, stem, count, out),
     }
 }
 

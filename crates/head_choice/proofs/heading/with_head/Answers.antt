@@ -47,7 +47,6 @@ returns g c =
       can = wide-can plant part judged wide is rows derivations made.declared anew c.requires.sound c.in_ok-rows.ensures.choices few;
       head = made.text;
       given = c.len-given.ensures;
-      least = c.in_ok-least.ensures;
       few_splits = wide-splits plant part judged wide is rows derivations made.declared anew;
       few_rows = wide-total plant part judged wide is rows derivations made.declared anew;
     }

@@ -1,47 +1,32 @@
 -- What is told of a search over the rows with what a head declares is right.
-use Rattle.std.proofs.Common.{None, refl, ◌∙◌}
-use Rattle.plan_told.specs.Given.{given_end}
-use Rattle.plan_told.proofs.Texts.{headed-has}
-use Rattle.stn_solve.proofs.BegunTold.{begun-given, told-earns}
-use Rattle.stn_solve.proofs.SearchTold.{headed-images, headed-places, headed-right}
+use Rattle.std.proofs.Common.{None, ◌∙◌}
+use Rattle.std.proofs.lemmas.Result.{IfOk-weaker}
+use Rattle.stn_model.specs.declared.answer.Outcome.{Outcome}
+use Rattle.stn_solve.specs.laws.Telling.{IsToldOver}
+use Rattle.stn_solve.proofs.SearchTold.{can-be-told, headed-images}
+use Rattle.stn_solve.proofs.ToldOver.{over-begun, over-outcome, over-proof}
 use Rattle.stn_solve.proofs.headed.plan_headed.Goals as goal
 
-pub search_only-requires-clause-images : goal.search_only-requires-clause-images
-search_only-requires-clause-images g c = headed-images c.args.plant.now c.args.part c.args.judged c.in_ok-headed.field-0.headed c.requires.sound c.requires.part c.requires.ranges c.in_ok-headed.ensures.headed
+pub plan_over-requires-clause-images : goal.plan_over-requires-clause-images
+plan_over-requires-clause-images g c = headed-images c.args.plant.now c.args.part c.args.judged c.in_ok-headed.field-0.headed c.requires.sound c.requires.part c.requires.ranges c.in_ok-headed.ensures.headed
 
-pub search_only-requires-clause-splits : goal.search_only-requires-clause-splits
-search_only-requires-clause-splits g c = c.in_ok-headed.ensures.headed.few_splits
+pub plan_over-requires-clause-splits : goal.plan_over-requires-clause-splits
+plan_over-requires-clause-splits g c = c.in_ok-headed.ensures.headed.few_splits
 
-pub search_only-requires-clause-rows : goal.search_only-requires-clause-rows
-search_only-requires-clause-rows g c = c.in_ok-headed.ensures.headed.few_rows
+pub plan_over-requires-clause-rows : goal.plan_over-requires-clause-rows
+plan_over-requires-clause-rows g c = c.in_ok-headed.ensures.headed.few_rows
 
-pub told_given-requires-clause-places : goal.told_given-requires-clause-places
-told_given-requires-clause-places g c =
-    let headed = c.in_ok-headed.field-0.headed in
-    let s = c.in_ok-ended.ensures.ended in
-    headed-places c.args.plant.now c.args.part c.args.judged headed c.args.budget s.tree c.in_ok-ended.ended (given_end headed.given headed.least c.in_ok-ended.ended) c.requires.sound c.requires.part c.requires.ranges c.in_ok-headed.ensures.headed c.requires.budget.0 s.of refl
+pub plan_over-requires-clause-told : goal.plan_over-requires-clause-told
+plan_over-requires-clause-told g c = can-be-told c.args.plant.now c.args.part c.args.judged c.in_ok-headed.field-0.headed c.in_ok-headed.field-0.least c.args.budget c.requires.sound c.requires.part c.requires.ranges c.in_ok-headed.ensures.headed c.in_ok-headed.ensures.least c.requires.budget.0 c.requires.many c.requires.budget.1
 
 pub returns-clause-outcome : goal.returns-clause-outcome
 returns-clause-outcome g c =
-    let headed = c.in_ok-headed.field-0.headed in
-    let s = c.in_ok-ended.ensures.ended in
-    (headed-right c.args.plant.now c.args.part c.args.judged headed c.args.budget s.tree c.in_ok-ended.ended (given_end headed.given headed.least c.in_ok-ended.ended) c.requires.sound c.requires.part c.requires.ranges c.in_ok-headed.ensures.headed c.requires.budget.0 s.of refl
-    c.requires.many c.requires.budget.1 c.in_ok-outcome.field-0 c.in_ok-outcome.ensures).outcome
+    IfOk-weaker c.plan_over.result _ _ (λ (outcome : Outcome) (over : IsToldOver c.args.plant.now c.in_ok-headed.field-0.headed c.in_ok-headed.field-0.least c.args.budget c.as_slice.result.now None outcome). over-outcome c.args.plant.now c.args.part c.args.judged c.in_ok-headed.field-0.headed c.in_ok-headed.field-0.least c.args.budget c.as_slice.result.now None c.requires.sound c.requires.part c.requires.ranges c.in_ok-headed.ensures.headed c.in_ok-headed.ensures.least c.requires.budget.0 c.requires.many c.requires.budget.1 outcome over) c.plan_over.ensures
 
 pub returns-clause-proof : goal.returns-clause-proof
 returns-clause-proof g c =
-    let headed = c.in_ok-headed.field-0.headed in
-    let is = c.in_ok-headed.ensures.headed in
-    let s = c.in_ok-ended.ensures.ended in
-    let told = c.in_ok-outcome.field-0 in
-    let right = headed-right c.args.plant.now c.args.part c.args.judged headed c.args.budget s.tree c.in_ok-ended.ended (given_end headed.given headed.least c.in_ok-ended.ended) c.requires.sound c.requires.part c.requires.ranges is c.requires.budget.0 s.of refl
-    c.requires.many c.requires.budget.1 told c.in_ok-outcome.ensures in
-    headed-has c.args.plant.now c.args.part c.args.judged headed.sums is.units is.derivations None told.outcome s.tree right.proof tt
+    IfOk-weaker c.plan_over.result _ _ (λ (outcome : Outcome) (over : IsToldOver c.args.plant.now c.in_ok-headed.field-0.headed c.in_ok-headed.field-0.least c.args.budget c.as_slice.result.now None outcome). over-proof c.args.plant.now c.args.part c.args.judged c.in_ok-headed.field-0.headed c.in_ok-headed.field-0.least c.args.budget c.as_slice.result.now None c.requires.sound c.requires.part c.requires.ranges c.in_ok-headed.ensures.headed c.in_ok-headed.ensures.least c.requires.budget.0 c.requires.many c.requires.budget.1 outcome over) c.plan_over.ensures
 
 pub returns-clause-begun : goal.returns-clause-begun
 returns-clause-begun g c =
-    let begun = c.in_ok-headed.field-0 in
-    let own = given_end begun.headed.given begun.headed.least c.in_ok-ended.ended in
-    let worth = begun-given c.args.plant.now c.args.part c.args.judged begun.headed c.requires.ranges c.in_ok-headed.ensures.headed c.args.start.now c.as_slice.result.now c.in_ok-ended.ended own
-    (λ lawful. c.as_slice.ensures ∙ c.in_ok-headed.ensures.point lawful) c.in_ok-ended.ensures.begun refl in
-    told-earns c.args.plant.now c.args.part c.args.start.now own c.in_ok-outcome.field-0 worth c.in_ok-outcome.ensures
+    IfOk-weaker c.plan_over.result _ _ (λ (outcome : Outcome) (over : IsToldOver c.args.plant.now c.in_ok-headed.field-0.headed c.in_ok-headed.field-0.least c.args.budget c.as_slice.result.now None outcome). over-begun c.args.plant.now c.args.part c.args.judged c.in_ok-headed.field-0.headed c.in_ok-headed.field-0.least c.args.budget c.as_slice.result.now None c.requires.sound c.requires.part c.requires.ranges c.in_ok-headed.ensures.headed c.in_ok-headed.ensures.least c.requires.budget.0 c.requires.many c.requires.budget.1 outcome over c.args.start.now (λ lawful. c.as_slice.ensures ∙ c.in_ok-headed.ensures.point lawful)) c.plan_over.ensures

@@ -1,10 +1,11 @@
 -- Each command's work comes to what its call promises.
 use Rattle.std.proofs.Common.{ap, refl, [], arith}
 use Rattle.std.specs.Option.{option_map}
-use Rattle.command_words.specs.Words.{meaning, Solving, Logging, Simulating, Checking, Telling, Numbering, Upgrading, Replanning, ReplanLogging, CheckingReplan, Improving, named_log, Estimating, Seeking, Tracing, Auditing, Parting, PartSolving, Joining, Resuming, Conflicting, ConflictLogging, CheckingConflict, share_numbers}
+use Rattle.command_words.specs.Words.{meaning, Solving, Logging, Simulating, Checking, Telling, Numbering, Upgrading, Replanning, ReplanLogging, CheckingReplan, Improving, named_log, Estimating, Seeking, Tracing, Auditing, Parting, PartSolving, Joining, Resuming, Merging, Conflicting, ConflictLogging, CheckingConflict, share_numbers}
 use Rattle.horizon_commands.proofs.Horizons.{logs_allowed, all_logs_allowed}
 use Rattle.part_commands.proofs.JoinLemmas.{parts_allowed}
-use Rattle.stn_top.proofs.FileLemmas.{kept_log, kept_replan, kept_improve, kept_logs, kept_part, kept_joined, kept_resumed, kept_conflict}
+use Rattle.resume_commands.proofs.MergeLemmas.{merged_allowed, out_allowed}
+use Rattle.stn_top.proofs.FileLemmas.{kept_log, kept_replan, kept_improve, kept_logs, kept_part, kept_joined, kept_resumed, kept_merged, kept_conflict}
 use Rattle.stn_top.proofs.DoneLemmas.{only_read, wrote, demonstrated}
 use Rattle.stn_top.proofs.top.reply_to.Goals as goal
 
@@ -156,6 +157,28 @@ returns-in-Resume-clause-done g c =
 
 pub resume_file-requires-clause-apart : goal.resume_file-requires-clause-apart
 resume_file-requires-clause-apart g c = c.requires.apart.resuming c.in-Resume.plant.now c.in-Resume.log.now c.in-Resume.budget.boxes c.in-Resume.out.now (option_map share_numbers c.in-Resume.share) (ap meaning c.in-Resume.is)
+
+pub returns-in-Merge-clause-done : goal.returns-in-Merge-clause-done
+returns-in-Merge-clause-done g c =
+    rw c.in-Merge.is (wrote (Merging c.in-Merge.plant.now c.in-Merge.stem.now c.in-Merge.count.number c.in-Merge.out.now) (g.F.Shelf.files c.args.files.now) (g.F.Shelf.files c.merge_files.new.files) (g.F.Shelf.read_faults c.args.files.now) (g.F.Shelf.read_faults c.merge_files.new.files)
+    (g.F.Shelf.write_faults c.args.files.now) (g.F.Shelf.write_faults c.merge_files.new.files) c.merge_files.result
+    c.merge_files.ensures.answer c.merge_files.ensures.refused c.merge_files.ensures.fault (λ _ first. absurd (first.merges_none c.in-Merge.plant.now c.in-Merge.stem.now c.in-Merge.count.number c.in-Merge.out.now refl)) c.merge_files.ensures.write_fault c.merge_files.ensures.begun
+    (kept_merged c.in-Merge.plant.now c.in-Merge.stem.now c.in-Merge.count.number c.in-Merge.out.now (g.F.Shelf.files c.args.files.now) (g.F.Shelf.files c.merge_files.new.files) c.merge_files.ensures.others) c.merge_files.ensures.left c.merge_files.ensures.kept.later c.merge_files.ensures.kept.writes)
+
+pub merge_files-requires-clause-apart : goal.merge_files-requires-clause-apart
+merge_files-requires-clause-apart g c = c.requires.apart.merging c.in-Merge.plant.now c.in-Merge.stem.now c.in-Merge.count.number c.in-Merge.out.now (ap meaning c.in-Merge.is)
+
+pub merge_files-requires-clause-logs_readable : goal.merge_files-requires-clause-logs_readable
+merge_files-requires-clause-logs_readable g c =
+    let may = g.F.Shelf.may_read c.args.files.now in
+    let is = c.in-Merge.is in
+    merged_allowed may c.in-Merge.plant.now c.in-Merge.stem.now c.in-Merge.count.number c.in-Merge.out.now (rw is at c.requires.may_read)
+
+pub merge_files-requires-clause-out_readable : goal.merge_files-requires-clause-out_readable
+merge_files-requires-clause-out_readable g c =
+    let may = g.F.Shelf.may_read c.args.files.now in
+    let is = c.in-Merge.is in
+    out_allowed may c.in-Merge.plant.now c.in-Merge.stem.now c.in-Merge.count.number c.in-Merge.out.now (rw is at c.requires.may_read)
 
 pub trace_file-requires-clause-logs_writable : goal.trace_file-requires-clause-logs_writable
 trace_file-requires-clause-logs_writable g c =

@@ -1,0 +1,17 @@
+-- The first logs, so many, were read past the split, and the others stand as before.
+use Rattle.std.proofs.Common.{◌≡◌, ◌≤◌, drop, length, take}
+use Rattle.log_merging.specs.laws.Looked.{AreReading, HavePassed}
+use Rattle.log_merging.proofs.passing.pass_below.Given as goal
+
+abbrev pub invariant-loop-place : goal.invariant-loop-place
+invariant-loop-place g l = record {
+  passed : HavePassed (g.F.Shelf.files l.fn.files) l.merging.stem.now l.end l.depth (take l.place l.fn.sources.items) (take l.place l.sources.items);
+  as_many : length l.sources.items ≡ length l.fn.sources.items;
+  rest : drop l.place l.sources.items ≡ drop l.place l.fn.sources.items;
+  reading : AreReading (g.F.Shelf.files l.fn.files) l.merging.stem.now l.sources.items;
+  same : g.F.Shelf.files l.files ≡ g.F.Shelf.files l.fn.files;
+  readable : g.F.Shelf.may_read l.files ≡ g.F.Shelf.may_read l.fn.files;
+  writable : g.F.Shelf.may_write l.files ≡ g.F.Shelf.may_write l.fn.files;
+  later : g.F.Shelf.read_faults l.fn.files ≤ g.F.Shelf.read_faults l.files;
+  no_write : g.F.Shelf.write_faults l.files ≡ g.F.Shelf.write_faults l.fn.files;
+}

@@ -1,0 +1,14 @@
+//! What merging logs comes to.
+use log_lines::Defect;
+use proof_log::Claim;
+
+/// What merging logs comes to.
+#[derive(Drop)]
+pub enum Merged {
+    /// Each log is valid, and the merged log is written, with this claim.
+    Done(Claim),
+    /// The first log that is refused, with its defect: the first one of a log that is not valid; else kind 22, where the log has another
+    /// head than that of number 0, at the line on which the first sum, setup, cut or row that differs begins, or line 1 where one head is
+    /// a first part of the other.
+    No { number: u32, defect: Defect },
+}

@@ -1,0 +1,95 @@
+//! Planning over the rows of a part with a head, beginning with a point.
+ghost use Rattle.std.specs.Prelude.{◌≡◌, ◌≤◌, length, true, None, Err, IsTrue, IfOk, OnErr};
+ghost use Rattle.stn_edge.specs.Count.{Rose};
+ghost use Rattle.stn_model.specs.Sound.{Sound};
+ghost use Rattle.row_relax.specs.Choices.{HaveImages};
+ghost use Rattle.proof_log.specs.Writer.{KeepsOthers};
+ghost use Rattle.plan_told.specs.Proofs.{bytes_in};
+ghost use Rattle.logged_search.specs.Logging.{HasFewSplits, LeavesBegun, stored};
+ghost use Rattle.stn_solve.specs.laws.Telling.{CanBeTold, IsToldOver};
+
+use crate::telling::{told_given, told_larger};
+use box_advice::Advisers;
+use head_choice::Headed;
+use logged_search::{Logged, SplitRules, search_logged, search_only};
+use plan_told::Told;
+use row_kit::Found;
+use std::alloc::{AllocError, Global};
+use stn_edge::{Shelf, Stop};
+use stn_model::{Outcome, Plant};
+
+// Plans over the rows of a head, and drops the proof.
+pub fn plan_over<A: Advisers>(
+    alloc: Global,
+    plant: &Plant,
+    headed: &Headed,
+    least: Option<Found>,
+    budget: u32,
+    point: &[u8],
+) -> Result<Outcome, AllocError>
+    requires sound { Sound plant.now }
+    requires images { HaveImages headed.now.rows }
+    requires splits { HasFewSplits headed.now.rows.program }
+    requires rows { length headed.now.rows.program.rows ≤ 50000 }
+    requires budget { (1 ≤ budget) × (budget ≤ 100000) }
+    requires told { CanBeTold plant.now headed.now least budget }
+    ensures { IfOk result (IsToldOver plant.now headed.now least budget point.now None) }
+{
+    let rules = SplitRules {
+        given: headed.given,
+        floors: true,
+    };
+    let ended = search_only::<A>(alloc, &headed.rows, rules, budget, point)?;
+    let Told { outcome, .. } = told_given(alloc, plant, headed.given, least, ended)?;
+    Ok(outcome)
+}
+
+// Plans over the rows of a head, and writes the log of the proof behind it.
+pub fn solve_over<A: Advisers, F: Shelf>(
+    alloc: Global,
+    plant: &Plant,
+    headed: &Headed,
+    least: Option<Found>,
+    budget: u32,
+    point: &[u8],
+    files: &mut F,
+    name: &str,
+) -> Result<Outcome, Stop>
+    requires sound { Sound plant.now }
+    requires images { HaveImages headed.now.rows }
+    requires splits { HasFewSplits headed.now.rows.program }
+    requires rows { length headed.now.rows.program.rows ≤ 50000 }
+    requires budget { (1 ≤ budget) × (budget ≤ 100000) }
+    requires told { CanBeTold plant.now headed.now least budget }
+    requires allowed { IsTrue (F.may_write files.old name.now) }
+    ensures told { IfOk result (IsToldOver plant.now headed.now least budget point.now
+        (bytes_in name.now (F.files files.new))) }
+    ensures err { OnErr result (LeavesBegun headed.now.rows true headed.now.head.items name.now
+        (F.files files.old) (F.files files.new)) }
+    ensures kept { KeepsOthers
+        (stored F.files F.read_faults F.may_read F.may_write name.now files.old)
+        (stored F.files F.read_faults F.may_read F.may_write name.now files.new) }
+    ensures later { F.write_faults files.old ≤ F.write_faults files.new }
+    ensures failed { result ≡ Err Stop.Failed
+        → Rose (F.write_faults files.old) (F.write_faults files.new) }
+{
+    let rules = SplitRules {
+        given: headed.given,
+        floors: true,
+    };
+    let head = headed.head.as_slice();
+    let Logged { ended, writer } = search_logged::<A, _>(
+        alloc,
+        &headed.rows,
+        rules,
+        budget,
+        point,
+        head,
+        files,
+        name,
+    )?;
+    let sums = headed.sums.as_slice();
+    let told = told_larger(alloc, plant, sums, headed.given, least, ended)?;
+    writer.finish(files, &told.claim)?;
+    Ok(told.outcome)
+}
