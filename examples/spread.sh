@@ -5,15 +5,16 @@
 #   examples/spread.sh [--shares N] [--rounds N] [--budget N] [--hosts ONE,TWO.. | --slurm] PLANT FOLDER
 #
 # The shares run by GNU parallel: over ssh on the hosts, of which `:` is this machine, else all on this one. With --slurm they are the
-# tasks of an array job, and FOLDER is one that all nodes see. The budget is that of the first log, and of each share in a round. STN says
-# what the program is called, there too (stn). FOLDER gets the last log (last.log), its plan (plan), and a line for each round (rounds).
+# tasks of an array job, and FOLDER is one that all nodes see. The budget is that of the first log; each share has three times as many
+# boxes in the first round, and three times those of the round before in each later one, 100000 at most. STN says what the program is
+# called, there too (stn). FOLDER gets the last log (last.log), its plan (plan), and a line for each round (rounds).
 set -euo pipefail
 
 shares=4 rounds=10 budget=100 hosts="" slurm=""
 stn="${STN:-stn}"
 
 usage() {
-    sed -n '2,10s/^# \{0,3\}//p' "$0" >&2
+    sed -n '2,11s/^# \{0,3\}//p' "$0" >&2
     exit 2
 }
 
@@ -63,6 +64,7 @@ said="$(head -n 1 plan)"
 echo "0 $said" | tee rounds
 for ((round = 1; round <= rounds; round++)); do
     ! is_settled "$said" || break
+    budget=$((budget < 33333 ? 3 * budget : 100000))
     go_on
     said="$("$stn" merge plant.toml share "$shares" next.log)"
     mv next.log last.log

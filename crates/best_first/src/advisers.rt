@@ -18,6 +18,7 @@ use row_kit::{Area, Domain, List, Program};
 use row_separation::{Effort, separate};
 use split_advice::{PlainGuide, PlanGuide};
 use std::alloc::{AllocError, Global};
+use sum_choice::has_many;
 
 /// A guide of a search: one that is asked as the search goes on, one that leads it through boxes explored before, or one that bounds
 /// boxes alone.
@@ -35,11 +36,8 @@ pub enum SearchHinter {
     Best(KeptHinter),
 }
 
-/// The advisers of searches: of more than 50,000 points best first, else depth first.
+/// The advisers of searches: of roots with many points best first, else depth first.
 pub struct BestFirst;
-
-// Roots with more points are explored best first.
-const MOST_POINTS: u64 = 50_000;
 
 // How far rows are derived at the root.
 const EFFORT: Effort = Effort {
@@ -69,7 +67,7 @@ impl Advisers for BestFirst {
         budget: u32,
         start: &[u8],
     ) -> Result<(SearchGuide, SearchHinter), AllocError> {
-        if point_count(program) > MOST_POINTS {
+        if has_many(program, 0) {
             return explored(alloc, program, choices, given, budget, start);
         }
         let points = numbered(choices.root.len());
@@ -165,15 +163,6 @@ fn tree_of(alloc: Global, program: &Program, ends: Vec<OpenEnd>) -> Result<Tree,
         tree.put_root(depth, cap, domains)?;
     }
     Ok(tree)
-}
-
-// The number of points of a root, or the greatest number of 64 bits.
-fn point_count(program: &Program) -> u64 {
-    let mut count = 1u64;
-    for domain in program.root.as_slice() {
-        count = count.saturating_mul(u64::from(domain.count()));
-    }
-    count
 }
 
 impl Guide for SearchGuide {

@@ -19,10 +19,10 @@ const FIRST: u32 = 32;
 const NARROW_GAP: i128 = 100;
 
 impl Aims {
-    /// None has been tried.
-    pub fn new() -> Aims {
+    /// None has been tried. Where an earlier search has left so many ends, the first may be due after as many boxes.
+    pub fn after(ends: u32) -> Aims {
         Aims {
-            due: FIRST,
+            due: ends.max(FIRST),
             seen: i128::MAX,
             last: i128::MAX,
             floor: None,

@@ -6,6 +6,7 @@ ghost use Rattle.row_kit.specs.Domain.{IsOpen};
 ghost use Rattle.range_prop.specs.Index.{IsIndex};
 
 use crate::aims::Aims;
+use crate::starts::Starts;
 use box_advice::{Advice, Hinter};
 use dual_simplex::Basis;
 use explored_tree::{Tree, cap_of, exceeds};
@@ -37,6 +38,8 @@ struct Explorer<'a> {
     // The cap of the last box, which was the greatest.
     cap: i128,
     aims: Aims,
+    // Where the bounds of open ends begin that an earlier search has left.
+    starts: Starts,
 }
 
 // How many boxes are explored at most for each that may be counted.
@@ -54,10 +57,11 @@ pub fn explore(
     start: &[u8],
 ) -> Result<Explored, AllocError> {
     let tree = Tree::new(alloc, program)?;
-    explore_on(alloc, program, choices, given, budget, tree, start)
+    explore_tree(alloc, program, choices, given, budget, tree, start, 0)
 }
 
-/// Searches on from the boxes of a tree that are still to be explored, in the same way. Plans are looked for from the point `start` on.
+/// Searches on from the boxes of a tree that are still to be explored, in the same way. Plans are looked for from the point `start` on;
+/// where there is one, as at later boxes alone.
 pub fn explore_on(
     alloc: Global,
     program: &Program,
@@ -67,7 +71,22 @@ pub fn explore_on(
     tree: Tree,
     start: &[u8],
 ) -> Result<Explored, AllocError> {
-    let mut explorer = Explorer::new(alloc, program, choices, given, tree, start)?;
+    let ends = numbered(tree.nodes.len());
+    explore_tree(alloc, program, choices, given, budget, tree, start, ends)
+}
+
+// Searches the boxes of a tree; of these so many are open ends that an earlier search has left.
+fn explore_tree(
+    alloc: Global,
+    program: &Program,
+    choices: &Program,
+    given: u32,
+    budget: u32,
+    tree: Tree,
+    start: &[u8],
+    ends: u32,
+) -> Result<Explored, AllocError> {
+    let mut explorer = Explorer::new(alloc, program, choices, given, tree, start, ends)?;
     match explorer.look_on(program, budget) {
         Ok(()) => Ok(explorer.ended()),
         Err(error) => {
@@ -81,7 +100,8 @@ pub fn explore_on(
 fn let_go<T: Drop>(_value: T) {}
 
 impl<'a> Explorer<'a> {
-    // A search in memory before its first box. What is large is made last, so that little is let go where memory is wanting.
+    // A search in memory before its first box, where so many ends are left by an earlier one. What is large is made last, so that
+    // little is let go where memory is wanting.
     fn new(
         alloc: Global,
         program: &Program,
@@ -89,11 +109,17 @@ impl<'a> Explorer<'a> {
         given: u32,
         tree: Tree,
         start: &[u8],
+        ends: u32,
     ) -> Result<Explorer<'a>, AllocError> {
         let points = numbered(choices.root.len());
         let best = Kept::new(alloc, choices)?;
         let guide = PlanGuide::new(alloc, program, given, points)?;
-        let hinter = PlanHinter::new(alloc, program, given, points, start)?;
+        let starts = Starts::new(alloc, program, ends)?;
+        let hinter = if ends == 0 {
+            PlanHinter::new(alloc, program, given, points, start)?
+        } else {
+            PlanHinter::resumed(alloc, program, given, points, start, drawn_of(&tree))?
+        };
         Ok(Explorer {
             alloc,
             choices,
@@ -103,7 +129,8 @@ impl<'a> Explorer<'a> {
             best,
             counted: 0,
             cap: i128::MAX,
-            aims: Aims::new(),
+            aims: Aims::after(ends),
+            starts,
         })
     }
 
@@ -257,7 +284,9 @@ impl<'a> Explorer<'a> {
             return Ok(());
         }
         let mut basis = self.tree.start_of(self.alloc, program, number)?;
+        self.starts.begin(number, &mut basis);
         let mut advice = self.advised(program, area, &mut basis, point.as_mut_slice())?;
+        self.starts.note(number, &basis);
         let has_plan = self.best.worth.is_some();
         self.hint(program, area, point.as_mut_slice());
         if !has_plan && self.best.worth.is_some() {
@@ -371,6 +400,26 @@ impl<'a> Explorer<'a> {
         back_to(area, mark);
         area.above(slot, max);
         self.tree.put_part(self.alloc, program, area, number)
+    }
+}
+
+// A number that the boxes of a tree draw.
+fn drawn_of(tree: &Tree) -> u32 {
+    let mut drawn = 0u32;
+    for node in &tree.nodes {
+        drawn = drawn
+            .wrapping_mul(31)
+            .wrapping_add(node.depth)
+            .wrapping_add(low_bits(node.cap));
+    }
+    drawn
+}
+
+// The last 32 bits of a number.
+fn low_bits(number: i128) -> u32 {
+    match u32::try_from(number & 0xFFFF_FFFF) {
+        Ok(bits) => bits,
+        Err(_) => 0,
     }
 }
 

@@ -8,5 +8,6 @@ mod aims;
 mod explorer;
 mod kept_guide;
 mod kept_hinter;
+mod starts;
 
 pub use advisers::{BestFirst, SearchGuide, SearchHinter};

@@ -12,7 +12,7 @@ use Rattle.least_horizon.specs.Stems.{IsJudged}
 use Rattle.order_text.specs.ReadConflict.{conflict_read, most_bytes, bad_line}
 use Rattle.conflict_commands.specs.declared.checking.ConflictVerdict.{ConflictVerdict}
 use Rattle.conflict_commands.specs.declared.checking.ConflictVerdict.TheVariants.{Yes, NoText, NoLog}
-use Rattle.conflict_commands.specs.Checking.{IsKeptChecked, IsRightOn, YesSays}
+use Rattle.conflict_commands.specs.Checking.{IsKeptChecked, IsRightOn, YesSaysNoPlan}
 
 -- nothing speaks against the log of the plant that was made
 pub kept_judged : (plant fewer : Plant) (kept : List Bool) (files : Option FileMap) (name own : List ℕ) (found : Option Defect) → fewer ≡ alone plant kept → own ≡ name → found ≡ None
@@ -46,7 +46,7 @@ kept_right plant (Some m) stem kept (NoLog own defect) reads is =
     (reads ∙ ap (λ (k : List Bool). Ok k) (sym is.0), subst (λ (k : List Bool). IsJudged (alone plant k) (file_of m (log_name stem 1)) (Some defect)) (sym is.0) is.1)
 
 -- and a yes says that no plan meets them
-pub kept_says : (plant : Plant) (files : Option FileMap) (name : List ℕ) (kept : List Bool) (verdict : ConflictVerdict) → IsKeptChecked plant files name kept verdict → YesSays plant verdict
+pub kept_says : (plant : Plant) (files : Option FileMap) (name : List ℕ) (kept : List Bool) (verdict : ConflictVerdict) → IsKeptChecked plant files name kept verdict → YesSaysNoPlan plant verdict
 kept_says plant files name kept (Yes own) is = subst (λ (k : List Bool). NoPlan (alone plant k)) (sym is.0) is.2
 kept_says plant files name kept (NoText defect) is = absurd is
 kept_says plant files name kept (NoLog own defect) is = tt

@@ -18,7 +18,7 @@ use Rattle.answer_texts.proofs.Named.{named-Feasible}
 use Rattle.order_conflict.specs.declared.answer.ConflictAnswer.{ConflictAnswer}
 use Rattle.order_conflict.specs.declared.answer.ConflictAnswer.TheVariants.{Planned, Unsettled, Among, Unproved}
 use Rattle.order_conflict.specs.Conflict.{IsConflict}
-use Rattle.order_conflict.specs.Logged.{FileStays, HoldsLogOf, IsLogOf, LeavesLog}
+use Rattle.order_conflict.specs.Logged.{FileStays, HoldsLogOf, IsLogOf, LeavesStepLog}
 use Rattle.conflict_commands.specs.Finding.{answer_status, answer_text, has_open, IsPrintable, Found}
 use Rattle.conflict_commands.specs.Logging.{FoundWithLog, IsPut, IsTextBegun, LeavesConflict, OthersStayPair}
 use Rattle.conflict_commands.proofs.PutText.{stays_same}
@@ -80,7 +80,7 @@ pub left_none : (plant : Plant) (budget : ℕ) (stem : List ℕ) (old new : Opti
 left_none plant budget stem old new same = inl (inl (stays_same (log_name stem 1) old new same), stays_same (log_name stem 0) old new same)
 
 -- where the log was stopped
-pub left_log : (plant : Plant) (budget : ℕ) (stem : List ℕ) (old new : Option FileMap) → LeavesLog plant budget (log_name stem 1) old new → OthersStay (log_name stem 1) old new → LeavesConflict plant budget stem old new
+pub left_log : (plant : Plant) (budget : ℕ) (stem : List ℕ) (old new : Option FileMap) → LeavesStepLog plant budget (log_name stem 1) old new → OthersStay (log_name stem 1) old new → LeavesConflict plant budget stem old new
 left_log plant budget stem old new left others = inl (left, others (log_name stem 0) (two_names stem))
 
 text_moved : (name bytes : List ℕ) (old mid new : Option FileMap) → FileStays name old mid → IsTextBegun name bytes mid new → IsTextBegun name bytes old new

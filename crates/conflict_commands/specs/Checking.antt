@@ -27,10 +27,10 @@ abbrev pub IsRightOn : Plant → Option FileMap → List ℕ → ConflictVerdict
 IsRightOn plant files stem verdict = IfSome files (λ m. IsVerdictOn plant (file_of m (log_name stem 0)) (file_of m (log_name stem 1)) verdict)
 
 -- a yes says that no plan meets the deliveries that the text names, whether the files are told or not
-abbrev pub YesSays : Plant → ConflictVerdict → Type 0
-YesSays plant (Yes kept) = NoPlan (alone plant kept.items)
-YesSays plant (NoText defect) = ⊤
-YesSays plant (NoLog kept defect) = ⊤
+abbrev pub YesSaysNoPlan : Plant → ConflictVerdict → Type 0
+YesSaysNoPlan plant (Yes kept) = NoPlan (alone plant kept.items)
+YesSaysNoPlan plant (NoText defect) = ⊤
+YesSaysNoPlan plant (NoLog kept defect) = ⊤
 
 -- the text in a file names these deliveries, or has this first defect, where files are told
 abbrev pub IsTextStop : Plant → Option FileMap → List ℕ → TextStop → Type 0
@@ -64,6 +64,6 @@ check_status (NoLog kept defect) = 1
 pub record ConflictChecked (files : Option FileMap) (stem : List ℕ) (plant : Plant) (status : ℕ) (text : List ℕ) : Type 0 where
   pub verdict : ConflictVerdict
   pub right : IsRightOn plant files stem verdict
-  pub says : YesSays plant verdict
+  pub says : YesSaysNoPlan plant verdict
   pub status_is : status ≡ check_status verdict
   pub text_is : text ≡ check_text verdict

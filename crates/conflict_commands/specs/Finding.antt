@@ -11,14 +11,14 @@ use Rattle.order_conflict.specs.declared.answer.ConflictAnswer.TheVariants.{Plan
 use Rattle.order_conflict.specs.Conflict.{IsConflict}
 
 -- the step without the delivery spent its budget
-abbrev pub is_open : Mark → Bool
-is_open mark.Out = false
-is_open mark.Needed = false
-is_open mark.Open = true
+abbrev pub is_open_mark : Mark → Bool
+is_open_mark mark.Out = false
+is_open_mark mark.Needed = false
+is_open_mark mark.Open = true
 
 -- some delivery is open
 abbrev pub has_open : List Mark → Bool
-has_open marks = nat_lt 0 (count_by is_open marks)
+has_open marks = nat_lt 0 (count_by is_open_mark marks)
 
 -- the text of an answer: a plan with its profit, that the plant is open, or the deliveries that are left
 unfoldable pub answer_text : Plant → ConflictAnswer → List ℕ

@@ -8,7 +8,7 @@ use Rattle.proof_log.specs.LogNames.{log_name}
 use Rattle.command_replies.specs.declared.reply.Reply.{Reply}
 use Rattle.command_replies.specs.Sources.{IsReadOf}
 use Rattle.order_conflict.specs.declared.answer.ConflictAnswer.{ConflictAnswer}
-use Rattle.order_conflict.specs.Logged.{FileStays, IsLogOf, LeavesLog}
+use Rattle.order_conflict.specs.Logged.{FileStays, IsLogOf, LeavesStepLog}
 use Rattle.conflict_commands.specs.Finding.{answer_status, answer_text}
 
 -- every file is as it was, but STEM.0 and STEM.1
@@ -38,7 +38,7 @@ pub record IsPut (plant : Plant) (said : ConflictAnswer) (stem : List ℕ) (file
 -- a first part of its text, or the whole.
 abbrev pub LeavesConflict : Plant → ℕ → List ℕ → Option FileMap → Option FileMap → Type 0
 LeavesConflict plant budget stem old new =
-    (LeavesLog plant budget (log_name stem 1) old new × FileStays (log_name stem 0) old new)
+    (LeavesStepLog plant budget (log_name stem 1) old new × FileStays (log_name stem 0) old new)
     ⊎ ((said : ConflictAnswer) × (IsLogOf plant budget (log_name stem 1) old new said × IsTextBegun (log_name stem 0) (answer_text plant said) old new))
 
 -- the plant in a file was read, and this is left of its answer

@@ -3,7 +3,8 @@ ghost use Rattle.std.specs.Prelude.{◌≡◌, ◌≢◌, ◌≤◌, ◌++◌, �
 ghost use Rattle.stn_edge.specs.Count.{Rose};
 ghost use Rattle.stn_model.specs.Sound.{Sound};
 ghost use Rattle.proof_log.specs.LogNames.{log_name};
-ghost use Rattle.command_replies.specs.Frames.{HadReadFault, OnlyReads};
+ghost use Rattle.command_replies.specs.Frames.{HadReadFault};
+ghost use Rattle.store_frames.specs.Frames.{OnlyReads};
 ghost use Rattle.command_replies.specs.Answers.{IsPlantAnswer};
 ghost use Rattle.command_replies.specs.Sources.{IfReplied, IfRefused};
 ghost use Rattle.order_text.specs.Marks.{kept_count};
@@ -14,7 +15,7 @@ ghost use Rattle.conflict_commands.specs.Checking.{
   IsKeptChecked,
   IsRightOn,
   ReadsText,
-  YesSays,
+  YesSaysNoPlan,
 };
 
 use answer_texts::numbered_defect;
@@ -94,7 +95,7 @@ fn verdict_on<F: Shelf>(
     requires text_readable { IsTrue (F.may_read files.old (log_name stem.now 0)) }
     requires log_readable { IsTrue (F.may_read files.old (log_name stem.now 1)) }
     ensures right { IfOk result (IsRightOn plant.now (F.files files.old) stem.now) }
-    ensures says { IfOk result (YesSays plant.now) }
+    ensures says { IfOk result (YesSaysNoPlan plant.now) }
     ensures none { IfRefused result (λ _. ⊥) }
     ensures fault { HadReadFault F.Shelf files.old files.new result }
     ensures unwritten { result ≢ Err Stopped.WriteFault }

@@ -4,7 +4,7 @@ ghost use Rattle.std.specs.Fmt.{signed_decimal};
 ghost use Rattle.stn_model.specs.Sound.{Sound};
 ghost use Rattle.plan_text.specs.PlanLines.{IsNamed};
 ghost use Rattle.order_conflict.specs.declared.answer.ConflictAnswer.TheVariants.{Planned};
-ghost use Rattle.conflict_commands.specs.Finding.{answer_status, answer_text, has_open, is_open, IsPrintable};
+ghost use Rattle.conflict_commands.specs.Finding.{answer_status, answer_text, has_open, is_open_mark, IsPrintable};
 
 use answer_texts::with_plan;
 use command_replies::Reply;
@@ -47,13 +47,13 @@ fn has_open(marks: &[Mark]) -> bool
 }
 
 fn count_open(marks: &[Mark]) -> usize
-    ensures { result ≡ count_by is_open marks.now }
+    ensures { result ≡ count_by is_open_mark marks.now }
 {
-    marks.iter().filter(|mark| is_open(**mark)).count()
+    marks.iter().filter(|mark| is_open_mark(**mark)).count()
 }
 
-fn is_open(mark: Mark) -> bool
-    ensures { result ≡ is_open mark }
+fn is_open_mark(mark: Mark) -> bool
+    ensures { result ≡ is_open_mark mark }
 {
     match mark {
         Mark::Out => false,

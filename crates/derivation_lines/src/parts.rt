@@ -9,6 +9,7 @@ ghost use Rattle.derivation_lines.specs.declared.line.TailLine.{TailLine};
 ghost use Rattle.derivation_lines.specs.laws.Parts.{HasBadPart, HasBadParts, HasHead, HasNoParts, IsNextPiece, piece_line, with_piece};
 ghost use Rattle.derivation_lines.specs.laws.Walk.{HasPassed};
 ghost use Rattle.sum_lines.specs.declared.halt.Halt.TheVariants as halt;
+ghost use Rattle.store_frames.specs.Frames.{OnlyReads};
 
 use crate::pieces::{Piece, next_part, piece_of};
 use crate::seen::next_line;
@@ -46,11 +47,7 @@ pub(crate) fn read_parts<F: Shelf>(
         → HasPassed (F.files files.old) name.now start number lines walk.old
         → HasBadParts (F.files files.old) name.now start number slots rows derived.old
         counts.now lines defect }
-    ensures same { F.files files.new ≡ F.files files.old }
-    ensures readable { F.may_read files.new ≡ F.may_read files.old }
-    ensures writable { F.may_write files.new ≡ F.may_write files.old }
-    ensures later { F.read_faults files.old ≤ F.read_faults files.new }
-    ensures no_write { F.write_faults files.new ≡ F.write_faults files.old }
+    ensures frame { OnlyReads F.Shelf files.old files.new }
     ensures fault { result ≡ Err (halt.Stopped Failed)
         → Rose (F.read_faults files.old) (F.read_faults files.new) }
 {
@@ -97,11 +94,7 @@ fn next_piece<F: Shelf>(
         → HasPassed (F.files files.old) name.now start number lines walk.old
         → HasBadPart (F.files files.old) name.now start number slots rows derived.now
         (next_part derived.now counts.now) lines defect }
-    ensures same { F.files files.new ≡ F.files files.old }
-    ensures readable { F.may_read files.new ≡ F.may_read files.old }
-    ensures writable { F.may_write files.new ≡ F.may_write files.old }
-    ensures later { F.read_faults files.old ≤ F.read_faults files.new }
-    ensures no_write { F.write_faults files.new ≡ F.write_faults files.old }
+    ensures frame { OnlyReads F.Shelf files.old files.new }
     ensures fault { result ≡ Err (halt.Stopped Failed)
         → Rose (F.read_faults files.old) (F.read_faults files.new) }
 {

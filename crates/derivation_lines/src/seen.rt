@@ -6,6 +6,7 @@ ghost use Rattle.stn_edge.specs.declared.stop.Stop.TheVariants.{Failed};
 ghost use Rattle.derivation_lines.specs.declared.seen.Seen.TheVariants as seen;
 ghost use Rattle.derivation_lines.specs.declared.line.TailLine.{TailLine};
 ghost use Rattle.derivation_lines.specs.laws.Walk.{HasPassed, HasSeen, MayBeSeen};
+ghost use Rattle.store_frames.specs.Frames.{OnlyReads};
 
 use crate::line::TailLine;
 use crate::reading::read_tail_line;
@@ -36,11 +37,7 @@ pub(crate) fn next_line<F: Shelf>(
     ensures seen { IfOk result (λ seen. (start number : ℕ) (lines : List TailLine)
         → HasPassed (F.files files.old) name.now start number lines walk.old
         → HasSeen (F.files files.old) name.now start number lines walk.new seen) }
-    ensures same { F.files files.new ≡ F.files files.old }
-    ensures readable { F.may_read files.new ≡ F.may_read files.old }
-    ensures writable { F.may_write files.new ≡ F.may_write files.old }
-    ensures later { F.read_faults files.old ≤ F.read_faults files.new }
-    ensures no_write { F.write_faults files.new ≡ F.write_faults files.old }
+    ensures frame { OnlyReads F.Shelf files.old files.new }
     ensures fault { result ≡ Err Failed
         → Rose (F.read_faults files.old) (F.read_faults files.new) }
 {

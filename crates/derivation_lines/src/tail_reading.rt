@@ -10,6 +10,7 @@ ghost use Rattle.derivation_lines.specs.Tail.{IsDerivationKept, IsTailKept, deri
 ghost use Rattle.derivations.specs.Growth.{rows_of};
 ghost use Rattle.derivation_lines.specs.declared.line.TailLine.{TailLine};
 ghost use Rattle.derivation_lines.specs.laws.Walk.{HasPassed, rest_after};
+ghost use Rattle.store_frames.specs.Frames.{OnlyReads};
 
 use crate::beginning::{Begun, begin_derivation};
 use crate::parts::read_parts;
@@ -42,11 +43,7 @@ pub fn read_derivations<F: Shelf>(
     ensures kept { IfOk result (λ front. TailKeepsLimits limits.now head.now front) }
     ensures fault { result ≡ Err Failed
         → Rose (F.read_faults files.old) (F.read_faults files.new) }
-    ensures same { F.files files.new ≡ F.files files.old }
-    ensures readable { F.may_read files.new ≡ F.may_read files.old }
-    ensures writable { F.may_write files.new ≡ F.may_write files.old }
-    ensures later { F.read_faults files.old ≤ F.read_faults files.new }
-    ensures no_write { F.write_faults files.new ≡ F.write_faults files.old }
+    ensures frame { OnlyReads F.Shelf files.old files.new }
 {
     if head.count == u64::MAX {
         // No file has as many lines.
@@ -81,11 +78,7 @@ fn read_tail<F: Shelf>(
         (λ m. IsBadTail limits.now head.now (file_of m name.now) defect) }
     ensures fault { result ≡ Err (halt.Stopped Failed)
         → Rose (F.read_faults files.old) (F.read_faults files.new) }
-    ensures same { F.files files.new ≡ F.files files.old }
-    ensures readable { F.may_read files.new ≡ F.may_read files.old }
-    ensures writable { F.may_write files.new ≡ F.may_write files.old }
-    ensures later { F.read_faults files.old ≤ F.read_faults files.new }
-    ensures no_write { F.write_faults files.new ≡ F.write_faults files.old }
+    ensures frame { OnlyReads F.Shelf files.old files.new }
 {
     let mut derivations = List::new(alloc);
     let mut lines = List::new(alloc);
@@ -171,11 +164,7 @@ fn next_derivation<F: Shelf>(
         (drop start (file_of m name.now)) defect) }
     ensures fault { result ≡ Err (halt.Stopped Failed)
         → Rose (F.read_faults files.old) (F.read_faults files.new) }
-    ensures same { F.files files.new ≡ F.files files.old }
-    ensures readable { F.may_read files.new ≡ F.may_read files.old }
-    ensures writable { F.may_write files.new ≡ F.may_write files.old }
-    ensures later { F.read_faults files.old ≤ F.read_faults files.new }
-    ensures no_write { F.write_faults files.new ≡ F.write_faults files.old }
+    ensures frame { OnlyReads F.Shelf files.old files.new }
 {
     let line = line_number(walk.line);
     let seen = next_line(alloc, walk, files, name)?;

@@ -2,7 +2,8 @@
 ghost use Rattle.std.specs.Prelude.{◌≡◌, ◌≢◌, ◌≤◌, ◌++◌, Err, IsTrue, IfOk, codes, decimal};
 ghost use Rattle.stn_model.specs.Sound.{Sound};
 ghost use Rattle.least_horizon.specs.LogNames.{AreAllowed};
-ghost use Rattle.command_replies.specs.Frames.{HadReadFault, OnlyReads};
+ghost use Rattle.command_replies.specs.Frames.{HadReadFault};
+ghost use Rattle.store_frames.specs.Frames.{OnlyReads};
 ghost use Rattle.command_replies.specs.Answers.{IsPlantAnswer};
 ghost use Rattle.command_replies.specs.Sources.{IfReplied, IfRefused};
 ghost use Rattle.horizon_commands.specs.Auditing.{audit_status, audit_text, Audited};

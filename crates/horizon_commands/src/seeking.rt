@@ -8,7 +8,8 @@ ghost use Rattle.plan_text.specs.PlanLines.{IsNamed};
 ghost use Rattle.least_horizon.specs.declared.answer.LeastAnswer.TheVariants.{At};
 ghost use Rattle.least_horizon.specs.LogNames.{logs_in, AreAllowed, OthersStayBelow};
 ghost use Rattle.least_horizon.specs.Least.{IsStopped};
-ghost use Rattle.command_replies.specs.Frames.{HadReadFault, HadWriteFault, OnlyReads, ReadsAndWrites};
+ghost use Rattle.command_replies.specs.Frames.{HadReadFault, HadWriteFault};
+ghost use Rattle.store_frames.specs.Frames.{OnlyReads, ReadsAndWrites};
 ghost use Rattle.command_replies.specs.Answers.{IsPlantAnswer, IsUnwritten};
 ghost use Rattle.command_replies.specs.Sources.{IfReplied, IfRefused, IsReadOf};
 ghost use Rattle.horizon_commands.specs.Seeking.{

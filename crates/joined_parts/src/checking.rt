@@ -7,6 +7,7 @@ ghost use Rattle.proof_log.specs.LogNames.{log_name};
 ghost use Rattle.log_parts.specs.PartLogs.{logs_of};
 ghost use Rattle.log_parts.specs.declared.heads.LogFront.TheVariants.{Whole};
 ghost use Rattle.log_parts.specs.laws.Checked.{AreChecked, AllSay, IsFrontKept, IsFrontOf, IsHeadKept, IsLogFront, IsPartCheck, PartSays, head_limits};
+ghost use Rattle.store_frames.specs.Frames.{OnlyReads};
 
 use crate::heads::read_front;
 use log_check::CheckStop;
@@ -42,11 +43,7 @@ pub(crate) fn check_parts<F: Shelf>(
     ensures says { IfOk result (AllSay plant.now levels) }
     ensures fault { result ≡ Err CheckStop.Fault
         → Rose (F.read_faults files.old) (F.read_faults files.new) }
-    ensures same { F.files files.new ≡ F.files files.old }
-    ensures readable { F.may_read files.new ≡ F.may_read files.old }
-    ensures writable { F.may_write files.new ≡ F.may_write files.old }
-    ensures later { F.read_faults files.old ≤ F.read_faults files.new }
-    ensures no_write { F.write_faults files.new ≡ F.write_faults files.old }
+    ensures frame { OnlyReads F.Shelf files.old files.new }
 {
     match first_front(alloc, plant, levels, files, stem)? {
         LogFront::Whole(first) => check_logs(alloc, plant, levels, first, files, stem),
@@ -80,11 +77,7 @@ fn check_logs<F: Shelf>(
     ensures says { IfOk result (AllSay plant.now levels) }
     ensures fault { result ≡ Err CheckStop.Fault
         → Rose (F.read_faults files.old) (F.read_faults files.new) }
-    ensures same { F.files files.new ≡ F.files files.old }
-    ensures readable { F.may_read files.new ≡ F.may_read files.old }
-    ensures writable { F.may_write files.new ≡ F.may_write files.old }
-    ensures later { F.read_faults files.old ≤ F.read_faults files.new }
-    ensures no_write { F.write_faults files.new ≡ F.write_faults files.old }
+    ensures frame { OnlyReads F.Shelf files.old files.new }
 {
     let limits = first.limits;
     let declared = first.declared;
@@ -147,11 +140,7 @@ fn first_front<F: Shelf>(
     ensures kept { IfOk result (IsFrontKept plant.now (head_limits plant.now levels)) }
     ensures fault { result ≡ Err CheckStop.Fault
         → Rose (F.read_faults files.old) (F.read_faults files.new) }
-    ensures same { F.files files.new ≡ F.files files.old }
-    ensures readable { F.may_read files.new ≡ F.may_read files.old }
-    ensures writable { F.may_write files.new ≡ F.may_write files.old }
-    ensures later { F.read_faults files.old ≤ F.read_faults files.new }
-    ensures no_write { F.write_faults files.new ≡ F.write_faults files.old }
+    ensures frame { OnlyReads F.Shelf files.old files.new }
 {
     let rows = part_rows(alloc, plant, levels, 0)?;
     let name = log_name(alloc, stem, 0)?;
@@ -188,11 +177,7 @@ fn check_log<F: Shelf>(
     ensures says { IfOk result (PartSays plant.now levels part) }
     ensures fault { result ≡ Err CheckStop.Fault
         → Rose (F.read_faults files.old) (F.read_faults files.new) }
-    ensures same { F.files files.new ≡ F.files files.old }
-    ensures readable { F.may_read files.new ≡ F.may_read files.old }
-    ensures writable { F.may_write files.new ≡ F.may_write files.old }
-    ensures later { F.read_faults files.old ≤ F.read_faults files.new }
-    ensures no_write { F.write_faults files.new ≡ F.write_faults files.old }
+    ensures frame { OnlyReads F.Shelf files.old files.new }
 {
     let rows = part_rows(alloc, plant, levels, part)?;
     let name = log_name(alloc, stem, part)?;

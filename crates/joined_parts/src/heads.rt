@@ -8,6 +8,7 @@ ghost use Rattle.sum_lines.specs.Head.{IsKeptHead};
 ghost use Rattle.valid_log.specs.Verdict.{limits_of};
 ghost use Rattle.plant_check.specs.Heads.{IsHeadHeld};
 ghost use Rattle.log_parts.specs.laws.Checked.{IsCounted, IsFrontKept, IsHeadFront, IsLogFront, IsSetUpFront};
+ghost use Rattle.store_frames.specs.Frames.{OnlyReads};
 
 use derivation_lines::TailFront;
 use log_check::CheckStop;
@@ -37,11 +38,7 @@ pub(crate) fn read_front<F: Shelf>(
     ensures kept { IfOk result (IsFrontKept plant.now (limits_of (plain program.now) depth)) }
     ensures fault { result ≡ Err CheckStop.Fault
         → Rose (F.read_faults files.old) (F.read_faults files.new) }
-    ensures same { F.files files.new ≡ F.files files.old }
-    ensures readable { F.may_read files.new ≡ F.may_read files.old }
-    ensures writable { F.may_write files.new ≡ F.may_write files.old }
-    ensures later { F.read_faults files.old ≤ F.read_faults files.new }
-    ensures no_write { F.write_faults files.new ≡ F.write_faults files.old }
+    ensures frame { OnlyReads F.Shelf files.old files.new }
 {
     let limits = limits_with(program, depth, 0);
     match read_head(alloc, &limits, files, name)? {
@@ -70,11 +67,7 @@ fn read_headed<F: Shelf>(
     ensures kept { IfOk result (IsFrontKept plant.now (limits_of (plain program.now) depth)) }
     ensures fault { result ≡ Err CheckStop.Fault
         → Rose (F.read_faults files.old) (F.read_faults files.new) }
-    ensures same { F.files files.new ≡ F.files files.old }
-    ensures readable { F.may_read files.new ≡ F.may_read files.old }
-    ensures writable { F.may_write files.new ≡ F.may_write files.old }
-    ensures later { F.read_faults files.old ≤ F.read_faults files.new }
-    ensures no_write { F.write_faults files.new ≡ F.write_faults files.old }
+    ensures frame { OnlyReads F.Shelf files.old files.new }
 {
     let limits = limits_with(program, depth, head.sums.len());
     match read_setups(alloc, plant, &limits, head, files, name)? {
@@ -103,11 +96,7 @@ fn read_behind<F: Shelf>(
     ensures kept { IfOk result (IsFrontKept plant.now (limits_of (plain program.now) depth)) }
     ensures fault { result ≡ Err CheckStop.Fault
         → Rose (F.read_faults files.old) (F.read_faults files.new) }
-    ensures same { F.files files.new ≡ F.files files.old }
-    ensures readable { F.may_read files.new ≡ F.may_read files.old }
-    ensures writable { F.may_write files.new ≡ F.may_write files.old }
-    ensures later { F.read_faults files.old ≤ F.read_faults files.new }
-    ensures no_write { F.write_faults files.new ≡ F.write_faults files.old }
+    ensures frame { OnlyReads F.Shelf files.old files.new }
 {
     match read_tail(alloc, &setups.limits, &setups.head, files, name)? {
         TailFront::Whole(tail) => {

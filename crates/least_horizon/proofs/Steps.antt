@@ -11,7 +11,7 @@ use Rattle.stn_model.specs.Sound.{Within}
 use Rattle.least_horizon.specs.declared.answer.LeastAnswer.{LeastAnswer}
 use Rattle.least_horizon.specs.declared.answer.LeastAnswer.TheVariants.{At, Nowhere, Open}
 use Rattle.shorter_plant.specs.PlantAt.{plant_at}
-use Rattle.least_horizon.specs.Least.{NoneBelow, IsRight, AreInfeasible, IsHorizonSettled, IsSolved, IsLast, IsLeast, settled, reached, untried}
+use Rattle.least_horizon.specs.Least.{NoneBelow, IsRight, AreInfeasible, IsHorizonSettled, IsSolved, IsLast, IsLeast, settled_within, reached, untried}
 use Rattle.least_horizon.proofs.Judged.{up_to}
 
 -- where shorter horizons were found to have no feasible plan, they have none
@@ -23,7 +23,7 @@ none_below plant budget logs horizon before g some below =
 
 -- what an answer settles is right, where it is right itself
 right_if : (plant : Plant) (budget horizon used : ℕ) (said : Answer) (found : LeastAnswer) → Within 1 plant.periods horizon → NoneBelow plant horizon
-    → IsAnswerOf (plant_at plant horizon) (Feasible (plant_at plant horizon)) [] (boxes (plant_at plant horizon)) budget used said → Some found ≡ settled horizon said
+    → IsAnswerOf (plant_at plant horizon) (Feasible (plant_at plant horizon)) [] (boxes (plant_at plant horizon)) budget used said → Some found ≡ settled_within horizon said
     → IsRight plant found × ((reached plant found ≡ horizon) × (untried plant found ≡ horizon + 1))
 right_if plant budget horizon used (answer.Optimal plan earned) found within none right is =
     let e : At horizon earned plan ≡ found = cc in
@@ -62,7 +62,7 @@ found_untried plant budget logs horizon found within before is =
 pub found_nowhere : (plant : Plant) (budget : ℕ) (logs : ℕ → Option (List ℕ)) → AreInfeasible plant budget logs (plant.periods + 1) → IsLeast plant budget logs Nowhere
 found_nowhere plant budget logs before = record { right = none_below plant budget logs (plant.periods + 1) before; before = before; last = tt }
 
-infeasible_if : (horizon : ℕ) (said : Answer) → None ≡ settled horizon said → said ≡ answer.Infeasible
+infeasible_if : (horizon : ℕ) (said : Answer) → None ≡ settled_within horizon said → said ≡ answer.Infeasible
 infeasible_if horizon (answer.Optimal plan earned) is = absurd cc
 infeasible_if horizon answer.Infeasible is = refl
 infeasible_if horizon (answer.BudgetSpent (Some plan) earned cap) is = absurd cc

@@ -40,16 +40,16 @@ AreInfeasible plant budget logs horizon =
     (g : ℕ) → 1 ≤ g → g < horizon → (outcome : Outcome) × ((outcome.answer ≡ answer.Infeasible) × IsSolved plant budget logs g outcome)
 
 -- what planning within a horizon settles: the plan that was found, that the horizon is open, or nothing where no plan is feasible
-abbrev pub settled : ℕ → Answer → Option LeastAnswer
-settled horizon (answer.Optimal plan earned) = Some (At horizon earned plan)
-settled horizon answer.Infeasible = None
-settled horizon (answer.BudgetSpent (Some plan) earned cap) = Some (At horizon earned plan)
-settled horizon (answer.BudgetSpent None earned cap) = Some (Open horizon)
+abbrev pub settled_within : ℕ → Answer → Option LeastAnswer
+settled_within horizon (answer.Optimal plan earned) = Some (At horizon earned plan)
+settled_within horizon answer.Infeasible = None
+settled_within horizon (answer.BudgetSpent (Some plan) earned cap) = Some (At horizon earned plan)
+settled_within horizon (answer.BudgetSpent None earned cap) = Some (Open horizon)
 
 -- planning within a horizon came to an outcome that settles this
 pub record IsHorizonSettled (plant : Plant) (budget : ℕ) (logs : ℕ → Option (List ℕ)) (horizon : ℕ) (found : Option LeastAnswer) : Type 0 where
   pub outcome : Outcome
-  pub is : found ≡ settled horizon outcome.answer
+  pub is : found ≡ settled_within horizon outcome.answer
   pub solved : IsSolved plant budget logs horizon outcome
 
 -- an answer that names a horizon is what planning within it settles

@@ -7,7 +7,7 @@ ghost use Rattle.plan_told.specs.Proofs.{IsLeftOf};
 ghost use Rattle.shorter_plant.specs.PlantAt.{plant_at};
 ghost use Rattle.proof_log.specs.LogNames.{log_name};
 ghost use Rattle.least_horizon.specs.LogNames.{logs_in, AreAllowed, OthersStayBelow};
-ghost use Rattle.least_horizon.specs.Least.{settled, untried, IsLeast, IsHorizonSettled, IsStopped};
+ghost use Rattle.least_horizon.specs.Least.{settled_within, untried, IsLeast, IsHorizonSettled, IsStopped};
 
 use crate::answer::LeastAnswer;
 use box_advice::Advisers;
@@ -84,7 +84,7 @@ fn least_at<A: Advisers>(
 {
     let short = plant_at(alloc, plant, horizon)?;
     let Outcome { answer, .. } = plan::<A>(alloc, &short, budget)?;
-    Ok(settled(horizon, answer))
+    Ok(settled_within(horizon, answer))
 }
 
 // What solving the plant within the horizon settles, with its log.
@@ -116,12 +116,12 @@ fn log_at<A: Advisers, F: Shelf>(
     let short = plant_at(alloc, plant, horizon)?;
     let name = log_name(alloc, stem, horizon)?;
     let Outcome { answer, .. } = solve_to::<A, _>(alloc, &short, budget, files, name.as_str())?;
-    Ok(settled(horizon, answer))
+    Ok(settled_within(horizon, answer))
 }
 
 // What an answer within the horizon settles.
-fn settled(horizon: u32, answer: Answer) -> Option<LeastAnswer>
-    ensures { result ≡ settled horizon answer }
+fn settled_within(horizon: u32, answer: Answer) -> Option<LeastAnswer>
+    ensures { result ≡ settled_within horizon answer }
 {
     match answer {
         Answer::Optimal { plan, profit } => Some(LeastAnswer::At {

@@ -9,6 +9,7 @@ ghost use Rattle.proof_log.specs.LogNames.{log_name};
 ghost use Rattle.least_horizon.specs.LogNames.{AreAllowed};
 ghost use Rattle.least_horizon.specs.Least.{NoneBelow};
 ghost use Rattle.least_horizon.specs.Stems.{objection, IsJudged, IsStemVerdict};
+ghost use Rattle.store_frames.specs.Frames.{OnlyReads};
 
 use log_check::CheckStop;
 use log_lines::Defect;
@@ -50,11 +51,7 @@ pub fn check_least<F: Shelf>(
         → NoneBelow plant.now (min horizon (plant.now.periods + 1))) }
     ensures fault { result ≡ Err CheckStop.Fault
         → Rose (F.read_faults files.old) (F.read_faults files.new) }
-    ensures same { F.files files.new ≡ F.files files.old }
-    ensures readable { F.may_read files.new ≡ F.may_read files.old }
-    ensures writable { F.may_write files.new ≡ F.may_write files.old }
-    ensures later { F.read_faults files.old ≤ F.read_faults files.new }
-    ensures no_write { F.write_faults files.new ≡ F.write_faults files.old }
+    ensures frame { OnlyReads F.Shelf files.old files.new }
 {
     let limit = horizon.min(plant.periods + 1);
     for shorter in 1..limit {
@@ -85,11 +82,7 @@ fn judge<F: Shelf>(
     ensures says { IfOk result (λ found. found ≡ None → NoPlan (plant_at plant.now horizon)) }
     ensures fault { result ≡ Err CheckStop.Fault
         → Rose (F.read_faults files.old) (F.read_faults files.new) }
-    ensures same { F.files files.new ≡ F.files files.old }
-    ensures readable { F.may_read files.new ≡ F.may_read files.old }
-    ensures writable { F.may_write files.new ≡ F.may_write files.old }
-    ensures later { F.read_faults files.old ≤ F.read_faults files.new }
-    ensures no_write { F.write_faults files.new ≡ F.write_faults files.old }
+    ensures frame { OnlyReads F.Shelf files.old files.new }
 {
     let short = plant_at(alloc, plant, horizon)?;
     let name = log_name(alloc, stem, horizon)?;
@@ -111,11 +104,7 @@ pub fn speaks_against<F: Shelf>(
     ensures says { IfOk result (λ found. found ≡ None → NoPlan plant.now) }
     ensures fault { result ≡ Err CheckStop.Fault
         → Rose (F.read_faults files.old) (F.read_faults files.new) }
-    ensures same { F.files files.new ≡ F.files files.old }
-    ensures readable { F.may_read files.new ≡ F.may_read files.old }
-    ensures writable { F.may_write files.new ≡ F.may_write files.old }
-    ensures later { F.read_faults files.old ≤ F.read_faults files.new }
-    ensures no_write { F.write_faults files.new ≡ F.write_faults files.old }
+    ensures frame { OnlyReads F.Shelf files.old files.new }
 {
     let verdict = check_stream(alloc, plant, files, name)?;
     Ok(objection(verdict))

@@ -1,7 +1,8 @@
 //! `slots PLANT`: the slots and the rows of a plant's program by number.
 ghost use Rattle.std.specs.Prelude.{◌≡◌, ◌≢◌, ◌≤◌, [], Err, IsTrue, IfOk};
 ghost use Rattle.stn_model.specs.Sound.{Sound};
-ghost use Rattle.command_replies.specs.Frames.{HadReadFault, OnlyReads};
+ghost use Rattle.command_replies.specs.Frames.{HadReadFault};
+ghost use Rattle.store_frames.specs.Frames.{OnlyReads};
 ghost use Rattle.command_replies.specs.Answers.{IsPlantAnswer};
 ghost use Rattle.command_replies.specs.Sources.{IfReplied};
 ghost use Rattle.listing_commands.specs.Numbering.{Numbered, slots_text};

@@ -16,7 +16,7 @@ use Rattle.proof_tree.specs.declared.walk.Took.{Took}
 use Rattle.proof_tree.specs.declared.walk.Took.TheVariants.{More, Done, Bad as TookBad}
 use Rattle.proof_tree.specs.Tree.{no_point, leaf_cap}
 use Rattle.proof_tree.specs.Views.{View, present}
-use Rattle.proof_tree.specs.Walk.{Opened, Stage, Outcome, going, ended, undefined, may_come, going_to, close, close_split, part_ended, split_open, taken, step, after, walked, start, opened, stage_of, StandBelow, Stands, IsAnswer}
+use Rattle.proof_tree.specs.Walk.{Opened, Stage, Outcome, going, ended, undefined, may_come, going_to, close, close_split, part_ended, split_open, come_to, step, after, walked, start, opened, stage_of, StandBelow, Stands, IsAnswer}
 use Rattle.proof_tree.proofs.WalkLaw.{walked-next}
 use Rattle.row_relax.specs.declared.pick.RowPick.{RowPick}
 use Rattle.row_relax.specs.declared.rows.Rows.{Rows}
@@ -73,7 +73,7 @@ empty_cap-Bad true e = cc
 empty_cap-Bad false e = refl
 
 -- a tested item that leads nowhere has a defect
-pub leads_nowhere : (s : RowSteps) (program : Program) (splits : List (Opened RowPick)) (v : View) (item : RowItem) → RightsNamed s splits → NamesWhatIsThere s v item → IsTested s program v item → taken s splits v item ≡ undefined → ItemDefect s program v item (end_kind item)
+pub leads_nowhere : (s : RowSteps) (program : Program) (splits : List (Opened RowPick)) (v : View) (item : RowItem) → RightsNamed s splits → NamesWhatIsThere s v item → IsTested s program v item → come_to s splits v item ≡ undefined → ItemDefect s program v item (end_kind item)
 leads_nowhere s program splits v Node rights named tested nowhere = cc
 leads_nowhere s program splits v (Cut cut) rights named tested nowhere = at (s.cut v cut) named nowhere
   where
@@ -120,7 +120,7 @@ still_defect s program root items item defect is = record {
   has = is.has;
 }
 
-if_true : (s : RowSteps) (stage : Stage RowPick) (item : RowItem) → IsTrue (may_come stage.expected item) → step s stage item ≡ taken s stage.splits stage.view item
+if_true : (s : RowSteps) (stage : Stage RowPick) (item : RowItem) → IsTrue (may_come stage.expected item) → step s stage item ≡ come_to s stage.splits stage.view item
 if_true s stage item may = rw may refl
 
 -- where the walk took the item

@@ -36,12 +36,14 @@ pub record HasTaken (rows : Rows) (depth : ℕ) (told : Option FileMap) (name : 
   pub stands : Stood rows items checker
   pub at : IfSome claimed (λ claim. began ≡ line_after items)
   pub rooms : IsRoomsOf (choices_of rows) checker.rooms
+  pub ends : IsRoomsOf (choices_of rows) checker.ends
 
 -- before the first part
 pub begun : (rows : Rows) (depth : ℕ) (told : Option FileMap) (name : List ℕ) (version head : ℕ) (reader : LogReader) (checker : Checker) (began : ℕ)
     → HasRead told name version head (limits_of rows depth) [] None reader → Fits rows.program (present (map view_of checker.area)) → checker.area ≡ rows.program.root ∷ []
-    → checker.course ≡ Going → checker.walk.first ≡ None → checker.walk.splits ≡ [] → checker.walk.expected ≡ Node → IsRoomsOf (choices_of rows) checker.rooms → HasTaken rows depth told name version head reader checker began None
-begun rows depth told name version head reader checker began read fits area course first splits expected rooms = record {
+    → checker.course ≡ Going → checker.walk.first ≡ None → checker.walk.splits ≡ [] → checker.walk.expected ≡ Node → IsRoomsOf (choices_of rows) checker.rooms → IsRoomsOf (choices_of rows) checker.ends
+    → HasTaken rows depth told name version head reader checker began None
+begun rows depth told name version head reader checker began read fits area course first splits expected rooms ends = record {
   fits = fits;
   ready = rw course (rw first splits);
   items = [];
@@ -49,6 +51,7 @@ begun rows depth told name version head reader checker began read fits area cour
   stands = rw course (tt, rw expected (rw splits (rw area refl)));
   at = tt;
   rooms = rooms;
+  ends = ends;
 }
 
 module _ {rows : Rows} {depth : ℕ} {told : Option FileMap} {name : List ℕ} {version head : ℕ} {reader : LogReader} {checker : Checker} {began : ℕ} {claimed : Option Claim}
@@ -68,9 +71,9 @@ module _ {rows : Rows} {depth : ℕ} {told : Option FileMap} {name : List ℕ} {
   pub item_taken : (line : ℕ) (item : RowItem) (new : Checker) → part ≡ ItemPart line item
       → Fits rows.program (present (map view_of new.area)) → IsReady (steps_of rows) new.course new.walk (map view_of new.area)
       → (line ≡ line_after taken.items → Stood rows taken.items checker → Stood rows (taken.items ++ item ∷ []) new)
-      → IsRoomsOf (choices_of rows) new.rooms
+      → IsRoomsOf (choices_of rows) new.rooms → IsRoomsOf (choices_of rows) new.ends
       → HasTaken rows depth told name version head later new began claimed
-  item_taken line item new is fits ready stands rooms =
+  item_taken line item new is fits ready stands rooms ends =
       let own = part_is (ItemPart line item) is in
       record {
         fits = fits;
@@ -80,13 +83,14 @@ module _ {rows : Rows} {depth : ℕ} {told : Option FileMap} {name : List ℕ} {
         stands = stands own.1 taken.stands;
         at = subst (λ c. IfSome c (λ claim. began ≡ line_after (taken.items ++ item ∷ []))) (sym own.0) tt;
         rooms = rooms;
+        ends = ends;
       }
 
   -- a claim that was read begins after the items
   pub claim_taken : (line : ℕ) (made : Claim) → part ≡ ClaimPart line made → HasTaken rows depth told name version head later checker line (Some made)
   claim_taken line made is =
       let own = part_is (ClaimPart line made) is in
-      record { fits = taken.fits; ready = taken.ready; items = taken.items; read = own.3; stands = taken.stands; at = own.1; rooms = taken.rooms }
+      record { fits = taken.fits; ready = taken.ready; items = taken.items; read = own.3; stands = taken.stands; at = own.1; rooms = taken.rooms; ends = taken.ends }
 
   -- at the end a check does not go on, and a claim was read
   pub end_over : (last : ℕ) → part ≡ EndPart last → checker.course ≢ Going

@@ -19,13 +19,15 @@ use row_relax::{Rows, choices_of};
 use row_rooms::RowRooms;
 use std::alloc::{AllocError, Global};
 
-/// Takes the items of a proof and keeps the first meaning defect.
+/// Takes the items of a proof and keeps the first meaning defect. Found points are tested in one row of points (`rooms`), and those
+/// that areas settle to in another (`ends`): a point costs what has changed since the one before it of its own kind.
 #[derive(Drop)]
 pub struct Checker {
     pub(crate) area: Area,
     pub(crate) walk: Walk<Rows>,
     pub(crate) course: Course,
     pub(crate) rooms: RowRooms,
+    pub(crate) ends: RowRooms,
 }
 
 /// The defect of an item that shows before the walk takes it: that of a found point, or an empty domain under a certificate.
@@ -87,13 +89,16 @@ impl Checker {
         ensures splits { IfOk result (λ checker. checker.walk.splits ≡ []) }
         ensures expected { IfOk result (λ checker. checker.walk.expected ≡ Expected.Node) }
         ensures rooms { IfOk result (λ checker. IsRoomsOf (choices_of rows.now) checker.rooms) }
+        ensures ends { IfOk result (λ checker. IsRoomsOf (choices_of rows.now) checker.ends) }
     {
         let area = rows.root_area(alloc)?;
+        let rooms = RowRooms::new(alloc, choices_of(rows))?;
         Ok(Checker {
             area,
             walk: Walk::new(alloc),
             course: Course::Going,
-            rooms: RowRooms::new(alloc, choices_of(rows))?,
+            rooms,
+            ends: RowRooms::new(alloc, choices_of(rows))?,
         })
     }
 
@@ -113,8 +118,10 @@ impl Checker {
         requires may { MayTake (steps_of rows.now) self.old.course self.old.walk
             (present (map view_of self.old.area)) item }
         requires rooms { IsRoomsOf (choices_of rows.now) self.old.rooms }
+        requires ends { IsRoomsOf (choices_of rows.now) self.old.ends }
         ensures fits { Fits rows.now.program (present (map view_of self.new.area)) }
         ensures rooms { IsRoomsOf (choices_of rows.now) self.new.rooms }
+        ensures ends { IsRoomsOf (choices_of rows.now) self.new.ends }
         ensures ready { OnOk result
             (IsReady (steps_of rows.now) self.new.course self.new.walk
             (map view_of self.new.area)) }
@@ -142,8 +149,10 @@ impl Checker {
         requires may { MayTake (steps_of rows.now) Course.Going self.old.walk
             (present (map view_of self.old.area)) item.now }
         requires rooms { IsRoomsOf (choices_of rows.now) self.old.rooms }
+        requires ends { IsRoomsOf (choices_of rows.now) self.old.ends }
         ensures fits { Fits rows.now.program (present (map view_of self.new.area)) }
         ensures rooms { IsRoomsOf (choices_of rows.now) self.new.rooms }
+        ensures ends { IsRoomsOf (choices_of rows.now) self.new.ends }
         ensures ready { OnOk result
             (IsReady (steps_of rows.now) self.new.course self.new.walk
             (map view_of self.new.area)) }
@@ -165,23 +174,25 @@ impl Checker {
         Ok(())
     }
 
-    // Has the walk take an item. What an area settles to is found from the point that was tested before.
+    // Has the walk take an item. What an area settles to is found from what one settled to before.
     fn walk_on(&mut self, rows: &Rows, item: &Item<Rows>) -> Result<Took, AllocError>
         requires fits { Fits rows.now.program (present (map view_of self.old.area)) }
         requires stands { Stands (steps_of rows.now) self.old.walk
             (map view_of self.old.area) }
         requires comes { IsTrue (may_come self.old.walk.expected item.now) }
         requires rooms { IsRoomsOf (choices_of rows.now) self.old.rooms }
+        requires ends { IsRoomsOf (choices_of rows.now) self.old.ends }
         ensures fits { Fits rows.now.program (present (map view_of self.new.area)) }
         ensures stands { Stands (steps_of rows.now) self.new.walk
             (map view_of self.new.area) }
         ensures rooms { IsRoomsOf (choices_of rows.now) self.new.rooms }
+        ensures ends { IsRoomsOf (choices_of rows.now) self.new.ends }
         ensures step { IfOk result (λ took. IsAnswer took self.new.walk (map view_of self.new.area)
             (step (steps_of rows.now) (stage_of self.old.walk (map view_of self.old.area))
             item.now)) }
     {
         if let Item::Point = item {
-            let cap = self.rooms.settle(rows, &self.area);
+            let cap = self.ends.settle(rows, &self.area);
             return Ok(self.walk.take_point(rows, &mut self.area, cap));
         }
         self.walk.take(rows, &mut self.area, item)

@@ -5,6 +5,7 @@ ghost use Rattle.stn_edge.specs.Files.{file_of};
 ghost use Rattle.proof_log.specs.Behind.{behind};
 ghost use Rattle.valid_log.specs.Verdict.{IsVerdict, YesHolds, limits_of};
 ghost use Rattle.log_check.specs.Course.{IsClaimVerdict, IsEndVerdict};
+ghost use Rattle.store_frames.specs.Frames.{OnlyReads};
 
 use crate::checker::Checker;
 use crate::claims::claim_defect;
@@ -58,10 +59,10 @@ fn verdict(program: &Program, course: Course, began: u64, claim: Option<Claim>) 
 }
 
 /// Checks the log that lies in a file of the shelf, over the root of the rows, with at most so many splits one in another. It
-/// reads the file once, part by part, and takes memory by the depth of the proof, one certificate and one point, and 12 bytes for
-/// each entry of the rows and 16 for each row. Before the log it goes over the entries of the rows twice. A found group then costs
-/// the slots, for each slot that has another value than in the found group before it (at first, than 0) the rows that name the
-/// slot, and where its point is lawful the worth.
+/// reads the file once, part by part, and takes memory by the depth of the proof, one certificate and one point, and 24 bytes for
+/// each entry of the rows and 32 for each row. Before the log it goes over the entries of the rows four times. A found group then
+/// costs the slots, for each slot that has another value than in the found group before it (at first, than 0) the rows that name
+/// the slot, and where its point is lawful the worth. A `point` costs the same, by the `point` before it.
 ///
 /// The answer is the first text defect of the log, where there is none the first meaning defect, and where there is none its
 /// claim: then a proof over the rows has a cap that bears the claim out. Points are judged by the rows' choices. `Fault` comes only
@@ -79,11 +80,7 @@ pub fn check_rows<F: Shelf>(
     ensures holds { IfOk result (YesHolds rows.now) }
     ensures fault { result ≡ Err CheckStop.Fault
         → Rose (F.read_faults files.old) (F.read_faults files.new) }
-    ensures same { F.files files.new ≡ F.files files.old }
-    ensures readable { F.may_read files.new ≡ F.may_read files.old }
-    ensures writable { F.may_write files.new ≡ F.may_write files.old }
-    ensures later { F.read_faults files.old ≤ F.read_faults files.new }
-    ensures no_write { F.write_faults files.new ≡ F.write_faults files.old }
+    ensures frame { OnlyReads F.Shelf files.old files.new }
 {
     check_behind(alloc, rows, depth, 2, 0, files, name)
 }
@@ -106,11 +103,7 @@ pub fn check_behind<F: Shelf>(
     ensures holds { IfOk result (YesHolds rows.now) }
     ensures fault { result ≡ Err CheckStop.Fault
         → Rose (F.read_faults files.old) (F.read_faults files.new) }
-    ensures same { F.files files.new ≡ F.files files.old }
-    ensures readable { F.may_read files.new ≡ F.may_read files.old }
-    ensures writable { F.may_write files.new ≡ F.may_write files.old }
-    ensures later { F.read_faults files.old ≤ F.read_faults files.new }
-    ensures no_write { F.write_faults files.new ≡ F.write_faults files.old }
+    ensures frame { OnlyReads F.Shelf files.old files.new }
 {
     let mut reader = LogReader::begin_behind(alloc, limits_of(rows, depth), version, head)?;
     let mut checker = Checker::new(alloc, rows)?;

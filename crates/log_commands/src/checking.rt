@@ -3,7 +3,8 @@ ghost use Rattle.std.specs.Prelude.{◌≡◌, ◌≢◌, ◌≤◌, ◌∷◌, 
 ghost use Rattle.std.specs.Option.{option_map};
 ghost use Rattle.stn_edge.specs.Files.{file_of};
 ghost use Rattle.stn_model.specs.Sound.{Sound};
-ghost use Rattle.command_replies.specs.Frames.{HadReadFault, OnlyReads};
+ghost use Rattle.command_replies.specs.Frames.{HadReadFault};
+ghost use Rattle.store_frames.specs.Frames.{OnlyReads};
 ghost use Rattle.command_replies.specs.Answers.{IsPlantAnswer};
 ghost use Rattle.command_replies.specs.Sources.{IfReplied, IfRefused};
 ghost use Rattle.log_commands.specs.Checking.{Checked};

@@ -7,11 +7,11 @@ use Rattle.row_relax.specs.declared.rows.Rows.{Rows}
 use Rattle.row_relax.specs.View.{view_of}
 use Rattle.proof_log.specs.declared.log_reader.LogReader.{LogReader}
 use Rattle.proof_log.specs.LogReading.{HasRead}
-use Rattle.log_growth.specs.declared.pair.Growth.{Growth}
-use Rattle.log_growth.specs.declared.pair.Share.{Share}
-use Rattle.log_growth.specs.declared.whole.Front.{Front}
+use Rattle.log_growth.specs.declared.counts.Growth.{Growth}
+use Rattle.log_nodes.specs.declared.pair.Share.{Share}
+use Rattle.log_nodes.specs.declared.front.Front.{Front}
 use Rattle.log_growth.specs.Logs.{AreGrown}
-use Rattle.log_growth.specs.Reading.{EndsClean, ReadsOn}
+use Rattle.log_nodes.specs.Reading.{EndsClean, ReadsOn}
 use Rattle.log_growth.specs.laws.Grown.{HasGrown}
 
 -- where both logs end behind what was read of their proofs, they are the texts of these proofs

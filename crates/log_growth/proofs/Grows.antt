@@ -14,59 +14,19 @@ use Rattle.row_relax.specs.declared.rows.Rows.{Rows}
 use Rattle.row_relax.specs.RowProofs.{RowItem, RowTree}
 use Rattle.row_relax.specs.Steps.{row_steps}
 use Rattle.branch_tree.specs.Deep.{is_deep}
-use Rattle.log_growth.specs.declared.node.Node.{Node}
-use Rattle.log_growth.specs.declared.node.Ending.{Ending}
-use Rattle.log_growth.specs.declared.node.Ending.TheVariants.{Empty, Dual, Point, Pending, Split}
-use Rattle.log_growth.specs.declared.pair.Growth.{Growth}
-use Rattle.log_growth.specs.declared.pair.Share.{Share}
-use Rattle.log_growth.specs.Growth.{BeginsWith, GoesOn, IsGrowth, count_if, deep_ends, floors_above, in_share, is_open, leaves_open, open_ends}
+use Rattle.log_nodes.specs.declared.node.Node.{Node}
+use Rattle.log_nodes.specs.declared.node.Ending.{Ending}
+use Rattle.log_nodes.specs.declared.node.Ending.TheVariants.{Empty, Dual, Point, Pending, Split}
+use Rattle.log_growth.specs.declared.counts.Growth.{Growth}
+use Rattle.log_nodes.specs.declared.pair.Share.{Share}
+use Rattle.log_growth.specs.Growth.{BeginsWithTree, GoesOn, IsGrowth, count_if, deep_ends, floors_above, open_ends}
+use Rattle.log_nodes.specs.OpenEnds.{in_share, is_open, leaves_open}
 use Rattle.log_growth.specs.laws.Grown.{HasGrown, HasGrownBelow, HasGrownParts}
-use Rattle.log_growth.specs.laws.Nodes.{Below, HasBelow, HasParts, HasTree, IsLeafEnd, below_items, counted_leaf, counted_with, leaf_of, node_items, tree_with}
-use Rattle.log_growth.proofs.Readings.{tree-items}
+use Rattle.log_nodes.proofs.Skipped.{counted-tree}
+use Rattle.log_nodes.specs.laws.Nodes.{Below, HasBelow, HasParts, HasTree, IsLeafEnd, below_items, counted_leaf, counted_with, leaf_of, node_items, tree_with}
+use Rattle.log_nodes.proofs.Readings.{tree-items}
 
--- ---- counting alone
-
--- a tree counts as its end and what stands below it
-pub counted-tree : (cuts : List RowCut) (found : Option Found) (end : Ending) (below : Below end) → counted (tree_with cuts found end below) ≡ counted_with end below
-counted-tree cuts found Empty below = refl
-counted-tree cuts found (Dual cert) below = refl
-counted-tree cuts found Point below = refl
-counted-tree cuts found (Pending cert) below = refl
-counted-tree cuts found (Split pick cert) below = refl
-
--- a node and what stands below it were read: a whole proof
-pub tree-read : (reads all : List RowItem → Type 0) (node : Node) (boxes : ℕ) → ((items : List RowItem) → reads items → all (node_items node ++ items)) → HasBelow reads node.end boxes → HasTree all boxes
-tree-read reads all node boxes behind has = record {
-  tree = tree_with node.cuts node.found node.end has.below;
-  read = subst all (tree-items node.cuts node.found node.end has.below) (behind (below_items node.end has.below) has.read);
-  counts = has.counts ∙ sym (counted-tree node.cuts node.found node.end has.below);
-}
-
--- both parts of a split were read
-pub parts-read : (one two both : List RowItem → Type 0) (first second boxes : ℕ) → ((a b : List RowItem) → one a → two b → both (a ++ b)) → boxes ≡ 1 + first + second → HasTree one first → HasTree two second → HasParts both boxes
-parts-read one two both first second boxes behind are a b = record {
-  first = a.tree;
-  second = b.tree;
-  read = behind (tree_items a.tree) (tree_items b.tree) a.read b.read;
-  counts = omega (arith, are, a.counts, b.counts);
-}
-
--- what stands below a split are its parts
-pub parts-below : (reads : List RowItem → Type 0) (pick : RowPick) (cert : Cert) (boxes : ℕ) → HasParts reads boxes → HasBelow reads (Split pick cert) boxes
-parts-below reads pick cert boxes has = record { below = (has.first, has.second); read = has.read; counts = has.counts }
-
--- what stands below an end that splits nothing
-pub below-none : (reads : List RowItem → Type 0) (end : Ending) (boxes : ℕ) → IsLeafEnd end → reads [] → boxes ≡ counted_leaf (leaf_of end) → HasBelow reads end boxes
-below-none reads Empty boxes is none counts = record { below = tt; read = none; counts = counts }
-below-none reads (Dual cert) boxes is none counts = record { below = tt; read = none; counts = counts }
-below-none reads Point boxes is none counts = record { below = tt; read = none; counts = counts }
-below-none reads (Pending cert) boxes is none counts = record { below = tt; read = none; counts = counts }
-below-none reads (Split pick cert) boxes is none counts = absurd is
-
--- both parts of a split were read, where the sum of their counts is a number of 64 bits
-pub parts-if : (one two both : List RowItem → Type 0) (first second : ℕ) (boxes : Option ℕ) → ((a b : List RowItem) → one a → two b → both (a ++ b)) → IfSome boxes (λ n. n ≡ 1 + first + second) → HasTree one first → HasTree two second → IfSome boxes (HasParts both)
-parts-if one two both first second None behind are a b = tt
-parts-if one two both first second (Some boxes) behind are a b = parts-read one two both first second boxes behind are a b
+-- ---- ends that split nothing
 
 -- nothing stands below any other end
 pub leaf-below : (end : Ending) → IsLeafEnd end → Below end
@@ -97,7 +57,7 @@ leaf-counted cuts found one_point = refl
 leaf-counted cuts found (pending cert) = refl
 
 -- every tree begins with its cuts
-pub begins : (cuts more own : List RowCut) (found : Option Found) (end : Ending) (below : Below end) → own ≡ cuts ++ more → BeginsWith cuts (tree_with own found end below)
+pub begins : (cuts more own : List RowCut) (found : Option Found) (end : Ending) (below : Below end) → own ≡ cuts ++ more → BeginsWithTree cuts (tree_with own found end below)
 begins cuts more own found Empty below is = (more, is)
 begins cuts more own found (Dual cert) below is = (more, is)
 begins cuts more own found Point below is = (more, is)
@@ -115,7 +75,7 @@ pub record IsEndCount (rows : Rows) (profit : Option ℤ) (depth : ℕ) (view : 
 
 -- an end is as it was, or a proof stands in the place of an open one
 pub end-grown : (rows : Rows) (profit : Option ℤ) (share : Option Share) (depth n : ℕ) (v w : View) (cuts : List RowCut) (found : Option Found) (end : Leaf Cert) (grown : RowTree) (growth : Growth) → after_cuts (row_steps rows.program) v cuts ≡ Some w
-    → ((grown ≡ leaf cuts found end) ⊎ (IsTrue (in_share share n) × IsTrue (is_open (row_steps rows.program) profit w end) × BeginsWith cuts grown)) → IsEndCount rows profit depth w end growth → growth.after ≡ counted grown
+    → ((grown ≡ leaf cuts found end) ⊎ (IsTrue (in_share share n) × IsTrue (is_open (row_steps rows.program) profit w end) × BeginsWithTree cuts grown)) → IsEndCount rows profit depth w end growth → growth.after ≡ counted grown
     → IsGrowth rows profit share depth n v (leaf cuts found end) grown growth
 end-grown rows profit share depth n v w cuts found end grown growth there is counts after = record {
   goes_on = elim is [

@@ -1,4 +1,2 @@
-pub mod Readings
-pub mod Walking
-pub mod Grows
 pub mod Ended
+pub mod Grows

@@ -11,22 +11,9 @@ use Rattle.row_relax.specs.RowProofs.{RowTree}
 use Rattle.row_relax.specs.Steps.{row_steps}
 use Rattle.proof_tree.specs.Nodes.{counted}
 use Rattle.branch_tree.specs.Deep.{is_deep}
-use Rattle.log_growth.specs.declared.pair.Growth.{Growth}
-use Rattle.log_growth.specs.declared.pair.Share.{Share}
-
--- a cap leaves its end open: it is a number above a profit; any number, where there is no profit
-abbrev pub leaves_open : Option ℤ → Capped → Bool
-leaves_open profit NoPoint = false
-leaves_open profit Bad = false
-leaves_open None (AtMost cap) = true
-leaves_open (Some profit) (AtMost cap) = int_lt profit cap
-
--- an end is open over a view: it has a certificate, whose cap leaves it open
-abbrev pub is_open : {U C P : Type 0} → Steps U C P → Option ℤ → View → Leaf C → Bool
-is_open s profit v no_point = false
-is_open s profit v one_point = false
-is_open s profit v (dual cert) = leaves_open profit (s.cap v cert)
-is_open s profit v (pending cert) = leaves_open profit (s.cap v cert)
+use Rattle.log_growth.specs.declared.counts.Growth.{Growth}
+use Rattle.log_nodes.specs.declared.pair.Share.{Share}
+use Rattle.log_nodes.specs.OpenEnds.{in_share, is_open, leaves_open}
 
 -- a count over a view, and none where there is no view
 abbrev pub count_if : Option View → (View → ℕ) → ℕ
@@ -58,9 +45,9 @@ floors_above s profit v (split cuts found pick cert a b) =
     + (count_if (s.left (s.trim w pick cert) pick) (λ x. floors_above s profit x a) + count_if (s.right (s.trim w pick cert) pick) (λ y. floors_above s profit y b)))
 
 -- a proof whose node begins with these cuts
-abbrev pub BeginsWith : {U C P F : Type 0} → List U → Tree U C P F → Type 0
-BeginsWith {U} cuts (leaf own found end) = (more : List U) × (own ≡ cuts ++ more)
-BeginsWith {U} cuts (split own found pick cert a b) = (more : List U) × (own ≡ cuts ++ more)
+abbrev pub BeginsWithTree : {U C P F : Type 0} → List U → Tree U C P F → Type 0
+BeginsWithTree {U} cuts (leaf own found end) = (more : List U) × (own ≡ cuts ++ more)
+BeginsWithTree {U} cuts (split own found pick cert a b) = (more : List U) × (own ≡ cuts ++ more)
 
 -- A proof goes on from another over a view, whose open ends are numbered from n on. It splits where that one splits, in
 -- the same way. An end is as it was; but where it is open and its number is one of those that are searched, another proof may stand in its
@@ -68,17 +55,12 @@ BeginsWith {U} cuts (split own found pick cert a b) = (more : List U) × (own �
 abbrev pub GoesOn : {U C P F : Type 0} → Steps U C P → Option ℤ → (ℕ → Bool) → ℕ → View → Tree U C P F → Tree U C P F → Type 0
 GoesOn s profit searched n v (leaf cuts found end) grown =
     (grown ≡ leaf cuts found end)
-    ⊎ (IsTrue (searched n) × IsSomeAnd (after_cuts s v cuts) (λ w. IsTrue (is_open s profit w end)) × BeginsWith cuts grown)
+    ⊎ (IsTrue (searched n) × IsSomeAnd (after_cuts s v cuts) (λ w. IsTrue (is_open s profit w end)) × BeginsWithTree cuts grown)
 GoesOn {U} {C} {P} {F} s profit searched n v (split cuts found pick cert a b) grown =
     (first : Tree U C P F) × ((second : Tree U C P F) × ((grown ≡ split cuts found pick cert first second)
     × IsSomeAnd (after_cuts s v cuts)
     (λ w. IsSomeAnd (s.left (s.trim w pick cert) pick) (λ x. GoesOn s profit searched n x a first
     × IsSomeAnd (s.right (s.trim w pick cert) pick) (λ y. GoesOn s profit searched (n + open_ends s profit x a) y b second)))))
-
--- the numbers of a share: those that leave its rest; all, where there are no shares
-abbrev pub in_share : Option Share → ℕ → Bool
-in_share None n = true
-in_share (Some share) n = n % share.shares == share.rest
 
 -- how one proof goes on from another over a view below so many splits, with open ends numbered from n on, and their counts
 pub record IsGrowth (rows : Rows) (profit : Option ℤ) (share : Option Share) (depth n : ℕ) (view : View) (tree grown : RowTree) (growth : Growth) : Type 0 where

@@ -1,4 +1,3 @@
 pub mod Growth
 pub mod Logs
-pub mod Reading
 pub mod laws

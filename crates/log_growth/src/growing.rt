@@ -2,25 +2,22 @@
 ghost use Rattle.std.specs.Prelude.{◌≡◌, ◌≤◌, ◌<◌, ◌+◌, ◌&&◌, ◌++◌, if◌then◌else◌, List as Items, Some, map, Err, IsTrue, IfOk, IfSome};
 ghost use Rattle.stn_edge.specs.Count.{Rose};
 ghost use Rattle.range_prop.specs.declared.row_cut.RowCut.{RowCut};
-ghost use Rattle.proof_tree.specs.Tree.{after_cuts};
-ghost use Rattle.proof_tree.specs.Views.{KeepsViews};
-ghost use Rattle.row_relax.specs.Steps.{row_steps};
 ghost use Rattle.row_relax.specs.View.{Fits, view_of};
 ghost use Rattle.branch_tree.specs.Deep.{is_deep};
-ghost use Rattle.log_growth.specs.Growth.{in_share};
-ghost use Rattle.log_growth.specs.Reading.{IsReading, ReadsOn};
-ghost use Rattle.log_growth.specs.declared.node.Ending.TheVariants.{Split};
-ghost use Rattle.log_growth.specs.laws.Grown.{HasGrown, HasGrownBelow, HasGrownParts, seen};
-ghost use Rattle.log_growth.specs.laws.Nodes.{IsLeafEnd, counted_leaf, leaf_of};
+ghost use Rattle.log_nodes.specs.OpenEnds.{in_share};
+ghost use Rattle.log_nodes.specs.Reading.{IsReading, ReadsOn};
+ghost use Rattle.log_nodes.specs.declared.node.Ending.TheVariants.{Split};
+ghost use Rattle.log_growth.specs.laws.Grown.{HasGrown, HasGrownBelow, HasGrownParts};
+ghost use Rattle.log_nodes.specs.laws.Seen.{seen};
+ghost use Rattle.log_nodes.specs.laws.Nodes.{IsLeafEnd, counted_leaf, leaf_of};
 
-use crate::leaves::{boxes_of, in_share, is_open, leaves_open};
-use crate::node::{Ending, Node};
-use crate::pair::{Growth, Pair};
-use crate::reading::read_node;
-use crate::sameness::{begins_with, is_same_node};
-use crate::skipping::{skip_below, sum};
+use crate::counts::Growth;
 use branch_tree::is_deep;
 use dual_bound::Cert;
+use log_nodes::{
+    Ending, MOST_NODES, Node, Pair, begins_with, boxes_of, cut_down, in_share, is_open,
+    is_same_node, leaves_open, read_node, skip_below, sum_of,
+};
 use proof_log::LogReader;
 use proof_tree::{Relaxation, floor_cap};
 use range_prop::RowCut;
@@ -28,9 +25,6 @@ use row_kit::Area;
 use row_relax::{RowPick, Rows};
 use std::alloc::Global;
 use stn_edge::{Shelf, Stop};
-
-/// So many nodes may stand one below another in a log.
-pub const MOST_NODES: u32 = 4_609;
 
 /// Both logs, as far as they were read.
 #[derive(Drop)]
@@ -46,22 +40,6 @@ pub struct Place {
     pub depth: u32,
     /// The number of the first open end of the old one.
     pub number: u64,
-}
-
-/// Makes the cuts of a node; false where one of them names nothing that is there.
-pub fn cut_down(rows: &Rows, area: &mut Area, cuts: &[RowCut]) -> bool
-    requires fits { Fits rows.now.program (seen area.old) }
-    ensures fits { Fits rows.now.program (seen area.new) }
-    ensures cuts { IsTrue result → after_cuts (row_steps rows.now.program) (seen area.old) cuts.now
-        ≡ Some (seen area.new) }
-    ensures keeps { KeepsViews (map view_of area.old) (map view_of area.new) }
-{
-    for cut in cuts {
-        if !rows.cut(area, cut) {
-            return false;
-        }
-    }
-    true
 }
 
 /// Reads two proofs over an area side by side; none where the second does not go on from the first. Else the area is afterwards as
@@ -272,7 +250,7 @@ fn grown_parts<F: Shelf>(
     if !pair.rows.right(area, pick) {
         return Ok(None);
     }
-    let Some(number) = sum(place.number, first.ends) else {
+    let Some(number) = sum_of(place.number, first.ends) else {
         return Ok(None);
     };
     let right = Place {
@@ -293,19 +271,19 @@ fn both(first: Growth, second: Growth) -> Option<Growth>
         × (growth.before ≡ first.before + second.before)
         × (growth.after ≡ first.after + second.after)) }
 {
-    let Some(ends) = sum(first.ends, second.ends) else {
+    let Some(ends) = sum_of(first.ends, second.ends) else {
         return None;
     };
-    let Some(deep) = sum(first.deep, second.deep) else {
+    let Some(deep) = sum_of(first.deep, second.deep) else {
         return None;
     };
-    let Some(floors) = sum(first.floors, second.floors) else {
+    let Some(floors) = sum_of(first.floors, second.floors) else {
         return None;
     };
-    let Some(before) = sum(first.before, second.before) else {
+    let Some(before) = sum_of(first.before, second.before) else {
         return None;
     };
-    let Some(after) = sum(first.after, second.after) else {
+    let Some(after) = sum_of(first.after, second.after) else {
         return None;
     };
     Some(Growth {
@@ -323,13 +301,13 @@ fn with_split(above: bool, growth: Growth) -> Option<Growth>
         × (whole.floors ≡ (if above then 1 else 0) + growth.floors)
         × (whole.before ≡ 1 + growth.before) × (whole.after ≡ 1 + growth.after)) }
 {
-    let Some(floors) = sum(u64::from(above), growth.floors) else {
+    let Some(floors) = sum_of(u64::from(above), growth.floors) else {
         return None;
     };
-    let Some(before) = sum(1, growth.before) else {
+    let Some(before) = sum_of(1, growth.before) else {
         return None;
     };
-    let Some(after) = sum(1, growth.after) else {
+    let Some(after) = sum_of(1, growth.after) else {
         return None;
     };
     Some(Growth {

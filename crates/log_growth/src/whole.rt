@@ -1,70 +1,15 @@
 //! Two whole logs read side by side.
-ghost use Rattle.std.specs.Prelude.{◌≡◌, ◌≤◌, ℕ, Err, IsTrue, IfOk, IfSome};
+ghost use Rattle.std.specs.Prelude.{◌≡◌, ◌≤◌, Err, IsTrue, IfOk, IfSome};
 ghost use Rattle.stn_edge.specs.Count.{Rose};
 ghost use Rattle.stn_edge.specs.Files.{file_of};
-ghost use Rattle.proof_log.specs.declared.claim.Claim.{Claim};
-ghost use Rattle.proof_log.specs.declared.log_reader.LogPart.TheVariants.{Claim as ClaimPart, End as EndPart};
 ghost use Rattle.log_growth.specs.Logs.{AreGrown};
-ghost use Rattle.log_growth.specs.Reading.{EndsClean, IsReading};
 
+use crate::counts::Growth;
 use crate::growing::{Place, Readers, grown};
-use crate::pair::{Growth, Pair};
-use log_lines::Limits;
-use proof_log::{LogPart, LogReader};
+use log_nodes::{Front, Pair, read_end};
+use proof_log::LogReader;
 use std::alloc::Global;
 use stn_edge::{Shelf, Stop};
-
-/// Where the proof of a log begins, and the limits that it keeps.
-#[derive(Clone, Copy)]
-pub struct Front {
-    pub limits: Limits,
-    /// The version of the head before it; 2 where there is none.
-    pub version: u8,
-    /// How many bytes the head has; none where there is none.
-    pub head: u64,
-}
-
-/// Reads the claim and the end of a log; whether they come, and nothing behind them.
-pub fn read_end<F: Shelf>(files: &mut F, name: &str, reader: &mut LogReader) -> Result<bool, Stop>
-    requires allowed { IsTrue (F.may_read files.old name.now) }
-    requires reading { IsReading (F.files files.old) name.now reader.old }
-    ensures end { IfOk result (λ whole. IsTrue whole
-        → EndsClean (F.files files.old) name.now reader.old) }
-    ensures same { F.files files.new ≡ F.files files.old }
-    ensures readable { F.may_read files.new ≡ F.may_read files.old }
-    ensures writable { F.may_write files.new ≡ F.may_write files.old }
-    ensures later { F.read_faults files.old ≤ F.read_faults files.new }
-    ensures no_write { F.write_faults files.new ≡ F.write_faults files.old }
-    ensures fault { result ≡ Err Stop.Failed
-        → Rose (F.read_faults files.old) (F.read_faults files.new) }
-{
-    let claim = reader.next(files, name)?;
-    if !is_claim(&claim) {
-        return Ok(false);
-    }
-    let end = reader.next(files, name)?;
-    Ok(is_end(&end))
-}
-
-// Whether a part of a log is a claim.
-fn is_claim(part: &LogPart) -> bool
-    ensures { IsTrue result → (line : ℕ) × (claim : Claim) × (part.now ≡ ClaimPart line claim) }
-{
-    match part {
-        LogPart::Claim { line: _, claim: _ } => true,
-        _ => false,
-    }
-}
-
-// Whether a part of a log is its end.
-fn is_end(part: &LogPart) -> bool
-    ensures { IsTrue result → (version : ℕ) × (part.now ≡ EndPart version) }
-{
-    match part {
-        LogPart::End { version: _ } => true,
-        _ => false,
-    }
-}
 
 /// Reads both logs behind their heads side by side, and tells how the proof of the second has grown where it goes on from that of the
 /// first; none where it does not, or where one of them is no whole log. It reads each once, and holds the way down to the present

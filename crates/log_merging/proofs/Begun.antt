@@ -1,12 +1,9 @@
 -- Logs that begin their proofs, and what was written where they were read to their ends.
-use Rattle.std.proofs.Common.{◌≡◌, ◌≢◌, ◌∙◌, ◌⊎◌, inl, inr, ℕ, ℤ, zero, suc, ◌+◌, ◌<◌, ◌≤◌, Bool, List, [], ◌∷◌, ◌++◌, drop, length, get_or, map, Option, None, Some, refl, sym, ap, subst, arith}
+use Rattle.std.proofs.Common.{◌≡◌, ◌≢◌, ◌∙◌, ℕ, ℤ, zero, suc, ◌<◌, Bool, List, [], ◌∷◌, length, get_or, map, Option, None, Some, refl, sym, ap, subst, arith}
 use Rattle.std.specs.Prelude.{All, Err, IfOk, IfSome, IsTrue, Ok, Result, slice_get, slice_index_or, unwrap_or}
 use Rattle.std.specs.Option.{option_map}
-use Rattle.std.proofs.lemmas.Bool.{cases_eq}
-use Rattle.std.proofs.lemmas.List.{drop-set-lt, drop_more, get_or-drop, get_or-map, get_or_append_left, length-map, length_push}
-use Rattle.std.proofs.Math.ListN.{set}
-use Rattle.std.proofs.Math.Seq.{get_or-append_seam}
-use Rattle.std.proofs.lemmas.Option.{get_or_from_slice_get, slice_get-get_or, slice_get_within}
+use Rattle.std.proofs.lemmas.List.{get_or-map, length-map}
+use Rattle.std.proofs.lemmas.Option.{get_or_from_slice_get, slice_get-get_or}
 use Rattle.stn_edge.specs.Files.{FileMap, OthersStay, file_of}
 use Rattle.proof_log.specs.declared.claim.Claim.{Claim}
 use Rattle.proof_log.specs.declared.log_reader.LogReader.{LogReader}
@@ -16,54 +13,29 @@ use Rattle.proof_log.specs.LogNames.{log_name}
 use Rattle.proof_log.specs.LogReading.{HasRead, IsClean}
 use Rattle.proof_tree.specs.declared.capped.Capped.{Capped}
 use Rattle.proof_tree.specs.Items.{tree_items}
-use Rattle.proof_tree.specs.Tree.{tree_cap}
 use Rattle.row_relax.specs.Choices.{steps_of}
 use Rattle.row_relax.specs.RowProofs.{RowItem, RowTree}
 use Rattle.row_relax.specs.View.{view_of}
 use Rattle.valid_log.specs.SumTexts.{larger_claim}
-use Rattle.log_growth.specs.declared.whole.Front.{Front}
-use Rattle.log_growth.specs.Logs.{IsLogText}
-use Rattle.log_growth.specs.Reading.{EndsClean, ReadsOn}
+use Rattle.log_nodes.specs.declared.front.Front.{Front}
+use Rattle.log_nodes.specs.Texts.{IsTextBehind}
+use Rattle.log_nodes.specs.Reading.{EndsClean, ReadsOn}
 use Rattle.log_parts.specs.Heads.{front_text, joined_version}
 use Rattle.log_parts.specs.Joining.{plan_of}
 use Rattle.log_parts.specs.PartLogs.{logs_of, no_tree}
 use Rattle.log_parts.specs.laws.Copying.{HasItems, IsFinished, name_of, whole_text}
 use Rattle.log_parts.proofs.Copies.{read_stays, same_file}
 use Rattle.log_resuming.specs.Resumed.{profit_of}
-use Rattle.log_merging.specs.declared.sources.Source.{Source}
-use Rattle.log_merging.specs.declared.writing.Work.{Work}
-use Rattle.log_merging.specs.Merged.{IsMerged}
-use Rattle.log_merging.specs.MergedLogs.{IsClaimWith}
-use Rattle.log_merging.specs.laws.Looked.{AreApart, AreReading, MayReadAll}
-use Rattle.log_merging.specs.laws.Written.{AreBegun, HasMergedWhole, HasReadTree, HasWritten, HaveEnded, IsSourceBegun, IsWritten}
+use Rattle.merged_nodes.specs.declared.sources.Source.{Source}
+use Rattle.merge_ends.specs.declared.readers.Work.{Work}
+use Rattle.merged_nodes.specs.Merged.{IsMerged}
+use Rattle.merge_ends.specs.MergedClaims.{IsClaimWith}
+use Rattle.merged_nodes.specs.laws.Looked.{AreApart, AreReading, MayReadAll}
+use Rattle.merge_ends.specs.laws.Begun.{AreBegun, HaveEnded, IsSourceBegun}
+use Rattle.log_merging.specs.laws.Written.{HasMergedWhole, HasWritten}
+use Rattle.merge_walk.specs.laws.Walked.{HasReadTree}
 
 -- ---- logs that begin
-
--- no log begins yet
-pub begun-none : (fronts : List Front) (order : List ℕ) → order ≡ [] → AreBegun fronts order []
-begun-none fronts order none = record { as_many = ap length (sym none); each = λ place one there. absurd cc }
-
--- one more log begins its proof
-pub begun-more : (fronts : List Front) (order : List ℕ) (number : ℕ) (sources : List Source) (source : Source) → AreBegun fronts order sources → IsSourceBegun fronts number source → AreBegun fronts (order ++ number ∷ []) (sources ++ source ∷ [])
-begun-more fronts order number sources source are is = record {
-  as_many = length_push sources source ∙ ap (λ (n : ℕ). n + 1) are.as_many ∙ sym (length_push order number);
-  each = λ place one there.
-      let lt : place < length (sources ++ source ∷ []) = slice_get_within (sources ++ source ∷ []) place one there in
-      let long = length_push sources source in
-      let here : get_or (sources ++ source ∷ []) place one ≡ one = get_or_from_slice_get (sources ++ source ∷ []) place one one there in
-      elim (cases_eq place (length sources)) [
-        | inl e ↦
-            let last : one ≡ source = sym here ∙ ap (λ (n : ℕ). get_or (sources ++ source ∷ []) n one) e ∙ get_or-append_seam sources source [] one in
-            let own : get_or (order ++ number ∷ []) place 0 ≡ number = ap (λ (n : ℕ). get_or (order ++ number ∷ []) n 0) (e ∙ are.as_many) ∙ get_or-append_seam order number [] 0 in
-            subst (λ (n : ℕ). IsSourceBegun fronts n one) (sym own) (subst (IsSourceBegun fronts number) (sym last) is)
-        | inr other ↦
-            let before : place < length sources = omega (arith, lt, long, other) in
-            let within : place < length order = omega (arith, before, are.as_many) in
-            let same : get_or sources place one ≡ one = sym (get_or_append_left sources (source ∷ []) one place before) ∙ here in
-            let own : get_or (order ++ number ∷ []) place 0 ≡ get_or order place 0 = get_or_append_left order (number ∷ []) 0 place within in
-            subst (λ (n : ℕ). IsSourceBegun fronts n one) (sym own) (are.each place one (slice_get-get_or sources place one before ∙ ap (λ (s : Source). Some s) same))
-      ];
-}
 
 -- what holds of an item of a list that is there
 some-there : {X : Type 0} (xs : List X) (n : ℕ) (P : X → Type 0) → n < length xs → IfSome (slice_get xs n) P → (x : X) × ((slice_get xs n ≡ Some x) × P x)
@@ -123,7 +95,7 @@ said-back (Some m) name bytes P same is =
 
 -- a log that was read to its end is the text of the proof that was read
 log-read : (begun new : Option FileMap) (name bytes : List ℕ) (front : Front) (a b : LogReader) (tree : RowTree) → option_map (λ (m : FileMap). file_of m name) new ≡ option_map (λ (m : FileMap). file_of m name) begun → option_map (λ (m : FileMap). file_of m name) new ≡ Some bytes
-    → HasRead begun name front.version front.head front.limits [] None a → ReadsOn begun name a (tree_items tree) b → EndsClean new name b → IsLogText front bytes tree
+    → HasRead begun name front.version front.head front.limits [] None a → ReadsOn begun name a (tree_items tree) b → EndsClean new name b → IsTextBehind front bytes tree
 log-read begun new name bytes front a b tree same told read on end =
     let all : HasRead begun name front.version front.head front.limits (tree_items tree) None b = on front.version front.head front.limits [] read in
     let later = read_stays front.version front.head name front.limits (tree_items tree) None b begun new same all in
@@ -163,7 +135,7 @@ module _ (work : Work) (stem out : List ℕ) (m : FileMap) (begun new : Option F
     (each : (place : ℕ) (one later : Source) → slice_get before place ≡ Some one → slice_get after place ≡ Some later → HasReadTree begun stem 0 one later (slice_index_or here place None)) (ended : HaveEnded new stem after) where
   -- the tree at a place, and the text of its log
   read-at : (place : ℕ) → place < length before
-      → (tree : RowTree) × ((get_or here place None ≡ Some tree) × IfSome (slice_get work.fronts.now (get_or work.order.now place 0)) (λ front. IsLogText front (logs_of m stem (get_or work.order.now place 0)) tree))
+      → (tree : RowTree) × ((get_or here place None ≡ Some tree) × IfSome (slice_get work.fronts.now (get_or work.order.now place 0)) (λ front. IsTextBehind front (logs_of m stem (get_or work.order.now place 0)) tree))
   read-at place lt =
       let within : place < length work.order.now = omega (arith, lt, are.as_many) in
       let later_lt : place < length after = omega (arith, lt, as_many) in
@@ -181,7 +153,7 @@ module _ (work : Work) (stem out : List ℕ) (m : FileMap) (begun new : Option F
       let same = same_file name begun new (second name (λ is. apart number number_lt (sym is))) in
       let told = file-told name out m (Some m) begun new (apart number number_lt) refl first second in
       let text = log-read begun new name (file_of m name) front.0 one.0.reader later.0.reader found.0 same told (front.1.1 begun name) on end in
-      (found.0, (found.1.0, subst (λ (o : Option Front). IfSome o (λ f. IsLogText f (logs_of m stem number) found.0)) (sym front.1.0) text))
+      (found.0, (found.1.0, subst (λ (o : Option Front). IfSome o (λ f. IsTextBehind f (logs_of m stem number) found.0)) (sym front.1.0) text))
 
   -- all trees, one after another
   all-read : map Some (trees_in here) ≡ here
@@ -190,12 +162,12 @@ module _ (work : Work) (stem out : List ℕ) (m : FileMap) (begun new : Option F
   counted-read : length (trees_in here) ≡ length work.order.now
   counted-read = counted-in here ∙ all_here ∙ are.as_many
 
-  texts-read : (place : ℕ) → place < length work.order.now → IfSome (slice_get work.fronts.now (slice_index_or work.order.now place 0)) (λ front. IsLogText front (logs_of m stem (slice_index_or work.order.now place 0)) (slice_index_or (trees_in here) place no_tree))
+  texts-read : (place : ℕ) → place < length work.order.now → IfSome (slice_get work.fronts.now (slice_index_or work.order.now place 0)) (λ front. IsTextBehind front (logs_of m stem (slice_index_or work.order.now place 0)) (slice_index_or (trees_in here) place no_tree))
   texts-read place lt =
       let within : place < length before = omega (arith, lt, are.as_many) in
       let read = read-at place within in
       let is = tree-in here place read.0 (omega (arith, within, all_here)) read.1.0 in
-      subst (λ (tree : RowTree). IfSome (slice_get work.fronts.now (get_or work.order.now place 0)) (λ front. IsLogText front (logs_of m stem (get_or work.order.now place 0)) tree)) (sym is) read.1.1
+      subst (λ (tree : RowTree). IfSome (slice_get work.fronts.now (get_or work.order.now place 0)) (λ front. IsTextBehind front (logs_of m stem (get_or work.order.now place 0)) tree)) (sym is) read.1.1
 
 -- the whole log was written
 pub has-written : (work : Work) (best claim : Claim) (profit : Option ℤ) (stem out : List ℕ) (old begun new last : Option FileMap) (before : List Source) (writer later : LogWriter) (cap : Capped) (larger : Claim) (version : ℕ) → All (λ number. number < length work.fronts.now) work.order.now
@@ -226,23 +198,6 @@ has-written work best claim profit stem out (Some m) begun new (Some n) before w
     }
 
 -- ---- lists by place
-
--- the same item stands at a place, where what is left from it on is the same
-pub same-here : {X : Type 0} (xs ys : List X) (n : ℕ) (d : X) → drop n xs ≡ drop n ys → get_or xs n d ≡ get_or ys n d
-same-here {X} xs ys n d same =
-    let plus : n + 0 ≡ n = omega arith in
-    sym (ap (λ (k : ℕ). get_or xs k d) plus) ∙ sym (get_or-drop n xs 0 d) ∙ ap (λ (l : List X). get_or l 0 d) same ∙ get_or-drop n ys 0 d ∙ ap (λ (k : ℕ). get_or ys k d) plus
-
--- what is left behind a place at which an item changed
-pub rest-more : {X : Type 0} (xs ys : List X) (n : ℕ) (x d : X) → n < length xs → n < length ys → drop n xs ≡ drop n ys → drop (n + 1) (set xs n x) ≡ drop (n + 1) ys
-rest-more xs ys n x d lt lt_other same =
-    let both : get_or xs n d ∷ drop (n + 1) xs ≡ get_or ys n d ∷ drop (n + 1) ys = sym (drop_more xs n d lt) ∙ same ∙ drop_more ys n d lt_other in
-    let tails : drop (n + 1) xs ≡ drop (n + 1) ys = cc in
-    drop-set-lt (n + 1) xs n x (omega arith) ∙ tails
-
--- what holds of the item that is read holds of the one that is there
-pub there-by : {X : Type 0} (xs : List X) (n : ℕ) (d : X) (P : X → Type 0) → n < length xs → P (get_or xs n d) → IfSome (slice_get xs n) P
-there-by {X} xs n d P lt is = subst (λ (o : Option X). IfSome o P) (sym (slice_get-get_or xs n d lt)) is
 
 -- what is said of an answer that is there follows from what is said of it
 pub answer-then : {X E : Type 0} (result : Result (Option X) E) (P Q : X → Type 0) → ((x : X) → P x → Q x) → IfOk result (λ o. IfSome o P) → IfOk result (λ o. IfSome o Q)

@@ -1,14 +1,2 @@
-pub mod Smaller
-pub mod Places
-pub mod Stands
-pub mod Passed
-pub mod LookedAt
-pub mod Puts
-pub mod KeptLogs
-pub mod SplitNodes
-pub mod MergedNodes
-pub mod Orders
-pub mod NodeCaps
-pub mod LogsChecked
 pub mod Begun
 pub mod Mergings

@@ -1,8 +1,7 @@
 -- What merging comes to: the merged log of logs that were checked, or the first of them that is refused.
-use Rattle.std.proofs.Common.{◌≡◌, ◌≢◌, ◌∙◌, ◌⊎◌, inl, inr, ℕ, ℤ, zero, suc, ◌+◌, ◌<◌, ◌≤◌, Bool, true, false, List, [], ◌∷◌, ◌++◌, length, get_or, map, Option, None, Some, refl, sym, ap, subst, arith, length-append}
-use Rattle.std.specs.Prelude.{All, IfOk, IfSome, IsTrue, Result, Ok, Err, if◌then◌else◌, int_lt, slice_get, slice_index_or, ◌≤ℤ◌}
-use Rattle.std.specs.List.{Contains, range_with_len}
-use Rattle.std.specs.List.Sorted.{IsPermutation}
+use Rattle.std.proofs.Common.{◌≡◌, ◌≢◌, ◌∙◌, inl, inr, ℕ, ℤ, zero, suc, ◌+◌, ◌<◌, ◌≤◌, Bool, true, false, List, [], ◌∷◌, ◌++◌, length, get_or, map, Option, None, Some, refl, sym, ap, subst, arith, length-append}
+use Rattle.std.specs.Prelude.{All, IfOk, IfSome, IsTrue, Result, Ok, Err, if◌then◌else◌, int_lt, slice_get, ◌≤ℤ◌}
+use Rattle.std.specs.List.{range_with_len}
 use Rattle.std.specs.Option.{option_map}
 use Rattle.std.proofs.lemmas.Bool.{cases_eq, cases_lt, false≢true}
 use Rattle.std.proofs.lemmas.Int.{ints}
@@ -27,20 +26,17 @@ use Rattle.log_lines.specs.declared.defect.Defect.{Defect}
 use Rattle.proof_log.specs.declared.claim.Claim.{Claim}
 use Rattle.proof_log.specs.declared.claim.Claim.TheVariants.{Optimal, Infeasible, Between, Below}
 use Rattle.proof_log.specs.LogNames.{log_name}
-use Rattle.valid_log.specs.declared.verdict.LogVerdict.{LogVerdict}
 use Rattle.valid_log.specs.declared.verdict.LogVerdict.TheVariants as verdict
 use Rattle.valid_log.specs.Claims.{SaysOfPlans}
 use Rattle.valid_log.specs.PlantLogs.{IsAnyChecked, IsPlantVerdict}
 use Rattle.valid_log.specs.SumTexts.{larger_claim}
 use Rattle.valid_log.proofs.Again.{same-program}
 use Rattle.valid_log.proofs.AnyVersions.{yes-stays}
-use Rattle.log_growth.specs.declared.whole.Front.{Front}
-use Rattle.log_growth.specs.Logs.{IsLogText}
+use Rattle.log_nodes.specs.declared.front.Front.{Front}
+use Rattle.log_nodes.specs.Texts.{IsTextBehind}
 use Rattle.log_parts.specs.declared.heads.Declared.{Declared}
-use Rattle.log_parts.specs.declared.heads.LogFront.TheVariants.{Whole}
 use Rattle.log_parts.specs.declared.heads.LogHead.{LogHead}
 use Rattle.log_parts.specs.declared.joining.ClaimedPlan.{ClaimedPlan}
-use Rattle.log_parts.specs.laws.Checked.{IsLogFront}
 use Rattle.log_parts.specs.laws.Copying.{whole_text}
 use Rattle.log_parts.specs.Heads.{front_text, items_of, joined_version, lines_on}
 use Rattle.log_parts.specs.Joining.{IsBestCap, IsBestPlan, IsCapped, IsJoined, cap_of, claim_with, plan_of}
@@ -52,14 +48,16 @@ use Rattle.log_parts.proofs.PartTrees.{one_head}
 use Rattle.log_resuming.specs.declared.opened.Opened.{Opened}
 use Rattle.log_resuming.specs.Opened.{IsOpened, IsOpenedOver, front_of}
 use Rattle.log_resuming.specs.Resumed.{IsNoMore, IsOpenClaim, profit_of, cap_of as resumed_cap}
-use Rattle.log_merging.specs.declared.checked.Checked.TheVariants.{All as AllValid, Bad as BadLogs}
-use Rattle.log_merging.specs.declared.checked.Logs.{Logs}
+use Rattle.merge_checks.specs.declared.checked.Checked.TheVariants.{Bad as BadLogs}
+use Rattle.merge_checks.specs.declared.checked.Logs.{Logs}
 use Rattle.log_merging.specs.declared.merged.Merged.{Merged}
 use Rattle.log_merging.specs.declared.merged.Merged.TheVariants.{Done, No}
-use Rattle.log_merging.specs.declared.writing.Work.{Work}
-use Rattle.log_merging.specs.Merged.{IsMerged, is_smaller}
-use Rattle.log_merging.specs.MergedLogs.{AreMergeable, AreValidTo, ComesBefore, IsClaimWith, IsLogToMerge, IsMergedLog, IsMerging, IsMergingIn, IsNo, IsOrder, IsRefusedLog, cap_at}
-use Rattle.log_merging.specs.laws.Checked.{AreChecked, AreCheckedTo, AreKnownTo}
+use Rattle.merge_ends.specs.declared.readers.Work.{Work}
+use Rattle.merged_nodes.specs.Merged.{IsMerged, is_smaller}
+use Rattle.log_merging.specs.MergedLogs.{AreMergeable, IsLogToMerge, IsMergedLog, IsMergingIn, NamesRefused}
+use Rattle.merge_checks.specs.CheckedLogs.{AreValidTo, IsRefusedToMerge}
+use Rattle.merge_ends.specs.MergedClaims.{ComesBefore, IsClaimWith, IsOrder, cap_at}
+use Rattle.merge_checks.specs.laws.Checked.{AreChecked, AreCheckedTo, AreKnownTo}
 use Rattle.log_merging.specs.laws.Written.{HasWritten, IsWritten}
 
 -- ---- the order
@@ -236,7 +234,7 @@ caps-same (Below most) = refl
 record IsWrittenOf (first : Opened) (newest : Bool) (fronts : List Front) (order : List ℕ) (best : Claim) (logs : ℕ → List ℕ) (bytes : List ℕ) (claim : Claim) : Type 0 where
   trees : List RowTree
   all_trees : length trees ≡ length order
-  texts : (place : ℕ) → place < length order → IfSome (slice_get fronts (get_or order place 0)) (λ front. IsLogText front (logs (get_or order place 0)) (get_or trees place no_tree))
+  texts : (place : ℕ) → place < length order → IfSome (slice_get fronts (get_or order place 0)) (λ front. IsTextBehind front (logs (get_or order place 0)) (get_or trees place no_tree))
   tree : RowTree
   merged : IsMerged (steps_of first.rows) (profit_of best) (view_of first.rows.program.root) (map Some trees) tree
   is_claim : IsClaimWith (plan_of best) (tree_cap (steps_of first.rows) (view_of first.rows.program.root) tree) claim
@@ -261,17 +259,17 @@ written-of work first newest fronts order best logs bytes claim first_is newest_
 
 -- the log of a number, with the tree that was read of it
 log-of : (plant : Plant) (count : ℕ) (logs : ℕ → List ℕ) (all : Logs) (order : List ℕ) (own : List RowTree) (number place : ℕ) (tree : RowTree) → AreCheckedTo plant count logs all → number < count → get_or order place 0 ≡ number → tree ≡ get_or own place no_tree
-    → IfSome (slice_get all.fronts.items (get_or order place 0)) (λ front. IsLogText front (logs (get_or order place 0)) (get_or own place no_tree)) → IsLogToMerge plant (logs number) all.first.head.declared tree (get_or all.claims.items number Infeasible)
+    → IfSome (slice_get all.fronts.items (get_or order place 0)) (λ front. IsTextBehind front (logs (get_or order place 0)) (get_or own place no_tree)) → IsLogToMerge plant (logs number) all.first.head.declared tree (get_or all.claims.items number Infeasible)
 log-of plant count logs all order own number place tree checked lt here tree_is text =
     let log = checked.each number lt in
-    let there = subst (λ (n : ℕ). IfSome (slice_get all.fronts.items n) (λ front. IsLogText front (logs n) (get_or own place no_tree))) here text in
-    let found = subst (λ (o : Option Front). IfSome o (λ front. IsLogText front (logs number) (get_or own place no_tree))) log.front there in
+    let there = subst (λ (n : ℕ). IfSome (slice_get all.fronts.items n) (λ front. IsTextBehind front (logs n) (get_or own place no_tree))) here text in
+    let found = subst (λ (o : Option Front). IfSome o (λ front. IsTextBehind front (logs number) (get_or own place no_tree))) log.front there in
     record {
       valid = log.valid;
       own = log.own;
       opened = log.opened;
       same_head = log.same_head;
-      text = subst (IsLogText (front_of log.own.head) (logs number)) (sym tree_is) found;
+      text = subst (IsTextBehind (front_of log.own.head) (logs number)) (sym tree_is) found;
     }
 
 -- what was written of logs that were checked is the log that is merged of them, where it is valid and suits their claims
@@ -373,7 +371,7 @@ one-opened plant bytes a b one other =
 
 -- of logs that are all valid and have the same head none is refused
 never-refused : (plant : Plant) (count : ℕ) (logs own : ℕ → List ℕ) (all : Logs) (number : ℕ) (defect : Defect) (declared : Declared) → AreCheckedTo plant count logs all → ((part : ℕ) → part < count → own part ≡ logs part) → number < count
-    → AreValidTo plant own declared number → IsRefusedLog plant number (own number) declared defect → ⊥
+    → AreValidTo plant own declared number → IsRefusedToMerge plant number (own number) declared defect → ⊥
 never-refused plant count logs own all number defect declared checked same lt valid (inl refused) =
     yes-once plant (logs number) (get_or all.claims.items number Infeasible) defect (checked.each number lt).valid (subst (λ (bytes : List ℕ). IsAnyChecked plant bytes (verdict.No defect)) (same number lt) refused)
 never-refused plant count logs own all number defect declared checked same lt valid (inr other) =
@@ -413,7 +411,7 @@ untold plant count stem out old new said none = subst (λ (o : Option FileMap). 
 
 -- the answer where all were checked anew
 pub looked-again : {E : Type 0} (plant : Plant) (count : ℕ) (stem out : List ℕ) (old mid new : Option FileMap) (all : Logs) (result : Result Merged E) → 1 ≤ count → ((part : ℕ) → part < count → out ≢ log_name stem part) → IfSome old (λ m. AreCheckedTo plant count (logs_of m stem) all)
-    → OthersStay out old mid → new ≡ mid → IfOk result IsNo → IfOk result (IsMergingIn plant count stem out mid new) → IfOk result (λ said. IsMergingIn plant count stem out old new said × (new ≡ old))
+    → OthersStay out old mid → new ≡ mid → IfOk result NamesRefused → IfOk result (IsMergingIn plant count stem out mid new) → IfOk result (λ said. IsMergingIn plant count stem out old new said × (new ≡ old))
 looked-again plant count stem out old mid new all (Err e) some apart checked others same never is = tt
 looked-again plant count stem out old mid new all (Ok (Done claim)) some apart checked others same never is = absurd never
 looked-again plant count stem out old mid new all (Ok (No number defect)) some apart checked others same never is =

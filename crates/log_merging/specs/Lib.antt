@@ -1,3 +1,2 @@
-pub mod Merged
 pub mod MergedLogs
 pub mod laws

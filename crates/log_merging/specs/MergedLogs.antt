@@ -1,58 +1,32 @@
 -- Logs of a plant that are merged to one.
-use Rattle.std.specs.Prelude.{◌≡◌, ◌⊎◌, ◌↔◌, Bool, true, ℕ, ◌<◌, IsTrue, ⊤, ℤ, List, length, map, slice_index_or, Option, Some, None, IfSome}
-use Rattle.std.specs.List.{range_with_len}
-use Rattle.std.specs.List.Sorted.{IsPermutation}
+use Rattle.std.specs.Prelude.{◌≡◌, ◌⊎◌, ◌↔◌, Bool, true, ℕ, ◌<◌, ⊤, ℤ, List, length, map, slice_index_or, Option, Some, IfSome}
 use Rattle.std.specs.Option.{option_map}
 use Rattle.stn_edge.specs.Files.{FileMap, file_of}
 use Rattle.stn_model.specs.declared.plant.Plant.{Plant}
-use Rattle.proof_tree.specs.declared.capped.Capped.{Capped}
-use Rattle.proof_tree.specs.declared.capped.Capped.TheVariants.{AtMost, NoPoint, Bad}
 use Rattle.proof_tree.specs.Tree.{tree_cap}
 use Rattle.row_relax.specs.Choices.{steps_of}
 use Rattle.row_relax.specs.RowProofs.{RowTree}
 use Rattle.row_relax.specs.View.{view_of}
-use Rattle.log_lines.specs.declared.defect.Defect.{Defect}
 use Rattle.proof_log.specs.declared.claim.Claim.{Claim}
 use Rattle.proof_log.specs.declared.claim.Claim.TheVariants.{Infeasible}
 use Rattle.valid_log.specs.declared.verdict.LogVerdict.TheVariants as verdict
 use Rattle.valid_log.specs.Claims.{SaysOfPlans}
 use Rattle.valid_log.specs.PlantLogs.{IsAnyChecked}
 use Rattle.valid_log.specs.SumTexts.{larger_claim}
-use Rattle.log_growth.specs.Logs.{IsLogText}
+use Rattle.log_nodes.specs.Texts.{IsTextBehind}
 use Rattle.log_parts.specs.declared.heads.Declared.{Declared}
 use Rattle.log_parts.specs.declared.joining.ClaimedPlan.{ClaimedPlan}
 use Rattle.log_parts.specs.Heads.{HasNewest, declared_text, joined_version}
-use Rattle.log_parts.specs.Joining.{IsBestCap, IsBestPlan, cap_of, claim_with}
-use Rattle.log_parts.specs.OtherHeads.{IsOtherHead}
+use Rattle.log_parts.specs.Joining.{IsBestCap, IsBestPlan, cap_of}
 use Rattle.log_parts.specs.PartLogs.{logs_of, no_tree}
 use Rattle.log_resuming.specs.declared.opened.Opened.{Opened}
 use Rattle.log_resuming.specs.Opened.{IsOpened, front_of}
 use Rattle.log_resuming.specs.Resumed.{IsNoMore, IsOpenClaim}
 use Rattle.log_merging.specs.declared.merged.Merged.{Merged}
 use Rattle.log_merging.specs.declared.merged.Merged.TheVariants.{Done, No}
-use Rattle.log_merging.specs.Merged.{IsMerged, is_smaller}
-
--- the number above which a claim allows no plan, as a cap: no point, where it allows none
-abbrev pub capped : Option ℤ → Capped
-capped None = NoPoint
-capped (Some most) = AtMost most
-
--- the cap of a claim
-abbrev pub claim_cap : Claim → Capped
-claim_cap claim = capped (cap_of claim)
-
--- the cap of the claim of this number
-abbrev pub cap_at : List Claim → ℕ → Capped
-cap_at claims number = claim_cap (slice_index_or claims number Infeasible)
-
--- the log of one number comes before that of another: its claim has a smaller cap, or they have the same, and it has the lesser number
-abbrev pub ComesBefore : List Claim → ℕ → ℕ → Type 0
-ComesBefore claims number other = IsTrue (is_smaller (cap_at claims number) (cap_at claims other)) ⊎ ((cap_at claims number ≡ cap_at claims other) × (number < other))
-
--- the numbers of logs with these claims, each once, in the order in which they are merged
-pub record IsOrder (claims : List Claim) (order : List ℕ) : Type 0 where
-  pub all : IsPermutation order (range_with_len 0 (length claims))
-  pub sorted : (place later : ℕ) → place < later → later < length order → ComesBefore claims (slice_index_or order place 0) (slice_index_or order later 0)
+use Rattle.merged_nodes.specs.Merged.{IsMerged}
+use Rattle.merge_ends.specs.MergedClaims.{IsOrder, IsClaimWith}
+use Rattle.merge_checks.specs.CheckedLogs.{AreValidTo, IsRefusedToMerge}
 
 -- the bytes are a valid log of the plant with this claim, whose head declares this, and behind it stands this proof
 pub record IsLogToMerge (plant : Plant) (bytes : List ℕ) (declared : Declared) (tree : RowTree) (claim : Claim) : Type 0 where
@@ -60,30 +34,7 @@ pub record IsLogToMerge (plant : Plant) (bytes : List ℕ) (declared : Declared)
   pub own : Opened
   pub opened : IsOpened plant bytes own
   pub same_head : own.head.declared ≡ declared
-  pub text : IsLogText (front_of own.head) bytes tree
-
--- the same, whatever its proof and its claim
-abbrev pub IsValidWith : Plant → List ℕ → Declared → Type 0
-IsValidWith plant bytes declared = (claim : Claim) × (IsAnyChecked plant bytes (verdict.Yes claim) × ((own : Opened) × (IsOpened plant bytes own × (own.head.declared ≡ declared))))
-
--- the first logs, so many, are valid and declare this
-abbrev pub AreValidTo : Plant → (ℕ → List ℕ) → Declared → ℕ → Type 0
-AreValidTo plant logs declared count = (number : ℕ) → number < count → IsValidWith plant (logs number) declared
-
--- The bytes are a valid log, but its head is another than this: the defect is of kind 22, at the line on which the first sum, setup, cut or
--- row that differs begins, or line 1 where one head is a first part of the other.
-abbrev pub HasOtherHead : Plant → List ℕ → Declared → Defect → Type 0
-HasOtherHead plant bytes declared defect = (own : Declared) × (IsValidWith plant bytes own × (defect.kind ≡ 22) × IsOtherHead declared own defect.line)
-
--- the log of a number is refused where those before it declare this: it is not valid and has this first defect, or it is valid, not the first, and has another head
-abbrev pub IsRefusedLog : Plant → ℕ → List ℕ → Declared → Defect → Type 0
-IsRefusedLog plant number bytes declared defect = IsAnyChecked plant bytes (verdict.No defect) ⊎ ((0 < number) × HasOtherHead plant bytes declared defect)
-
--- a claim is that of a plan and of the cap of a proof, which is one
-abbrev pub IsClaimWith : Option ClaimedPlan → Capped → Claim → Type 0
-IsClaimWith plan NoPoint claim = claim ≡ claim_with plan None
-IsClaimWith plan (AtMost most) claim = claim ≡ claim_with plan (Some most)
-IsClaimWith plan Bad claim = ⊥
+  pub text : IsTextBehind (front_of own.head) bytes tree
 
 -- The bytes are the log that is merged of so many logs. Each of these is valid, and all have the same head; the bytes are the text of that
 -- head, of the proof that is merged of theirs in the order of the caps of their claims, and of the merged claim: the best of their plans,
@@ -118,7 +69,7 @@ pub record IsMergedLog (plant : Plant) (count : ℕ) (logs : ℕ → List ℕ) (
 abbrev pub IsMerging : Plant → ℕ → (ℕ → List ℕ) → List ℕ → Merged → Type 0
 IsMerging plant count logs bytes (Done claim) = IsMergedLog plant count logs claim bytes
 IsMerging plant count logs bytes (No number defect) =
-    (number < count) × ((declared : Declared) × (AreValidTo plant logs declared number × IsRefusedLog plant number (logs number) declared defect))
+    (number < count) × ((declared : Declared) × (AreValidTo plant logs declared number × IsRefusedToMerge plant number (logs number) declared defect))
 
 -- what merging comes to is right of the files before and after, where they are told
 abbrev pub IsMergingIn : Plant → ℕ → List ℕ → List ℕ → Option FileMap → Option FileMap → Merged → Type 0
@@ -130,9 +81,9 @@ MergeSays plant (Done claim) = SaysOfPlans plant claim
 MergeSays plant (No number defect) = ⊤
 
 -- a log was named that is refused
-abbrev pub IsNo : Merged → Type 0
-IsNo (Done claim) = ⊥
-IsNo (No number defect) = ⊤
+abbrev pub NamesRefused : Merged → Type 0
+NamesRefused (Done claim) = ⊥
+NamesRefused (No number defect) = ⊤
 
 -- the logs are all valid and have the same head, where the files are told
 abbrev pub AreMergeable : Plant → ℕ → List ℕ → Option FileMap → Type 0

@@ -1,5 +1,2 @@
--- What only clauses of private functions cite: the language wants the definitions of every clause in specs/.
-pub mod Looked
+-- What only clauses of what merges cite: the language wants the definitions of every clause in specs/.
 pub mod Written
-pub mod Checked
-pub mod Closing

@@ -8,17 +8,16 @@ ghost use Rattle.log_parts.specs.PartLogs.{logs_of};
 ghost use Rattle.valid_log.specs.declared.verdict.LogVerdict.TheVariants.{Yes};
 ghost use Rattle.valid_log.specs.Claims.{SaysOfPlans};
 ghost use Rattle.valid_log.specs.PlantLogs.{IsAnyChecked};
-ghost use Rattle.log_merging.specs.MergedLogs.{AreMergeable, IsMergedLog, IsMergingIn, IsNo, LeavesMerge, MergeSays};
-ghost use Rattle.log_merging.specs.laws.Checked.{AreCheckedTo, AreKnownTo};
+ghost use Rattle.log_merging.specs.MergedLogs.{AreMergeable, IsMergedLog, IsMergingIn, NamesRefused, LeavesMerge, MergeSays};
+ghost use Rattle.store_frames.specs.Frames.{OnlyReads, ReadsAndWritesOne};
+ghost use Rattle.merge_checks.specs.laws.Checked.{AreCheckedTo, AreKnownTo};
 
-use crate::checked::{Checked, Logs};
-use crate::checking::check_logs;
-use crate::claiming::{is_same_claim, suits};
 use crate::merged::Merged;
-use crate::ordering::in_order;
-use crate::writing::{Work, write_merged};
+use crate::writing::write_merged;
 use log_parts::{JoinStop, joined};
 use log_resuming::cap_of;
+use merge_checks::{Checked, Logs, check_logs};
+use merge_ends::{Work, in_order, is_same_claim, suits};
 use plant_check::check_stream;
 use proof_log::Claim;
 use std::alloc::Global;
@@ -53,7 +52,7 @@ pub fn merge<F: Shelf>(
 
     // What the merged claim says holds of all plans, whether the files are told or not.
     ensures says { IfOk result (MergeSays plant.now) }
-    ensures kept { IfOk result (λ said. IsNo said → F.files files.new ≡ F.files files.old) }
+    ensures kept { IfOk result (λ said. NamesRefused said → F.files files.new ≡ F.files files.old) }
     ensures left { LeavesMerge plant.now count stem.now (F.files files.old) (F.files files.new) }
     ensures others { OthersStay out.now (F.files files.old) (F.files files.new) }
     ensures read_fault { result ≡ Err JoinStop.ReadFault
@@ -102,11 +101,7 @@ fn merge_logs<F: Shelf>(
         (λ m. IfSome (F.files files.new) (λ n. IsMergedLog plant.now
         (length logs.fronts.items) (logs_of m stem.now) own (file_of n out.now))))) }
     ensures says { IfOk result (λ claim. IfSome claim (SaysOfPlans plant.now)) }
-    ensures others { OthersStay out.now (F.files files.old) (F.files files.new) }
-    ensures readable { F.may_read files.new ≡ F.may_read files.old }
-    ensures writable { F.may_write files.new ≡ F.may_write files.old }
-    ensures reads { F.read_faults files.old ≤ F.read_faults files.new }
-    ensures writes { F.write_faults files.old ≤ F.write_faults files.new }
+    ensures frame { ReadsAndWritesOne F.Shelf out.now files.old files.new }
     ensures read_fault { result ≡ Err JoinStop.ReadFault
         → Rose (F.read_faults files.old) (F.read_faults files.new) }
     ensures write_fault { result ≡ Err JoinStop.WriteFault
@@ -154,11 +149,7 @@ fn stands<F: Shelf>(
     ensures valid { IfOk result (λ valid. IsTrue valid → IfSome (F.files files.old)
         (λ m. IsAnyChecked plant.now (file_of m out.now) (Yes claim.now))) }
     ensures says { IfOk result (λ valid. IsTrue valid → SaysOfPlans plant.now claim.now) }
-    ensures same { F.files files.new ≡ F.files files.old }
-    ensures readable { F.may_read files.new ≡ F.may_read files.old }
-    ensures writable { F.may_write files.new ≡ F.may_write files.old }
-    ensures reads { F.read_faults files.old ≤ F.read_faults files.new }
-    ensures writes { F.write_faults files.new ≡ F.write_faults files.old }
+    ensures frame { OnlyReads F.Shelf files.old files.new }
     ensures read_fault { result ≡ Err JoinStop.ReadFault
         → Rose (F.read_faults files.old) (F.read_faults files.new) }
     ensures no_fault { result ≢ Err JoinStop.WriteFault }
@@ -184,12 +175,8 @@ fn look_again<F: Shelf>(
         → IsTrue (F.may_read files.old (log_name stem.now number)) }
     ensures merged { (out : List ℕ) → IfOk result
         (IsMergingIn plant.now count stem.now out (F.files files.old) (F.files files.new)) }
-    ensures no { IfOk result IsNo }
-    ensures same { F.files files.new ≡ F.files files.old }
-    ensures readable { F.may_read files.new ≡ F.may_read files.old }
-    ensures writable { F.may_write files.new ≡ F.may_write files.old }
-    ensures reads { F.read_faults files.old ≤ F.read_faults files.new }
-    ensures writes { F.write_faults files.new ≡ F.write_faults files.old }
+    ensures no { IfOk result NamesRefused }
+    ensures frame { OnlyReads F.Shelf files.old files.new }
     ensures read_fault { result ≡ Err JoinStop.ReadFault
         → Rose (F.read_faults files.old) (F.read_faults files.new) }
     ensures no_fault { result ≢ Err JoinStop.WriteFault }

@@ -7,8 +7,8 @@ use Rattle.stn_model.specs.declared.plant.Plant.{Plant}
 use Rattle.branch_tree.specs.Searched.{IsSearchable}
 use Rattle.log_lines.specs.declared.defect.Defect.{Defect}
 use Rattle.proof_log.specs.declared.claim.Claim.{Claim}
-use Rattle.log_growth.specs.declared.pair.Growth.{Growth}
-use Rattle.log_growth.specs.declared.pair.Share.{Share}
+use Rattle.log_growth.specs.declared.counts.Growth.{Growth}
+use Rattle.log_nodes.specs.declared.pair.Share.{Share}
 use Rattle.log_growth.specs.Logs.{AreGrown}
 use Rattle.log_parts.specs.declared.heads.LogHead.{LogHead}
 use Rattle.log_parts.proofs.Copies.{same_file}

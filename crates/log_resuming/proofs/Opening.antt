@@ -8,7 +8,7 @@ use Rattle.row_kit.specs.declared.program.Program.{Program}
 use Rattle.row_relax.specs.Choices.{plain}
 use Rattle.row_set.specs.PlantProgram.{IsMadeOf, IsProgramOf, plant_root}
 use Rattle.log_lines.specs.declared.grammar.Limits.{Limits}
-use Rattle.log_growth.proofs.Readings.{some_both, some_then}
+use Rattle.log_nodes.proofs.Readings.{some_both, some_then}
 use Rattle.log_parts.specs.declared.heads.LogFront.TheVariants as front
 use Rattle.log_parts.specs.declared.heads.LogHead.{LogHead}
 use Rattle.log_parts.specs.laws.Checked.{IsHeadFront, IsLogFront, IsSetUpFront, head_with, no_head}

@@ -6,7 +6,7 @@ use Rattle.row_kit.specs.declared.program.Program.{Program}
 use Rattle.row_relax.specs.declared.rows.Rows.{Rows}
 use Rattle.row_relax.specs.Choices.{plain}
 use Rattle.row_set.specs.PlantProgram.{IsMadeOf, IsProgramOf, plant_root}
-use Rattle.log_growth.specs.declared.whole.Front.{Front}
+use Rattle.log_nodes.specs.declared.front.Front.{Front}
 use Rattle.log_parts.specs.declared.heads.LogFront.TheVariants.{Whole}
 use Rattle.log_parts.specs.declared.heads.LogHead.{LogHead}
 use Rattle.log_parts.specs.laws.Checked.{IsHeadFront, IsLogFront, IsSetUpFront}

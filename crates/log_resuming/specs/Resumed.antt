@@ -8,10 +8,10 @@ use Rattle.row_relax.specs.View.{view_of}
 use Rattle.branch_tree.specs.Searched.{IsSearchable}
 use Rattle.proof_log.specs.declared.claim.Claim.{Claim}
 use Rattle.proof_log.specs.declared.claim.Claim.TheVariants.{Optimal, Infeasible, Between, Below}
-use Rattle.log_growth.specs.declared.pair.Growth.{Growth}
-use Rattle.log_growth.specs.declared.pair.Share.{Share}
+use Rattle.log_growth.specs.declared.counts.Growth.{Growth}
+use Rattle.log_nodes.specs.declared.pair.Share.{Share}
 use Rattle.log_growth.specs.Growth.{IsGrowth}
-use Rattle.log_growth.specs.Logs.{IsLogText}
+use Rattle.log_nodes.specs.Texts.{IsTextBehind}
 use Rattle.valid_log.specs.declared.verdict.LogVerdict.TheVariants as verdict
 use Rattle.valid_log.specs.Claims.{SaysOfPlans}
 use Rattle.valid_log.specs.PlantLogs.{IsAnyChecked}
@@ -64,8 +64,8 @@ pub record IsResumed (plant : Plant) (bytes bytes_out : List ℕ) (budget : ℕ)
   pub newest : out.head.version ≡ 4
   pub tree : RowTree
   pub grown : RowTree
-  pub text : IsLogText (front_of log.head) bytes tree
-  pub text_out : IsLogText (front_of out.head) bytes_out grown
+  pub text : IsTextBehind (front_of log.head) bytes tree
+  pub text_out : IsTextBehind (front_of out.head) bytes_out grown
   pub growth : Growth
   pub goes_on : IsGrowth log.rows (profit_of old_claim) share 0 0 (view_of log.rows.program.root) tree grown growth
   pub boxes_are : boxes ≡ growth.after

@@ -1,6 +1,7 @@
 //! The judgement of a log that was written.
 ghost use Rattle.std.specs.Prelude.{◌≡◌, ◌≤◌, Err, IsTrue, IfOk, IfSome, None, ◌+◌};
 ghost use Rattle.stn_edge.specs.Count.{Rose};
+ghost use Rattle.store_frames.specs.Frames.{OnlyReads};
 ghost use Rattle.stn_edge.specs.Files.{file_of};
 ghost use Rattle.stn_model.specs.Sound.{Sound};
 ghost use Rattle.branch_tree.specs.Searched.{IsSearchable};
@@ -14,7 +15,8 @@ use crate::opened::{Opened, open_log};
 use crate::resuming::Going;
 use branch_tree::is_searchable;
 use log_check::CheckStop;
-use log_growth::{Front, Growth, Pair, Share, growth};
+use log_growth::{Growth, growth};
+use log_nodes::{Front, Pair, Share};
 use log_parts::{LogHead, declares_same};
 use plant_check::check_stream;
 use proof_log::Claim;
@@ -97,11 +99,7 @@ pub fn judge<F: Shelf>(
         (λ m. Judges plant.now (file_of m going.entry.log.now) (file_of m going.entry.out.now)
         going.entry.budget going.entry.share opened.now old.now j.claim j.boxes))) }
     ensures says { IfOk result (λ judged. IfSome judged (λ j. SaysOfPlans plant.now j.claim)) }
-    ensures same { F.files files.new ≡ F.files files.old }
-    ensures readable { F.may_read files.new ≡ F.may_read files.old }
-    ensures writable { F.may_write files.new ≡ F.may_write files.old }
-    ensures later { F.read_faults files.old ≤ F.read_faults files.new }
-    ensures no_write { F.write_faults files.new ≡ F.write_faults files.old }
+    ensures frame { OnlyReads F.Shelf files.old files.new }
     ensures fault { result ≡ Err CheckStop.Fault
         → Rose (F.read_faults files.old) (F.read_faults files.new) }
 {
@@ -136,11 +134,7 @@ fn measure<F: Shelf>(
     ensures measured { IfOk result (λ boxes. IfSome boxes (λ n. IfSome (F.files files.old)
         (λ m. IsMeasured (file_of m going.entry.log.now) (file_of m going.entry.out.now)
         going.entry.budget going.entry.share opened.now head.now old.now new.now n))) }
-    ensures same { F.files files.new ≡ F.files files.old }
-    ensures readable { F.may_read files.new ≡ F.may_read files.old }
-    ensures writable { F.may_write files.new ≡ F.may_write files.old }
-    ensures later { F.read_faults files.old ≤ F.read_faults files.new }
-    ensures no_write { F.write_faults files.new ≡ F.write_faults files.old }
+    ensures frame { OnlyReads F.Shelf files.old files.new }
     ensures fault { result ≡ Err CheckStop.Fault
         → Rose (F.read_faults files.old) (F.read_faults files.new) }
 {

@@ -1,6 +1,7 @@
 //! The head of a log, and the rows that its proof is over.
-ghost use Rattle.std.specs.Prelude.{◌≡◌, ◌≢◌, ◌≤◌, Err, IsTrue, IfOk, IfSome};
+ghost use Rattle.std.specs.Prelude.{◌≡◌, ◌≢◌, Err, IsTrue, IfOk, IfSome};
 ghost use Rattle.stn_edge.specs.Count.{Rose};
+ghost use Rattle.store_frames.specs.Frames.{OnlyReads};
 ghost use Rattle.stn_edge.specs.Files.{file_of};
 ghost use Rattle.stn_model.specs.Sound.{Sound};
 ghost use Rattle.row_set.specs.Parts.{IsPartOf};
@@ -45,11 +46,7 @@ pub fn open_log<F: Shelf>(
         (λ m. IsOpened plant.now (file_of m name.now) o))) }
     ensures lines { IfOk result (λ opened. IfSome opened
         (λ o. o.head.lines ≡ lines_on o.head.declared)) }
-    ensures same { F.files files.new ≡ F.files files.old }
-    ensures readable { F.may_read files.new ≡ F.may_read files.old }
-    ensures writable { F.may_write files.new ≡ F.may_write files.old }
-    ensures later { F.read_faults files.old ≤ F.read_faults files.new }
-    ensures no_write { F.write_faults files.new ≡ F.write_faults files.old }
+    ensures frame { OnlyReads F.Shelf files.old files.new }
     ensures fault { result ≡ Err CheckStop.Fault
         → Rose (F.read_faults files.old) (F.read_faults files.new) }
 {
@@ -75,11 +72,7 @@ fn open_over<F: Shelf>(
         (λ m. IsOpenedOver plant.now program judged.now (file_of m name.now) o))) }
     ensures lines { IfOk result (λ opened. IfSome opened
         (λ o. o.head.lines ≡ lines_on o.head.declared)) }
-    ensures same { F.files files.new ≡ F.files files.old }
-    ensures readable { F.may_read files.new ≡ F.may_read files.old }
-    ensures writable { F.may_write files.new ≡ F.may_write files.old }
-    ensures later { F.read_faults files.old ≤ F.read_faults files.new }
-    ensures no_write { F.write_faults files.new ≡ F.write_faults files.old }
+    ensures frame { OnlyReads F.Shelf files.old files.new }
     ensures fault { result ≡ Err CheckStop.Fault
         → Rose (F.read_faults files.old) (F.read_faults files.new) }
 {
@@ -116,11 +109,7 @@ fn open_headed<F: Shelf>(
         (λ m. IsOpenedHead plant.now program judged.now (file_of m name.now) head o))) }
     ensures lines { IfOk result (λ opened. IfSome opened
         (λ o. o.head.lines ≡ lines_on o.head.declared)) }
-    ensures same { F.files files.new ≡ F.files files.old }
-    ensures readable { F.may_read files.new ≡ F.may_read files.old }
-    ensures writable { F.may_write files.new ≡ F.may_write files.old }
-    ensures later { F.read_faults files.old ≤ F.read_faults files.new }
-    ensures no_write { F.write_faults files.new ≡ F.write_faults files.old }
+    ensures frame { OnlyReads F.Shelf files.old files.new }
     ensures fault { result ≡ Err CheckStop.Fault
         → Rose (F.read_faults files.old) (F.read_faults files.new) }
 {
@@ -153,11 +142,7 @@ fn open_set_up<F: Shelf>(
         (λ m. IsOpenedSetUp plant.now program judged.now (file_of m name.now) setups o))) }
     ensures lines { IfOk result (λ opened. IfSome opened
         (λ o. o.head.lines ≡ lines_on o.head.declared)) }
-    ensures same { F.files files.new ≡ F.files files.old }
-    ensures readable { F.may_read files.new ≡ F.may_read files.old }
-    ensures writable { F.may_write files.new ≡ F.may_write files.old }
-    ensures later { F.read_faults files.old ≤ F.read_faults files.new }
-    ensures no_write { F.write_faults files.new ≡ F.write_faults files.old }
+    ensures frame { OnlyReads F.Shelf files.old files.new }
     ensures fault { result ≡ Err CheckStop.Fault
         → Rose (F.read_faults files.old) (F.read_faults files.new) }
 {

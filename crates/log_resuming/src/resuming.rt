@@ -1,9 +1,10 @@
 //! Going on from a log.
 ghost use Rattle.std.specs.Prelude.{◌≡◌, ◌≢◌, ◌≤◌, ℕ, Option, Err, IsTrue, IfOk, IfSome};
 ghost use Rattle.stn_edge.specs.Count.{Rose};
+ghost use Rattle.store_frames.specs.Frames.{OnlyReads, ReadsAndWritesOne};
 ghost use Rattle.stn_edge.specs.Files.{OthersStay, file_of};
 ghost use Rattle.stn_model.specs.Sound.{Sound};
-ghost use Rattle.log_growth.specs.declared.pair.Share.{Share};
+ghost use Rattle.log_nodes.specs.declared.pair.Share.{Share};
 ghost use Rattle.valid_log.specs.declared.verdict.LogVerdict.TheVariants.{Yes};
 ghost use Rattle.valid_log.specs.PlantLogs.{IsAnyChecked};
 ghost use Rattle.log_resuming.specs.Opened.{IsOpened};
@@ -14,7 +15,7 @@ use crate::numbers::profit_of;
 use crate::opened::{Opened, open_log};
 use crate::resumed::Resumed;
 use end_advice::EndAdvisers;
-use log_growth::{Pair, Share};
+use log_nodes::{Pair, Share};
 use log_parts::{JoinStop, head_text};
 use plant_check::check_stream;
 use proof_log::Claim;
@@ -91,11 +92,7 @@ fn go_on<A: EndAdvisers, F: Shelf>(
     ensures resumed { IfOk result (IsResumingIn plant.now going.entry.budget going.entry.share
         going.entry.log.now going.entry.out.now (F.files files.old) (F.files files.new)) }
     ensures says { IfOk result (ResumedSays plant.now) }
-    ensures others { OthersStay going.entry.out.now (F.files files.old) (F.files files.new) }
-    ensures readable { F.may_read files.new ≡ F.may_read files.old }
-    ensures writable { F.may_write files.new ≡ F.may_write files.old }
-    ensures reads { F.read_faults files.old ≤ F.read_faults files.new }
-    ensures writes { F.write_faults files.old ≤ F.write_faults files.new }
+    ensures frame { ReadsAndWritesOne F.Shelf going.entry.out.now files.old files.new }
     ensures read_fault { result ≡ Err JoinStop.ReadFault
         → Rose (F.read_faults files.old) (F.read_faults files.new) }
     ensures write_fault { result ≡ Err JoinStop.WriteFault
@@ -128,11 +125,7 @@ fn go_on_opened<A: EndAdvisers, F: Shelf>(
     ensures resumed { IfOk result (IsResumingIn plant.now going.entry.budget going.entry.share
         going.entry.log.now going.entry.out.now (F.files files.old) (F.files files.new)) }
     ensures says { IfOk result (ResumedSays plant.now) }
-    ensures others { OthersStay going.entry.out.now (F.files files.old) (F.files files.new) }
-    ensures readable { F.may_read files.new ≡ F.may_read files.old }
-    ensures writable { F.may_write files.new ≡ F.may_write files.old }
-    ensures reads { F.read_faults files.old ≤ F.read_faults files.new }
-    ensures writes { F.write_faults files.old ≤ F.write_faults files.new }
+    ensures frame { ReadsAndWritesOne F.Shelf going.entry.out.now files.old files.new }
     ensures read_fault { result ≡ Err JoinStop.ReadFault
         → Rose (F.read_faults files.old) (F.read_faults files.new) }
     ensures write_fault { result ≡ Err JoinStop.WriteFault
@@ -160,11 +153,7 @@ fn look_again<F: Shelf>(
         (IsResumingIn plant.now budget share going.entry.log.now going.entry.out.now
         (F.files files.old) (F.files files.new)) }
     ensures says { IfOk result (ResumedSays plant.now) }
-    ensures same { F.files files.new ≡ F.files files.old }
-    ensures readable { F.may_read files.new ≡ F.may_read files.old }
-    ensures writable { F.may_write files.new ≡ F.may_write files.old }
-    ensures reads { F.read_faults files.old ≤ F.read_faults files.new }
-    ensures writes { F.write_faults files.new ≡ F.write_faults files.old }
+    ensures frame { OnlyReads F.Shelf files.old files.new }
     ensures read_fault { result ≡ Err JoinStop.ReadFault
         → Rose (F.read_faults files.old) (F.read_faults files.new) }
     ensures no_fault { result ≢ Err JoinStop.WriteFault }
@@ -186,11 +175,7 @@ fn write_out<A: EndAdvisers, F: Shelf>(
     requires log_readable { IsTrue (F.may_read files.old going.log.now) }
     requires out_writable { IsTrue (F.may_write files.old going.out.now) }
     requires apart { going.out.now ≢ going.log.now }
-    ensures others { OthersStay going.entry.out.now (F.files files.old) (F.files files.new) }
-    ensures readable { F.may_read files.new ≡ F.may_read files.old }
-    ensures writable { F.may_write files.new ≡ F.may_write files.old }
-    ensures reads { F.read_faults files.old ≤ F.read_faults files.new }
-    ensures writes { F.write_faults files.old ≤ F.write_faults files.new }
+    ensures frame { ReadsAndWritesOne F.Shelf going.entry.out.now files.old files.new }
     ensures read_fault { result ≡ Err JoinStop.ReadFault
         → Rose (F.read_faults files.old) (F.read_faults files.new) }
     ensures write_fault { result ≡ Err JoinStop.WriteFault

@@ -14,6 +14,7 @@ use Rattle.row_relax.specs.Choices.{plain}
 use Rattle.row_relax.specs.RowProofs.{RowItem, RowTree}
 use Rattle.row_relax.proofs.Choosing.{plain-rows}
 use Rattle.proof_tree.specs.Items.{tree_items}
+use Rattle.branch_tree.specs.Searched.{IsWritable}
 use Rattle.log_lines.specs.declared.line.Line.TheVariants.{Header, End}
 use Rattle.proof_log.specs.declared.claim.Claim.{Claim}
 use Rattle.proof_log.specs.Log.{claim_lines, item_lines, lines_text, log_lines, log_text}
@@ -22,9 +23,10 @@ use Rattle.proof_log.specs.Writer.{Broke, IsWhole, KeepsOthers, Took, Writing, w
 use Rattle.proof_log.proofs.Lines.{lines_text-append}
 use Rattle.proof_log.proofs.Writing.{IsWhole-took}
 use Rattle.sum_slots.specs.declared.sum.Sum.{Sum}
+use Rattle.sum_choice.specs.Headed.{is_headed}
 use Rattle.derivations.specs.declared.derivation.Derivation.{Derivation}
 use Rattle.plan_told.specs.Heads.{CanHead, whole_head}
-use Rattle.plan_told.specs.Proofs.{LeavesSomeBegun, IsSomeLogBegun, bytes_in}
+use Rattle.plan_told.specs.Proofs.{IsLogText, LeavesSomeBegun, IsSomeLogBegun, bytes_in}
 use Rattle.logged_search.specs.Logging.{IsBegun, IsLogged, LeavesBegun, stored}
 use Rattle.logged_search.proofs.BegunLog.{begun-finish, begun-took}
 
@@ -113,44 +115,51 @@ pub logged-as : {Is Was : RowTree → Type 0} (rows : Rows) (floors : Bool) (hea
 logged-as rows floors head name at then' is =
     record { tree = is.tree; is = then' is.tree is.is; writable = is.writable; named = is.named; first = is.first; header = is.header; took = is.took }
 
--- a log with the header that was begun is one of version 2
-plain_begun : (plant : Plant) (part : Program) (judged : List Domain) (bytes : List ℕ) → IsBegun (plain part) false (lines_text (Header 2 ∷ [])) bytes → IsSomeLogBegun plant part judged bytes
-plain_begun plant part judged bytes begun = record {
-  sums = [];
-  units = [];
-  derivations = [];
-  rows = plain part;
-  tree = begun.tree;
-  own = begun.claim;
-  rest = begun.rest;
-  is = inl ((refl, refl, refl, refl, begun.text ∙ plain-text (tree_items begun.tree) begun.claim), begun.writable);
+-- what was begun is a first part of the part's log, with a head or without one as that has
+some_begun : (headed : Bool) (plant : Plant) (part : Program) (rows : Rows) (judged : List Domain) (levels : ℕ) (sums : List Sum) (units : List ℕ) (derivations : List Derivation) (tree : RowTree) (own : Claim) (bytes rest : List ℕ) → is_headed part levels ≡ headed
+    → IsLogText headed plant part judged sums units derivations rows tree own (bytes ++ rest) → IsWritable rows headed tree → IsSomeLogBegun plant part judged levels bytes
+some_begun headed plant part rows judged levels sums units derivations tree own bytes rest has is writable = record {
+  sums = sums;
+  units = units;
+  derivations = derivations;
+  rows = rows;
+  tree = tree;
+  own = own;
+  rest = rest;
+  is = subst (λ (h : Bool). IsLogText h plant part judged sums units derivations rows tree own (bytes ++ rest)) (sym has) is;
+  writable = subst (λ (h : Bool). IsWritable rows h tree) (sym has) writable;
 }
 
--- so it is what an attempt leaves that did not end
-pub plain-told : (plant : Plant) (rows : Rows) (judged : List Domain) (head name : List ℕ) (files : Option FileMap) → rows.choices ≡ None → head ≡ lines_text (Header 2 ∷ []) → IfSome (bytes_in name files) (IsBegun rows false head)
-    → IfSome (bytes_in name files) (IsSomeLogBegun plant rows.program judged)
-plain-told plant rows judged head name files none is begun =
-    told_weaker (bytes_in name files) (IsBegun rows false head) (IsSomeLogBegun plant rows.program judged)
-    (λ bytes b. plain_begun plant rows.program judged bytes (subst (λ (r : Rows). IsBegun r false (lines_text (Header 2 ∷ [])) bytes) (plain-rows rows none) (subst (λ (h : List ℕ). IsBegun rows false h bytes) is b))) begun
-
-pub plain-left : (plant : Plant) (rows : Rows) (judged : List Domain) (head name : List ℕ) (old new : Option FileMap) → rows.choices ≡ None → head ≡ lines_text (Header 2 ∷ []) → LeavesBegun rows false head name old new
-    → LeavesSomeBegun plant rows.program judged name old new
-plain-left plant rows judged head name old new none is (inl same) = inl same
-plain-left plant rows judged head name old new none is (inr begun) = inr (plain-told plant rows judged head name new none is begun)
-
-module _ (plant : Plant) (part : Program) (rows : Rows) (judged : List Domain) (sums : List Sum) (units : List ℕ) (derivations : List Derivation) (head name : List ℕ) (can : CanHead plant part judged sums units derivations rows)
-    (is : head ≡ whole_head sums units derivations) where
-  -- a log with a head that was begun is one of version 4
-  headed_begun : (bytes : List ℕ) → IsBegun rows true head bytes → IsSomeLogBegun plant part judged bytes
-  headed_begun bytes given =
-      let begun = subst (λ (h : List ℕ). IsBegun rows true h bytes) is given in
-      record { sums = sums; units = units; derivations = derivations; rows = rows; tree = begun.tree; own = begun.claim; rest = begun.rest; is = inr ((can.enlarged, begun.text), begun.writable) }
+module _ (plant : Plant) (rows : Rows) (judged : List Domain) (levels : ℕ) (head name : List ℕ) (bare : rows.choices ≡ None) (none : is_headed rows.program levels ≡ false) (is : head ≡ lines_text (Header 2 ∷ [])) where
+  -- a log with the header that was begun is one of version 2
+  plain_begun : (bytes : List ℕ) → IsBegun rows false head bytes → IsSomeLogBegun plant rows.program judged levels bytes
+  plain_begun bytes given =
+      let begun : IsBegun (plain rows.program) false (lines_text (Header 2 ∷ [])) bytes =
+      subst (λ (r : Rows). IsBegun r false (lines_text (Header 2 ∷ [])) bytes) (plain-rows rows bare) (subst (λ (h : List ℕ). IsBegun rows false h bytes) is given) in
+      some_begun false plant rows.program (plain rows.program) judged levels [] [] [] begun.tree begun.claim bytes begun.rest none
+      (refl, refl, refl, refl, begun.text ∙ plain-text (tree_items begun.tree) begun.claim) begun.writable
 
   -- so it is what an attempt leaves that did not end
-  pub headed-told : (files : Option FileMap) → IfSome (bytes_in name files) (IsBegun rows true head) → IfSome (bytes_in name files) (IsSomeLogBegun plant part judged)
-  headed-told files begun = told_weaker (bytes_in name files) (IsBegun rows true head) (IsSomeLogBegun plant part judged) headed_begun begun
+  pub plain-told : (files : Option FileMap) → IfSome (bytes_in name files) (IsBegun rows false head) → IfSome (bytes_in name files) (IsSomeLogBegun plant rows.program judged levels)
+  plain-told files begun = told_weaker (bytes_in name files) (IsBegun rows false head) (IsSomeLogBegun plant rows.program judged levels) plain_begun begun
 
-  pub headed-left : (old new : Option FileMap) → LeavesBegun rows true head name old new → LeavesSomeBegun plant part judged name old new
+  pub plain-left : (old new : Option FileMap) → LeavesBegun rows false head name old new → LeavesSomeBegun plant rows.program judged levels name old new
+  plain-left old new (inl same) = inl same
+  plain-left old new (inr begun) = inr (plain-told new begun)
+
+module _ (plant : Plant) (part : Program) (rows : Rows) (judged : List Domain) (levels : ℕ) (sums : List Sum) (units : List ℕ) (derivations : List Derivation) (head name : List ℕ) (can : CanHead plant part judged sums units derivations rows)
+    (has : is_headed part levels ≡ true) (is : head ≡ whole_head sums units derivations) where
+  -- a log with a head that was begun is one of version 4
+  headed_begun : (bytes : List ℕ) → IsBegun rows true head bytes → IsSomeLogBegun plant part judged levels bytes
+  headed_begun bytes given =
+      let begun = subst (λ (h : List ℕ). IsBegun rows true h bytes) is given in
+      some_begun true plant part rows judged levels sums units derivations begun.tree begun.claim bytes begun.rest has (can.enlarged, begun.text) begun.writable
+
+  -- so it is what an attempt leaves that did not end
+  pub headed-told : (files : Option FileMap) → IfSome (bytes_in name files) (IsBegun rows true head) → IfSome (bytes_in name files) (IsSomeLogBegun plant part judged levels)
+  headed-told files begun = told_weaker (bytes_in name files) (IsBegun rows true head) (IsSomeLogBegun plant part judged levels) headed_begun begun
+
+  pub headed-left : (old new : Option FileMap) → LeavesBegun rows true head name old new → LeavesSomeBegun plant part judged levels name old new
   headed-left old new (inl same) = inl same
   headed-left old new (inr begun) = inr (headed-told new begun)
 

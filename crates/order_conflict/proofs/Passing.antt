@@ -21,7 +21,7 @@ use Rattle.order_text.specs.declared.mark.Mark.TheVariants.{Out, Needed, Open}
 use Rattle.order_text.specs.Marks.{is_left, left_of}
 use Rattle.order_conflict.specs.declared.answer.ConflictAnswer.{ConflictAnswer}
 use Rattle.order_conflict.specs.declared.answer.ConflictAnswer.TheVariants as said
-use Rattle.order_conflict.specs.Conflict.{left_plant, without, mark_of, MarkSays, TrialSays, AreMarks, IsConflict, planned}
+use Rattle.order_conflict.specs.Conflict.{left_plant, left_without, mark_of, MarkSays, TrialSays, AreMarks, IsConflict, planned}
 use Rattle.order_conflict.specs.Passes.{all_open, IsMarkedAnew, IsPassed}
 
 -- a right answer of planning without a delivery says what its mark says
@@ -53,14 +53,14 @@ not_planned plant budget used (answer.BudgetSpent None earned cap) right is = ab
 not_planned plant budget used (answer.BudgetSpent (Some plan) earned cap) right is = absurd cc
 
 -- a delivery that is left was marked anew
-pub settled_by : (plant : Plant) (budget place : ℕ) (old : List Mark) (mark : Mark) → is_left (get_or old place Out) ≡ true → TrialSays mark budget (alone plant (without place old))
+pub settled_by : (plant : Plant) (budget place : ℕ) (old : List Mark) (mark : Mark) → is_left (get_or old place Out) ≡ true → TrialSays mark budget (alone plant (left_without place old))
     → IsMarkedAnew plant budget place old (set old place mark) (not (is_left mark))
 settled_by plant budget place old Out left says = (left, refl, says)
 settled_by plant budget place old Needed left says = inr (Needed, (left, refl, refl, says))
 settled_by plant budget place old Open left says = inr (Open, (left, refl, refl, says))
 
 -- the deliveries that are left, when one goes
-gone : (marks : List Mark) (place : ℕ) → left_of (set marks place Out) ≡ without place marks
+gone : (marks : List Mark) (place : ℕ) → left_of (set marks place Out) ≡ left_without place marks
 gone marks place = map-set is_left marks place Out
 
 -- and when one stays
@@ -87,11 +87,11 @@ up_to P place before here k below =
 
 -- what the mark at a place says of the plant without that delivery
 abbrev SaysAt : Plant → ℕ → List Mark → ℕ → Type 0
-SaysAt plant budget marks k = MarkSays (get_or marks k Out) budget (alone plant (without k marks))
+SaysAt plant budget marks k = MarkSays (get_or marks k Out) budget (alone plant (left_without k marks))
 
 -- a pass goes on past a delivery that goes
 passed_out : (plant : Plant) (budget : ℕ) (old now : List Mark) (changed : Bool) (place : ℕ) → place < length now → IsPassed plant budget old now changed place
-    → is_left (get_or now place Out) ≡ true → NoPlan (alone plant (without place now)) → IsPassed plant budget old (set now place Out) true (place + 1)
+    → is_left (get_or now place Out) ≡ true → NoPlan (alone plant (left_without place now)) → IsPassed plant budget old (set now place Out) true (place + 1)
 passed_out plant budget old now changed place within passed left none =
     let one = counted_out now place within left in
     let most = passed.most in
@@ -112,17 +112,17 @@ passed_same plant budget old now changed place passed out =
       none = passed.none;
       most = passed.most;
       fewer = passed.fewer;
-      says = λ e. up_to (SaysAt plant budget now) place (passed.says e) (subst (λ (mark : Mark). MarkSays mark budget (alone plant (without place now))) (sym out) tt);
+      says = λ e. up_to (SaysAt plant budget now) place (passed.says e) (subst (λ (mark : Mark). MarkSays mark budget (alone plant (left_without place now))) (sym out) tt);
     }
 
 -- and past one that stays
 passed_kept : (plant : Plant) (budget : ℕ) (old now : List Mark) (changed : Bool) (place : ℕ) (mark : Mark) → place < length now → IsPassed plant budget old now changed place
-    → is_left (get_or now place Out) ≡ true → is_left mark ≡ true → MarkSays mark budget (alone plant (without place now)) → IsPassed plant budget old (set now place mark) changed (place + 1)
+    → is_left (get_or now place Out) ≡ true → is_left mark ≡ true → MarkSays mark budget (alone plant (left_without place now)) → IsPassed plant budget old (set now place mark) changed (place + 1)
 passed_kept plant budget old now changed place mark within passed before after says =
     let same : left_of (set now place mark) ≡ left_of now = stays now place mark before after in
     let count = counted_in now place mark within before after in
     let most = passed.most in
-    let others : (k : ℕ) → without k (set now place mark) ≡ without k now = λ k. ap (λ (kept : List Bool). set kept k false) same in
+    let others : (k : ℕ) → left_without k (set now place mark) ≡ left_without k now = λ k. ap (λ (kept : List Bool). set kept k false) same in
     record {
       each = length-set now place mark ∙ passed.each;
       none = subst (λ (kept : List Bool). NoPlan (alone plant kept)) (sym same) passed.none;

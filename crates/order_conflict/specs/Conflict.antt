@@ -21,12 +21,12 @@ abbrev pub left_plant : Plant → List Mark → Plant
 left_plant plant marks = alone plant (left_of marks)
 
 -- which deliveries are left, without the one at a place
-abbrev pub without : ℕ → List Mark → List Bool
-without place marks = slice_set (left_of marks) place false
+abbrev pub left_without : ℕ → List Mark → List Bool
+left_without place marks = slice_set (left_of marks) place false
 
 -- some plan is feasible
-abbrev pub HasPlan : Plant → Type 0
-HasPlan plant = (plan : List Start) × Feasible plant plan
+abbrev pub CanBeMet : Plant → Type 0
+CanBeMet plant = (plan : List Start) × Feasible plant plan
 
 -- the budget was spent before a plan was found
 abbrev pub FoundNone : Answer → Type 0
@@ -36,7 +36,7 @@ FoundNone (BudgetSpent None earned cap) = ⊤
 FoundNone (BudgetSpent (Some plan) earned cap) = ⊥
 
 -- planning the plant spent its budget before it found a plan
-pub record IsOpen (plant : Plant) (budget : ℕ) : Type 0 where
+pub record EndsOpen (plant : Plant) (budget : ℕ) : Type 0 where
   pub outcome : Outcome
   pub right : IsOutcome plant budget outcome
   pub none : FoundNone outcome.answer
@@ -51,21 +51,21 @@ mark_of (BudgetSpent (Some plan) earned cap) = Needed
 -- what the mark of a delivery that is left says of the plant without it: some plan is feasible, or it is open
 abbrev pub MarkSays : Mark → ℕ → Plant → Type 0
 MarkSays Out budget others = ⊤
-MarkSays Needed budget others = HasPlan others
-MarkSays Open budget others = IsOpen others budget
+MarkSays Needed budget others = CanBeMet others
+MarkSays Open budget others = EndsOpen others budget
 
 -- what the mark that planning without a delivery leads to says of the plant without it
 abbrev pub TrialSays : Mark → ℕ → Plant → Type 0
 TrialSays Out budget others = NoPlan others
-TrialSays Needed budget others = HasPlan others
-TrialSays Open budget others = IsOpen others budget
+TrialSays Needed budget others = CanBeMet others
+TrialSays Open budget others = EndsOpen others budget
 
 -- The marks are right: no plan meets all the deliveries that are left, and without any one of them that is not open some plan meets the
 -- others. Where none is left, no plan is feasible even without deliveries.
 pub record AreMarks (plant : Plant) (budget : ℕ) (marks : List Mark) : Type 0 where
   pub each : length marks ≡ length plant.deliveries
   pub none : NoPlan (left_plant plant marks)
-  pub says : (place : ℕ) → place < length marks → MarkSays (slice_index_or marks place Out) budget (alone plant (without place marks))
+  pub says : (place : ℕ) → place < length marks → MarkSays (slice_index_or marks place Out) budget (alone plant (left_without place marks))
 
 -- what planning the whole plant answers: a plan, or that it is not settled; nothing where no plan is feasible
 abbrev pub planned : Answer → Option ConflictAnswer
@@ -78,6 +78,6 @@ planned (BudgetSpent (Some plan) earned cap) = Some (Planned earned plan)
 -- feasible, and the marks are right. Nothing is to be proved, so nothing stays unproved.
 abbrev pub IsConflict : Plant → ℕ → ConflictAnswer → Type 0
 IsConflict plant budget (Planned earned plan) = Feasible plant plan × (profit plant plan ≡ earned)
-IsConflict plant budget Unsettled = IsOpen plant budget
+IsConflict plant budget Unsettled = EndsOpen plant budget
 IsConflict plant budget (Among marks) = NoPlan plant × AreMarks plant budget marks.items
 IsConflict plant budget (Unproved marks) = ⊥

@@ -24,14 +24,14 @@ proved Infeasible marks = Among marks
 proved (BudgetSpent plan earned cap) marks = Unproved marks
 
 -- Planning the plant came to this outcome, and there is a proof of it; where bytes are told, they are the text of its log.
-pub record IsProved (plant : Plant) (budget : ℕ) (log : Option (List ℕ)) (outcome : Outcome) : Type 0 where
+pub record HasOutcomeProof (plant : Plant) (budget : ℕ) (log : Option (List ℕ)) (outcome : Outcome) : Type 0 where
   pub right : IsOutcome plant budget outcome
   pub proof : HasPlantProof plant log outcome
 
 -- the file is the log of an outcome of planning the deliveries that are left alone
 pub record HoldsLogOf (plant : Plant) (budget : ℕ) (log : Option (List ℕ)) (marks : List Mark) (Says : Answer → Type 0) : Type 0 where
   pub outcome : Outcome
-  pub proved : IsProved (left_plant plant marks) budget log outcome
+  pub proved : HasOutcomeProof (left_plant plant marks) budget log outcome
   pub says : Says outcome.answer
 
 -- the file of this name is as it was
@@ -48,9 +48,9 @@ IsLogOf plant budget name old new (Unproved marks) = IsConflict plant budget (Am
 
 -- the bytes are a first part of a log over the plant's program
 abbrev pub IsBegunLog : Plant → Option (List ℕ) → Type 0
-IsBegunLog plant log = (program : Program) × (IsMadeOf plant program × (IsProgramOf plant program × IfSome log (IsSomeLogBegun plant program (plant_root plant))))
+IsBegunLog plant log = (program : Program) × (IsMadeOf plant program × (IsProgramOf plant program × IfSome log (IsSomeLogBegun plant program (plant_root plant) 0)))
 
 -- what is left of an answer that was not reached: the file as it was, or the log of right marks, begun
-abbrev pub LeavesLog : Plant → ℕ → List ℕ → Option FileMap → Option FileMap → Type 0
-LeavesLog plant budget name old new =
+abbrev pub LeavesStepLog : Plant → ℕ → List ℕ → Option FileMap → Option FileMap → Type 0
+LeavesStepLog plant budget name old new =
     FileStays name old new ⊎ ((marks : List Mark) × (AreMarks plant budget marks × IsBegunLog (left_plant plant marks) (bytes_in name new)))

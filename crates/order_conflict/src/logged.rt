@@ -5,7 +5,7 @@ ghost use Rattle.stn_edge.specs.Files.{OthersStay};
 ghost use Rattle.stn_model.specs.Sound.{Sound};
 ghost use Rattle.stn_model.specs.Best.{NoPlan};
 ghost use Rattle.order_conflict.specs.Conflict.{AreMarks};
-ghost use Rattle.order_conflict.specs.Logged.{proved, IsLogOf, LeavesLog};
+ghost use Rattle.order_conflict.specs.Logged.{proved, IsLogOf, LeavesStepLog};
 
 use crate::answer::ConflictAnswer;
 use crate::passes::conflict;
@@ -33,7 +33,7 @@ pub fn conflict_to<A: Advisers, F: Shelf>(
     requires allowed { IsTrue (F.may_write files.old name.now) }
     ensures log { IfOk result (IsLogOf plant.now budget name.now
         (F.files files.old) (F.files files.new)) }
-    ensures err { OnErr result (LeavesLog plant.now budget name.now
+    ensures err { OnErr result (LeavesStepLog plant.now budget name.now
         (F.files files.old) (F.files files.new)) }
     ensures others { OthersStay name.now (F.files files.old) (F.files files.new) }
     ensures readable { F.may_read files.new ≡ F.may_read files.old }
@@ -70,7 +70,7 @@ fn prove_marks<A: Advisers, F: Shelf>(
     requires none { NoPlan plant.now }
     ensures log { IfOk result (IsLogOf plant.now budget name.now
         (F.files files.old) (F.files files.new)) }
-    ensures err { OnErr result (LeavesLog plant.now budget name.now
+    ensures err { OnErr result (LeavesStepLog plant.now budget name.now
         (F.files files.old) (F.files files.new)) }
     ensures others { OthersStay name.now (F.files files.old) (F.files files.new) }
     ensures readable { F.may_read files.new ≡ F.may_read files.old }

@@ -3,7 +3,7 @@ ghost use Rattle.std.specs.Prelude.{◌≡◌, ◌≤◌, ◌<◌, length, IfOk}
 ghost use Rattle.stn_model.specs.Sound.{Sound};
 ghost use Rattle.fewer_orders.specs.Alone.{alone};
 ghost use Rattle.order_text.specs.Marks.{left_of};
-ghost use Rattle.order_conflict.specs.Conflict.{mark_of, without, TrialSays};
+ghost use Rattle.order_conflict.specs.Conflict.{mark_of, left_without, TrialSays};
 
 use box_advice::Advisers;
 use fewer_orders::alone;
@@ -25,7 +25,7 @@ pub fn trial<A: Advisers>(
     requires each { length marks.now ≡ length plant.now.deliveries }
     requires within { place < length marks.now }
     ensures { IfOk result (λ mark. TrialSays mark budget (alone plant.now
-        (without place marks.now))) }
+        (left_without place marks.now))) }
 {
     let kept = kept_without(alloc, marks, place)?;
     let fewer = alone(alloc, plant, kept.as_slice())?;
@@ -36,7 +36,7 @@ pub fn trial<A: Advisers>(
 // Which deliveries are left, without the one at a place.
 fn kept_without(alloc: Global, marks: &[Mark], place: usize) -> Result<Vec<bool>, AllocError>
     requires { place < length marks.now }
-    ensures { IfOk result (λ kept. kept.items ≡ without place marks.now) }
+    ensures { IfOk result (λ kept. kept.items ≡ left_without place marks.now) }
 {
     let mut kept = kept_of(alloc, marks)?;
     kept[place] = false;

@@ -3,7 +3,8 @@
 ghost use Rattle.std.specs.Prelude.{◌≡◌, ◌≢◌, ◌≤◌, [], ℕ, List, Ok, Err, IsTrue};
 ghost use Rattle.stn_model.specs.Sound.{Sound};
 ghost use Rattle.plant_text.specs.Reading.{reading};
-ghost use Rattle.command_replies.specs.Frames.{HadReadFault, OnlyReads};
+ghost use Rattle.command_replies.specs.Frames.{HadReadFault};
+ghost use Rattle.store_frames.specs.Frames.{OnlyReads};
 ghost use Rattle.command_replies.specs.Answers.{IsPlanAnswer};
 ghost use Rattle.command_replies.specs.Sources.{IfReplied, IsReadOf};
 ghost use Rattle.answer_texts.specs.Simulation.{Simulated};

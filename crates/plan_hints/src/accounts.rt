@@ -60,9 +60,14 @@ impl Accounts {
         self.cap = cap;
     }
 
+    /// Notes that plans were looked for before: no box is a first one.
+    pub fn go_on(&mut self) {
+        self.is_first = false;
+    }
+
     /// Notes that a box is looked at.
     pub fn note_box(&mut self) {
-        self.is_first = self.boxes == 0;
+        self.is_first = self.is_first && self.boxes == 0;
         self.boxes = self.boxes.saturating_add(self.per_box);
     }
 

@@ -78,9 +78,33 @@ impl PlanHinter {
             looker,
         })
     }
+
+    /// A hinter for a search that goes on from an earlier one, from its best plan on: as `new`, but plans are looked for as at later
+    /// boxes, and the neighbourhoods begin at one that this number draws. Where no plan is known it is as `new`.
+    pub fn resumed(
+        alloc: Global,
+        program: &Program,
+        given: u32,
+        points: u32,
+        start: &[u8],
+        number: u32,
+    ) -> Result<PlanHinter, AllocError> {
+        let mut hinter = PlanHinter::new(alloc, program, given, points, start)?;
+        hinter.looker.go_on(number);
+        Ok(hinter)
+    }
 }
 
 impl Looker {
+    // Goes on as an earlier search has left it, where that has found a plan.
+    fn go_on(&mut self, number: u32) {
+        if self.finder.plans.kept.worth.is_some() {
+            self.boxes = FIRST_BOXES;
+            self.accounts.go_on();
+            self.walk.begin_at(number);
+        }
+    }
+
     // What looks for plans of a program, where boxes are of so many slots.
     fn new(alloc: Global, program: &Program, box_slots: usize) -> Result<Looker, AllocError> {
         Ok(Looker {

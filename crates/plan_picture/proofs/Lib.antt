@@ -3,3 +3,6 @@ mod Parts
 mod Places
 mod Promises
 mod Ranges
+mod Reading
+mod Standing
+mod Told

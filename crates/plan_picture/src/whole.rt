@@ -3,7 +3,7 @@ ghost use Rattle.std.specs.Prelude.{◌≡◌, ◌≤◌, ◌<◌, ◌^◌, ◌+
 ghost use Rattle.stn_model.specs.Sound.{Sound};
 ghost use Rattle.plan_picture.specs.Picture.{band_begin, gantt, units, band_text, bands, whole_page, picture_end, picture_with, picture_text};
 ghost use Rattle.plan_picture.specs.Shown.{IsShown};
-ghost use Rattle.plan_picture.specs.Laws.{BarsAreBatches, StepsAreStocks, StepsAreLoads};
+ghost use Rattle.plan_picture.specs.Laws.{BarsAreBatches, BarsTellBatches, StepsAreStocks, StepsAreLoads};
 
 use crate::bars::{push_bars, push_outages, push_unit_rows};
 use crate::cleaning::push_cleanings;
@@ -21,14 +21,16 @@ use stn_model::{Plant, Start};
 /// the stocks in mass units at each time, the loads in each period, and the profit in money.
 ///
 /// In the row of each unit, over each period, stand the bars of the batches that it runs then
-/// (`bars`), and the steps of the rows are the stocks and loads of the definitions (`stocks`,
-/// `loads`). It fails only for want of memory. It takes time in proportion to the starts for each
-/// step, and for the cleaning in each band at most with the cube of the plan.
+/// (`bars`). Each batch has its bar, whose words tell its task, its quanta, its start and its end
+/// (`words`). The steps of the rows are the stocks and loads of the definitions (`stocks`, `loads`).
+/// It fails only for want of memory. It takes time in proportion to the starts for each step, and
+/// for the cleaning in each band at most with the cube of the plan.
 pub fn picture(alloc: Global, plant: &Plant, plan: &[Start]) -> Result<Vec<u8>, AllocError>
     requires sound { Sound plant.now }
     requires few { length plan.now < 2 ^ 32 }
     ensures text { IfOk result (λ text. text.items ≡ picture_text plant.now plan.now) }
     ensures bars { BarsAreBatches plant.now plan.now }
+    ensures words { BarsTellBatches plant.now plan.now }
     ensures stocks { StepsAreStocks plant.now plan.now }
     ensures loads { StepsAreLoads plant.now plan.now }
 {

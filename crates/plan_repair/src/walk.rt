@@ -30,6 +30,16 @@ const STAGES: u32 = 7;
 // The neighbourhoods of chance in a stage.
 const CHANCES: u32 = 16;
 
+// So many sizes of windows and searches a walk may begin with that goes on.
+const LEVELS: u32 = 2;
+
+// A number that looks like chance.
+fn scattered(number: u32) -> u32 {
+    let mixed = u64::from(number).wrapping_mul(0x9E37_79B9_7F4A_7C15);
+    let mixed = (mixed ^ (mixed >> 29)).wrapping_mul(0xBF58_476D_1CE4_E5B9);
+    (mixed >> 40) as u32
+}
+
 impl Walk {
     /// The first neighbourhood of the plans of a program.
     pub fn new(program: &Program) -> Walk {
@@ -53,6 +63,16 @@ impl Walk {
         self.gained = false;
         self.tries = true;
         self.level = 0;
+    }
+
+    /// Begins at a neighbourhood of any stage that looks drawn by chance, by this number.
+    pub fn begin_at(&mut self, number: u32) {
+        let drawn = scattered(number);
+        self.tries = drawn % 2 == 0;
+        self.level = drawn / 2 % LEVELS;
+        self.stage = drawn / 8 % STAGES;
+        self.turn = drawn / 64;
+        self.place = drawn / 64 % self.count().max(1);
     }
 
     /// The neighbourhood.

@@ -1,5 +1,5 @@
 -- What is told of a search over the rows of a head, as of the given program, is right.
-use Rattle.std.proofs.Common.{◌≡◌, ◌≢◌, ℕ, Bool, ◌-◌, ◌*◌, ◌<◌, ◌≤◌, true, false, List, length, Option, Some, None, ℤ, ◌≤ℤ◌, ◌<ℤ◌, refl, sym, subst, arith, inr}
+use Rattle.std.proofs.Common.{◌≡◌, ◌≢◌, ℕ, Bool, ◌-◌, ◌*◌, ◌<◌, ◌≤◌, true, false, List, length, Option, Some, None, ℤ, ◌≤ℤ◌, ◌<ℤ◌, refl, sym, subst, arith}
 use Rattle.std.specs.Prelude.{IfSome, int_lt}
 use Rattle.std.proofs.lemmas.Int.{ints}
 use Rattle.stn_model.specs.declared.plant.Plant.{Plant}
@@ -114,7 +114,7 @@ module _ (plant : Plant) (part : Program) (rows : Rows) (judged : List Domain) (
         record {
           boxes = sym has.spent;
           justified = has.justified;
-          is = inr (can.enlarged, refl);
+          is = (can.enlarged, refl);
           valid = valid-head plant part rows judged sums units derivations ranges can tree ended.cap (claim_of plant said) (writable-newest rows floors tree has.writable) has.cap has.defined borne small;
           cap = subst (IsCapOf said) has.cap most;
           left_open = left;

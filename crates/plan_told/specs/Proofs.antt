@@ -1,5 +1,5 @@
 -- The proof of an outcome, and the log that holds it.
-use Rattle.std.specs.Prelude.{◌≡◌, ◌⊎◌, ℕ, true, false, ◌-◌, ⊤, List, [], ◌++◌, length, Option, Some, None, IfSome}
+use Rattle.std.specs.Prelude.{◌≡◌, ◌⊎◌, ℕ, Bool, true, false, ◌-◌, ⊤, List, [], ◌++◌, length, Option, Some, None, IfSome}
 use Rattle.std.specs.List.{sum_by}
 use Rattle.std.specs.Option.{option_map}
 use Rattle.stn_edge.specs.Files.{FileMap, file_of}
@@ -27,6 +27,7 @@ use Rattle.proof_log.specs.declared.claim.Claim.TheVariants as claim
 use Rattle.proof_log.specs.Log.{log_text}
 use Rattle.valid_log.specs.declared.verdict.LogVerdict.TheVariants.{Yes}
 use Rattle.sum_slots.specs.declared.sum.Sum.{Sum}
+use Rattle.sum_choice.specs.Headed.{is_headed}
 use Rattle.derivations.specs.declared.derivation.Derivation.{Derivation}
 use Rattle.valid_log.specs.Heads.{IsWithHead}
 use Rattle.valid_log.specs.AnyVersion.{IsAnyVerdict}
@@ -66,19 +67,19 @@ abbrev pub IsHeadedText : Plant → Program → List Domain → List Sum → Lis
 IsHeadedText plant part judged sums units derivations rows tree own text =
     IsWithHead plant 4 part judged sums units derivations rows × (text ≡ headed_text sums units derivations tree own)
 
--- The text is that of a log of a part, of version 2 without a head or of version 4 with one. No log of another version is written.
-abbrev pub IsLogText : Plant → Program → List Domain → List Sum → List ℕ → List Derivation → Rows → RowTree → Claim → List ℕ → Type 0
-IsLogText plant part judged sums units derivations rows tree own text =
-    IsPlainText part sums units derivations rows tree own text ⊎ IsHeadedText plant part judged sums units derivations rows tree own text
+-- The text is that of a log of a part: without a head it is of version 2, and with one of version 4. No log of another version is written.
+abbrev pub IsLogText : Bool → Plant → Program → List Domain → List Sum → List ℕ → List Derivation → Rows → RowTree → Claim → List ℕ → Type 0
+IsLogText false plant part judged sums units derivations rows tree own text = IsPlainText part sums units derivations rows tree own text
+IsLogText true plant part judged sums units derivations rows tree own text = IsHeadedText plant part judged sums units derivations rows tree own text
 
 -- A proof of an outcome over the rows of a part with sums, setups and derivations, or without: no box was split without cause, as many
--- boxes are counted as the outcome says, and its text with the claim of the answer is a valid log, whose head is judged over these
--- domains. Where the budget was spent, CAP is the proof's cap, and a box with a point is open.
-pub record IsProofOver (plant : Plant) (part : Program) (judged : List Domain) (sums : List Sum) (units : List ℕ) (derivations : List Derivation) (rows : Rows) (outcome : Outcome) (tree : RowTree) (text : List ℕ) : Type 0 where
+-- boxes are counted as the outcome says, and its text with the claim of the answer is a valid log, with a head or without one, and the
+-- head is judged over these domains. Where the budget was spent, CAP is the proof's cap, and a box with a point is open.
+pub record IsProofOver (headed : Bool) (plant : Plant) (part : Program) (judged : List Domain) (sums : List Sum) (units : List ℕ) (derivations : List Derivation) (rows : Rows) (outcome : Outcome) (tree : RowTree) (text : List ℕ) : Type 0 where
   pub boxes : counted tree ≡ outcome.boxes
   -- the slots of the part are the plant's own, all later ones a sum's or a setup's
   pub justified : IsJustified rows (length part.root) tree
-  pub is : IsLogText plant part judged sums units derivations rows tree (larger_claim sums (claim_of plant outcome.answer)) text
+  pub is : IsLogText headed plant part judged sums units derivations rows tree (larger_claim sums (claim_of plant outcome.answer)) text
   pub valid : IsAnyVerdict plant part (plant_root plant) judged (depth_over part.root) text (Yes (claim_of plant outcome.answer))
   pub cap : IsCapOf outcome.answer (tree_cap (steps_of rows) (view_of rows.program.root) tree)
   pub left_open : IfSpent outcome.answer (HasOpenBox rows (view_of rows.program.root) tree)
@@ -93,31 +94,33 @@ headed_proof_text plant answer sums units derivations tree = headed_text sums un
 
 -- a proof of an outcome over the part's own program
 abbrev pub IsProofOf : Plant → Program → Outcome → RowTree → Type 0
-IsProofOf plant part outcome tree = (judged : List Domain) → IsProofOver plant part judged [] [] [] (plain part) outcome tree (proof_text plant outcome.answer tree)
+IsProofOf plant part outcome tree = (judged : List Domain) → IsProofOver false plant part judged [] [] [] (plain part) outcome tree (proof_text plant outcome.answer tree)
 
 -- a proof of an outcome over the rows of a part with the sums, the setups and the derivations of a head that is judged over domains
 abbrev pub IsHeadedProofOf : Plant → Program → List Domain → List Sum → List ℕ → List Derivation → Outcome → RowTree → Type 0
 IsHeadedProofOf plant part judged sums units derivations outcome tree =
-    (rows : Rows) × IsProofOver plant part judged sums units derivations rows outcome tree (headed_proof_text plant outcome.answer sums units derivations tree)
+    (rows : Rows) × IsProofOver true plant part judged sums units derivations rows outcome tree (headed_proof_text plant outcome.answer sums units derivations tree)
 
--- there is a proof of the outcome, over the part's own program or over the rows with what a head declares that is judged over these domains;
--- where bytes are told, they are the text of its log
-pub record HasProof (plant : Plant) (part : Program) (judged : List Domain) (log : Option (List ℕ)) (outcome : Outcome) : Type 0 where
+-- There is a proof of the outcome: over the rows with what a head declares that is judged over these domains, exactly where the part's
+-- log has a head, and else over the part's own program. Where bytes are told, they are the text of its log. The part is one of those
+-- that so many first slots tell apart.
+pub record HasProof (plant : Plant) (part : Program) (judged : List Domain) (levels : ℕ) (log : Option (List ℕ)) (outcome : Outcome) : Type 0 where
   pub sums : List Sum
   pub units : List ℕ
   pub derivations : List Derivation
   pub rows : Rows
   pub tree : RowTree
   pub text : List ℕ
-  pub proof : IsProofOver plant part judged sums units derivations rows outcome tree text
+  pub proof : IsProofOver (is_headed part levels) plant part judged sums units derivations rows outcome tree text
   pub told : IfSome log (λ bytes. bytes ≡ text)
 
 -- the bytes of the file of this name, where files are told
 abbrev pub bytes_in : List ℕ → Option FileMap → Option (List ℕ)
 bytes_in name files = option_map (λ m. file_of m name) files
 
--- bytes are a first part of the text of a log of either version, whose found points are lawful and stand with their worth
-pub record IsSomeLogBegun (plant : Plant) (part : Program) (judged : List Domain) (bytes : List ℕ) : Type 0 where
+-- bytes are a first part of the text of a part's log, with a head exactly where it has one, whose found points are lawful and stand with
+-- their worth
+pub record IsSomeLogBegun (plant : Plant) (part : Program) (judged : List Domain) (levels : ℕ) (bytes : List ℕ) : Type 0 where
   pub sums : List Sum
   pub units : List ℕ
   pub derivations : List Derivation
@@ -125,12 +128,13 @@ pub record IsSomeLogBegun (plant : Plant) (part : Program) (judged : List Domain
   pub tree : RowTree
   pub own : Claim
   pub rest : List ℕ
-  -- only in a log of version 4 a split may have a floor
-  pub is : (IsPlainText part sums units derivations rows tree own (bytes ++ rest) × IsWritable rows false tree) ⊎ (IsHeadedText plant part judged sums units derivations rows tree own (bytes ++ rest) × IsWritable rows true tree)
+  pub is : IsLogText (is_headed part levels) plant part judged sums units derivations rows tree own (bytes ++ rest)
+  -- only in a log with a head a split may have a floor
+  pub writable : IsWritable rows (is_headed part levels) tree
 
 -- what an attempt leaves that did not end: the files are as they were, or the file of this name is a log that was begun
-abbrev pub LeavesSomeBegun : Plant → Program → List Domain → List ℕ → Option FileMap → Option FileMap → Type 0
-LeavesSomeBegun plant part judged name old new = (new ≡ old) ⊎ IfSome (bytes_in name new) (IsSomeLogBegun plant part judged)
+abbrev pub LeavesSomeBegun : Plant → Program → List Domain → ℕ → List ℕ → Option FileMap → Option FileMap → Type 0
+LeavesSomeBegun plant part judged levels name old new = (new ≡ old) ⊎ IfSome (bytes_in name new) (IsSomeLogBegun plant part judged levels)
 
 -- a proof of an outcome over the whole program of a plant
 pub record IsPlantProof (plant : Plant) (outcome : Outcome) (tree : RowTree) : Type 0 where
@@ -144,8 +148,8 @@ pub record HasPlantProof (plant : Plant) (log : Option (List ℕ)) (outcome : Ou
   pub program : Program
   pub made : IsMadeOf plant program
   pub means : IsProgramOf plant program
-  pub has : HasProof plant program (plant_root plant) log outcome
+  pub has : HasProof plant program (plant_root plant) 0 log outcome
 
 -- what an attempt leaves that did not end: the files are as they were, or the file of this name is a log over the plant's program that was begun
 abbrev pub IsLeftOf : Plant → List ℕ → Option FileMap → Option FileMap → Type 0
-IsLeftOf plant name old new = (new ≡ old) ⊎ ((program : Program) × (IsMadeOf plant program × (IsProgramOf plant program × LeavesSomeBegun plant program (plant_root plant) name old new)))
+IsLeftOf plant name old new = (new ≡ old) ⊎ ((program : Program) × (IsMadeOf plant program × (IsProgramOf plant program × LeavesSomeBegun plant program (plant_root plant) 0 name old new)))

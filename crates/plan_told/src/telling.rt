@@ -1,5 +1,5 @@
 //! What a search that ended says of a plant.
-ghost use Rattle.std.specs.Prelude.{◌≡◌, IfOk, IfSome, length};
+ghost use Rattle.std.specs.Prelude.{◌≡◌, IfOk, IfSome, None, Some, length};
 ghost use Rattle.stn_model.specs.Sound.{Sound};
 ghost use Rattle.time_grid.specs.Slots.{slots};
 ghost use Rattle.time_grid.specs.PlanPoint.{IsPlanOf};
@@ -68,38 +68,52 @@ fn plan_at(alloc: Global, plant: &Plant, found: &Found) -> Result<List<Start>, A
 fn with_plan(plan: List<Start>, found: Found, cap: Option<i128>, spent: u32) -> Told
     ensures { result ≡ told_plan plan found cap spent }
 {
-    let Found { value, point } = found;
-    let (answer, claim) = match cap {
-        None => (
-            Answer::Optimal {
-                plan,
-                profit: value,
-            },
-            Claim::Optimal {
-                profit: value,
-                point,
-            },
-        ),
-        Some(cap) => (
-            Answer::BudgetSpent {
-                plan: Some(plan),
-                profit: value,
-                cap,
-            },
-            Claim::Between {
-                profit: value,
-                cap,
-                point,
-            },
-        ),
-    };
-    Told {
-        outcome: Outcome {
-            answer,
-            boxes: spent,
-        },
-        claim,
+    match cap {
+        None => best_plan(plan, found, spent),
+        Some(cap) => plan_below(plan, found, cap, spent),
     }
+}
+
+// What is told of a plan that no plan out-earns.
+fn best_plan(plan: List<Start>, found: Found, spent: u32) -> Told
+    ensures { result ≡ told_plan plan found None spent }
+{
+    let Found { value, point } = found;
+    let answer = Answer::Optimal {
+        plan,
+        profit: value,
+    };
+    let claim = Claim::Optimal {
+        profit: value,
+        point,
+    };
+    let outcome = Outcome {
+        answer,
+        boxes: spent,
+    };
+    Told { outcome, claim }
+}
+
+// What is told of a plan and the cap of the boxes that were left open.
+fn plan_below(plan: List<Start>, found: Found, cap: i128, spent: u32) -> Told
+    ensures { result ≡ told_plan plan found (Some cap) spent }
+{
+    let Found { value, point } = found;
+    let answer = Answer::BudgetSpent {
+        plan: Some(plan),
+        profit: value,
+        cap,
+    };
+    let claim = Claim::Between {
+        profit: value,
+        cap,
+        point,
+    };
+    let outcome = Outcome {
+        answer,
+        boxes: spent,
+    };
+    Told { outcome, claim }
 }
 
 // What is told where no point was found.

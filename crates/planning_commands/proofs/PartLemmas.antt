@@ -57,7 +57,7 @@ shallow-part plant levels part enough =
 
 -- a proof over a part's program is one whose log is valid at the smaller depth
 has-part-proof : (plant : Plant) (levels part : ℕ) (program : Program) (log : Option (List ℕ)) (outcome : Outcome) → levels ≤ length (slots plant) → program.root ≡ part_root plant levels part
-    → HasProof plant program (plant_root plant) log outcome → HasPartProof plant levels program log outcome
+    → HasProof plant program (plant_root plant) levels log outcome → HasPartProof plant levels program log outcome
 has-part-proof plant levels part program log outcome enough root has = record {
   has = has;
   shallow = plant-deeper plant program (depth_over program.root) (4608 - levels) has.text (claim_of plant outcome.answer)
@@ -69,14 +69,14 @@ has-part-proof plant levels part program log outcome enough root has = record {
 -- an answer of planning over a part's program is one of planning the part
 pub part_solved : {E : Type 0} (plant : Plant) (levels part budget : ℕ) (log : Option (List ℕ)) (program : Program) (r : Result Reply E) → levels ≤ length (slots plant)
     → IsPartOf plant program → program.root ≡ part_root plant levels part → ((plan : List Start) → IsAdmitted plant program plan ↔ IsOfPart plant levels part plan)
-    → IfOk r (λ reply. Planned plant (counted_since None []) (IsBegunOutcome plant program [] budget) (HasProof plant program (plant_root plant) log) reply.status reply.text.items)
+    → IfOk r (λ reply. Planned plant (counted_since None []) (IsBegunOutcome plant program [] budget) (HasProof plant program (plant_root plant) levels log) reply.status reply.text.items)
     → IfOk r (λ reply. PartSolved budget plant levels part log reply.status reply.text.items)
 part_solved plant levels part budget log program (Ok reply) enough is_part root exact planned = (
   program,
   (
     record { is_part = is_part; root = root },
     planned-as plant (counted_since None []) (IsBegunOutcome plant program [] budget) (IsOutcomeOf plant (IsOfPart plant levels part) (least_plan plant program) (whole_count program) budget)
-        (HasProof plant program (plant_root plant) log) (HasPartProof plant levels program log) reply.status reply.text.items
+        (HasProof plant program (plant_root plant) levels log) (HasPartProof plant levels program log) reply.status reply.text.items
         (λ outcome begun. outcome-among plant (IsAdmitted plant program) (IsOfPart plant levels part) (λ plan. (exact plan).0) (λ plan. (exact plan).1) (least_plan plant program) (whole_count program) budget outcome begun.right)
         (λ outcome has. has-part-proof plant levels part program log outcome enough root has) planned,
   ),

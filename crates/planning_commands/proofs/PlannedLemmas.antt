@@ -22,7 +22,7 @@ use Rattle.answer_texts.specs.Changed.{changed_count, counted_since, is_changed}
 use Rattle.answer_texts.specs.Planning.{answer_text, printed_plan, status_of, IsInMoney, Planned}
 use Rattle.answer_texts.proofs.ReadBack.{planned_if, IsFew}
 use Rattle.planning_commands.specs.Improving.{IsGivenOutcome}
-use Rattle.planning_commands.specs.Replanning.{IsBegunOutcome, LeavesLog}
+use Rattle.planning_commands.specs.Replanning.{IsBegunOutcome, LeavesPartLog}
 use Rattle.planning_commands.specs.Solving.{LeavesPlant}
 
 -- ---- answers of planning
@@ -64,10 +64,10 @@ module _ (plant : Plant) (program : Program) (made : IsMadeOf plant program) (me
   }
 
   -- and its proof
-  pub plant-proof : (log : Option (List ℕ)) (outcome : Outcome) → HasProof plant program (plant_root plant) log outcome → HasPlantProof plant log outcome
+  pub plant-proof : (log : Option (List ℕ)) (outcome : Outcome) → HasProof plant program (plant_root plant) 0 log outcome → HasPlantProof plant log outcome
   plant-proof log outcome has = record { program = program; made = made; means = means; has = has }
 
   -- what is left over it
-  pub leaves-plant : (name : List ℕ) (old new : Option FileMap) → LeavesLog plant program (plant_root plant) name old new → LeavesPlant plant name old new
+  pub leaves-plant : (name : List ℕ) (old new : Option FileMap) → LeavesPartLog plant program (plant_root plant) 0 name old new → LeavesPlant plant name old new
   leaves-plant name old new (inl left) = inl (inr (program, (made, (means, left))))
   leaves-plant name old new (inr whole) = inr (whole.0, record { program = program; made = made; means = means; has = whole.1 })

@@ -67,14 +67,14 @@ replan-outcome plant period start part budget outcome is begun = record {
 module _ {E : Type 0} (plant : Plant) (period : ℕ) (start : List Start) where
   -- of planning on
   pub replanned_open : (budget : ℕ) (log : Option (List ℕ)) (Unchanged : Type 0) (part : Program) (r : Result Reply E) → IsKeptPart plant period (kept_starts period start) part
-      → IfOk r (λ reply. Planned plant (counted_since (Some period) start) (IsBegunOutcome plant part start budget) (HasProof plant part part.root log) reply.status reply.text.items)
+      → IfOk r (λ reply. Planned plant (counted_since (Some period) start) (IsBegunOutcome plant part start budget) (HasProof plant part part.root 0 log) reply.status reply.text.items)
       → IfOk r (λ reply. Replanned budget plant period start log Unchanged reply.status reply.text.items)
   replanned_open budget log Unchanged part (Ok reply) is planned =
       inr (
         part,
         (
           is,
-          planned-as plant (counted_since (Some period) start) (IsBegunOutcome plant part start budget) (IsReplanOutcome plant period start part budget) (HasProof plant part part.root log) (HasProof plant part part.root log) reply.status reply.text.items
+          planned-as plant (counted_since (Some period) start) (IsBegunOutcome plant part start budget) (IsReplanOutcome plant period start part budget) (HasProof plant part part.root 0 log) (HasProof plant part part.root 0 log) reply.status reply.text.items
               (λ outcome begun. replan-outcome plant period start part budget outcome is begun) (λ outcome has. has) planned,
         ),
       )

@@ -16,12 +16,12 @@ use Rattle.plant_parts.specs.PlantParts.{IsOfPart, IsPartProgram}
 use Rattle.command_replies.specs.Sources.{IsReadOf}
 use Rattle.answer_texts.specs.Planning.{Planned}
 use Rattle.answer_texts.specs.Changed.{counted_since}
-use Rattle.planning_commands.specs.Replanning.{LeavesLog}
+use Rattle.planning_commands.specs.Replanning.{LeavesPartLog}
 
 -- there is a proof of the outcome whose log is valid also where at most 4,608 splits less one for each level may be open; where
 -- bytes are told, they are the text of its log
 pub record HasPartProof (plant : Plant) (levels : ℕ) (program : Program) (log : Option (List ℕ)) (outcome : Outcome) : Type 0 where
-  pub has : HasProof plant program (plant_root plant) log outcome
+  pub has : HasProof plant program (plant_root plant) levels log outcome
   pub shallow : IsPlantVerdict plant program (4608 - levels) has.text (Yes (claim_of plant outcome.answer))
 
 -- The answer over a program of a part of the plant: a right outcome of planning among the feasible plans of the part within the
@@ -39,7 +39,7 @@ PartSolved budget plant levels part log status text =
 -- a program of the part
 abbrev pub LeavesPart : Plant → ℕ → ℕ → List ℕ → Option FileMap → Option FileMap → Type 0
 LeavesPart plant levels part log old new =
-    (new ≡ old) ⊎ ((levels ≤ length (slots plant)) × ((program : Program) × (IsPartProgram plant levels part program × LeavesLog plant program (plant_root plant) log old new)))
+    (new ≡ old) ⊎ ((levels ≤ length (slots plant)) × ((program : Program) × (IsPartProgram plant levels part program × LeavesPartLog plant program (plant_root plant) levels log old new)))
 
 -- the plant in a file was read, and the file of a log is as it was, or holds a log over a part of the plant
 pub record HoldsPart (old new : Option FileMap) (name : List ℕ) (levels part : ℕ) (log : List ℕ) : Type 0 where

@@ -35,7 +35,7 @@ abbrev pub LeftOn : Option ℕ → Plant → List Start → Option (List ℕ) �
 LeftOn kept plant start log old new = LogLeft log (λ name. (new ≡ old) ⊎ (CanGoOn kept plant start × LeavesOn kept plant start name old new)) old new
 
 -- the plant and the plan in two files were read, and planning can go on from the plan
-pub record GoesOn (files : Option FileMap) (name plan : List ℕ) (kept : Option ℕ) : Type 0 where
+pub record CanBePlanned (files : Option FileMap) (name plan : List ℕ) (kept : Option ℕ) : Type 0 where
   pub plant : Plant
   pub read : IsReadOf reading files name (Ok plant)
   pub starts : List Start
@@ -44,5 +44,5 @@ pub record GoesOn (files : Option FileMap) (name plan : List ℕ) (kept : Option
 
 -- then the file of a log holds a log over these plans
 pub record HoldsOn (old new : Option FileMap) (name plan : List ℕ) (kept : Option ℕ) (log : List ℕ) : Type 0 where
-  pub from : GoesOn old name plan kept
+  pub from : CanBePlanned old name plan kept
   pub holds : LeavesOn kept from.plant from.starts log old new

@@ -35,7 +35,7 @@ pub record IsReplanOutcome (plant : Plant) (period : ℕ) (start : List Start) (
 -- plans within the budget, and how many starts of the plan from the period on have changed. There is a proof of it, the head of whose
 -- log, where it has one, is judged over these choices, and where the bytes of a log are told, they are the text of its log.
 abbrev pub SolvedOver : ℕ → Plant → ℕ → List Start → Option (List ℕ) → Program → ℕ → List ℕ → Type 0
-SolvedOver budget plant period start log part status text = Planned plant (counted_since (Some period) start) (IsReplanOutcome plant period start part budget) (HasProof plant part part.root log) status text
+SolvedOver budget plant period start log part status text = Planned plant (counted_since (Some period) start) (IsReplanOutcome plant period start part budget) (HasProof plant part part.root 0 log) status text
 
 -- the answer of `replan` from the starts of a plan before a period
 abbrev pub Replanned : ℕ → Plant → ℕ → List Start → Option (List ℕ) → Type 0 → ℕ → List ℕ → Type 0
@@ -44,9 +44,9 @@ Replanned budget plant period start log Unchanged status text =
 
 -- what an attempt over a part leaves in the file of a log, the head of which is judged over domains: a log that was begun, if anything, or
 -- a whole one, of an outcome
-abbrev pub LeavesLog : Plant → Program → List Domain → List ℕ → Option FileMap → Option FileMap → Type 0
-LeavesLog plant part judged log old new = LeavesSomeBegun plant part judged log old new ⊎ ((outcome : Outcome) × HasProof plant part judged (bytes_in log new) outcome)
+abbrev pub LeavesPartLog : Plant → Program → List Domain → ℕ → List ℕ → Option FileMap → Option FileMap → Type 0
+LeavesPartLog plant part judged levels log old new = LeavesSomeBegun plant part judged levels log old new ⊎ ((outcome : Outcome) × HasProof plant part judged levels (bytes_in log new) outcome)
 
 -- what replanning leaves in the file of its log: a log over the program of the plans that keep the starts
 abbrev pub LeavesKept : Plant → ℕ → List Start → List ℕ → Option FileMap → Option FileMap → Type 0
-LeavesKept plant period kept log old new = (part : Program) × (IsKeptPart plant period kept part × LeavesLog plant part part.root log old new)
+LeavesKept plant period kept log old new = (part : Program) × (IsKeptPart plant period kept part × LeavesPartLog plant part part.root 0 log old new)

@@ -19,7 +19,7 @@ ghost use Rattle.answer_texts.specs.Planning.{
 ghost use Rattle.planning_commands.specs.Frames.{OnlyWrites, OthersLeft, WritesLog};
 ghost use Rattle.planning_commands.specs.Improving.{IsGivenOutcome};
 ghost use Rattle.planning_commands.specs.NamedLog.{LogLeft, told_log};
-ghost use Rattle.planning_commands.specs.Replanning.{IsBegunOutcome, LeavesLog};
+ghost use Rattle.planning_commands.specs.Replanning.{IsBegunOutcome, LeavesPartLog};
 ghost use Rattle.planning_commands.specs.Solving.{LeavesPlant};
 
 use answer_texts::{counted_since, in_money, planned};
@@ -89,13 +89,14 @@ pub fn plan_part<A: Advisers, F: Shelf>(
     requires allowed { IfSome (named_log log) (λ name. IsTrue (F.may_write files.old name)) }
     ensures answer { IfOk result (λ reply. Planned plant.now (counted_since since start.now)
         (IsBegunOutcome plant.now part start.now budget.boxes)
-        (HasProof plant.now part judged (told_log (named_log log.entry) (F.files files.new)))
+        (HasProof plant.now part judged levels
+        (told_log (named_log log.entry) (F.files files.new)))
         reply.status reply.text.items) }
     ensures none { IfRefused result (λ _. ⊥) }
     ensures no_fault { result ≢ Err Stopped.ReadFault }
     ensures writing { WritesLog F.Shelf (named_log log.entry) files.old files.new result }
     ensures left { LogLeft (named_log log.entry)
-        (λ name. LeavesLog plant.now part judged name (F.files files.old)
+        (λ name. LeavesPartLog plant.now part judged levels name (F.files files.old)
         (F.files files.new)) (F.files files.old) (F.files files.new) }
     ensures others { OthersLeft (named_log log.entry) (F.files files.old) (F.files files.new) }
     ensures kept { OnlyWrites F.Shelf files.old files.new }
@@ -125,13 +126,14 @@ fn outcome_of<A: Advisers, F: Shelf>(
     requires allowed { IfSome (named_log log) (λ name. IsTrue (F.may_write files.old name)) }
     ensures outcome { IfOk result (IsPartOutcome plant.now part budget.boxes) }
     ensures proof { IfOk result
-        (HasProof plant.now part judged (told_log (named_log log.entry) (F.files files.new))) }
+        (HasProof plant.now part judged levels
+        (told_log (named_log log.entry) (F.files files.new))) }
     ensures begun { IfOk result (λ outcome. EarnsPoint part point.now outcome.answer) }
     ensures none { IfRefused result (λ _. ⊥) }
     ensures no_fault { result ≢ Err Stopped.ReadFault }
     ensures writing { WritesLog F.Shelf (named_log log.entry) files.old files.new result }
     ensures left { LogLeft (named_log log.entry)
-        (λ name. LeavesLog plant.now part judged name (F.files files.old)
+        (λ name. LeavesPartLog plant.now part judged levels name (F.files files.old)
         (F.files files.new)) (F.files files.old) (F.files files.new) }
     ensures others { OthersLeft (named_log log.entry) (F.files files.old) (F.files files.new) }
     ensures kept { OnlyWrites F.Shelf files.old files.new }

@@ -5,12 +5,13 @@ ghost use Rattle.stn_model.specs.declared.start.Start.{Start};
 ghost use Rattle.plan_text.specs.PlanText.{plan_of_text};
 ghost use Rattle.plant_text.specs.Reading.{reading};
 ghost use Rattle.command_words.specs.Words.{named_log};
-ghost use Rattle.command_replies.specs.Frames.{HadReadFault, ReadsAndWrites};
+ghost use Rattle.command_replies.specs.Frames.{HadReadFault};
+ghost use Rattle.store_frames.specs.Frames.{ReadsAndWrites};
 ghost use Rattle.command_replies.specs.Answers.{IsPlanAnswer, IsUnwritten};
 ghost use Rattle.command_replies.specs.Sources.{IfReplied, IfRefused, IsReadOf};
 ghost use Rattle.planning_commands.specs.Frames.{OnlyWrites, OthersLeft, WritesLog};
 ghost use Rattle.planning_commands.specs.NamedLog.{LogLeft, told_log};
-ghost use Rattle.planning_commands.specs.PlanningOn.{CanGoOn, GoesOn, HoldsOn, LeftOn, PlannedOn};
+ghost use Rattle.planning_commands.specs.PlanningOn.{CanGoOn, CanBePlanned, HoldsOn, LeftOn, PlannedOn};
 
 use crate::improving::improve;
 use crate::replanning::replan;
@@ -47,7 +48,7 @@ pub fn plan_on_file<A: Advisers, F: Shelf>(
     ensures unread { result ≡ Err Stopped.ReadFault → F.files files.new ≡ F.files files.old }
     ensures writing { WritesLog F.Shelf (named_log log.entry) files.old files.new result }
     ensures begun { result ≡ Err Stopped.WriteFault
-        → GoesOn (F.files files.old) plant.now plan.now kept }
+        → CanBePlanned (F.files files.old) plant.now plan.now kept }
     ensures left { LogLeft (named_log log.entry) (λ name. (F.files files.new ≡ F.files files.old)
         ⊎ HoldsOn (F.files files.old) (F.files files.new) plant.now plan.now kept name)
         (F.files files.old) (F.files files.new) }

@@ -16,6 +16,7 @@ ghost use Rattle.valid_log.specs.Verdict.{IsVerdict};
 ghost use Rattle.valid_log.specs.Heads.{judged_over, limits_with};
 ghost use Rattle.valid_log.specs.AnyVersion.{IsAnyVerdict, IsHeadVerdict, IsSetUpVerdict, IsTailVerdict, unshown_defect};
 ghost use Rattle.plant_check.specs.Heads.{IsHeadHeld, IsTailHeld};
+ghost use Rattle.store_frames.specs.Frames.{OnlyReads};
 
 use crate::given::{given_verdict, in_file};
 use crate::head::judge_head;
@@ -65,11 +66,7 @@ pub fn check_any<F: Shelf>(
         (λ m. IsAnyVerdict plant.now program ranges.now root.now depth (file_of m name.now) verdict)) }
     ensures says { IfOk result (YesSaysOf plant.now program) }
     ensures fault { result ≡ Err CheckStop.Fault → Rose (F.read_faults files.old) (F.read_faults files.new) }
-    ensures same { F.files files.new ≡ F.files files.old }
-    ensures readable { F.may_read files.new ≡ F.may_read files.old }
-    ensures writable { F.may_write files.new ≡ F.may_write files.old }
-    ensures later { F.read_faults files.old ≤ F.read_faults files.new }
-    ensures no_write { F.write_faults files.new ≡ F.write_faults files.old }
+    ensures frame { OnlyReads F.Shelf files.old files.new }
 {
     let limits = limits_with(&program, depth, 0);
     match read_head(alloc, &limits, files, name)? {
@@ -98,11 +95,7 @@ fn check_plain<F: Shelf>(
         (λ m. IsVerdict (plain program) depth (file_of m name.now) verdict)) }
     ensures says { IfOk result (YesSaysOf plant.now program) }
     ensures fault { result ≡ Err CheckStop.Fault → Rose (F.read_faults files.old) (F.read_faults files.new) }
-    ensures same { F.files files.new ≡ F.files files.old }
-    ensures readable { F.may_read files.new ≡ F.may_read files.old }
-    ensures writable { F.may_write files.new ≡ F.may_write files.old }
-    ensures later { F.read_faults files.old ≤ F.read_faults files.new }
-    ensures no_write { F.write_faults files.new ≡ F.write_faults files.old }
+    ensures frame { OnlyReads F.Shelf files.old files.new }
 {
     let rows = Rows {
         program,
@@ -140,11 +133,7 @@ fn check_headed<F: Shelf>(
         (λ m. IsHeadVerdict plant.now program judged.now depth (file_of m name.now) head verdict)) }
     ensures says { IfOk result (YesSaysOf plant.now program) }
     ensures fault { result ≡ Err CheckStop.Fault → Rose (F.read_faults files.old) (F.read_faults files.new) }
-    ensures same { F.files files.new ≡ F.files files.old }
-    ensures readable { F.may_read files.new ≡ F.may_read files.old }
-    ensures writable { F.may_write files.new ≡ F.may_write files.old }
-    ensures later { F.read_faults files.old ≤ F.read_faults files.new }
-    ensures no_write { F.write_faults files.new ≡ F.write_faults files.old }
+    ensures frame { OnlyReads F.Shelf files.old files.new }
 {
     let limits = limits_with(&program, depth, head.sums.len());
     match read_setups(alloc, plant, &limits, head, files, name)? {
@@ -175,11 +164,7 @@ fn check_set_up<F: Shelf>(
         (λ m. IsSetUpVerdict plant.now program judged.now depth (file_of m name.now) setups.now verdict)) }
     ensures says { IfOk result (YesSaysOf plant.now program) }
     ensures fault { result ≡ Err CheckStop.Fault → Rose (F.read_faults files.old) (F.read_faults files.new) }
-    ensures same { F.files files.new ≡ F.files files.old }
-    ensures readable { F.may_read files.new ≡ F.may_read files.old }
-    ensures writable { F.may_write files.new ≡ F.may_write files.old }
-    ensures later { F.read_faults files.old ≤ F.read_faults files.new }
-    ensures no_write { F.write_faults files.new ≡ F.write_faults files.old }
+    ensures frame { OnlyReads F.Shelf files.old files.new }
 {
     match read_tail(alloc, &setups.limits, &setups.head, files, name)? {
         TailFront::Bad(defect) => Ok(LogVerdict::No(defect)),
@@ -214,11 +199,7 @@ fn check_tailed<F: Shelf>(
         (Whole tail.now) verdict)) }
     ensures says { IfOk result (YesSaysOf plant.now program) }
     ensures fault { result ≡ Err CheckStop.Fault → Rose (F.read_faults files.old) (F.read_faults files.new) }
-    ensures same { F.files files.new ≡ F.files files.old }
-    ensures readable { F.may_read files.new ≡ F.may_read files.old }
-    ensures writable { F.may_write files.new ≡ F.may_write files.old }
-    ensures later { F.read_faults files.old ≤ F.read_faults files.new }
-    ensures no_write { F.write_faults files.new ≡ F.write_faults files.old }
+    ensures frame { OnlyReads F.Shelf files.old files.new }
 {
     let slots = program.root.len();
     let limits = limits_behind(setups, tail);
@@ -249,11 +230,7 @@ fn check_text<F: Shelf>(
         (log_text_defect limits (behind version tail.now.bytes (file_of m name.now)))))) }
     ensures says { (plant : Plant) (program : Program) → IfOk result (YesSaysOf plant program) }
     ensures fault { result ≡ Err CheckStop.Fault → Rose (F.read_faults files.old) (F.read_faults files.new) }
-    ensures same { F.files files.new ≡ F.files files.old }
-    ensures readable { F.may_read files.new ≡ F.may_read files.old }
-    ensures writable { F.may_write files.new ≡ F.may_write files.old }
-    ensures later { F.read_faults files.old ≤ F.read_faults files.new }
-    ensures no_write { F.write_faults files.new ≡ F.write_faults files.old }
+    ensures frame { OnlyReads F.Shelf files.old files.new }
 {
     match first_defect(alloc, limits, version, tail.bytes, files, name)? {
         Some(defect) => Ok(LogVerdict::No(in_file(tail.count, defect)?)),

@@ -7,6 +7,7 @@ ghost use Rattle.row_set.specs.Parts.{IsPartOf};
 ghost use Rattle.row_set.specs.PlantProgram.{IsMadeOf, IsProgramOf};
 ghost use Rattle.valid_log.specs.Claims.{YesSays, YesSaysOf};
 ghost use Rattle.valid_log.specs.PlantLogs.{IsAnyChecked, IsAnyKeptChecked, IsAnyPartChecked};
+ghost use Rattle.store_frames.specs.Frames.{OnlyReads};
 
 use crate::check::check_any;
 use log_check::CheckStop;
@@ -38,11 +39,7 @@ pub fn check_stream<F: Shelf>(
     // What the claim of a yes says holds of all plans, whether the files are told or not.
     ensures says { IfOk result (YesSays plant.now) }
     ensures fault { result ≡ Err CheckStop.Fault → Rose (F.read_faults files.old) (F.read_faults files.new) }
-    ensures same { F.files files.new ≡ F.files files.old }
-    ensures readable { F.may_read files.new ≡ F.may_read files.old }
-    ensures writable { F.may_write files.new ≡ F.may_write files.old }
-    ensures later { F.read_faults files.old ≤ F.read_faults files.new }
-    ensures no_write { F.write_faults files.new ≡ F.write_faults files.old }
+    ensures frame { OnlyReads F.Shelf files.old files.new }
 {
     let program = whole_program(alloc, plant)?;
     let ranges = plant_root(alloc, plant)?;
@@ -82,11 +79,7 @@ pub fn check_part<F: Shelf>(
     // What the claim of a yes says holds of all admitted plans, whether the files are told or not.
     ensures says { IfOk result (YesSaysOf plant.now part) }
     ensures fault { result ≡ Err CheckStop.Fault → Rose (F.read_faults files.old) (F.read_faults files.new) }
-    ensures same { F.files files.new ≡ F.files files.old }
-    ensures readable { F.may_read files.new ≡ F.may_read files.old }
-    ensures writable { F.may_write files.new ≡ F.may_write files.old }
-    ensures later { F.read_faults files.old ≤ F.read_faults files.new }
-    ensures no_write { F.write_faults files.new ≡ F.write_faults files.old }
+    ensures frame { OnlyReads F.Shelf files.old files.new }
 {
     let whole = plant_root(alloc, plant)?;
     let ranges = whole.as_slice();
@@ -113,11 +106,7 @@ pub fn check_kept<F: Shelf>(
     // What the claim of a yes says holds of all admitted plans, whether the files are told or not.
     ensures says { IfOk result (YesSaysOf plant.now part) }
     ensures fault { result ≡ Err CheckStop.Fault → Rose (F.read_faults files.old) (F.read_faults files.new) }
-    ensures same { F.files files.new ≡ F.files files.old }
-    ensures readable { F.may_read files.new ≡ F.may_read files.old }
-    ensures writable { F.may_write files.new ≡ F.may_write files.old }
-    ensures later { F.read_faults files.old ≤ F.read_faults files.new }
-    ensures no_write { F.write_faults files.new ≡ F.write_faults files.old }
+    ensures frame { OnlyReads F.Shelf files.old files.new }
 {
     let ranges = plant_root(alloc, plant)?;
     let root = List::from_slice(alloc, part.root.as_slice())?;

@@ -6,6 +6,7 @@ ghost use Rattle.stn_model.specs.Sound.{Sound};
 ghost use Rattle.sum_lines.specs.Head.{IsHeadVersion};
 ghost use Rattle.valid_log.specs.Heads.{AreSetups, no_setups, setup_size, setup_sizes};
 ghost use Rattle.plant_check.specs.Heads.{AreSetupsHeld};
+ghost use Rattle.store_frames.specs.Frames.{OnlyReads};
 
 use log_check::CheckStop;
 use log_lines::Limits;
@@ -36,11 +37,7 @@ pub fn read_setups<F: Shelf>(
         (λ m. AreSetups limits.now (setup_sizes plant.now) head (file_of m name.now) front)) }
     ensures held { IfOk result (AreSetupsHeld limits.now (setup_sizes plant.now) head) }
     ensures fault { result ≡ Err CheckStop.Fault → Rose (F.read_faults files.old) (F.read_faults files.new) }
-    ensures same { F.files files.new ≡ F.files files.old }
-    ensures readable { F.may_read files.new ≡ F.may_read files.old }
-    ensures writable { F.may_write files.new ≡ F.may_write files.old }
-    ensures later { F.read_faults files.old ≤ F.read_faults files.new }
-    ensures no_write { F.write_faults files.new ≡ F.write_faults files.old }
+    ensures frame { OnlyReads F.Shelf files.old files.new }
 {
     if head.version == 3 {
         return Ok(SetupFront::Whole(no_setups(alloc, limits, head)));

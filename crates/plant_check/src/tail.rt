@@ -6,6 +6,7 @@ ghost use Rattle.sum_lines.specs.Head.{IsHeadVersion};
 ghost use Rattle.derivation_lines.specs.Tail.{tail_of};
 ghost use Rattle.valid_log.specs.Heads.{IsTail};
 ghost use Rattle.plant_check.specs.Heads.{IsFrontHeld};
+ghost use Rattle.store_frames.specs.Frames.{OnlyReads};
 
 use derivation_lines::{Tail, TailFront, read_derivations};
 use log_check::CheckStop;
@@ -32,11 +33,7 @@ pub fn read_tail<F: Shelf>(
         (λ m. IsTail limits.now head.now (file_of m name.now) tail)) }
     ensures held { IfOk result (IsFrontHeld limits.now head.now) }
     ensures fault { result ≡ Err CheckStop.Fault → Rose (F.read_faults files.old) (F.read_faults files.new) }
-    ensures same { F.files files.new ≡ F.files files.old }
-    ensures readable { F.may_read files.new ≡ F.may_read files.old }
-    ensures writable { F.may_write files.new ≡ F.may_write files.old }
-    ensures later { F.read_faults files.old ≤ F.read_faults files.new }
-    ensures no_write { F.write_faults files.new ≡ F.write_faults files.old }
+    ensures frame { OnlyReads F.Shelf files.old files.new }
 {
     if head.version == 3 {
         return Ok(TailFront::Whole(no_tail(alloc, head)));

@@ -17,12 +17,12 @@ use Rattle.stn_model.specs.declared.plant.Run.{Run}
 use Rattle.stn_model.specs.declared.plant.Gap.{Gap}
 use Rattle.stn_model.specs.Plant.{duration_of}
 use Rattle.stn_model.specs.Sound.{Sound, SoundState, SoundUtility, SoundInput, SoundOutput, SoundDraw, SoundTask, SoundRun, SoundGap, SoundCounts, SoundNames, IsPart, is_name, is_name_byte}
-use Rattle.plant_make.specs.Made.{taken, of_chain, letter_name, chained, states_of, second_task, tasks_of, runs_of, units_of, gaps_of, steam_of, plant_made}
+use Rattle.plant_make.specs.Made.{number_at, of_chain, letter_name, chained, states_of, second_task, tasks_of, runs_of, units_of, gaps_of, steam_of, plant_made}
 use Rattle.plant_make.proofs.Counts.{AreShort, few_slots, few_pairs}
 
 -- a number is below its bound
-taken-below : (seed place n : ℕ) → 0 < n → taken seed place n < n
-unfolding taken
+taken-below : (seed place n : ℕ) → 0 < n → number_at seed place n < n
+unfolding number_at
 taken-below seed place n some = omega arith
 
 length-chained : {X : Type 0} (add : ℕ → List X) (each n : ℕ) → ((k : ℕ) → length (add k) ≡ each) → length (chained add n) ≡ each * n
@@ -276,7 +276,7 @@ steam_sound seed chains =
     record {
       name = refl;
       limits = refl;
-      limit = All-from_recursion (λ n. n ≤ 1000000000) (replicate 12 (12 + taken seed (15 * chains) 9)) (all_repeated 1000000000 (12 + taken seed (15 * chains) 9) 12 (omega (arith, limit)));
+      limit = All-from_recursion (λ n. n ≤ 1000000000) (replicate 12 (12 + number_at seed (15 * chains) 9)) (all_repeated 1000000000 (12 + number_at seed (15 * chains) 9) 12 (omega (arith, limit)));
       rate = omega arith;
     }
 

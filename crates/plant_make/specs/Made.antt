@@ -18,12 +18,12 @@ stepped seed zero = seed
 stepped seed (suc steps) = next (stepped seed steps)
 
 -- the number below n that is taken at a place, where the places count from 0: each taking goes one step on
-unfoldable pub taken : ℕ → ℕ → ℕ → ℕ
-taken seed place n = (stepped seed (suc place) / 2 ^ 33) % n
+unfoldable pub number_at : ℕ → ℕ → ℕ → ℕ
+number_at seed place n = (stepped seed (suc place) / 2 ^ 33) % n
 
 -- the number below n that a chain takes; chains count from 0, and each takes 15 numbers
 abbrev pub of_chain : ℕ → ℕ → ℕ → ℕ → ℕ
-of_chain seed chain place n = taken seed (15 * chain + place) n
+of_chain seed chain place n = number_at seed (15 * chain + place) n
 
 -- a letter, and a digit that counts from 1
 abbrev pub letter_name : ℕ → ℕ → List ℕ
@@ -91,7 +91,7 @@ gaps_of unit =
 
 -- the steam, which takes the number after those of all chains
 unfoldable pub steam_of : ℕ → ℕ → Utility
-steam_of seed chains = record { name = codes "steam"; limits = replicate made_periods (12 + taken seed (15 * chains) 9); rate = pos 1 }
+steam_of seed chains = record { name = codes "steam"; limits = replicate made_periods (12 + number_at seed (15 * chains) 9); rate = pos 1 }
 
 -- a plant that has nothing but its horizon
 abbrev pub bare_plant : Plant

@@ -4,7 +4,7 @@ ghost use Rattle.stn_model.specs.Sound.{Sound};
 ghost use Rattle.plant_make.specs.Made.{chained, states_of, tasks_of, runs_of, units_of, gaps_of, steam_of, bare_plant, plant_made};
 
 use crate::chains::{letter_name, put_runs, put_states, put_tasks, repeated};
-use crate::numbers::taken;
+use crate::numbers::number_at;
 use crate::written::Written;
 use std::alloc::{AllocError, Global};
 use stn_model::{Gap, List, Name, Plant, Run, State, StnUnit, Task, Utility};
@@ -109,7 +109,7 @@ fn steam(alloc: Global, seed: u32, chains: u32) -> Result<Utility, AllocError>
     requires { chains ≤ 8 }
     ensures { IfOk result (λ utility. utility ≡ steam_of seed chains) }
 {
-    let limit = 12 + u64::from(taken(seed, 15 * chains, 9));
+    let limit = 12 + u64::from(number_at(seed, 15 * chains, 9));
     Ok(Utility {
         name: copied(alloc, b"steam")?,
         limits: repeated(alloc, limit, PERIODS)?,

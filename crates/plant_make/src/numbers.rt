@@ -1,6 +1,6 @@
 //! The numbers that a plant is made of.
 ghost use Rattle.std.specs.Prelude.{◌≡◌, ◌+◌, ◌*◌, ◌<◌};
-ghost use Rattle.plant_make.specs.Made.{next, stepped, taken};
+ghost use Rattle.plant_make.specs.Made.{next, stepped, number_at};
 
 /// The number of 64 bits after this one.
 #[tactic(auto, unfolding(crate::specs::Made::next))]
@@ -24,11 +24,11 @@ fn stepped(seed: u32, steps: u32) -> u64
 }
 
 /// The number below `n` that is taken at a place. Places count from 0, and it takes time linear in them.
-#[tactic(auto, unfolding(crate::specs::Made::taken))]
-pub fn taken(seed: u32, place: u32, n: u32) -> u32
+#[tactic(auto, unfolding(crate::specs::Made::number_at))]
+pub fn number_at(seed: u32, place: u32, n: u32) -> u32
     requires some { 0 < n }
     requires place { place < 1000 }
-    ensures value { result ≡ taken seed place n }
+    ensures value { result ≡ number_at seed place n }
     ensures below { result < n }
 {
     let x = stepped(seed, place + 1);
@@ -40,8 +40,8 @@ pub fn of_chain(seed: u32, chain: u32, place: u32, n: u32) -> u32
     requires some { 0 < n }
     requires chain { chain < 8 }
     requires place { place < 15 }
-    ensures value { result ≡ taken seed (15 * chain + place) n }
+    ensures value { result ≡ number_at seed (15 * chain + place) n }
     ensures below { result < n }
 {
-    taken(seed, 15 * chain + place, n)
+    number_at(seed, 15 * chain + place, n)
 }

@@ -10,7 +10,7 @@ use Rattle.proof_tree.specs.declared.walk.Expected.TheVariants.{Inside as Expect
 use Rattle.proof_tree.specs.Cap.{greater}
 use Rattle.proof_tree.specs.Form.{any_steps}
 use Rattle.proof_tree.specs.Views.{View}
-use Rattle.proof_tree.specs.Walk.{Opened, may_come, close, close_split, taken, step}
+use Rattle.proof_tree.specs.Walk.{Opened, may_come, close, close_split, come_to, step}
 use Rattle.row_relax.specs.declared.pick.RowPick.{RowPick}
 use Rattle.dual_bound.specs.declared.cert.Mult.{Mult}
 use Rattle.row_relax.specs.RowProofs.{RowItem}
@@ -315,7 +315,7 @@ part_agrees : (standing : Standing) (splits : List (Opened RowPick)) → lefts s
 part_agrees standing splits same = subst (λ l. FormAgrees (after_node standing.version l) (close (any_steps {U = RowCut} {C = Cert}) splits NoPoint)) same (close_agrees standing.version splits NoPoint)
 
 -- where an item leads the form stands where it leads the lines
-pub taken_agrees : (standing : Standing) (splits : List (Opened RowPick)) (v : View) (item : RowItem) → lefts splits ≡ standing.sides → FormAgrees (after_step standing (item_step item)) (taken any_steps splits v item)
+pub taken_agrees : (standing : Standing) (splits : List (Opened RowPick)) (v : View) (item : RowItem) → lefts splits ≡ standing.sides → FormAgrees (after_step standing (item_step item)) (come_to any_steps splits v item)
 taken_agrees standing splits v Node same = record { expects = refl; splits = same }
 taken_agrees standing splits v (Cut cut) same = record { expects = refl; splits = same }
 taken_agrees standing splits v (FoundItem found) same = record { expects = refl; splits = same }

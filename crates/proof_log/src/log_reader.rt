@@ -9,6 +9,7 @@ ghost use Rattle.proof_log.specs.Gathered.{HasGathered};
 ghost use Rattle.row_relax.specs.RowProofs.{RowItem};
 ghost use Rattle.proof_log.specs.LogReading.{HasRead, IsPartAfter};
 ghost use Rattle.proof_log.specs.Step.{AreLineBytes, IsStepped, HasStepped};
+ghost use Rattle.store_frames.specs.Frames.{OnlyReads};
 
 use crate::claim::Claim;
 use crate::gatherer::{Gathered, Gatherer};
@@ -90,11 +91,7 @@ impl LogReader {
             (λ part. (version : _) (head : _) (limits : _) (items : Items RowItem) (claim : _)
             → HasRead (F.files files.old) name.now version head limits items claim self.old
             → IsPartAfter (F.files files.old) name.now version head limits items claim self.new part) }
-        ensures same { F.files files.new ≡ F.files files.old }
-        ensures readable { F.may_read files.new ≡ F.may_read files.old }
-        ensures writable { F.may_write files.new ≡ F.may_write files.old }
-        ensures later { F.read_faults files.old ≤ F.read_faults files.new }
-        ensures no_write { F.write_faults files.new ≡ F.write_faults files.old }
+        ensures frame { OnlyReads F.Shelf files.old files.new }
         ensures fault { result ≡ Err Stop.Failed
             → Rose (F.read_faults files.old) (F.read_faults files.new) }
     {
@@ -119,11 +116,7 @@ impl LogReader {
             → MatchOption part (HasRead (F.files files.old) name.now version head limits items claim
             self.new)
             (IsPartAfter (F.files files.old) name.now version head limits items claim self.new)) }
-        ensures same { F.files files.new ≡ F.files files.old }
-        ensures readable { F.may_read files.new ≡ F.may_read files.old }
-        ensures writable { F.may_write files.new ≡ F.may_write files.old }
-        ensures later { F.read_faults files.old ≤ F.read_faults files.new }
-        ensures no_write { F.write_faults files.new ≡ F.write_faults files.old }
+        ensures frame { OnlyReads F.Shelf files.old files.new }
         ensures fault { result ≡ Err Stop.Failed
             → Rose (F.read_faults files.old) (F.read_faults files.new) }
     {

@@ -5,6 +5,7 @@ ghost use Rattle.stn_edge.specs.Count.{Rose};
 ghost use Rattle.stn_edge.specs.Files.{file_of};
 ghost use Rattle.log_lines.specs.TextDefect.{log_text_defect};
 ghost use Rattle.proof_log.specs.Behind.{behind};
+ghost use Rattle.store_frames.specs.Frames.{OnlyReads};
 
 use crate::log_reader::{LogPart, LogReader};
 use log_lines::{Defect, Limits};
@@ -26,11 +27,7 @@ pub fn first_defect<F: Shelf>(
     ensures defect { IfOk result (λ defect. IfSome (F.files files.old)
         (λ m. log_text_defect limits (behind version head (file_of m name.now)) ≡ option_map
         (λ d. (d.line, d.kind)) defect)) }
-    ensures same { F.files files.new ≡ F.files files.old }
-    ensures readable { F.may_read files.new ≡ F.may_read files.old }
-    ensures writable { F.may_write files.new ≡ F.may_write files.old }
-    ensures later { F.read_faults files.old ≤ F.read_faults files.new }
-    ensures no_write { F.write_faults files.new ≡ F.write_faults files.old }
+    ensures frame { OnlyReads F.Shelf files.old files.new }
     ensures fault { result ≡ Err Stop.Failed
         → Rose (F.read_faults files.old) (F.read_faults files.new) }
 {

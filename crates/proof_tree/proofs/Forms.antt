@@ -13,7 +13,7 @@ use Rattle.proof_tree.specs.Items.{tree_items}
 use Rattle.proof_tree.specs.Relaxation.{Steps}
 use Rattle.proof_tree.specs.Tree.{Leaf, no_point, dual, one_point, pending, Tree, leaf, split as two_parts, tree_cap, leaf_cap, after_cuts}
 use Rattle.proof_tree.specs.Views.{View}
-use Rattle.proof_tree.specs.Walk.{Opened, Stage, Outcome, going, ended, undefined, misplaced, may_come, going_to, close, close_split, part_ended, split_open, taken, step, after, walked, start, outcome_of}
+use Rattle.proof_tree.specs.Walk.{Opened, Stage, Outcome, going, ended, undefined, misplaced, may_come, going_to, close, close_split, part_ended, split_open, come_to, step, after, walked, start, outcome_of}
 use Rattle.proof_tree.proofs.WalkLaw.{walked-append, walked-next, walked-misplaced, walked-whole}
 use Rattle.proof_tree.proofs.WalkTree.{walked-is_tree}
 
@@ -85,7 +85,7 @@ module _ {U C P : Type 0} (s : Steps U C P) where
   alike-ended splits (AtMost n) = alike-close splits (AtMost n)
 
 module _ {R A U C P F : Type 0} (s : Steps U C P) where
-  alike-taken : (splits : List (Opened P)) (v : View) (item : Item R A U C P F) → Alike (taken s splits v item) (taken any_steps (map form_split splits) [] item)
+  alike-taken : (splits : List (Opened P)) (v : View) (item : Item R A U C P F) → Alike (come_to s splits v item) (come_to any_steps (map form_split splits) [] item)
   alike-taken splits v Node = refl
   alike-taken splits v (Cut u) = alike-next s Inside splits (s.cut v u)
   alike-taken splits v (Found found) = refl
@@ -98,7 +98,7 @@ module _ {R A U C P F : Type 0} (s : Steps U C P) where
   alike-step : (stage : Stage P) (item : Item R A U C P F) → Alike (step s stage item) (step any_steps (form_stage stage) item)
   alike-step stage item = at (may_come stage.expected item)
     where
-      at : (may : Bool) → Alike (if may then taken s stage.splits stage.view item else misplaced) (if may then taken any_steps (map form_split stage.splits) [] item else misplaced)
+      at : (may : Bool) → Alike (if may then come_to s stage.splits stage.view item else misplaced) (if may then come_to any_steps (map form_split stage.splits) [] item else misplaced)
       at true = alike-taken stage.splits stage.view item
       at false = refl
 
@@ -126,7 +126,7 @@ module _ {R A U C P F : Type 0} (s : Steps U C P) where
       at : (b : Bool) → may_come stage.expected item ≡ b → may_come stage.expected item ≡ true
       at true e = e
       at false e = absurd (may (walked-next R A F any_steps (start []) items item (form_stage stage) so_far
-          ∙ ap (λ b. if b then taken any_steps (map form_split stage.splits) [] item else misplaced) e))
+          ∙ ap (λ b. if b then come_to any_steps (map form_split stage.splits) [] item else misplaced) e))
 
   -- where a walk has ended, no item may come
   pub ended-none : (v : View) (items : List (Item R A U C P F)) (proof_cap : Capped) (item : Item R A U C P F) → walked s (start v) items ≡ ended proof_cap → ¬ MayComeAfter items item
@@ -166,7 +166,7 @@ Leads-close U C (split ∷ splits) part_cap = at split.left (Leads-close U C spl
     at None rest = λ is. cc
     at (Some left) rest = rest (greater left part_cap)
 
-Leads-taken : {R A U C P F : Type 0} (splits : List (Opened P)) (v : View) (item : Item R A U C P F) → Leads (taken any_steps splits v item)
+Leads-taken : {R A U C P F : Type 0} (splits : List (Opened P)) (v : View) (item : Item R A U C P F) → Leads (come_to any_steps splits v item)
 Leads-taken splits v Node = λ is. cc
 Leads-taken splits v (Cut u) = λ is. cc
 Leads-taken splits v (Found f) = λ is. cc
@@ -179,12 +179,12 @@ Leads-taken splits v (Split pick cert) = λ is. cc
 -- where items lead to a stage, an item that may come next may come after them, and any other is out of place
 pub going-comes : {R A U C P F : Type 0} (items : List (Item R A U C P F)) (stage : Stage P) (item : Item R A U C P F) → form_of items ≡ going stage → may_come stage.expected item ≡ true → MayComeAfter items item
 going-comes items stage item so_far may is =
-    let next = walked-next _ _ _ any_steps (start []) items item stage so_far ∙ ap (λ b. if b then taken any_steps stage.splits stage.view item else misplaced) may in
+    let next = walked-next _ _ _ any_steps (start []) items item stage so_far ∙ ap (λ b. if b then come_to any_steps stage.splits stage.view item else misplaced) may in
     subst Leads (sym next ∙ is) (Leads-taken stage.splits stage.view item)
 
 pub going-wrong : {R A U C P F : Type 0} (items : List (Item R A U C P F)) (stage : Stage P) (item : Item R A U C P F) → form_of items ≡ going stage → may_come stage.expected item ≡ false → form_of (items ++ item ∷ []) ≡ misplaced
 going-wrong items stage item so_far may =
-    walked-next _ _ _ any_steps (start []) items item stage so_far ∙ ap (λ b. if b then taken any_steps stage.splits stage.view item else misplaced) may
+    walked-next _ _ _ any_steps (start []) items item stage so_far ∙ ap (λ b. if b then come_to any_steps stage.splits stage.view item else misplaced) may
 
 -- an outcome that items lead to, whether they are in their places or not
 abbrev Formed : {P : Type 0} → Outcome P → Type 0
@@ -202,8 +202,8 @@ Leads-formed misplaced is = tt
 Formed-after : {R A U C P F : Type 0} (outcome : Outcome P) (item : Item R A U C P F) → Formed outcome → Formed (after any_steps outcome item)
 Formed-after (going stage) item is = at (may_come stage.expected item)
   where
-    at : (may : Bool) → Formed (if may then taken any_steps stage.splits stage.view item else misplaced)
-    at true = Leads-formed (taken any_steps stage.splits stage.view item) (Leads-taken stage.splits stage.view item)
+    at : (may : Bool) → Formed (if may then come_to any_steps stage.splits stage.view item else misplaced)
+    at true = Leads-formed (come_to any_steps stage.splits stage.view item) (Leads-taken stage.splits stage.view item)
     at false = tt
 Formed-after (ended part_cap) item is = tt
 Formed-after undefined item is = is

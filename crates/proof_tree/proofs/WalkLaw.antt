@@ -11,7 +11,7 @@ use Rattle.proof_tree.specs.Items.{leaf_item, tree_items, depth}
 use Rattle.proof_tree.specs.Relaxation.{Steps}
 use Rattle.proof_tree.specs.Tree.{Leaf, no_point, dual, one_point, pending, Tree, leaf, split, tree_cap, split_cap, leaf_cap, after_cuts, cap_if}
 use Rattle.proof_tree.specs.Views.{View}
-use Rattle.proof_tree.specs.Walk.{Opened, Stage, Outcome, going, ended, undefined, misplaced, may_come, going_to, close, close_split, part_ended, split_open, taken, step, after, walked, start, outcome_of, open_count, ComesNext, Tells}
+use Rattle.proof_tree.specs.Walk.{Opened, Stage, Outcome, going, ended, undefined, misplaced, may_come, going_to, close, close_split, part_ended, split_open, come_to, step, after, walked, start, outcome_of, open_count, ComesNext, Tells}
 use Rattle.proof_tree.proofs.Caps.{floor-bad, floor-not_bad}
 
 -- the stage where these items may come, with these splits open, over this view
@@ -145,7 +145,7 @@ module _ (R A F : Type 0) {U C P : Type 0} (s : Steps U C P) where
   comes_next : (outcome : Outcome P) (item : Item R A U C P F) (later : List (Item R A U C P F)) (proof_cap : Capped) → walked s outcome (item ∷ later) ≡ outcome_of proof_cap → ComesNext outcome item
   comes_next (going stage) item later proof_cap led = ask (may_come stage.expected item) refl led
     where
-      ask : (may : Bool) → may_come stage.expected item ≡ may → walked s (if may then taken s stage.splits stage.view item else misplaced) later ≡ outcome_of proof_cap → may_come stage.expected item ≡ true
+      ask : (may : Bool) → may_come stage.expected item ≡ may → walked s (if may then come_to s stage.splits stage.view item else misplaced) later ≡ outcome_of proof_cap → may_come stage.expected item ≡ true
       ask true is led = is
       ask false is led = absurd (not_misplaced proof_cap (sym (walked-misplaced later) ∙ led))
   comes_next (ended n) item later proof_cap led = not_misplaced proof_cap (sym (walked-misplaced later) ∙ led)

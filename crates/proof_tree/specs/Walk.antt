@@ -73,20 +73,20 @@ abbrev pub split_open : {U C P : Type 0} → Steps U C P → View → P → C �
 split_open s v pick cert = record { view = s.trim v pick cert; pick = pick; floor = s.floor v pick cert; left = None }
 
 -- what an item leads to that may come: a node is entered, a cut narrows the view, a split forgets points and opens its left part, any other end ends a part
-abbrev pub taken : {R A U C P F : Type 0} → Steps U C P → List (Opened P) → View → Item R A U C P F → Outcome P
-taken s splits v Node = going_to Inside splits (Some v)
-taken s splits v (Cut cut) = going_to Inside splits (s.cut v cut)
-taken s splits v (Found found) = going_to End splits (Some v)
-taken s splits v Empty = part_ended s splits (leaf_cap s v no_point)
-taken s splits v (Dual cert) = part_ended s splits (leaf_cap s v (dual cert))
-taken s splits v Point = part_ended s splits (leaf_cap s v one_point)
-taken s splits v (Pending cert) = part_ended s splits (leaf_cap s v (pending cert))
-taken s splits v (Split pick cert) =
+abbrev pub come_to : {R A U C P F : Type 0} → Steps U C P → List (Opened P) → View → Item R A U C P F → Outcome P
+come_to s splits v Node = going_to Inside splits (Some v)
+come_to s splits v (Cut cut) = going_to Inside splits (s.cut v cut)
+come_to s splits v (Found found) = going_to End splits (Some v)
+come_to s splits v Empty = part_ended s splits (leaf_cap s v no_point)
+come_to s splits v (Dual cert) = part_ended s splits (leaf_cap s v (dual cert))
+come_to s splits v Point = part_ended s splits (leaf_cap s v one_point)
+come_to s splits v (Pending cert) = part_ended s splits (leaf_cap s v (pending cert))
+come_to s splits v (Split pick cert) =
     going_to ExpectNode (split_open s v pick cert ∷ splits) (s.left (s.trim v pick cert) pick)
 
 -- what an item leads to
 abbrev pub step : {R A U C P F : Type 0} → Steps U C P → Stage P → Item R A U C P F → Outcome P
-step s stage item = if may_come stage.expected item then taken s stage.splits stage.view item else misplaced
+step s stage item = if may_come stage.expected item then come_to s stage.splits stage.view item else misplaced
 
 -- what a further item leads to: where one has led to no cap, the rest stays without one, and after the end none may come
 abbrev pub after : {R A U C P F : Type 0} → Steps U C P → Outcome P → Item R A U C P F → Outcome P

@@ -5,7 +5,7 @@ ghost use Rattle.proof_tree.specs.declared.item.Item.{Item};
 ghost use Rattle.proof_tree.specs.declared.item.Item.TheVariants.{Point};
 ghost use Rattle.proof_tree.specs.Tree.{Tree, tree_cap};
 ghost use Rattle.proof_tree.specs.Views.{View, present, view_at};
-ghost use Rattle.proof_tree.specs.Walk.{may_come, stage_of, opened, first_mark, StandBelow, Stands, IsAnswer, GoesBack, going_to, step, taken, part_ended, close, split_open, walked, start, outcome_of, open_count, ComesNext, Tells};
+ghost use Rattle.proof_tree.specs.Walk.{may_come, stage_of, opened, first_mark, StandBelow, Stands, IsAnswer, GoesBack, going_to, step, come_to, part_ended, close, split_open, walked, start, outcome_of, open_count, ComesNext, Tells};
 ghost use Rattle.proof_tree.specs.Cap.{greater, floor_cap};
 ghost use Rattle.proof_tree.specs.laws.Led.{innermost_left, Led};
 
@@ -193,7 +193,7 @@ impl<R: Relaxation> Walk<R> {
         ensures fits { R.fits r.now (present (R.views area.new)) }
         ensures led { IfOk result (λ took. Led (R.steps r.now) first self.old (R.views area.old)
             took self.new (R.views area.new)
-            (taken (R.steps r.now) (map (opened (R.views area.old)) self.old.splits)
+            (come_to (R.steps r.now) (map (opened (R.views area.old)) self.old.splits)
             (present (R.views area.old)) item.now)) }
         ensures err { OnErr result ((self.new ≡ self.old) × (R.views area.new ≡ R.views area.old)) }
     {

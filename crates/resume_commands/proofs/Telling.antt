@@ -21,7 +21,7 @@ use Rattle.answer_texts.proofs.StatusLemmas.{solved-status}
 use Rattle.command_replies.specs.Answers.{IsUnwritten}
 use Rattle.log_resuming.specs.declared.resumed.Resumed.{Resumed}
 use Rattle.log_resuming.specs.declared.resumed.Resumed.TheVariants.{Done, No}
-use Rattle.resume_commands.specs.Resuming.{IsAnswerOf, TellsClaim, TellsResumed}
+use Rattle.resume_commands.specs.Resuming.{TellsPlanOf, TellsClaim, TellsResumed}
 
 -- the plan of a feasible point can be written, and is short
 pub writable-if : {E : Type 0} (plant : Plant) (point : List ℕ) (r : Result (List Start) E) → Sound plant → Feasible plant (plan_of_values plant point) → IfOk r (IsPlanOf plant point)
@@ -46,7 +46,7 @@ named-printed plant (BudgetSpent None earned cap) can = tt
 named-printed plant (BudgetSpent (Some plan) earned cap) can = λ k d within. (can k d within).named
 
 -- the reply of a claim's answer tells the claim
-pub tells-if : {E : Type 0} (plant : Plant) (claim : Claim) (boxes : ℕ) (said : Answer) (r : Result Reply E) → Sound plant → IsAnswerOf plant claim said → All (IsWritable plant) (printed_plan said) → length (printed_plan said) ≤ 512 → IsInMoney said → boxes < 2 ^ 64
+pub tells-if : {E : Type 0} (plant : Plant) (claim : Claim) (boxes : ℕ) (said : Answer) (r : Result Reply E) → Sound plant → TellsPlanOf plant claim said → All (IsWritable plant) (printed_plan said) → length (printed_plan said) ≤ 512 → IsInMoney said → boxes < 2 ^ 64
     → IfOk r (λ reply. (reply.status ≡ status_of said) × (reply.text.items ≡ answer_text plant boxes None said)) → IfOk r (λ reply. TellsClaim plant claim boxes reply.status reply.text.items)
 tells-if plant claim boxes said (Ok reply) sound of can few small count is = record {
   said = said;

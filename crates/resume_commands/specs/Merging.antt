@@ -7,7 +7,7 @@ use Rattle.plant_text.specs.Reading.{reading}
 use Rattle.proof_log.specs.LogNames.{log_name}
 use Rattle.log_merging.specs.declared.merged.Merged.{Merged}
 use Rattle.log_merging.specs.declared.merged.Merged.TheVariants.{Done, No}
-use Rattle.log_merging.specs.MergedLogs.{IsMergingIn, IsNo, LeavesMerge, MergeSays}
+use Rattle.log_merging.specs.MergedLogs.{IsMergingIn, NamesRefused, LeavesMerge, MergeSays}
 use Rattle.command_replies.specs.Sources.{IsReadOf}
 use Rattle.answer_texts.specs.Lines.{numbered_defect}
 use Rattle.answer_texts.specs.Checking.{claim_words}
@@ -32,7 +32,7 @@ pub record MergeAnswered (old new : Option FileMap) (count : ℕ) (stem out : Li
   pub said : Merged
   pub right : IsMergingIn plant count stem out old new said
   pub says : MergeSays plant said
-  pub kept : IsNo said → new ≡ old
+  pub kept : NamesRefused said → new ≡ old
   pub status_is : status ≡ merge_status said
   pub text_is : text ≡ merge_text said
 

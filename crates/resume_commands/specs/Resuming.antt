@@ -9,7 +9,7 @@ use Rattle.stn_model.specs.declared.answer.Answer.TheVariants as answer
 use Rattle.plant_text.specs.Reading.{reading}
 use Rattle.plan_text.specs.PlanText.{plan_of_text}
 use Rattle.time_grid.specs.PlanPoint.{IsPlanOf}
-use Rattle.log_growth.specs.declared.pair.Share.{Share}
+use Rattle.log_nodes.specs.declared.pair.Share.{Share}
 use Rattle.proof_log.specs.declared.claim.Claim.{Claim}
 use Rattle.proof_log.specs.declared.claim.Claim.TheVariants.{Optimal, Infeasible, Between, Below}
 use Rattle.valid_log.specs.declared.verdict.LogVerdict.TheVariants as verdict
@@ -21,16 +21,16 @@ use Rattle.answer_texts.specs.Checking.{checked_text}
 use Rattle.answer_texts.specs.Planning.{answer_text, printed_plan, status_of}
 
 -- an answer is that of a claim: its plan is that of the claim's point, with its profit and its cap
-abbrev pub IsAnswerOf : Plant → Claim → Answer → Type 0
-IsAnswerOf plant (Optimal profit point) said = (plan : List Start) × (IsPlanOf plant point plan × (said ≡ answer.Optimal plan profit))
-IsAnswerOf plant Infeasible said = said ≡ answer.Infeasible
-IsAnswerOf plant (Between profit most point) said = (plan : List Start) × (IsPlanOf plant point plan × (said ≡ answer.BudgetSpent (Some plan) profit most))
-IsAnswerOf plant (Below most) said = said ≡ answer.BudgetSpent None (pos 0) most
+abbrev pub TellsPlanOf : Plant → Claim → Answer → Type 0
+TellsPlanOf plant (Optimal profit point) said = (plan : List Start) × (IsPlanOf plant point plan × (said ≡ answer.Optimal plan profit))
+TellsPlanOf plant Infeasible said = said ≡ answer.Infeasible
+TellsPlanOf plant (Between profit most point) said = (plan : List Start) × (IsPlanOf plant point plan × (said ≡ answer.BudgetSpent (Some plan) profit most))
+TellsPlanOf plant (Below most) said = said ≡ answer.BudgetSpent None (pos 0) most
 
 -- the text of planning with the answer of a claim and so many boxes, which, read as plan text, says its plan
 pub record TellsClaim (plant : Plant) (claim : Claim) (boxes status : ℕ) (text : List ℕ) : Type 0 where
   pub said : Answer
-  pub of_claim : IsAnswerOf plant claim said
+  pub of_claim : TellsPlanOf plant claim said
   pub status_is : status ≡ status_of said
   pub text_is : text ≡ answer_text plant boxes None said
   pub reads_back : plan_of_text plant text ≡ Ok (printed_plan said)

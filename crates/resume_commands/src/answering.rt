@@ -8,7 +8,7 @@ ghost use Rattle.plan_text.specs.ReadsBack.{IsWritable};
 ghost use Rattle.answer_texts.specs.Planning.{printed_plan};
 ghost use Rattle.valid_log.specs.Claims.{SaysOfPlans};
 ghost use Rattle.log_resuming.specs.Resumed.{ResumedSays};
-ghost use Rattle.resume_commands.specs.Resuming.{IsAnswerOf, TellsClaim, TellsResumed};
+ghost use Rattle.resume_commands.specs.Resuming.{TellsPlanOf, TellsClaim, TellsResumed};
 
 use answer_texts::{answered, checked, in_money};
 use command_replies::Reply;
@@ -39,7 +39,7 @@ fn plan_of(alloc: Global, plant: &Plant, point: &[u8]) -> Result<List<Start>, Al
 fn answer_of(alloc: Global, plant: &Plant, claim: &Claim) -> Result<Answer, AllocError>
     requires sound { Sound plant.now }
     requires says { SaysOfPlans plant.now claim.now }
-    ensures of_claim { IfOk result (IsAnswerOf plant.now claim.now) }
+    ensures of_claim { IfOk result (TellsPlanOf plant.now claim.now) }
     ensures writable { IfOk result (λ said. All (IsWritable plant.now) (printed_plan said)) }
     ensures few { IfOk result (λ said. length (printed_plan said) ≤ 512) }
 {

@@ -7,7 +7,8 @@ ghost use Rattle.plant_text.specs.Reading.{reading};
 ghost use Rattle.proof_log.specs.LogNames.{log_name};
 ghost use Rattle.command_words.specs.Words.{IsNoPartLog};
 ghost use Rattle.command_replies.specs.Answers.{IsPlantAnswer, IsUnwritten};
-ghost use Rattle.command_replies.specs.Frames.{HadReadFault, HadWriteFault, ReadsAndWrites};
+ghost use Rattle.command_replies.specs.Frames.{HadReadFault, HadWriteFault};
+ghost use Rattle.store_frames.specs.Frames.{ReadsAndWrites};
 ghost use Rattle.command_replies.specs.Sources.{IfReplied, IfRefused, IsReadOf};
 ghost use Rattle.log_merging.specs.MergedLogs.{AreMergeable, LeavesMerge};
 ghost use Rattle.resume_commands.specs.Merging.{

@@ -1,21 +1,37 @@
 -- A log that is read while another is written.
-use Rattle.std.proofs.Common.{◌≡◌, ◌≢◌, ◌∙◌, ℕ, List, Option, None, sym, subst}
+use Rattle.std.proofs.Common.{◌≡◌, ◌≢◌, ◌∙◌, ℕ, Bool, List, Option, None, sym, subst}
+use Rattle.std.specs.Prelude.{IsTrue}
 use Rattle.stn_edge.specs.Files.{FileMap, OthersStay}
 use Rattle.proof_log.specs.declared.log_reader.LogReader.{LogReader}
 use Rattle.proof_log.specs.Writer.{KeepsOthers, Writing}
-use Rattle.log_growth.specs.Reading.{IsReading}
+use Rattle.row_relax.specs.declared.rows.Rows.{Rows}
+use Rattle.branch_tree.specs.declared.going_on.GoingOn.{GoingOn}
+use Rattle.branch_tree.specs.laws.Going.{CanGoOn}
+use Rattle.log_nodes.specs.Reading.{IsReading}
+use Rattle.log_nodes.proofs.Frames.{others-then}
 use Rattle.log_parts.proofs.Copies.{read_stays, same_file}
+use Rattle.resumed_log.specs.laws.Walks.{CanWriteBeside, GoesOnWalking}
 
 -- a reader reads a file on where another one changes
 pub reading-stays : (name out : List ℕ) (r : LogReader) (old new : Option FileMap) → OthersStay out old new → out ≢ name → IsReading old name r → IsReading new name r
 reading-stays name out r old new others apart is =
     (is.0, (is.1.0, (is.1.1.0, (is.1.1.1.0, read_stays is.0 is.1.0 name is.1.1.0 is.1.1.1.0 None r old new (same_file name old new (others name (λ own. apart (sym own)))) is.1.1.1.1))))
 
--- other files stay as they are from one change to the next, where the name stays that of the file which changes
-pub others-then : (out later : List ℕ) (a b c : Option FileMap) → later ≡ out → OthersStay out a b → OthersStay later b c → OthersStay out a c
-others-then out later a b c same first second = λ other apart. second other (λ is. apart (is ∙ same)) ∙ first other apart
+-- a log is walked on where another one changes
+pub walks-on : {name out : List ℕ} {r : LogReader} {old new : Option FileMap} {rows : Rows} {going later : GoingOn}
+    → OthersStay out old new → out ≢ name → CanGoOn rows later → GoesOnWalking old name r rows going → GoesOnWalking new name r rows later
+walks-on {name} {out} {r} {old} {new} others apart can walking = record { reading = reading-stays name out r old new others apart walking.reading; can = can }
 
--- so of a writer
+-- one file may still be read while another is written
+pub still-beside : {reads writes reads2 writes2 : List ℕ → Bool} {log out out2 : List ℕ}
+    → reads2 ≡ reads → writes2 ≡ writes → out2 ≡ out → CanWriteBeside reads writes log out → CanWriteBeside reads2 writes2 log out2
+still-beside {reads} {writes} {reads2} {writes2} {log} {out} {out2} readable writable named may = record {
+  may_read = subst (λ (may : List ℕ → Bool). IsTrue (may log)) (sym readable) may.may_read;
+  may_write = subst (λ (may : List ℕ → Bool). IsTrue (may out2)) (sym writable) (subst (λ (name : List ℕ). IsTrue (writes name)) (sym named) may.may_write);
+  apart = λ is. may.apart (sym named ∙ is);
+}
+
+-- other files stay as a writer's changes follow one another
 pub keeps-then : (a b c : Writing) → KeepsOthers a b → KeepsOthers b c → KeepsOthers a c
 keeps-then a b c first second = record {
   name = second.name ∙ first.name;
@@ -24,7 +40,3 @@ keeps-then a b c first second = record {
   may_read = second.may_read ∙ first.may_read;
   may_write = second.may_write ∙ first.may_write;
 }
-
--- other files stay where one changed after nothing did
-pub others-same : (out : List ℕ) (a b c : Option FileMap) → b ≡ a → OthersStay out b c → OthersStay out a c
-others-same out a b c same second = subst (λ (files : Option FileMap). OthersStay out files c) same second

@@ -17,6 +17,23 @@ pub fn point_of(claim: &Claim) -> Option<&[u8]> {
     }
 }
 
+/// The point of a claim and its worth, if it names one.
+pub fn best_of(claim: Claim) -> Option<Found> {
+    match claim {
+        Claim::Optimal {
+            profit: value,
+            point,
+        } => Some(Found { value, point }),
+        Claim::Infeasible => None,
+        Claim::Between {
+            profit: value,
+            cap: _,
+            point,
+        } => Some(Found { value, point }),
+        Claim::Below { cap: _ } => None,
+    }
+}
+
 /// The lesser of a cap and of the cap of a claim.
 pub fn within(cap: Capped, claim: &Claim) -> Capped {
     match claim {

@@ -1,23 +1,26 @@
 //! The open ends of a log, and its best plan.
-ghost use Rattle.std.specs.Prelude.{◌<◌, IfSome, ◌≡◌, ◌≤◌, map, Err, IsTrue, IfOk, OnOk};
+ghost use Rattle.std.specs.Prelude.{◌<◌, ◌≡◌, ◌≢◌, map, Err, IsTrue, OnOk};
 ghost use Rattle.stn_edge.specs.Count.{Rose};
 ghost use Rattle.row_relax.specs.declared.rows.Rows.{Rows};
 ghost use Rattle.row_relax.specs.View.{Fits, view_of};
 ghost use Rattle.branch_tree.specs.laws.Going.{CanGoOn};
-ghost use Rattle.log_growth.specs.Reading.{IsReading};
-ghost use Rattle.log_growth.specs.laws.Grown.{seen};
+ghost use Rattle.store_frames.specs.Frames.{OnlyReads};
+ghost use Rattle.log_nodes.specs.Reading.{IsReading};
+ghost use Rattle.log_nodes.specs.laws.Seen.{StandsBelow, seen};
+ghost use Rattle.resumed_log.specs.laws.Walks.{GoesOnWalking};
 
 use crate::claiming::point_of;
 use crate::leaves::{cap_of, may_search};
+use crate::walk::Walk;
 use branch_tree::GoingOn;
 use end_advice::OpenEnd;
-use log_growth::{Ending, MOST_NODES, Node, Pair, cut_down, is_open, read_node};
+use log_nodes::{Ending, Front, MOST_NODES, Node, Pair, WalkStop, enter_node, is_open, reader_at};
 use proof_log::{Claim, LogPart, LogReader};
 use proof_tree::{Capped, Relaxation};
 use row_kit::{Area, Found};
 use row_relax::RowPick;
 use std::alloc::{AllocError, Global};
-use stn_edge::{Shelf, Stop};
+use stn_edge::Shelf;
 
 /// What is found in a log: the search that is to go on, which knows its best plan, and the open ends that may be searched on, in their
 /// order.
@@ -110,181 +113,176 @@ fn number_of(cap: Capped) -> i128 {
     }
 }
 
-/// Reads a whole log, and answers its claim as it stands there; none where it is no whole log.
+/// Reads a whole log behind its head, and answers its claim as it stands there.
 pub fn gather<F: Shelf>(
     alloc: Global,
+    pair: Pair,
+    front: Front,
+    files: &mut F,
+    gathered: &mut Gathered,
+) -> Result<Claim, WalkStop>
+    requires allowed { IsTrue (F.may_read files.old pair.log.now) }
+    requires can { CanGoOn pair.rows.now gathered.old.going }
+    ensures frame { OnlyReads F.Shelf files.old files.new }
+    ensures read_fault { result ≡ Err WalkStop.ReadFault
+        → Rose (F.read_faults files.old) (F.read_faults files.new) }
+    ensures no_fault { result ≢ Err WalkStop.WriteFault }
+{
+    let mut reader = reader_at(alloc, front)?;
+    let mut area = pair.rows.root_area(alloc)?;
+    let walk = Walk { alloc, pair };
+    gather_node(walk, files, &mut reader, gathered, &mut area, 0)?;
+    gather_claim(pair, files, &mut reader, gathered)
+}
+
+// Reads the claim of a log, and keeps its point.
+fn gather_claim<F: Shelf>(
     pair: Pair,
     files: &mut F,
     reader: &mut LogReader,
     gathered: &mut Gathered,
-) -> Result<Option<Claim>, Stop>
+) -> Result<Claim, WalkStop>
     requires allowed { IsTrue (F.may_read files.old pair.log.now) }
-    requires reading { IsReading (F.files files.old) pair.log.now reader.old }
-    requires can { CanGoOn pair.rows.now gathered.old.going }
-    ensures can { IfOk result (λ claim. IfSome claim (λ _.
-        CanGoOn pair.entry.rows.now gathered.new.going)) }
-    ensures same { F.files files.new ≡ F.files files.old }
-    ensures readable { F.may_read files.new ≡ F.may_read files.old }
-    ensures writable { F.may_write files.new ≡ F.may_write files.old }
-    ensures later { F.read_faults files.old ≤ F.read_faults files.new }
-    ensures no_write { F.write_faults files.new ≡ F.write_faults files.old }
-    ensures fault { result ≡ Err Stop.Failed
+    requires walking { GoesOnWalking (F.files files.old) pair.log.now reader.old pair.rows.now
+        gathered.old.going }
+    ensures frame { OnlyReads F.Shelf files.old files.new }
+    ensures read_fault { result ≡ Err WalkStop.ReadFault
         → Rose (F.read_faults files.old) (F.read_faults files.new) }
+    ensures no_fault { result ≢ Err WalkStop.WriteFault }
 {
-    let mut area = pair.rows.root_area(alloc)?;
-    if !gather_node(alloc, pair, files, reader, gathered, &mut area, 0)? {
-        return Ok(None);
-    }
     match reader.next(files, pair.log)? {
         LogPart::Claim { line: _, claim } => {
             gathered.note_claim(&claim)?;
-            Ok(Some(claim))
+            Ok(claim)
         }
-        _ => Ok(None),
+        _ => Err(WalkStop::Other),
     }
 }
 
-// Reads a proof over an area, which is afterwards as before; false where something else comes.
+// Reads a proof over an area, which is afterwards as before.
 #[cycle(gather)]
 fn gather_node<F: Shelf>(
-    alloc: Global,
-    pair: Pair,
+    walk: Walk,
     files: &mut F,
     reader: &mut LogReader,
     gathered: &mut Gathered,
     area: &mut Area,
     depth: u32,
-) -> Result<bool, Stop>
-    requires allowed { IsTrue (F.may_read files.old pair.log.now) }
-    requires reading { IsReading (F.files files.old) pair.log.now reader.old }
-    requires can { CanGoOn pair.rows.now gathered.old.going }
-    requires fits { Fits pair.rows.now.program (seen area.old) }
-    ensures reading { IfOk result (λ whole. IsTrue whole
-        → IsReading (F.files files.old) pair.entry.log.now reader.new) }
-    ensures can { IfOk result (λ whole. IsTrue whole
-        → CanGoOn pair.entry.rows.now gathered.new.going) }
-    ensures as_before { IfOk result (λ whole. IsTrue whole
-        → map view_of area.new ≡ map view_of area.old) }
-    ensures same { F.files files.new ≡ F.files files.old }
-    ensures readable { F.may_read files.new ≡ F.may_read files.old }
-    ensures writable { F.may_write files.new ≡ F.may_write files.old }
-    ensures later { F.read_faults files.old ≤ F.read_faults files.new }
-    ensures no_write { F.write_faults files.new ≡ F.write_faults files.old }
-    ensures fault { result ≡ Err Stop.Failed
+) -> Result<(), WalkStop>
+    requires allowed { IsTrue (F.may_read files.old walk.pair.log.now) }
+    requires walking { GoesOnWalking (F.files files.old) walk.pair.log.now reader.old walk.pair.rows.now
+        gathered.old.going }
+    requires fits { Fits walk.pair.rows.now.program (seen area.old) }
+    ensures walking { OnOk result (GoesOnWalking (F.files files.new) walk.entry.pair.log.now
+        reader.new walk.entry.pair.rows.now gathered.new.going) }
+    ensures as_before { OnOk result (map view_of area.new ≡ map view_of area.old) }
+    ensures frame { OnlyReads F.Shelf files.old files.new }
+    ensures read_fault { result ≡ Err WalkStop.ReadFault
         → Rose (F.read_faults files.old) (F.read_faults files.new) }
+    ensures no_fault { result ≢ Err WalkStop.WriteFault }
 {
-    let Some(node) = read_node(alloc, files, pair.log, reader)? else {
-        return Ok(false);
-    };
-    let mark = pair.rows.mark(area);
-    if !cut_down(pair.rows, area, node.cuts.as_slice()) {
-        return Ok(false);
-    }
-    gathered.note_found(&node.found)?;
-    if gather_below(alloc, pair, files, reader, gathered, area, depth, &node)? {
-        pair.rows.back(area, mark);
-        Ok(true)
-    } else {
-        Ok(false)
-    }
+    let mark = walk.pair.rows.mark(area);
+    gather_entered(walk, files, reader, gathered, area, depth)?;
+    walk.pair.rows.back(area, mark);
+    Ok(())
 }
 
-// Reads what stands below a node over an area after its cuts.
+// Reads a proof over an area, where its cuts are made.
+#[cycle(gather)]
+fn gather_entered<F: Shelf>(
+    walk: Walk,
+    files: &mut F,
+    reader: &mut LogReader,
+    gathered: &mut Gathered,
+    area: &mut Area,
+    depth: u32,
+) -> Result<(), WalkStop>
+    requires allowed { IsTrue (F.may_read files.old walk.pair.log.now) }
+    requires walking { GoesOnWalking (F.files files.old) walk.pair.log.now reader.old walk.pair.rows.now
+        gathered.old.going }
+    requires fits { Fits walk.pair.rows.now.program (seen area.old) }
+    ensures walking { OnOk result (GoesOnWalking (F.files files.new) walk.entry.pair.log.now
+        reader.new walk.entry.pair.rows.now gathered.new.going) }
+    ensures below { OnOk result (StandsBelow walk.entry.pair.rows.now.program
+        (map view_of area.old) (map view_of area.new)) }
+    ensures frame { OnlyReads F.Shelf files.old files.new }
+    ensures read_fault { result ≡ Err WalkStop.ReadFault
+        → Rose (F.read_faults files.old) (F.read_faults files.new) }
+    ensures no_fault { result ≢ Err WalkStop.WriteFault }
+{
+    let node = enter_node(walk.alloc, walk.pair, files, reader, area)?;
+    gather_below(walk, files, reader, gathered, area, depth, &node)
+}
+
+// Keeps what a node tells, over an area after its cuts, and reads what stands below it.
 #[cycle(gather)]
 fn gather_below<F: Shelf>(
-    alloc: Global,
-    pair: Pair,
+    walk: Walk,
     files: &mut F,
     reader: &mut LogReader,
     gathered: &mut Gathered,
     area: &mut Area,
     depth: u32,
     node: &Node,
-) -> Result<bool, Stop>
-    requires allowed { IsTrue (F.may_read files.old pair.log.now) }
-    requires reading { IsReading (F.files files.old) pair.log.now reader.old }
-    requires can { CanGoOn pair.rows.now gathered.old.going }
-    requires fits { Fits pair.rows.now.program (seen area.old) }
-    ensures reading { IfOk result (λ whole. IsTrue whole
-        → IsReading (F.files files.old) pair.entry.log.now reader.new) }
-    ensures can { IfOk result (λ whole. IsTrue whole
-        → CanGoOn pair.entry.rows.now gathered.new.going) }
-    ensures as_before { IfOk result (λ whole. IsTrue whole
-        → map view_of area.new ≡ map view_of area.old) }
-    ensures same { F.files files.new ≡ F.files files.old }
-    ensures readable { F.may_read files.new ≡ F.may_read files.old }
-    ensures writable { F.may_write files.new ≡ F.may_write files.old }
-    ensures later { F.read_faults files.old ≤ F.read_faults files.new }
-    ensures no_write { F.write_faults files.new ≡ F.write_faults files.old }
-    ensures fault { result ≡ Err Stop.Failed
+) -> Result<(), WalkStop>
+    requires allowed { IsTrue (F.may_read files.old walk.pair.log.now) }
+    requires walking { GoesOnWalking (F.files files.old) walk.pair.log.now reader.old walk.pair.rows.now
+        gathered.old.going }
+    requires fits { Fits walk.pair.rows.now.program (seen area.old) }
+    ensures walking { OnOk result (GoesOnWalking (F.files files.new) walk.entry.pair.log.now
+        reader.new walk.entry.pair.rows.now gathered.new.going) }
+    ensures below { OnOk result (StandsBelow walk.entry.pair.rows.now.program
+        (map view_of area.old) (map view_of area.new)) }
+    ensures frame { OnlyReads F.Shelf files.old files.new }
+    ensures read_fault { result ≡ Err WalkStop.ReadFault
         → Rose (F.read_faults files.old) (F.read_faults files.new) }
+    ensures no_fault { result ≢ Err WalkStop.WriteFault }
 {
+    gathered.note_found(&node.found)?;
     match &node.end {
         Ending::Split(pick, cert) => {
-            if depth >= MOST_NODES {
-                return Ok(false);
-            }
-            let mark = pair.rows.mark(area);
-            let _ = pair.rows.trim(area, pick, cert);
-            if gather_parts(alloc, pair, files, reader, gathered, area, depth, pick)? {
-                pair.rows.back(area, mark);
-                Ok(true)
-            } else {
-                Ok(false)
-            }
+            let _ = walk.pair.rows.trim(area, pick, cert);
+            gather_parts(walk, files, reader, gathered, area, depth, pick)
         }
-        _ => {
-            gathered.note(alloc, &pair, area, depth, &node.end)?;
-            Ok(true)
-        }
+        _ => Ok(gathered.note(walk.alloc, &walk.pair, area, depth, &node.end)?),
     }
 }
 
-// Reads both parts of a split of an area.
+// Reads both parts of a split of an area, where the second is taken.
 #[cycle(gather)]
 fn gather_parts<F: Shelf>(
-    alloc: Global,
-    pair: Pair,
+    walk: Walk,
     files: &mut F,
     reader: &mut LogReader,
     gathered: &mut Gathered,
     area: &mut Area,
     depth: u32,
     pick: &RowPick,
-) -> Result<bool, Stop>
-    requires allowed { IsTrue (F.may_read files.old pair.log.now) }
-    requires reading { IsReading (F.files files.old) pair.log.now reader.old }
-    requires can { CanGoOn pair.rows.now gathered.old.going }
-    requires fits { Fits pair.rows.now.program (seen area.old) }
-    requires depth { depth < 4609 }
-    ensures reading { IfOk result (λ whole. IsTrue whole
-        → IsReading (F.files files.old) pair.entry.log.now reader.new) }
-    ensures can { IfOk result (λ whole. IsTrue whole
-        → CanGoOn pair.entry.rows.now gathered.new.going) }
-    ensures as_before { IfOk result (λ whole. IsTrue whole
-        → map view_of area.new ≡ map view_of area.old) }
-    ensures same { F.files files.new ≡ F.files files.old }
-    ensures readable { F.may_read files.new ≡ F.may_read files.old }
-    ensures writable { F.may_write files.new ≡ F.may_write files.old }
-    ensures later { F.read_faults files.old ≤ F.read_faults files.new }
-    ensures no_write { F.write_faults files.new ≡ F.write_faults files.old }
-    ensures fault { result ≡ Err Stop.Failed
+) -> Result<(), WalkStop>
+    requires allowed { IsTrue (F.may_read files.old walk.pair.log.now) }
+    requires walking { GoesOnWalking (F.files files.old) walk.pair.log.now reader.old walk.pair.rows.now
+        gathered.old.going }
+    requires fits { Fits walk.pair.rows.now.program (seen area.old) }
+    ensures walking { OnOk result (GoesOnWalking (F.files files.new) walk.entry.pair.log.now
+        reader.new walk.entry.pair.rows.now gathered.new.going) }
+    ensures below { OnOk result (StandsBelow walk.entry.pair.rows.now.program
+        (map view_of area.old) (map view_of area.new)) }
+    ensures frame { OnlyReads F.Shelf files.old files.new }
+    ensures read_fault { result ≡ Err WalkStop.ReadFault
         → Rose (F.read_faults files.old) (F.read_faults files.new) }
+    ensures no_fault { result ≢ Err WalkStop.WriteFault }
 {
-    let mark = pair.rows.mark(area);
-    if !pair.rows.left(area, pick) {
-        return Ok(false);
+    if depth >= MOST_NODES {
+        return Err(WalkStop::Other);
     }
-    if !gather_node(alloc, pair, files, reader, gathered, area, depth + 1)? {
-        return Ok(false);
+    let mark = walk.pair.rows.mark(area);
+    if !walk.pair.rows.left(area, pick) {
+        return Err(WalkStop::Other);
     }
-    pair.rows.back(area, mark);
-    if !pair.rows.right(area, pick) {
-        return Ok(false);
+    gather_node(walk, files, reader, gathered, area, depth + 1)?;
+    walk.pair.rows.back(area, mark);
+    if !walk.pair.rows.right(area, pick) {
+        return Err(WalkStop::Other);
     }
-    if !gather_node(alloc, pair, files, reader, gathered, area, depth + 1)? {
-        return Ok(false);
-    }
-    pair.rows.back(area, mark);
-    Ok(true)
+    gather_node(walk, files, reader, gathered, area, depth + 1)
 }

@@ -2,10 +2,10 @@
 ghost use Rattle.std.specs.Prelude.{◌≡◌, IsTrue, false};
 ghost use Rattle.row_relax.specs.View.{Fits};
 ghost use Rattle.branch_tree.specs.Deep.{is_deep};
-ghost use Rattle.log_growth.specs.laws.Grown.{seen};
+ghost use Rattle.log_nodes.specs.laws.Seen.{seen};
 
 use branch_tree::is_deep;
-use log_growth::{Ending, Pair, in_share};
+use log_nodes::{Ending, Pair, in_share};
 use proof_tree::{Capped, Relaxation};
 use row_kit::Area;
 use row_relax::Rows;

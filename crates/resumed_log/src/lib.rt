@@ -5,11 +5,16 @@
 #![tactic(auto)]
 
 mod claiming;
+mod copying;
 mod course;
 mod gathering;
+mod going_on;
 mod leaves;
 mod new_log;
 mod resuming;
+mod task;
+mod walk;
 mod writing;
 
-pub use resuming::{Task, write_resumed};
+pub use resuming::write_resumed;
+pub use task::Task;

@@ -1,12 +1,16 @@
 //! The log that is written.
-ghost use Rattle.std.specs.Prelude.{IsTrue, string_bytes};
+ghost use Rattle.std.specs.Prelude.{◌≡◌, ◌≢◌, Err, IsTrue, IfOk, string_bytes};
+ghost use Rattle.stn_edge.specs.Count.{Rose};
 ghost use Rattle.proof_log.specs.Writer.{KeepsOthers, writing};
-ghost use Rattle.resumed_log.specs.laws.Beside.{kept-none};
+ghost use Rattle.store_frames.specs.Frames.{WritesOne};
+ghost use Rattle.resumed_log.specs.laws.Beside.{kept-none, out_name};
 
-use proof_log::LogWriter;
+use log_nodes::WalkStop;
+use proof_log::{Claim, LogWriter};
 use proof_tree::{Item, NodeTaker, TakeStop};
 use row_relax::Rows;
-use stn_edge::Shelf;
+use std::alloc::Global;
+use stn_edge::{Shelf, Stop};
 
 /// A log that is written, and whether its next item is left out: the first one of a proof that stands in the place of an end, whose
 /// node has begun.
@@ -38,5 +42,53 @@ impl<F: Shelf> NodeTaker<Rows, F> for Out {
             return Ok(());
         }
         self.writer.put(files, item)
+    }
+}
+
+// Why the log was not written.
+fn write_stop(stop: Stop) -> WalkStop
+    ensures fault { result ≡ WalkStop.WriteFault → stop ≡ Stop.Failed }
+    ensures no_read { result ≢ WalkStop.ReadFault }
+{
+    match stop {
+        Stop::Failed => WalkStop::WriteFault,
+        Stop::Memory => WalkStop::Memory,
+    }
+}
+
+/// Begins a log with a head.
+pub fn begin<F: Shelf>(
+    alloc: Global,
+    files: &mut F,
+    name: &str,
+    head: &[u8],
+) -> Result<Out, WalkStop>
+    requires may_write { IsTrue (F.may_write files.old name.now) }
+    ensures named { IfOk result (λ out. out_name out ≡ name.now) }
+    ensures frame { WritesOne F.Shelf name.now files.old files.new }
+    ensures write_fault { result ≡ Err WalkStop.WriteFault
+        → Rose (F.write_faults files.old) (F.write_faults files.new) }
+    ensures no_fault { result ≢ Err WalkStop.ReadFault }
+{
+    match LogWriter::begin_with(alloc, files, name, head) {
+        Ok(writer) => Ok(Out {
+            writer,
+            skips: false,
+        }),
+        Err(stop) => Err(write_stop(stop)),
+    }
+}
+
+/// Ends a log with a claim.
+pub fn finish<F: Shelf>(out: Out, files: &mut F, claim: &Claim) -> Result<(), WalkStop>
+    requires may_write { IsTrue (F.may_write files.old (out_name out)) }
+    ensures frame { WritesOne F.Shelf (out_name out) files.old files.new }
+    ensures write_fault { result ≡ Err WalkStop.WriteFault
+        → Rose (F.write_faults files.old) (F.write_faults files.new) }
+    ensures no_fault { result ≢ Err WalkStop.ReadFault }
+{
+    match out.writer.finish(files, claim) {
+        Ok(()) => Ok(()),
+        Err(stop) => Err(write_stop(stop)),
     }
 }

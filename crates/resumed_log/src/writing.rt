@@ -1,75 +1,53 @@
 //! The items of the old log and of what is searched on, written to the new one.
-ghost use Rattle.std.specs.Prelude.{IfSome, ◌≡◌, ◌≢◌, ◌≤◌, ◌<◌, map, Err, IsTrue, IfOk, false};
+ghost use Rattle.std.specs.Prelude.{◌≡◌, ◌≢◌, map, Err, IsTrue, OnOk, false};
 ghost use Rattle.stn_edge.specs.Count.{Rose};
-ghost use Rattle.stn_edge.specs.Files.{OthersStay};
 ghost use Rattle.row_relax.specs.declared.rows.Rows.{Rows};
 ghost use Rattle.row_relax.specs.View.{Fits, view_of};
 ghost use Rattle.branch_tree.specs.Deep.{is_deep};
 ghost use Rattle.branch_tree.specs.laws.Going.{CanGoOn, HasLeft};
-ghost use Rattle.log_growth.specs.Reading.{IsReading};
-ghost use Rattle.log_growth.specs.laws.Grown.{seen};
+ghost use Rattle.store_frames.specs.Frames.{ReadsAndWritesOne, WritesOne};
+ghost use Rattle.log_nodes.specs.laws.Seen.{StandsBelow, seen};
 ghost use Rattle.resumed_log.specs.laws.Beside.{out_name};
+ghost use Rattle.resumed_log.specs.laws.Walks.{CanWriteBeside, GoesOnWalking};
 
 use crate::claiming::exceeds;
 use crate::course::Course;
 use crate::leaves::{cap_of, may_search};
 use crate::new_log::Out;
+use crate::walk::Walk;
 use box_advice::Hinter;
 use branch_tree::GoingOn;
 use dual_bound::Cert;
 use end_advice::EndGuide;
-use log_growth::{Ending, MOST_NODES, Node, Pair, cut_down, is_open, item_of, read_node};
-use log_parts::JoinStop;
+use log_nodes::{Ending, MOST_NODES, Node, Pair, WalkStop, enter_node, is_open, item_of};
 use proof_log::LogReader;
-use proof_tree::{Item, NodeTaker, Relaxation, TakeStop, floor_cap, greater_cap};
+use proof_tree::{Item, NodeTaker, Relaxation, floor_cap, greater_cap};
 use range_prop::RowCut;
 use row_kit::{Area, Found};
 use row_relax::{RowPick, Rows};
 use std::alloc::Global;
 use stn_edge::Shelf;
 
-// Why an item was not put.
-fn stop_of(stop: TakeStop) -> JoinStop
-    ensures fault { result ≡ JoinStop.WriteFault → stop ≡ TakeStop.Failed }
-    ensures no_read { result ≢ JoinStop.ReadFault }
-{
-    match stop {
-        TakeStop::Failed => JoinStop::WriteFault,
-        TakeStop::Memory => JoinStop::Memory,
-    }
-}
-
 /// Puts an item.
-pub fn put<F: Shelf>(out: &mut Out, files: &mut F, item: &Item<Rows>) -> Result<(), JoinStop>
+pub fn put<F: Shelf>(out: &mut Out, files: &mut F, item: &Item<Rows>) -> Result<(), WalkStop>
     requires allowed { IsTrue (F.may_write files.old (out_name out.old)) }
     ensures named { out_name out.new ≡ out_name out.old }
-    ensures others { OthersStay (out_name out.old) (F.files files.old) (F.files files.new) }
-    ensures readable { F.may_read files.new ≡ F.may_read files.old }
-    ensures writable { F.may_write files.new ≡ F.may_write files.old }
-    ensures reads { F.read_faults files.new ≡ F.read_faults files.old }
-    ensures writes { F.write_faults files.old ≤ F.write_faults files.new }
-    ensures write_fault { result ≡ Err JoinStop.WriteFault
+    ensures frame { WritesOne F.Shelf (out_name out.old) files.old files.new }
+    ensures write_fault { result ≡ Err WalkStop.WriteFault
         → Rose (F.write_faults files.old) (F.write_faults files.new) }
-    ensures no_fault { result ≢ Err JoinStop.ReadFault }
+    ensures no_fault { result ≢ Err WalkStop.ReadFault }
 {
-    match out.put(files, item) {
-        Ok(()) => Ok(()),
-        Err(stop) => Err(stop_of(stop)),
-    }
+    Ok(out.put(files, item)?)
 }
 
-// Puts a node and its cuts.
-fn put_head<F: Shelf>(out: &mut Out, files: &mut F, cuts: &[RowCut]) -> Result<(), JoinStop>
+// Puts the node and its cuts.
+fn put_head<F: Shelf>(out: &mut Out, files: &mut F, cuts: &[RowCut]) -> Result<(), WalkStop>
     requires allowed { IsTrue (F.may_write files.old (out_name out.old)) }
     ensures named { out_name out.new ≡ out_name out.old }
-    ensures others { OthersStay (out_name out.old) (F.files files.old) (F.files files.new) }
-    ensures readable { F.may_read files.new ≡ F.may_read files.old }
-    ensures writable { F.may_write files.new ≡ F.may_write files.old }
-    ensures reads { F.read_faults files.new ≡ F.read_faults files.old }
-    ensures writes { F.write_faults files.old ≤ F.write_faults files.new }
-    ensures write_fault { result ≡ Err JoinStop.WriteFault
+    ensures frame { WritesOne F.Shelf (out_name out.old) files.old files.new }
+    ensures write_fault { result ≡ Err WalkStop.WriteFault
         → Rose (F.write_faults files.old) (F.write_faults files.new) }
-    ensures no_fault { result ≢ Err JoinStop.ReadFault }
+    ensures no_fault { result ≢ Err WalkStop.ReadFault }
 {
     put(out, files, &Item::Node)?;
     for cut in cuts {
@@ -78,185 +56,173 @@ fn put_head<F: Shelf>(out: &mut Out, files: &mut F, cuts: &[RowCut]) -> Result<(
     Ok(())
 }
 
-// Puts a found point, if there is one, and an end.
-fn put_end<F: Shelf>(
-    out: &mut Out,
-    files: &mut F,
-    found: Option<Found>,
-    end: &Item<Rows>,
-) -> Result<(), JoinStop>
+// Puts a found point, if there is one.
+fn put_found<F: Shelf>(out: &mut Out, files: &mut F, found: Option<Found>) -> Result<(), WalkStop>
     requires allowed { IsTrue (F.may_write files.old (out_name out.old)) }
     ensures named { out_name out.new ≡ out_name out.old }
-    ensures others { OthersStay (out_name out.old) (F.files files.old) (F.files files.new) }
-    ensures readable { F.may_read files.new ≡ F.may_read files.old }
-    ensures writable { F.may_write files.new ≡ F.may_write files.old }
-    ensures reads { F.read_faults files.new ≡ F.read_faults files.old }
-    ensures writes { F.write_faults files.old ≤ F.write_faults files.new }
-    ensures write_fault { result ≡ Err JoinStop.WriteFault
+    ensures frame { WritesOne F.Shelf (out_name out.old) files.old files.new }
+    ensures write_fault { result ≡ Err WalkStop.WriteFault
         → Rose (F.write_faults files.old) (F.write_faults files.new) }
-    ensures no_fault { result ≢ Err JoinStop.ReadFault }
+    ensures no_fault { result ≢ Err WalkStop.ReadFault }
 {
     match found {
-        Some(found) => {
-            put(out, files, &Item::Found(found))?;
-            put(out, files, end)
-        }
-        None => put(out, files, end),
+        Some(found) => put(out, files, &Item::Found(found)),
+        None => Ok(()),
     }
-}
-
-// Reads the next node of the old log.
-fn next_node<F: Shelf>(
-    alloc: Global,
-    files: &mut F,
-    name: &str,
-    reader: &mut LogReader,
-) -> Result<Option<Node>, JoinStop>
-    requires allowed { IsTrue (F.may_read files.old name.now) }
-    requires reading { IsReading (F.files files.old) name.now reader.old }
-    ensures reading { IfOk result (λ node. IfSome node (λ _.
-        IsReading (F.files files.new) name.now reader.new)) }
-    ensures same { F.files files.new ≡ F.files files.old }
-    ensures readable { F.may_read files.new ≡ F.may_read files.old }
-    ensures writable { F.may_write files.new ≡ F.may_write files.old }
-    ensures reads { F.read_faults files.old ≤ F.read_faults files.new }
-    ensures writes { F.write_faults files.new ≡ F.write_faults files.old }
-    ensures read_fault { result ≡ Err JoinStop.ReadFault
-        → Rose (F.read_faults files.old) (F.read_faults files.new) }
-    ensures no_fault { result ≢ Err JoinStop.WriteFault }
-{
-    Ok(read_node(alloc, files, name, reader)?)
 }
 
 /// Reads the proof of an old log over an area, and writes it to the new one, where the open ends that the guide enters are searched
-/// on. The area is afterwards as before; false where something else comes.
+/// on. The area is afterwards as before.
 #[cycle(writing)]
-pub fn write_node<H: Hinter, G: EndGuide, F: Shelf>(
-    alloc: Global,
-    pair: Pair,
+pub fn write_node<H: Hinter + Drop, G: EndGuide + Drop, F: Shelf>(
+    walk: Walk,
     files: &mut F,
     reader: &mut LogReader,
-    course: &mut Course,
+    course: &mut Course<H, G>,
     area: &mut Area,
     depth: u32,
-    hinter: &mut H,
-    guide: &mut G,
-) -> Result<bool, JoinStop>
-    requires may_read { IsTrue (F.may_read files.old pair.log.now) }
-    requires may_write { IsTrue (F.may_write files.old (out_name course.old.out)) }
-    requires apart { out_name course.old.out ≢ pair.log.now }
-    requires reading { IsReading (F.files files.old) pair.log.now reader.old }
-    requires can { CanGoOn pair.rows.now course.old.going }
-    requires fits { Fits pair.rows.now.program (seen area.old) }
-    ensures reading { IfOk result (λ whole. IsTrue whole
-        → IsReading (F.files files.new) pair.entry.log.now reader.new) }
-    ensures can { IfOk result (λ whole. IsTrue whole
-        → CanGoOn pair.entry.rows.now course.new.going) }
-    ensures as_before { IfOk result (λ whole. IsTrue whole
-        → map view_of area.new ≡ map view_of area.old) }
+) -> Result<(), WalkStop>
+    requires beside { CanWriteBeside (F.may_read files.old) (F.may_write files.old)
+        walk.pair.log.now (out_name course.old.out) }
+    requires walking { GoesOnWalking (F.files files.old) walk.pair.log.now reader.old walk.pair.rows.now
+        course.old.going }
+    requires fits { Fits walk.pair.rows.now.program (seen area.old) }
+    ensures walking { OnOk result (GoesOnWalking (F.files files.new) walk.entry.pair.log.now
+        reader.new walk.entry.pair.rows.now course.new.going) }
+    ensures as_before { OnOk result (map view_of area.new ≡ map view_of area.old) }
     ensures named { out_name course.new.out ≡ out_name course.old.out }
-    ensures others { OthersStay (out_name course.old.out) (F.files files.old) (F.files files.new) }
-    ensures readable { F.may_read files.new ≡ F.may_read files.old }
-    ensures writable { F.may_write files.new ≡ F.may_write files.old }
-    ensures reads { F.read_faults files.old ≤ F.read_faults files.new }
-    ensures writes { F.write_faults files.old ≤ F.write_faults files.new }
-    ensures read_fault { result ≡ Err JoinStop.ReadFault
+    ensures frame { ReadsAndWritesOne F.Shelf (out_name course.old.out) files.old files.new }
+    ensures read_fault { result ≡ Err WalkStop.ReadFault
         → Rose (F.read_faults files.old) (F.read_faults files.new) }
-    ensures write_fault { result ≡ Err JoinStop.WriteFault
+    ensures write_fault { result ≡ Err WalkStop.WriteFault
         → Rose (F.write_faults files.old) (F.write_faults files.new) }
 {
-    let Some(node) = next_node(alloc, files, pair.log, reader)? else {
-        return Ok(false);
-    };
-    let mark = pair.rows.mark(area);
-    if !cut_down(pair.rows, area, node.cuts.as_slice()) {
-        return Ok(false);
-    }
-    put_head(&mut course.out, files, node.cuts.as_slice())?;
-    if write_below(
-        alloc, pair, files, reader, course, area, depth, node, hinter, guide,
-    )? {
-        pair.rows.back(area, mark);
-        Ok(true)
-    } else {
-        Ok(false)
-    }
+    let mark = walk.pair.rows.mark(area);
+    write_entered(walk, files, reader, course, area, depth)?;
+    walk.pair.rows.back(area, mark);
+    Ok(())
 }
 
-// Writes what stands from the end of a node on, over an area after its cuts.
+// Reads a proof over an area, where its cuts are made, and writes it.
 #[cycle(writing)]
-fn write_below<H: Hinter, G: EndGuide, F: Shelf>(
-    alloc: Global,
-    pair: Pair,
+fn write_entered<H: Hinter + Drop, G: EndGuide + Drop, F: Shelf>(
+    walk: Walk,
     files: &mut F,
     reader: &mut LogReader,
-    course: &mut Course,
+    course: &mut Course<H, G>,
     area: &mut Area,
     depth: u32,
-    node: Node,
-    hinter: &mut H,
-    guide: &mut G,
-) -> Result<bool, JoinStop>
-    requires may_read { IsTrue (F.may_read files.old pair.log.now) }
-    requires may_write { IsTrue (F.may_write files.old (out_name course.old.out)) }
-    requires apart { out_name course.old.out ≢ pair.log.now }
-    requires reading { IsReading (F.files files.old) pair.log.now reader.old }
-    requires can { CanGoOn pair.rows.now course.old.going }
-    requires fits { Fits pair.rows.now.program (seen area.old) }
-    ensures reading { IfOk result (λ whole. IsTrue whole
-        → IsReading (F.files files.new) pair.entry.log.now reader.new) }
-    ensures can { IfOk result (λ whole. IsTrue whole
-        → CanGoOn pair.entry.rows.now course.new.going) }
-    ensures as_before { IfOk result (λ whole. IsTrue whole
-        → map view_of area.new ≡ map view_of area.old) }
+) -> Result<(), WalkStop>
+    requires beside { CanWriteBeside (F.may_read files.old) (F.may_write files.old)
+        walk.pair.log.now (out_name course.old.out) }
+    requires walking { GoesOnWalking (F.files files.old) walk.pair.log.now reader.old walk.pair.rows.now
+        course.old.going }
+    requires fits { Fits walk.pair.rows.now.program (seen area.old) }
+    ensures walking { OnOk result (GoesOnWalking (F.files files.new) walk.entry.pair.log.now
+        reader.new walk.entry.pair.rows.now course.new.going) }
+    ensures below { OnOk result (StandsBelow walk.entry.pair.rows.now.program
+        (map view_of area.old) (map view_of area.new)) }
     ensures named { out_name course.new.out ≡ out_name course.old.out }
-    ensures others { OthersStay (out_name course.old.out) (F.files files.old) (F.files files.new) }
-    ensures readable { F.may_read files.new ≡ F.may_read files.old }
-    ensures writable { F.may_write files.new ≡ F.may_write files.old }
-    ensures reads { F.read_faults files.old ≤ F.read_faults files.new }
-    ensures writes { F.write_faults files.old ≤ F.write_faults files.new }
-    ensures read_fault { result ≡ Err JoinStop.ReadFault
+    ensures frame { ReadsAndWritesOne F.Shelf (out_name course.old.out) files.old files.new }
+    ensures read_fault { result ≡ Err WalkStop.ReadFault
         → Rose (F.read_faults files.old) (F.read_faults files.new) }
-    ensures write_fault { result ≡ Err JoinStop.WriteFault
+    ensures write_fault { result ≡ Err WalkStop.WriteFault
         → Rose (F.write_faults files.old) (F.write_faults files.new) }
 {
-    let Node {
-        cuts: _,
-        found,
-        end,
-    } = node;
-    if is_searched(pair, course, area, depth, &end, guide) {
-        return search_end(pair, files, course, area, depth, end, hinter, guide);
+    let mut node = enter_node(walk.alloc, walk.pair, files, reader, area)?;
+    write_below(walk, files, reader, course, area, depth, &mut node)
+}
+
+// Writes a node, over an area after its cuts, and what stands below it.
+#[cycle(writing)]
+fn write_below<H: Hinter + Drop, G: EndGuide + Drop, F: Shelf>(
+    walk: Walk,
+    files: &mut F,
+    reader: &mut LogReader,
+    course: &mut Course<H, G>,
+    area: &mut Area,
+    depth: u32,
+    node: &mut Node,
+) -> Result<(), WalkStop>
+    requires beside { CanWriteBeside (F.may_read files.old) (F.may_write files.old)
+        walk.pair.log.now (out_name course.old.out) }
+    requires walking { GoesOnWalking (F.files files.old) walk.pair.log.now reader.old walk.pair.rows.now
+        course.old.going }
+    requires fits { Fits walk.pair.rows.now.program (seen area.old) }
+    ensures walking { OnOk result (GoesOnWalking (F.files files.new) walk.entry.pair.log.now
+        reader.new walk.entry.pair.rows.now course.new.going) }
+    ensures below { OnOk result (StandsBelow walk.entry.pair.rows.now.program
+        (map view_of area.old) (map view_of area.new)) }
+    ensures named { out_name course.new.out ≡ out_name course.old.out }
+    ensures frame { ReadsAndWritesOne F.Shelf (out_name course.old.out) files.old files.new }
+    ensures read_fault { result ≡ Err WalkStop.ReadFault
+        → Rose (F.read_faults files.old) (F.read_faults files.new) }
+    ensures write_fault { result ≡ Err WalkStop.WriteFault
+        → Rose (F.write_faults files.old) (F.write_faults files.new) }
+{
+    put_head(&mut course.out, files, node.cuts.as_slice())?;
+    if is_searched(walk.pair, course, area, depth, &node.end) {
+        let end = end_of(node);
+        return search_end(walk.pair, files, course, area, depth, end);
     }
-    course.cap = greater_cap(course.cap, cap_of(pair.rows, area, &end));
-    let item = item_of(end);
-    put_end(&mut course.out, files, found, &item)?;
-    match &item {
+    course.cap = greater_cap(course.cap, cap_of(walk.pair.rows, area, &node.end));
+    put_found(&mut course.out, files, node.found.take())?;
+    let end = item_of(end_of(node));
+    write_end(walk, files, reader, course, area, depth, &end)
+}
+
+// The end of a node, which is left without one.
+fn end_of(node: &mut Node) -> Ending {
+    std::mem::replace(&mut node.end, Ending::Empty)
+}
+
+// Writes an end, over its area, and what stands below it.
+#[cycle(writing)]
+fn write_end<H: Hinter + Drop, G: EndGuide + Drop, F: Shelf>(
+    walk: Walk,
+    files: &mut F,
+    reader: &mut LogReader,
+    course: &mut Course<H, G>,
+    area: &mut Area,
+    depth: u32,
+    end: &Item<Rows>,
+) -> Result<(), WalkStop>
+    requires beside { CanWriteBeside (F.may_read files.old) (F.may_write files.old)
+        walk.pair.log.now (out_name course.old.out) }
+    requires walking { GoesOnWalking (F.files files.old) walk.pair.log.now reader.old walk.pair.rows.now
+        course.old.going }
+    requires fits { Fits walk.pair.rows.now.program (seen area.old) }
+    ensures walking { OnOk result (GoesOnWalking (F.files files.new) walk.entry.pair.log.now
+        reader.new walk.entry.pair.rows.now course.new.going) }
+    ensures below { OnOk result (StandsBelow walk.entry.pair.rows.now.program
+        (map view_of area.old) (map view_of area.new)) }
+    ensures named { out_name course.new.out ≡ out_name course.old.out }
+    ensures frame { ReadsAndWritesOne F.Shelf (out_name course.old.out) files.old files.new }
+    ensures read_fault { result ≡ Err WalkStop.ReadFault
+        → Rose (F.read_faults files.old) (F.read_faults files.new) }
+    ensures write_fault { result ≡ Err WalkStop.WriteFault
+        → Rose (F.write_faults files.old) (F.write_faults files.new) }
+{
+    put(&mut course.out, files, end)?;
+    match end {
         Item::Split(pick, cert) => {
-            if depth >= MOST_NODES {
-                return Ok(false);
-            }
-            write_split(
-                alloc, pair, files, reader, course, area, depth, pick, cert, hinter, guide,
-            )
+            let floor = floor_cap(walk.pair.rows.trim(area, pick, cert));
+            course.cap = greater_cap(course.cap, floor);
+            write_parts(walk, files, reader, course, area, depth, pick)
         }
-        Item::Point => {
-            course.going.settle(area)?;
-            Ok(true)
-        }
-        _ => Ok(true),
+        Item::Point => Ok(course.going.settle(area)?),
+        _ => Ok(()),
     }
 }
 
 // Whether an end is searched on: whether it is open by the plan of the old log, may be searched on, is left open by the best plan so
 // far, budget is left, and the guide enters it. Open ends are numbered.
-fn is_searched<G: EndGuide>(
+fn is_searched<H: Hinter + Drop, G: EndGuide + Drop>(
     pair: Pair,
-    course: &mut Course,
+    course: &mut Course<H, G>,
     area: &Area,
     depth: u32,
     end: &Ending,
-    guide: &mut G,
 ) -> bool
     requires can { CanGoOn pair.rows.now course.old.going }
     requires fits { Fits pair.rows.now.program (seen area.now) }
@@ -275,7 +241,7 @@ fn is_searched<G: EndGuide>(
     }
     let entered = course.entered;
     course.entered = entered.saturating_add(1);
-    if !guide.enters(&pair.rows.program, entered, depth) {
+    if !course.guide.enters(&pair.rows.program, entered, depth) {
         return false;
     }
     if !exceeds(cap_of(pair.rows, area, end), course.going.best()) {
@@ -305,128 +271,83 @@ fn make_room(going: &mut GoingOn, is_counted: bool)
 }
 
 // Searches on at an end, and writes the proof of its box.
-fn search_end<H: Hinter, G: EndGuide, F: Shelf>(
+fn search_end<H: Hinter + Drop, G: EndGuide + Drop, F: Shelf>(
     pair: Pair,
     files: &mut F,
-    course: &mut Course,
+    course: &mut Course<H, G>,
     area: &mut Area,
     depth: u32,
     end: Ending,
-    hinter: &mut H,
-    guide: &mut G,
-) -> Result<bool, JoinStop>
+) -> Result<(), WalkStop>
     requires may_write { IsTrue (F.may_write files.old (out_name course.old.out)) }
     requires can { CanGoOn pair.rows.now course.old.going }
     requires left { HasLeft course.old.going }
     requires fits { Fits pair.rows.now.program (seen area.old) }
     requires deep { is_deep depth (seen area.old) ≡ false }
-    ensures can { IfOk result (λ whole. IsTrue whole
-        → CanGoOn pair.entry.rows.now course.new.going) }
-    ensures as_before { IfOk result (λ whole. IsTrue whole
-        → map view_of area.new ≡ map view_of area.old) }
+    ensures can { OnOk result (CanGoOn pair.entry.rows.now course.new.going) }
+    ensures as_before { OnOk result (map view_of area.new ≡ map view_of area.old) }
     ensures named { out_name course.new.out ≡ out_name course.old.out }
-    ensures others { OthersStay (out_name course.old.out) (F.files files.old) (F.files files.new) }
-    ensures readable { F.may_read files.new ≡ F.may_read files.old }
-    ensures writable { F.may_write files.new ≡ F.may_write files.old }
-    ensures reads { F.read_faults files.new ≡ F.read_faults files.old }
-    ensures writes { F.write_faults files.old ≤ F.write_faults files.new }
-    ensures write_fault { result ≡ Err JoinStop.WriteFault
+    ensures frame { WritesOne F.Shelf (out_name course.old.out) files.old files.new }
+    ensures write_fault { result ≡ Err WalkStop.WriteFault
         → Rose (F.write_faults files.old) (F.write_faults files.new) }
-    ensures no_fault { result ≢ Err JoinStop.ReadFault }
+    ensures no_fault { result ≢ Err WalkStop.ReadFault }
 {
     let Some((cert, is_counted)) = held_of(end) else {
-        return Ok(false);
+        return Err(WalkStop::Other);
     };
     make_room(&mut course.going, is_counted);
     course.out.skips = true;
-    match course
-        .going
-        .search(area, depth, cert, hinter, guide, &mut course.out, files)
-    {
-        Ok(cap) => {
-            course.cap = greater_cap(course.cap, cap);
-            Ok(true)
-        }
-        Err(stop) => Err(stop_of(stop)),
-    }
+    let cap = course.going.search(
+        area,
+        depth,
+        cert,
+        &mut course.hinter,
+        &mut course.guide,
+        &mut course.out,
+        files,
+    )?;
+    course.cap = greater_cap(course.cap, cap);
+    Ok(())
 }
 
-// Writes both parts of a split of an area.
+// Writes both parts of a split of an area, where the second is taken.
 #[cycle(writing)]
-fn write_split<H: Hinter, G: EndGuide, F: Shelf>(
-    alloc: Global,
-    pair: Pair,
+fn write_parts<H: Hinter + Drop, G: EndGuide + Drop, F: Shelf>(
+    walk: Walk,
     files: &mut F,
     reader: &mut LogReader,
-    course: &mut Course,
+    course: &mut Course<H, G>,
     area: &mut Area,
     depth: u32,
     pick: &RowPick,
-    cert: &Cert,
-    hinter: &mut H,
-    guide: &mut G,
-) -> Result<bool, JoinStop>
-    requires may_read { IsTrue (F.may_read files.old pair.log.now) }
-    requires may_write { IsTrue (F.may_write files.old (out_name course.old.out)) }
-    requires apart { out_name course.old.out ≢ pair.log.now }
-    requires reading { IsReading (F.files files.old) pair.log.now reader.old }
-    requires can { CanGoOn pair.rows.now course.old.going }
-    requires fits { Fits pair.rows.now.program (seen area.old) }
-    requires depth { depth < 4609 }
-    ensures reading { IfOk result (λ whole. IsTrue whole
-        → IsReading (F.files files.new) pair.entry.log.now reader.new) }
-    ensures can { IfOk result (λ whole. IsTrue whole
-        → CanGoOn pair.entry.rows.now course.new.going) }
-    ensures as_before { IfOk result (λ whole. IsTrue whole
-        → map view_of area.new ≡ map view_of area.old) }
+) -> Result<(), WalkStop>
+    requires beside { CanWriteBeside (F.may_read files.old) (F.may_write files.old)
+        walk.pair.log.now (out_name course.old.out) }
+    requires walking { GoesOnWalking (F.files files.old) walk.pair.log.now reader.old walk.pair.rows.now
+        course.old.going }
+    requires fits { Fits walk.pair.rows.now.program (seen area.old) }
+    ensures walking { OnOk result (GoesOnWalking (F.files files.new) walk.entry.pair.log.now
+        reader.new walk.entry.pair.rows.now course.new.going) }
+    ensures below { OnOk result (StandsBelow walk.entry.pair.rows.now.program
+        (map view_of area.old) (map view_of area.new)) }
     ensures named { out_name course.new.out ≡ out_name course.old.out }
-    ensures others { OthersStay (out_name course.old.out) (F.files files.old) (F.files files.new) }
-    ensures readable { F.may_read files.new ≡ F.may_read files.old }
-    ensures writable { F.may_write files.new ≡ F.may_write files.old }
-    ensures reads { F.read_faults files.old ≤ F.read_faults files.new }
-    ensures writes { F.write_faults files.old ≤ F.write_faults files.new }
-    ensures read_fault { result ≡ Err JoinStop.ReadFault
+    ensures frame { ReadsAndWritesOne F.Shelf (out_name course.old.out) files.old files.new }
+    ensures read_fault { result ≡ Err WalkStop.ReadFault
         → Rose (F.read_faults files.old) (F.read_faults files.new) }
-    ensures write_fault { result ≡ Err JoinStop.WriteFault
+    ensures write_fault { result ≡ Err WalkStop.WriteFault
         → Rose (F.write_faults files.old) (F.write_faults files.new) }
 {
-    let start = pair.rows.mark(area);
-    let floor = floor_cap(pair.rows.trim(area, pick, cert));
-    course.cap = greater_cap(course.cap, floor);
-    let mark = pair.rows.mark(area);
-    if !pair.rows.left(area, pick) {
-        return Ok(false);
+    if depth >= MOST_NODES {
+        return Err(WalkStop::Other);
     }
-    if !write_node(
-        alloc,
-        pair,
-        files,
-        reader,
-        course,
-        area,
-        depth + 1,
-        hinter,
-        guide,
-    )? {
-        return Ok(false);
+    let mark = walk.pair.rows.mark(area);
+    if !walk.pair.rows.left(area, pick) {
+        return Err(WalkStop::Other);
     }
-    pair.rows.back(area, mark);
-    if !pair.rows.right(area, pick) {
-        return Ok(false);
+    write_node(walk, files, reader, course, area, depth + 1)?;
+    walk.pair.rows.back(area, mark);
+    if !walk.pair.rows.right(area, pick) {
+        return Err(WalkStop::Other);
     }
-    if !write_node(
-        alloc,
-        pair,
-        files,
-        reader,
-        course,
-        area,
-        depth + 1,
-        hinter,
-        guide,
-    )? {
-        return Ok(false);
-    }
-    pair.rows.back(area, start);
-    Ok(true)
+    write_node(walk, files, reader, course, area, depth + 1)
 }

@@ -152,13 +152,11 @@ fn entry_of(slot: u32, term: &Term, stand: &Stand, work: &mut Work) -> Entry {
 // The slope of the lowest line of a term, rounded down.
 fn slope_of(term: &Term, stand: &Stand, work: &mut Work) -> i64 {
     let piece = term.piece(stand, work);
-    let width = piece.to.saturating_sub(piece.from);
+    let width = piece.width();
     if width < 1 {
         return 0;
     }
-    term.at(piece.to)
-        .saturating_sub(term.at(piece.from))
-        .div_euclid(width)
+    piece.rise().div_euclid(width)
 }
 
 // The line of a slope that is at most a term at each size, and no lower than it has to be.

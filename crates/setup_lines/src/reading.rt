@@ -9,6 +9,7 @@ ghost use Rattle.sum_lines.specs.Line.{IsShort};
 ghost use Rattle.setup_lines.specs.Front.{IsBadAt, IsBadSetup, IsSetUp, IsSetupFront, NoneFirst, SetupsKeepLimits};
 ghost use Rattle.setup_lines.specs.Setups.{AreSetupsKept, IsSetupsKept, MaySetUp};
 ghost use Rattle.setup_lines.specs.laws.Walk.{HasPassed, HasSeen, IsSetupKept, rest_after};
+ghost use Rattle.store_frames.specs.Frames.{OnlyReads};
 
 use crate::beginning::{Begun, begin_setup, with_setup};
 use crate::line::read_setup_line;
@@ -40,11 +41,7 @@ pub fn read_setups<F: Shelf>(
     ensures kept { IfOk result (λ front. SetupsKeepLimits limits.now sizes.now head front) }
     ensures fault { result ≡ Err Failed
         → Rose (F.read_faults files.old) (F.read_faults files.new) }
-    ensures same { F.files files.new ≡ F.files files.old }
-    ensures readable { F.may_read files.new ≡ F.may_read files.old }
-    ensures writable { F.may_write files.new ≡ F.may_write files.old }
-    ensures later { F.read_faults files.old ≤ F.read_faults files.new }
-    ensures no_write { F.write_faults files.new ≡ F.write_faults files.old }
+    ensures frame { OnlyReads F.Shelf files.old files.new }
 {
     if head.count == u64::MAX {
         // No file has as many lines.
@@ -80,11 +77,7 @@ fn read_units<F: Shelf>(
         (λ m. IsBadSetup limits.now sizes.now head (file_of m name.now) defect) }
     ensures fault { result ≡ Err (halt.Stopped Failed)
         → Rose (F.read_faults files.old) (F.read_faults files.new) }
-    ensures same { F.files files.new ≡ F.files files.old }
-    ensures readable { F.may_read files.new ≡ F.may_read files.old }
-    ensures writable { F.may_write files.new ≡ F.may_write files.old }
-    ensures later { F.read_faults files.old ≤ F.read_faults files.new }
-    ensures no_write { F.write_faults files.new ≡ F.write_faults files.old }
+    ensures frame { OnlyReads F.Shelf files.old files.new }
 {
     let mut units = List::new(alloc);
     let mut above = None;
@@ -163,11 +156,7 @@ fn next_setup<F: Shelf>(
         (drop start (file_of m name.now)) defect) }
     ensures fault { result ≡ Err (halt.Stopped Failed)
         → Rose (F.read_faults files.old) (F.read_faults files.new) }
-    ensures same { F.files files.new ≡ F.files files.old }
-    ensures readable { F.may_read files.new ≡ F.may_read files.old }
-    ensures writable { F.may_write files.new ≡ F.may_write files.old }
-    ensures later { F.read_faults files.old ≤ F.read_faults files.new }
-    ensures no_write { F.write_faults files.new ≡ F.write_faults files.old }
+    ensures frame { OnlyReads F.Shelf files.old files.new }
 {
     let line = line_number(walk.line);
     let seen = next_unit(walk, files, name)?;
@@ -187,11 +176,7 @@ fn next_unit<F: Shelf>(walk: &mut Walk, files: &mut F, name: &str) -> Result<Opt
     ensures seen { IfOk result (λ found. (start number : ℕ) (units : Items ℕ)
         → HasPassed (F.files files.old) name.now start number units walk.old
         → HasSeen (F.files files.old) name.now start number units walk.new found) }
-    ensures same { F.files files.new ≡ F.files files.old }
-    ensures readable { F.may_read files.new ≡ F.may_read files.old }
-    ensures writable { F.may_write files.new ≡ F.may_write files.old }
-    ensures later { F.read_faults files.old ≤ F.read_faults files.new }
-    ensures no_write { F.write_faults files.new ≡ F.write_faults files.old }
+    ensures frame { OnlyReads F.Shelf files.old files.new }
     ensures fault { result ≡ Err Failed
         → Rose (F.read_faults files.old) (F.read_faults files.new) }
 {

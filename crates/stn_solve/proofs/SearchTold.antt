@@ -1,11 +1,14 @@
 -- What is told of searches over a part's own program, and over the rows with what a head declares.
-use Rattle.std.proofs.Common.{◌≡◌, ℕ, true, false, ◌<◌, ◌≤◌, length, ap₂, ◌∙◌, refl, subst, inl, inr, List, Option, None, IfSome}
+use Rattle.std.proofs.Common.{◌≡◌, ℕ, true, false, ◌≤◌, length, ap₂, ◌∙◌, refl, subst, inl, inr, List, Option, None, IfSome}
+use Rattle.std.specs.List.{All}
+use Rattle.std.proofs.lemmas.Bool.{lt-ltb}
 use Rattle.stn_model.specs.declared.plant.Plant.{Plant}
 use Rattle.stn_model.specs.Sound.{Sound}
 use Rattle.time_grid.specs.Slots.{slots}
 use Rattle.row_kit.specs.declared.domain.Domain.{Domain}
 use Rattle.row_kit.specs.declared.found.Found.{Found}
 use Rattle.row_kit.specs.declared.program.Program.{Program}
+use Rattle.row_kit.specs.Domain.{IsOpen}
 use Rattle.row_kit.specs.Points.{points_of}
 use Rattle.row_set.specs.Parts.{IsPartOf}
 use Rattle.row_relax.specs.declared.rows.Rows.{Rows}
@@ -13,6 +16,8 @@ use Rattle.row_relax.specs.Choices.{HaveImages, plain}
 use Rattle.row_relax.specs.RowProofs.{RowTree}
 use Rattle.row_relax.proofs.Choosing.{plain-rows}
 use Rattle.sum_slots.specs.Shown.{AreRanges}
+use Rattle.sum_choice.specs.Headed.{is_headed}
+use Rattle.sum_choice.proofs.PointsLeft.{headed-many}
 use Rattle.branch_tree.specs.declared.ended.Ended.{Ended}
 use Rattle.plan_told.specs.Ended.{IsEnding, IsSearchOf}
 use Rattle.plan_told.specs.Given.{IsGivenEnded, given_end, least_found}
@@ -65,9 +70,14 @@ module _ (plant : Plant) (part : Program) (judged : List Domain) (headed : Heade
   headed-places = given-places {floors = true} {budget = budget} plant part headed.rows judged headed.sums with_head.units with_head.derivations tree ended own sound is ranges with_head.can some own_of own_is
 
   -- what is told of it is right
-  pub headed-right : 50000 < points_of part.root → budget ≤ 100000 → (told : Told) → IsTold plant own told → IsToldByHead plant part judged headed.sums with_head.units with_head.derivations budget tree told
+  pub headed-right : is_headed part 0 ≡ true → budget ≤ 100000 → (told : Told) → IsTold plant own told → IsToldByHead plant part judged headed.sums with_head.units with_head.derivations budget tree told
   headed-right many few told says =
-      told-by_head plant part headed.rows judged headed.sums with_head.units with_head.derivations true budget tree ended own told sound is ranges with_head.can many some few own_of own_is says
+      told-by_head plant part headed.rows judged headed.sums with_head.units with_head.derivations true budget tree ended own told sound is ranges with_head.can (headed-many part 0 is.each_open many) some few own_of own_is says
+
+-- a part that has a head by its later slots has many points in all
+pub headed-whole : (part : Program) (levels : ℕ) → All IsOpen part.root → is_headed part levels ≡ true → is_headed part 0 ≡ true
+unfolding is_headed
+headed-whole part levels each has = lt-ltb 50000 (points_of part.root) (headed-many part levels each has)
 
 -- each lawful point has an image among the rows of a head
 pub headed-images : (plant : Plant) (part : Program) (judged : List Domain) (headed : Headed) → Sound plant → IsPartOf plant part → AreRanges part judged → IsHeaded plant part judged headed → HaveImages headed.rows
@@ -75,7 +85,7 @@ headed-images plant part judged headed sound is ranges with_head = head-images p
 
 -- whatever a search over the rows of a head ends with, it can be told
 pub can-be-told : (plant : Plant) (part : Program) (judged : List Domain) (headed : Headed) (least : Option Found) (budget : ℕ) → Sound plant → IsPartOf plant part → AreRanges part judged → IsHeaded plant part judged headed → least ≡ least_found part
-    → 1 ≤ budget → 50000 < points_of part.root → budget ≤ 100000 → CanBeTold plant headed least budget
+    → 1 ≤ budget → is_headed part 0 ≡ true → budget ≤ 100000 → CanBeTold plant headed least budget
 can-be-told plant part judged headed least budget sound is ranges with_head least_is some many few = record {
   places = λ ended tree of. headed-places plant part judged headed least budget tree ended (given_end headed.given least ended) sound is ranges with_head least_is some of refl;
   bytes = λ ended tree told of says.

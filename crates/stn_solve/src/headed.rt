@@ -1,10 +1,10 @@
 //! Planning over the rows of a part of a plant's choices with what the head of its log declares.
-ghost use Rattle.std.specs.Prelude.{◌≡◌, ◌≤◌, ◌<◌, None, Err, IsTrue, IfOk, OnErr};
+ghost use Rattle.std.specs.Prelude.{◌≡◌, ◌≤◌, ℕ, true, None, Err, IsTrue, IfOk, OnErr};
 ghost use Rattle.stn_edge.specs.Count.{Rose};
 ghost use Rattle.stn_model.specs.Sound.{Sound};
-ghost use Rattle.row_kit.specs.Points.{points_of};
 ghost use Rattle.row_set.specs.Parts.{IsPartOf};
 ghost use Rattle.sum_slots.specs.Shown.{AreRanges};
+ghost use Rattle.sum_choice.specs.Headed.{is_headed};
 ghost use Rattle.proof_log.specs.Writer.{KeepsOthers};
 ghost use Rattle.plan_told.specs.Outcomes.{IsPartOutcome};
 ghost use Rattle.plan_told.specs.Proofs.{HasProof, LeavesSomeBegun, bytes_in};
@@ -32,10 +32,11 @@ pub fn plan_headed<A: Advisers>(
     requires sound { Sound plant.now }
     requires part { IsPartOf plant.now part }
     requires ranges { AreRanges part judged }
-    requires many { 50000 < points_of part.root }
+    requires many { is_headed part 0 ≡ true }
     requires budget { (1 ≤ budget) × (budget ≤ 100000) }
     ensures outcome { IfOk result (IsPartOutcome plant.now part budget) }
-    ensures proof { IfOk result (HasProof plant.now part judged None) }
+    ensures proof { (levels : ℕ) → is_headed part levels ≡ true
+        → IfOk result (HasProof plant.now part judged levels None) }
     ensures begun { IfOk result (λ outcome. EarnsPoint part start.now outcome.answer) }
 {
     let Beginning {
@@ -61,15 +62,16 @@ pub fn solve_headed_to<A: Advisers, F: Shelf>(
     requires sound { Sound plant.now }
     requires part { IsPartOf plant.now part }
     requires ranges { AreRanges part judged }
-    requires many { 50000 < points_of part.root }
+    requires many { is_headed part 0 ≡ true }
     requires budget { (1 ≤ budget) × (budget ≤ 100000) }
     requires allowed { IsTrue (F.may_write files.old name.now) }
     ensures outcome { IfOk result (IsPartOutcome plant.now part budget) }
-    ensures proof { IfOk result
-        (HasProof plant.now part judged (bytes_in name.now (F.files files.new))) }
+    ensures proof { (levels : ℕ) → is_headed part levels ≡ true → IfOk result
+        (HasProof plant.now part judged levels (bytes_in name.now (F.files files.new))) }
     ensures begun { IfOk result (λ outcome. EarnsPoint part start.now outcome.answer) }
-    ensures err { OnErr result (LeavesSomeBegun plant.now part judged name.now (F.files files.old)
-        (F.files files.new)) }
+    ensures err { (levels : ℕ) → is_headed part levels ≡ true
+        → OnErr result (LeavesSomeBegun plant.now part judged levels name.now
+        (F.files files.old) (F.files files.new)) }
     ensures kept { KeepsOthers
         (stored F.files F.read_faults F.may_read F.may_write name.now files.old)
         (stored F.files F.read_faults F.may_read F.may_write name.now files.new) }

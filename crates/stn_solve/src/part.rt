@@ -38,7 +38,7 @@ pub fn plan_rows<A: Advisers>(
     requires ranges { AreRanges part judged }
     requires budget { (1 ≤ budget) × (budget ≤ 100000) }
     ensures outcome { IfOk result (IsPartOutcome plant.now part budget) }
-    ensures proof { IfOk result (HasProof plant.now part judged None) }
+    ensures proof { IfOk result (HasProof plant.now part judged levels None) }
     ensures begun { IfOk result (λ outcome. EarnsPoint part start.now outcome.answer) }
 {
     if has_many(&part, levels) {
@@ -72,10 +72,10 @@ pub fn solve_rows_to<A: Advisers, F: Shelf>(
     requires allowed { IsTrue (F.may_write files.old name.now) }
     ensures outcome { IfOk result (IsPartOutcome plant.now part budget) }
     ensures proof { IfOk result
-        (HasProof plant.now part judged (bytes_in name.now (F.files files.new))) }
+        (HasProof plant.now part judged levels (bytes_in name.now (F.files files.new))) }
     ensures begun { IfOk result (λ outcome. EarnsPoint part start.now outcome.answer) }
-    ensures err { OnErr result (LeavesSomeBegun plant.now part judged name.now (F.files files.old)
-        (F.files files.new)) }
+    ensures err { OnErr result (LeavesSomeBegun plant.now part judged levels name.now
+        (F.files files.old) (F.files files.new)) }
     ensures others { OthersStay name.now (F.files files.old) (F.files files.new) }
     ensures readable { F.may_read files.new ≡ F.may_read files.old }
     ensures writable { F.may_write files.new ≡ F.may_write files.old }

@@ -1,10 +1,11 @@
 //! Planning over the own program of a part of a plant's choices, without a head.
-ghost use Rattle.std.specs.Prelude.{◌≡◌, ◌≤◌, List, ◌∷◌, [], length, None, Err, IsTrue, IfOk, OnErr};
+ghost use Rattle.std.specs.Prelude.{◌≡◌, ◌≤◌, ℕ, false, List, ◌∷◌, [], length, None, Err, IsTrue, IfOk, OnErr};
 ghost use Rattle.stn_edge.specs.Count.{Rose};
 ghost use Rattle.stn_model.specs.Sound.{Sound};
 ghost use Rattle.proof_tree.specs.Tree.{tree_of};
 ghost use Rattle.row_kit.specs.declared.domain.Domain.{Domain};
 ghost use Rattle.row_set.specs.Parts.{IsPartOf};
+ghost use Rattle.sum_choice.specs.Headed.{is_headed};
 ghost use Rattle.log_lines.specs.declared.line.Line.{Line};
 ghost use Rattle.proof_log.specs.Log.{lines_text};
 ghost use Rattle.proof_log.specs.Writer.{KeepsOthers};
@@ -37,8 +38,8 @@ pub fn plan_plain<A: Advisers>(
     requires plain { rows.now.choices ≡ None }
     requires budget { (1 ≤ budget) × (budget ≤ 100000) }
     ensures outcome { IfOk result (IsPartOutcome plant.now rows.now.program budget) }
-    ensures proof { (judged : List Domain)
-        → IfOk result (HasProof plant.now rows.now.program judged None) }
+    ensures proof { (judged : List Domain) (levels : ℕ) → is_headed rows.now.program levels ≡ false
+        → IfOk result (HasProof plant.now rows.now.program judged levels None) }
     ensures begun { IfOk result
         (λ outcome. EarnsPoint rows.now.program start.now outcome.answer) }
 {
@@ -110,12 +111,13 @@ pub fn solve_plain_to<A: Advisers, F: Shelf>(
     requires budget { (1 ≤ budget) × (budget ≤ 100000) }
     requires allowed { IsTrue (F.may_write files.old name.now) }
     ensures outcome { IfOk result (IsPartOutcome plant.now rows.now.program budget) }
-    ensures proof { (judged : List Domain) → IfOk result
-        (HasProof plant.now rows.now.program judged (bytes_in name.now (F.files files.new))) }
+    ensures proof { (judged : List Domain) (levels : ℕ) → is_headed rows.now.program levels ≡ false
+        → IfOk result (HasProof plant.now rows.now.program judged levels
+        (bytes_in name.now (F.files files.new))) }
     ensures begun { IfOk result
         (λ outcome. EarnsPoint rows.now.program start.now outcome.answer) }
-    ensures err { (judged : List Domain)
-        → OnErr result (LeavesSomeBegun plant.now rows.now.program judged name.now
+    ensures err { (judged : List Domain) (levels : ℕ) → is_headed rows.now.program levels ≡ false
+        → OnErr result (LeavesSomeBegun plant.now rows.now.program judged levels name.now
         (F.files files.old) (F.files files.new)) }
     ensures kept { KeepsOthers
         (stored F.files F.read_faults F.may_read F.may_write name.now files.old)

@@ -26,7 +26,7 @@ use Rattle.planning_commands.specs.Solving.{HoldsLog, Solved}
 use Rattle.planning_commands.specs.Replanning.{Replanned}
 use Rattle.planning_commands.specs.Improving.{Improved}
 use Rattle.planning_commands.specs.NamedLog.{LogLeft, told_log}
-use Rattle.planning_commands.specs.PlanningOn.{GoesOn, HoldsOn}
+use Rattle.planning_commands.specs.PlanningOn.{CanBePlanned, HoldsOn}
 use Rattle.planning_commands.specs.PartSolving.{HoldsPart, PartSolved}
 use Rattle.demo_commands.specs.Demo.{Shown}
 use Rattle.horizon_commands.specs.Seeking.{HoldsLogs, Sought, log_names}
@@ -191,9 +191,9 @@ GetsToWriting files (Upgrading plant) = ⊥
 GetsToWriting files (Numbering plant) = ⊥
 GetsToWriting files (Showing seed) = ⊥
 GetsToWriting files (Replanning plant plan period budget) = ⊥
-GetsToWriting files (ReplanLogging plant plan period budget log) = GoesOn files plant plan (Some period)
+GetsToWriting files (ReplanLogging plant plan period budget log) = CanBePlanned files plant plan (Some period)
 GetsToWriting files (CheckingReplan plant plan period log) = ⊥
-GetsToWriting files (Improving plant plan budget log) = (log ≢ None) × GoesOn files plant plan None
+GetsToWriting files (Improving plant plan budget log) = (log ≢ None) × CanBePlanned files plant plan None
 GetsToWriting files (Estimating plant log state step count) = ⊥
 GetsToWriting files (Seeking plant budget) = ⊥
 GetsToWriting files (Tracing plant budget stem) = (p : Plant) × IsReadOf reading files plant (Ok p)

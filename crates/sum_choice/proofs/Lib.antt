@@ -1,1 +1,4 @@
+pub mod DomainBounds
 pub mod PointsLeft
+pub mod RowBounds
+pub mod SumBounds

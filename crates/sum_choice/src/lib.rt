@@ -8,10 +8,12 @@
 mod admitting;
 mod choice;
 mod forming;
+mod law;
 mod many;
 mod ranges;
 mod runs;
 mod stocks;
 
 pub use choice::choose_sums;
+pub use law::shown_law;
 pub use many::has_many;

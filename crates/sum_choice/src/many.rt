@@ -1,19 +1,17 @@
 //! Whether a part of a plant is searched with sums.
-ghost use Rattle.std.specs.Prelude.{◌≤◌, ◌<◌, ◌*◌, IsTrue};
-ghost use Rattle.std.specs.List.{All};
-ghost use Rattle.row_kit.specs.Domain.{IsOpen};
+ghost use Rattle.std.specs.Prelude.{◌≡◌, ◌-◌, ◌*◌, ◌^◌, min};
 ghost use Rattle.row_kit.specs.Points.{points_of};
+ghost use Rattle.sum_choice.specs.Headed.{is_headed};
 
 use row_kit::{Domain, Program};
 
 // Where more points are left, sums are declared.
 const MOST_POINTS: u64 = 50_000;
 
-/// Whether the slots from the number `levels` on have more than 50,000 points. Parts of a plant that are told apart by as many first
-/// slots all have, or none.
+/// Whether the slots from the number `levels` on have more than 50,000 points: exactly then the part's log has a head. Parts of a
+/// plant that are told apart by as many first slots all have one, or none.
 pub fn has_many(part: &Program, levels: u32) -> bool
-    requires { All IsOpen part.now.root }
-    ensures { IsTrue result → 50000 < points_of part.now.root }
+    ensures { result ≡ is_headed part.now levels }
 {
     let root = part.root.as_slice();
     let levels = levels as usize;
@@ -25,7 +23,7 @@ pub fn has_many(part: &Program, levels: u32) -> bool
 
 // The number of points of domains, or the greatest number of 64 bits.
 fn count_points(domains: &[Domain]) -> u64
-    ensures { result ≤ points_of domains.now }
+    ensures { result ≡ min (points_of domains.now) (2 ^ 64 - 1) }
 {
     let mut count = 1u64;
     for domain in domains {
@@ -36,7 +34,7 @@ fn count_points(domains: &[Domain]) -> u64
 
 // The product of two numbers, or the greatest number of 64 bits.
 fn times(count: u64, more: u32) -> u64
-    ensures { result ≤ count * more }
+    ensures { result ≡ min (count * more) (2 ^ 64 - 1) }
 {
     count.saturating_mul(u64::from(more))
 }

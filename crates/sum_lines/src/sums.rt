@@ -9,6 +9,7 @@ ghost use Rattle.sum_lines.specs.Head.{IsHeadVersion, IsKeptHead, sum_lines};
 ghost use Rattle.sum_lines.specs.declared.line.HeadLine.{HeadLine};
 ghost use Rattle.sum_lines.specs.laws.Sums.{IsSumKept};
 ghost use Rattle.sum_lines.specs.laws.Walk.{HasPassed, rest_after};
+ghost use Rattle.store_frames.specs.Frames.{OnlyReads};
 
 use crate::halt::Halt;
 use crate::head::{Front, Head};
@@ -39,11 +40,7 @@ pub fn read_head<F: Shelf>(
     ensures kept { IfOk result (λ front. KeepsLimits limits.now front) }
     ensures fault { result ≡ Err Stop.Failed
         → Rose (F.read_faults files.old) (F.read_faults files.new) }
-    ensures same { F.files files.new ≡ F.files files.old }
-    ensures readable { F.may_read files.new ≡ F.may_read files.old }
-    ensures writable { F.may_write files.new ≡ F.may_write files.old }
-    ensures later { F.read_faults files.old ≤ F.read_faults files.new }
-    ensures no_write { F.write_faults files.new ≡ F.write_faults files.old }
+    ensures frame { OnlyReads F.Shelf files.old files.new }
 {
     match read_front(alloc, limits, files, name) {
         Ok(front) => Ok(front),
@@ -69,11 +66,7 @@ fn read_front<F: Shelf>(
         → IfSome (F.files files.old) (λ m. IsBadHead limits.now (file_of m name.now) defect) }
     ensures fault { result ≡ Err (Halt.Stopped Failed)
         → Rose (F.read_faults files.old) (F.read_faults files.new) }
-    ensures same { F.files files.new ≡ F.files files.old }
-    ensures readable { F.may_read files.new ≡ F.may_read files.old }
-    ensures writable { F.may_write files.new ≡ F.may_write files.old }
-    ensures later { F.read_faults files.old ≤ F.read_faults files.new }
-    ensures no_write { F.write_faults files.new ≡ F.write_faults files.old }
+    ensures frame { OnlyReads F.Shelf files.old files.new }
 {
     match Walk::begin(alloc, files, name)? {
         None => Ok(Front::Plain),
@@ -107,11 +100,7 @@ fn read_sums<F: Shelf>(
         → IfSome (F.files files.old) (λ m. IsBadHead limits.now (file_of m name.now) defect) }
     ensures fault { result ≡ Err (Halt.Stopped Failed)
         → Rose (F.read_faults files.old) (F.read_faults files.new) }
-    ensures same { F.files files.new ≡ F.files files.old }
-    ensures readable { F.may_read files.new ≡ F.may_read files.old }
-    ensures writable { F.may_write files.new ≡ F.may_write files.old }
-    ensures later { F.read_faults files.old ≤ F.read_faults files.new }
-    ensures no_write { F.write_faults files.new ≡ F.write_faults files.old }
+    ensures frame { OnlyReads F.Shelf files.old files.new }
 {
     let mut sums = List::new(alloc);
     let mut lines = List::new(alloc);
@@ -175,11 +164,7 @@ fn next_sum<F: Shelf>(
         (λ m. IsBadAt version limits.now before lines (file_of m name.now) defect) }
     ensures fault { result ≡ Err (Halt.Stopped Failed)
         → Rose (F.read_faults files.old) (F.read_faults files.new) }
-    ensures same { F.files files.new ≡ F.files files.old }
-    ensures readable { F.may_read files.new ≡ F.may_read files.old }
-    ensures writable { F.may_write files.new ≡ F.may_write files.old }
-    ensures later { F.read_faults files.old ≤ F.read_faults files.new }
-    ensures no_write { F.write_faults files.new ≡ F.write_faults files.old }
+    ensures frame { OnlyReads F.Shelf files.old files.new }
 {
     let line = walk.line;
     let seen = walk.next(files, name)?;

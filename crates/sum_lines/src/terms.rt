@@ -8,6 +8,7 @@ ghost use Rattle.sum_lines.specs.Head.{AreTerms, term_line};
 ghost use Rattle.sum_lines.specs.declared.line.HeadLine.{HeadLine};
 ghost use Rattle.sum_lines.specs.declared.walk.Seen.TheVariants.{Line};
 ghost use Rattle.sum_lines.specs.laws.Walk.{HasBadTerm, HasBadTerms, HasPassed, IsTermAbove, IsTermKind, MayBeSeen};
+ghost use Rattle.store_frames.specs.Frames.{OnlyReads};
 
 use crate::halt::Halt;
 use crate::line::HeadLine;
@@ -40,11 +41,7 @@ pub(crate) fn read_terms<F: Shelf>(
         → (version : ℕ) (lines : Items HeadLine)
         → HasPassed (F.files files.old) name.now version lines walk.old
         → HasBadTerms (F.files files.old) name.now version slots count lines defect }
-    ensures same { F.files files.new ≡ F.files files.old }
-    ensures readable { F.may_read files.new ≡ F.may_read files.old }
-    ensures writable { F.may_write files.new ≡ F.may_write files.old }
-    ensures later { F.read_faults files.old ≤ F.read_faults files.new }
-    ensures no_write { F.write_faults files.new ≡ F.write_faults files.old }
+    ensures frame { OnlyReads F.Shelf files.old files.new }
     ensures fault { result ≡ Err (Halt.Stopped Failed)
         → Rose (F.read_faults files.old) (F.read_faults files.new) }
 {
@@ -82,11 +79,7 @@ fn next_term<F: Shelf>(
         → (version : ℕ) (lines : Items HeadLine)
         → HasPassed (F.files files.old) name.now version lines walk.old
         → HasBadTerm (F.files files.old) name.now version slots above lines defect }
-    ensures same { F.files files.new ≡ F.files files.old }
-    ensures readable { F.may_read files.new ≡ F.may_read files.old }
-    ensures writable { F.may_write files.new ≡ F.may_write files.old }
-    ensures later { F.read_faults files.old ≤ F.read_faults files.new }
-    ensures no_write { F.write_faults files.new ≡ F.write_faults files.old }
+    ensures frame { OnlyReads F.Shelf files.old files.new }
     ensures fault { result ≡ Err (Halt.Stopped Failed)
         → Rose (F.read_faults files.old) (F.read_faults files.new) }
 {

@@ -6,6 +6,7 @@ ghost use Rattle.sum_lines.specs.Head.{IsHeadVersion, first_line};
 ghost use Rattle.sum_lines.specs.Walk.{IsAfter, IsStepped};
 ghost use Rattle.sum_lines.specs.declared.line.HeadLine.{HeadLine};
 ghost use Rattle.sum_lines.specs.laws.Walk.{HasBegun, HasLooked, HasPassed, HasSeen, MayBeSeen};
+ghost use Rattle.store_frames.specs.Frames.{OnlyReads};
 
 use crate::line::HeadLine;
 use crate::reading::read_head_line;
@@ -60,11 +61,7 @@ impl Walk {
         ensures stepped { IfOk result (λ end. (start : ℕ) (text : List ℕ)
             → IsAfter (F.files files.old) name.now start text self.old
             → IsStepped (F.files files.old) name.now start text self.old self.new end) }
-        ensures same { F.files files.new ≡ F.files files.old }
-        ensures readable { F.may_read files.new ≡ F.may_read files.old }
-        ensures writable { F.may_write files.new ≡ F.may_write files.old }
-        ensures later { F.read_faults files.old ≤ F.read_faults files.new }
-        ensures no_write { F.write_faults files.new ≡ F.write_faults files.old }
+        ensures frame { OnlyReads F.Shelf files.old files.new }
         ensures fault { result ≡ Err Stop.Failed
             → Rose (F.read_faults files.old) (F.read_faults files.new) }
     {
@@ -101,11 +98,7 @@ impl Walk {
     ) -> Result<Option<(Walk, u8)>, Stop>
         requires allowed { IsTrue (F.may_read files.old name.now) }
         ensures begun { IfOk result (HasBegun (F.files files.old) name.now) }
-        ensures same { F.files files.new ≡ F.files files.old }
-        ensures readable { F.may_read files.new ≡ F.may_read files.old }
-        ensures writable { F.may_write files.new ≡ F.may_write files.old }
-        ensures later { F.read_faults files.old ≤ F.read_faults files.new }
-        ensures no_write { F.write_faults files.new ≡ F.write_faults files.old }
+        ensures frame { OnlyReads F.Shelf files.old files.new }
         ensures fault { result ≡ Err Stop.Failed
             → Rose (F.read_faults files.old) (F.read_faults files.new) }
     {
@@ -125,11 +118,7 @@ impl Walk {
         ensures seen { IfOk result (λ seen. (version : ℕ) (lines : List HeadLine)
             → HasPassed (F.files files.old) name.now version lines self.old
             → HasSeen (F.files files.old) name.now version lines self.new seen) }
-        ensures same { F.files files.new ≡ F.files files.old }
-        ensures readable { F.may_read files.new ≡ F.may_read files.old }
-        ensures writable { F.may_write files.new ≡ F.may_write files.old }
-        ensures later { F.read_faults files.old ≤ F.read_faults files.new }
-        ensures no_write { F.write_faults files.new ≡ F.write_faults files.old }
+        ensures frame { OnlyReads F.Shelf files.old files.new }
         ensures fault { result ≡ Err Stop.Failed
             → Rose (F.read_faults files.old) (F.read_faults files.new) }
     {

@@ -18,7 +18,7 @@ use Rattle.log_lines.specs.declared.defect.Defect.{Defect}
 use Rattle.valid_log.specs.declared.verdict.LogVerdict.TheVariants.{No}
 use Rattle.valid_log.specs.PlantLogs.{IsAnyChecked}
 use Rattle.what_if.specs.declared.old.LogHead.{LogHead}
-use Rattle.what_if.specs.OldLogs.{HasPlan, IsValidFor}
+use Rattle.what_if.specs.OldLogs.{ClaimsPlan, IsValidFor}
 use Rattle.plant_text.specs.Reading.{reading}
 use Rattle.command_replies.specs.declared.reply.Reply.{Reply}
 use Rattle.command_replies.specs.declared.stopped.Stopped.{Stopped}
@@ -41,7 +41,7 @@ few_of_point plant point plan sound is =
     let most = sound.counts.slots in
     omega (arith, same, few, all, most)
 
-pub few_claimed : (plant : Plant) (claim : Claim) (plan : Option (List Start)) → Sound plant → HasPlan plant claim plan → IfSome plan (λ starts. length starts < 2 ^ 32)
+pub few_claimed : (plant : Plant) (claim : Claim) (plan : Option (List Start)) → Sound plant → ClaimsPlan plant claim plan → IfSome plan (λ starts. length starts < 2 ^ 32)
 few_claimed plant claim None sound has = tt
 few_claimed plant (Optimal earned point) (Some plan) sound has = few_of_point plant point plan sound has
 few_claimed plant Infeasible (Some plan) sound has = absurd (cc)

@@ -12,7 +12,7 @@ use Rattle.valid_log.specs.declared.verdict.LogVerdict.TheVariants.{No}
 use Rattle.valid_log.specs.PlantLogs.{IsAnyChecked}
 use Rattle.what_if.specs.declared.old.LogHead.{LogHead}
 use Rattle.what_if.specs.Estimate.{IsEstimate, IsProofCap}
-use Rattle.what_if.specs.OldLogs.{HasPlan, IsValidFor}
+use Rattle.what_if.specs.OldLogs.{ClaimsPlan, IsValidFor}
 use Rattle.what_if.specs.Raised.{raised}
 use Rattle.command_words.specs.declared.command.PlanUse.TheVariants.{Simulate}
 use Rattle.answer_texts.specs.Checking.{checked_text}
@@ -68,7 +68,7 @@ AreLines IsLine (suc n) text = (before : List ℕ) × ((line : List ℕ) × (Are
 -- one, and so on.
 pub record IsTankText (plant : Plant) (number : ℕ) (step : ℤ) (count : ℕ) (head : LogHead) (proof : RowTree) (claim : Claim) (text : List ℕ) : Type 0 where
   pub plan : Option (List Start)
-  pub has : HasPlan plant claim plan
+  pub has : ClaimsPlan plant claim plan
   pub lines : List ℕ
   pub are : AreLines (λ times. IsTankLine (raised plant number step times) head proof plan times) (count + 1) lines
   pub text_is : text ≡ text_head plant number ++ lines

@@ -8,7 +8,8 @@ ghost use Rattle.time_grid.specs.Slots.{slots};
 ghost use Rattle.proof_tree.specs.Tree.{tree_of};
 ghost use Rattle.proof_log.specs.OneText.{IsClaimOver};
 ghost use Rattle.what_if.specs.Raised.{raised};
-ghost use Rattle.command_replies.specs.Frames.{HadReadFault, OnlyReads};
+ghost use Rattle.command_replies.specs.Frames.{HadReadFault};
+ghost use Rattle.store_frames.specs.Frames.{OnlyReads};
 ghost use Rattle.command_replies.specs.Answers.{IsPlantAnswer, content};
 ghost use Rattle.command_replies.specs.Sources.{IfRefused, IfReplied};
 ghost use Rattle.tank_commands.specs.Estimating.{

@@ -19,7 +19,7 @@ use Rattle.proof_tree.specs.declared.capped.Capped.{Capped}
 use Rattle.proof_tree.specs.declared.capped.Capped.TheVariants.{AtMost, NoPoint, Bad}
 use Rattle.proof_tree.specs.declared.item.Item.TheVariants.{Node, Cut, Found as FoundItem, Empty, Dual, Point, Pending, Split}
 use Rattle.proof_tree.specs.Views.{View}
-use Rattle.proof_tree.specs.Walk.{Opened, Stage, Outcome, going, ended, undefined, misplaced, may_come, outcome_of, part_ended, taken, after, walked}
+use Rattle.proof_tree.specs.Walk.{Opened, Stage, Outcome, going, ended, undefined, misplaced, may_come, outcome_of, part_ended, come_to, after, walked}
 use Rattle.proof_tree.proofs.WalkLaw.{walked-undefined, walked-misplaced}
 use Rattle.row_relax.specs.declared.pick.RowPick.{RowPick}
 use Rattle.row_relax.specs.declared.rows.Rows.{Rows}
@@ -116,7 +116,7 @@ part_real : (rows : Rows) (splits : List (Opened RowPick)) (proof_cap : Capped) 
 part_real rows splits proof_cap leads is = leads (rw is refl)
 
 -- a fine item that leads somewhere has no defect
-taken_sound : (rows : Rows) (splits : List (Opened RowPick)) (v : View) (item : RowItem) → IsFine (choices_of rows) item → taken (steps_of rows) splits v item ≢ undefined → (kind : ℕ) → ¬ ItemDefect (steps_of rows) (choices_of rows) v item kind
+taken_sound : (rows : Rows) (splits : List (Opened RowPick)) (v : View) (item : RowItem) → IsFine (choices_of rows) item → come_to (steps_of rows) splits v item ≢ undefined → (kind : ℕ) → ¬ ItemDefect (steps_of rows) (choices_of rows) v item kind
 taken_sound rows splits v Node fine leads = λ kind has. has
 taken_sound rows splits v (Cut cut) fine leads = λ kind has. has
 taken_sound rows splits v (FoundItem found) fine leads = fine
@@ -129,7 +129,7 @@ taken_sound rows splits v (Pending cert) fine leads =
 taken_sound rows splits v (Split pick cert) fine leads = λ kind has. has
 
 step_sound : (rows : Rows) (stage : Stage RowPick) (item : RowItem) (may : Bool) → IsFine (choices_of rows) item
-    → (if may then taken (steps_of rows) stage.splits stage.view item else misplaced) ≢ undefined → (if may then taken (steps_of rows) stage.splits stage.view item else misplaced) ≢ misplaced
+    → (if may then come_to (steps_of rows) stage.splits stage.view item else misplaced) ≢ undefined → (if may then come_to (steps_of rows) stage.splits stage.view item else misplaced) ≢ misplaced
     → (kind : ℕ) → ¬ HasDefect (steps_of rows) (choices_of rows) (going stage) item kind
 step_sound rows stage item true fine leads placed = taken_sound rows stage.splits stage.view item fine leads
 step_sound rows stage item false fine leads placed = absurd (placed refl)

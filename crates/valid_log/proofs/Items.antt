@@ -7,7 +7,7 @@ use Rattle.proof_tree.specs.declared.capped.Capped.TheVariants.{Bad}
 use Rattle.proof_tree.specs.declared.item.Item.TheVariants.{Node, Cut, Found as FoundItem, Empty, Dual, Point, Pending, Split}
 use Rattle.proof_tree.specs.Tree.{no_point, leaf_cap}
 use Rattle.proof_tree.specs.Views.{View}
-use Rattle.proof_tree.specs.Walk.{Opened, undefined, part_ended, taken}
+use Rattle.proof_tree.specs.Walk.{Opened, undefined, part_ended, come_to}
 use Rattle.row_relax.specs.declared.pick.RowPick.{RowPick}
 use Rattle.row_relax.specs.RowProofs.{RowItem}
 use Rattle.valid_log.specs.Meaning.{RowSteps, IsTested, IsWorth, PointDefect, CapDefect, ItemDefect}
@@ -24,7 +24,7 @@ cap-sound : (s : RowSteps) (v : View) (cert : Cert) → s.empty v ≡ false → 
 cap-sound s v cert filled caps kind = ⊎_elim (λ x. let e = x.1 in cc) (λ x. caps x.2)
 
 -- a tested item that leads somewhere has no defect
-pub leads_on : (s : RowSteps) (program : Program) (splits : List (Opened RowPick)) (v : View) (item : RowItem) → IsTested s program v item → taken s splits v item ≢ undefined → (kind : ℕ) → ¬ ItemDefect s program v item kind
+pub leads_on : (s : RowSteps) (program : Program) (splits : List (Opened RowPick)) (v : View) (item : RowItem) → IsTested s program v item → come_to s splits v item ≢ undefined → (kind : ℕ) → ¬ ItemDefect s program v item kind
 leads_on s program splits v Node tested leads kind = λ x. x
 leads_on s program splits v (Cut cut) tested leads kind = λ x. x
 leads_on s program splits v (FoundItem found) tested leads kind = worth-sound program found.value found.point tested kind

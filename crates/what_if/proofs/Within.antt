@@ -19,7 +19,7 @@ use Rattle.row_relax.specs.laws.Laws.{rows_sound}
 use Rattle.row_relax.proofs.Choosing.{plain-rows}
 use Rattle.plan_images.specs.Caps.{Allows}
 use Rattle.plan_images.proofs.Allowing.{allows-left, allows-less, allows-right}
-use Rattle.what_if.specs.Loose.{AnswersTo, IsAtMost, IsPlainBelow, certified, lesser, loose_cap, loosened, no_mults, or_else, as_cap, within}
+use Rattle.what_if.specs.Loose.{StandsForCap, IsAtMost, IsPlainBelow, certified, lesser, loose_cap, loosened, no_mults, or_else, as_cap, within}
 use Rattle.what_if.proofs.Same.{after_all-same, cap_if-there, greater-first, greater-second, loose_cap-same}
 
 -- a cap is no more than another
@@ -117,7 +117,7 @@ at_most (Some n) own less = less
 
 -- a number that is the loose cap of a proof answers to its own cap, where that is defined
 pub answers : (capped : Bool) (rows : Rows) (tree : RowTree) (v : View) (number : Option ℤ) → Fits rows.program v → IsPlainBelow capped rows → tree_cap (steps_of rows) v tree ≢ Bad → as_cap number ≡ loose_cap capped rows v tree
-    → AnswersTo capped number (tree_cap (steps_of rows) v tree)
+    → StandsForCap capped number (tree_cap (steps_of rows) v tree)
 answers false rows tree v number fit below defined is = is ∙ same (plain-rows rows (below refl)) fit defined
   where
     same : rows ≡ plain rows.program → Fits rows.program v → tree_cap (steps_of rows) v tree ≢ Bad → loose_cap false rows v tree ≡ tree_cap (steps_of rows) v tree

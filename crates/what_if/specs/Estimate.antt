@@ -27,7 +27,7 @@ use Rattle.derivations.specs.Growth.{rows_of}
 use Rattle.valid_log.specs.Heads.{IsWithHead, wide_domains}
 use Rattle.what_if.specs.declared.old.LogHead.{LogHead}
 use Rattle.what_if.specs.Head.{version_of}
-use Rattle.what_if.specs.Loose.{AnswersTo, loose_cap, no_mults, as_cap}
+use Rattle.what_if.specs.Loose.{StandsForCap, loose_cap, no_mults, as_cap}
 
 -- no feasible plan of the plant earns more, and where it is none no plan is feasible
 abbrev pub CapsPlans : Plant → Option ℤ → Type 0
@@ -71,7 +71,7 @@ pub record IsLooseWith (plant : Plant) (program : Program) (ranges : List Domain
   pub rows : Rows
   pub enlarged : IsWithHeadAnew plant program ranges head rows
   pub is : as_cap cap ≡ loose_cap head.capped rows (view_of rows.program.root) proof
-  pub own : tree_cap (steps_of rows) (view_of rows.program.root) proof ≢ Bad → AnswersTo head.capped cap (tree_cap (steps_of rows) (view_of rows.program.root) proof)
+  pub own : tree_cap (steps_of rows) (view_of rows.program.root) proof ≢ Bad → StandsForCap head.capped cap (tree_cap (steps_of rows) (view_of rows.program.root) proof)
 
 -- The head cannot be taken over the program, and the cap is that of its root by scale 1 without multipliers.
 pub record IsPlainWithout (plant : Plant) (program : Program) (ranges : List Domain) (head : LogHead) (cap : Option ℤ) : Type 0 where
@@ -89,7 +89,7 @@ pub record IsProofCap (plant : Plant) (head : LogHead) (proof : RowTree) (cap : 
   pub rows : Rows
   pub enlarged : IsWithHead plant (version_of head) program (plant_root plant) head.sums head.units head.derivations rows
   pub defined : tree_cap (steps_of rows) (view_of rows.program.root) proof ≢ Bad
-  pub is : AnswersTo head.capped cap (tree_cap (steps_of rows) (view_of rows.program.root) proof)
+  pub is : StandsForCap head.capped cap (tree_cap (steps_of rows) (view_of rows.program.root) proof)
 
 -- The cap is that of the proof of a log with a head, for the plant's program, and caps the plant's plans.
 pub record IsEstimate (plant : Plant) (head : LogHead) (proof : RowTree) (cap : Option ℤ) : Type 0 where

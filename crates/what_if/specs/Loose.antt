@@ -83,6 +83,6 @@ abbrev pub IsPlainBelow : Bool → Rows → Type 0
 IsPlainBelow capped rows = capped ≡ false → rows.choices ≡ None
 
 -- a number answers to the own cap of a proof: it is that, and where splits have caps of their own it is at most that
-abbrev pub AnswersTo : Bool → Option ℤ → Capped → Type 0
-AnswersTo false number own = as_cap number ≡ own
-AnswersTo true number own = IsAtMost number own
+abbrev pub StandsForCap : Bool → Option ℤ → Capped → Type 0
+StandsForCap false number own = as_cap number ≡ own
+StandsForCap true number own = IsAtMost number own

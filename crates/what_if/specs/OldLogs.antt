@@ -45,8 +45,8 @@ IsOldLog plant bytes (Valid log) = IsValidFor plant bytes log.head (tree_of log.
 IsOldLog plant bytes (Defective defect) = IsAnyChecked plant bytes (No defect)
 
 -- the plan of a claim: that of its point, where it has one
-abbrev pub HasPlan : Plant → Claim → Option (List Start) → Type 0
-HasPlan plant (Optimal earned point) plan = IsSomeAnd plan (IsPlanOf plant point)
-HasPlan plant Infeasible plan = plan ≡ None
-HasPlan plant (Between earned most point) plan = IsSomeAnd plan (IsPlanOf plant point)
-HasPlan plant (Below most) plan = plan ≡ None
+abbrev pub ClaimsPlan : Plant → Claim → Option (List Start) → Type 0
+ClaimsPlan plant (Optimal earned point) plan = IsSomeAnd plan (IsPlanOf plant point)
+ClaimsPlan plant Infeasible plan = plan ≡ None
+ClaimsPlan plant (Between earned most point) plan = IsSomeAnd plan (IsPlanOf plant point)
+ClaimsPlan plant (Below most) plan = plan ≡ None

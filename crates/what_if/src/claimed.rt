@@ -4,7 +4,7 @@ ghost use Rattle.stn_model.specs.Sound.{Sound};
 ghost use Rattle.time_grid.specs.PlanPoint.{IsPlanOf};
 ghost use Rattle.time_grid.specs.Slots.{slots};
 ghost use Rattle.proof_log.specs.OneText.{IsClaimOver};
-ghost use Rattle.what_if.specs.OldLogs.{HasPlan};
+ghost use Rattle.what_if.specs.OldLogs.{ClaimsPlan};
 
 use proof_log::Claim;
 use std::alloc::{AllocError, Global};
@@ -19,7 +19,7 @@ pub fn claimed_plan(
 ) -> Result<Option<List<Start>>, AllocError>
     requires sound { Sound plant.now }
     requires over { IsClaimOver (length (slots plant.now)) claim.now }
-    ensures plan { IfOk result (HasPlan plant.now claim.now) }
+    ensures plan { IfOk result (ClaimsPlan plant.now claim.now) }
 {
     match claim {
         Claim::Optimal { profit: _, point } => Ok(Some(plan_of(alloc, plant, point.as_slice())?)),

@@ -7,7 +7,7 @@ ghost use Rattle.proof_tree.specs.Views.{KeepsViews};
 ghost use Rattle.row_relax.specs.Choices.{IsLawfulIn, steps_of, worth_in};
 ghost use Rattle.row_relax.specs.Steps.{row_steps};
 ghost use Rattle.row_relax.specs.View.{Fits, IsIn, view_of};
-ghost use Rattle.what_if.specs.Loose.{AnswersTo, IsPlainBelow, after_all, after_cut, lesser, loose_cap, no_mults, or_else, as_cap, shown, within};
+ghost use Rattle.what_if.specs.Loose.{StandsForCap, IsPlainBelow, after_all, after_cut, lesser, loose_cap, no_mults, or_else, as_cap, shown, within};
 ghost use Rattle.what_if.specs.laws.Own.{own_cap};
 
 use dual_bound::Cert;
@@ -45,7 +45,7 @@ pub fn loose(
     // by choices only where they have.
     ensures own { IsPlainBelow capped rows.now
         → tree_cap (steps_of rows.now) (shown area.old) (tree_of proof.now) ≢ Bad
-        → AnswersTo capped result
+        → StandsForCap capped result
         (tree_cap (steps_of rows.now) (shown area.old) (tree_of proof.now)) }
     ensures same { area.new ≡ area.old }
 {

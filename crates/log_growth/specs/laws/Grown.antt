@@ -1,25 +1,21 @@
 -- How a proof has grown that was read beside another. Only clauses of private functions cite it.
 use Rattle.std.specs.Prelude.{◌≡◌, ℕ, ℤ, ◌+◌, List, map, ◌++◌, Option, Some, IsSomeAnd}
-use Rattle.row_kit.specs.declared.domain.Domain.{Domain}
 use Rattle.proof_tree.specs.Items.{tree_items}
 use Rattle.proof_tree.specs.Nodes.{counted}
 use Rattle.proof_tree.specs.Tree.{after_cuts}
-use Rattle.proof_tree.specs.Views.{View, present}
+use Rattle.proof_tree.specs.Views.{View}
 use Rattle.row_relax.specs.declared.pick.RowPick.{RowPick}
 use Rattle.row_relax.specs.declared.rows.Rows.{Rows}
 use Rattle.row_relax.specs.RowProofs.{RowItem, RowTree}
 use Rattle.row_relax.specs.Steps.{row_steps}
 use Rattle.row_relax.specs.View.{view_of}
 use Rattle.branch_tree.specs.Deep.{is_deep}
-use Rattle.log_growth.specs.declared.pair.Growth.{Growth}
-use Rattle.log_growth.specs.declared.pair.Share.{Share}
-use Rattle.log_growth.specs.declared.node.Node.{Node}
-use Rattle.log_growth.specs.Growth.{GoesOn, IsGrowth, count_if, deep_ends, floors_above, in_share, open_ends}
-use Rattle.log_growth.specs.laws.Nodes.{Below, below_items, tree_with}
-
--- the view that an area shows
-abbrev pub seen : List (List Domain) → View
-seen marks = present (map view_of marks)
+use Rattle.log_growth.specs.declared.counts.Growth.{Growth}
+use Rattle.log_nodes.specs.declared.pair.Share.{Share}
+use Rattle.log_nodes.specs.declared.node.Node.{Node}
+use Rattle.log_growth.specs.Growth.{GoesOn, IsGrowth, count_if, deep_ends, floors_above, open_ends}
+use Rattle.log_nodes.specs.OpenEnds.{in_share}
+use Rattle.log_nodes.specs.laws.Nodes.{Below, below_items, tree_with}
 
 -- two proofs were read, of which the second goes on from the first
 pub record HasGrown (rows : Rows) (profit : Option ℤ) (share : Option Share) (depth n : ℕ) (view : View) (reads reads_out : List RowItem → Type 0) (growth : Growth) : Type 0 where

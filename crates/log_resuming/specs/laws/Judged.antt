@@ -5,10 +5,10 @@ use Rattle.row_relax.specs.View.{view_of}
 use Rattle.row_relax.specs.RowProofs.{RowTree}
 use Rattle.branch_tree.specs.Searched.{IsSearchable}
 use Rattle.proof_log.specs.declared.claim.Claim.{Claim}
-use Rattle.log_growth.specs.declared.pair.Growth.{Growth}
-use Rattle.log_growth.specs.declared.pair.Share.{Share}
+use Rattle.log_growth.specs.declared.counts.Growth.{Growth}
+use Rattle.log_nodes.specs.declared.pair.Share.{Share}
 use Rattle.log_growth.specs.Growth.{IsGrowth}
-use Rattle.log_growth.specs.Logs.{IsLogText}
+use Rattle.log_nodes.specs.Texts.{IsTextBehind}
 use Rattle.log_parts.specs.declared.heads.LogHead.{LogHead}
 use Rattle.valid_log.specs.declared.verdict.LogVerdict.TheVariants.{Yes}
 use Rattle.valid_log.specs.PlantLogs.{IsAnyChecked}
@@ -20,8 +20,8 @@ use Rattle.log_resuming.specs.Resumed.{IsNoLess, IsNoMore, IsOpenClaim, IsResume
 pub record IsMeasured (bytes bytes_out : List ℕ) (budget : ℕ) (share : Option Share) (log : Opened) (head : LogHead) (old_claim claim : Claim) (boxes : ℕ) : Type 0 where
   pub tree : RowTree
   pub grown : RowTree
-  pub text : IsLogText (front_of log.head) bytes tree
-  pub text_out : IsLogText (front_of head) bytes_out grown
+  pub text : IsTextBehind (front_of log.head) bytes tree
+  pub text_out : IsTextBehind (front_of head) bytes_out grown
   pub growth : Growth
   pub goes_on : IsGrowth log.rows (profit_of old_claim) share 0 0 (view_of log.rows.program.root) tree grown growth
   pub boxes_are : boxes ≡ growth.after

@@ -7,7 +7,7 @@ use Rattle.row_relax.specs.declared.rows.Rows.{Rows}
 use Rattle.row_relax.specs.Choices.{IsLawfulIn, steps_of, worth_in}
 use Rattle.row_relax.specs.RowProofs.{RowTree}
 use Rattle.row_relax.specs.View.{IsIn, view_of}
-use Rattle.what_if.specs.Loose.{AnswersTo, IsPlainBelow, loose_cap, no_mults, as_cap}
+use Rattle.what_if.specs.Loose.{StandsForCap, IsPlainBelow, loose_cap, no_mults, as_cap}
 
 -- the proof that says nothing: a node without cuts that ends in the certificate of scale 1 without multipliers
 abbrev pub plain_proof : RowTree
@@ -21,4 +21,4 @@ BoundsRoot rows cap = Bounds (IsIn (view_of rows.program.root)) (IsLawfulIn rows
 pub record IsRootCap (capped : Bool) (rows : Rows) (proof : RowTree) (cap : Option ℤ) : Type 0 where
   pub is : as_cap cap ≡ loose_cap capped rows (view_of rows.program.root) proof
   pub bounds : BoundsRoot rows cap
-  pub own : IsPlainBelow capped rows → tree_cap (steps_of rows) (view_of rows.program.root) proof ≢ Bad → AnswersTo capped cap (tree_cap (steps_of rows) (view_of rows.program.root) proof)
+  pub own : IsPlainBelow capped rows → tree_cap (steps_of rows) (view_of rows.program.root) proof ≢ Bad → StandsForCap capped cap (tree_cap (steps_of rows) (view_of rows.program.root) proof)

@@ -15,7 +15,7 @@ read_parts-requires-clause-passed g c =
     let p = c.requires.passed in
     let lines = p.2 ++ row_line c.in-Row.derived c.in-Row.counts ∷ [] in
     let has = subst (HasSeen (g.F.Shelf.files c.args.files.now) name p.0 p.1 p.2 c.next_line.new.walk) c.in-Row.ensures.0 (c.in_ok-seen.ensures.seen p.0 p.1 p.2 p.3) in
-    (p.0, p.1, lines, subst (λ (f : Option FileMap). HasPassed f name p.0 p.1 lines c.next_line.new.walk) (sym c.next_line.ensures.same) has.1)
+    (p.0, p.1, lines, subst (λ (f : Option FileMap). HasPassed f name p.0 p.1 lines c.next_line.new.walk) (sym c.next_line.ensures.frame.same) has.1)
 
 pub returns-in-Nothing-clause-ends : goal.returns-in-Nothing-clause-ends
 returns-in-Nothing-clause-ends g c is start number lines passed =
@@ -44,10 +44,10 @@ returns-in-Ok-clause-goes g c start number lines passed =
     let all = lines ++ row_line c.in-Row.derived c.in-Row.counts ∷ [] in
     let new = c.read_parts.new.derived in
     let has = subst (HasSeen files name start number lines c.next_line.new.walk) c.in-Row.ensures.0 (c.in_ok-seen.ensures.seen start number lines passed) in
-    let there = subst (λ (f : Option FileMap). HasPassed f name start number all c.next_line.new.walk) (sym c.next_line.ensures.same) has.1 in
+    let there = subst (λ (f : Option FileMap). HasPassed f name start number all c.next_line.new.walk) (sym c.next_line.ensures.frame.same) has.1 in
     let goes = c.in-Ok.ensures.goes start number all there in
     row_goes files name start number lines c.in-Row.derived new c.in-Row.counts c.read_parts.new.walk c.in-Ok.ensures.head c.in-Ok.ensures.counts
-    (subst (λ (f : Option FileMap). HasPassed f name start number (all ++ part_lines new) c.read_parts.new.walk) c.next_line.ensures.same goes)
+    (subst (λ (f : Option FileMap). HasPassed f name start number (all ++ part_lines new) c.read_parts.new.walk) c.next_line.ensures.frame.same goes)
 
 pub returns-in-Err-clause-bad : goal.returns-in-Err-clause-bad
 returns-in-Err-clause-bad g c defect is start number lines passed =
@@ -58,7 +58,7 @@ returns-in-Err-clause-bad g c defect is start number lines passed =
     let all = lines ++ row_line c.in-Row.derived c.in-Row.counts ∷ [] in
     let begun = c.in-Row.ensures in
     let has = subst (HasSeen files name start number lines c.next_line.new.walk) begun.0 (c.in_ok-seen.ensures.seen start number lines passed) in
-    let there = subst (λ (f : Option FileMap). HasPassed f name start number all c.next_line.new.walk) (sym c.next_line.ensures.same) has.1 in
+    let there = subst (λ (f : Option FileMap). HasPassed f name start number all c.next_line.new.walk) (sym c.next_line.ensures.frame.same) has.1 in
     let bad = c.in-Err.ensures.bad defect (ap Err own) start number all there in
     parts_bad files name start number lines c.in-Row.derived c.in-Row.counts limits c.args.before defect
-    (subst (λ (f : Option FileMap). HasBadParts f name start number limits.slots (limits.rows + c.args.before) c.in-Row.derived c.in-Row.counts all defect) c.next_line.ensures.same bad) begun.1 begun.2
+    (subst (λ (f : Option FileMap). HasBadParts f name start number limits.slots (limits.rows + c.args.before) c.in-Row.derived c.in-Row.counts all defect) c.next_line.ensures.frame.same bad) begun.1 begun.2

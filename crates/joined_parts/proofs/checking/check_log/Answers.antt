@@ -16,7 +16,7 @@ returns-in-Yes-clause-checked g c =
     let mid = g.F.Shelf.files c.read_front.new.files in
     let right = subst (λ (said : LogVerdict). IfSome mid (λ m. IsAnyPartChecked c.args.plant.now program (4608 - c.args.levels) (file_of m c.as_str-file.result.now) said)) c.in-Yes.is c.in_ok-claim.ensures.checked in
     yes_checked c.args.plant.now c.args.levels c.args.part program (g.F.Shelf.files c.args.files.now) mid c.as_str-file.result.now c.args.stem.now c.args.declared.now c.in_ok-front.front c.in-Yes.claim c.compared.result
-    (c.as_str-file.ensures.value ∙ c.in_ok-name.ensures) c.in_ok-front.ensures.same c.in_ok-rows.ensures.part c.in_ok-rows.ensures.root c.in_ok-front.ensures.front right c.compared.ensures
+    (c.as_str-file.ensures.value ∙ c.in_ok-name.ensures) c.in_ok-front.ensures.frame.same c.in_ok-rows.ensures.part c.in_ok-rows.ensures.root c.in_ok-front.ensures.front right c.compared.ensures
 
 pub returns-in-Yes-clause-says : goal.returns-in-Yes-clause-says
 returns-in-Yes-clause-says g c =
@@ -30,4 +30,4 @@ returns-clause-checked g c =
     let mid = g.F.Shelf.files c.read_front.new.files in
     let right = subst (λ (said : LogVerdict). IfSome mid (λ m. IsAnyPartChecked c.args.plant.now program (4608 - c.args.levels) (file_of m c.as_str-file.result.now) said)) c.in-No.is c.in_ok-claim.ensures.checked in
     no_checked c.args.plant.now c.args.levels c.args.part program (g.F.Shelf.files c.args.files.now) mid c.as_str-file.result.now c.args.stem.now c.args.declared.now c.in-No.defect
-    (c.as_str-file.ensures.value ∙ c.in_ok-name.ensures) c.in_ok-front.ensures.same c.in_ok-rows.ensures.part c.in_ok-rows.ensures.root right
+    (c.as_str-file.ensures.value ∙ c.in_ok-name.ensures) c.in_ok-front.ensures.frame.same c.in_ok-rows.ensures.part c.in_ok-rows.ensures.root right

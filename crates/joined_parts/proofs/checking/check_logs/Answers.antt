@@ -37,11 +37,11 @@ loop-part-preserved g c =
       known = known_more plant levels c.loop-part.part stem declared told now said version bytes claim c.args.first.version c.loop-part.newest c.is_newest-newest-in-Valid.result inv.same c.in-Valid.is c.in_ok-version.ensures.checked newer inv.known;
       older = λ none. inv.older (older_more version c.loop-part.newest c.is_newest-newest-in-Valid.result newer none);
       said = one_more_said plant levels c.loop-part.part c.loop-part.claims.items c.push_claim.new.claims.items said version bytes claim inv.counted pushed c.in-Valid.is inv.said c.in_ok-version.ensures.says;
-      same = c.in_ok-version.ensures.same ∙ inv.same;
-      readable = c.in_ok-version.ensures.readable ∙ inv.readable;
-      writable = c.in_ok-version.ensures.writable ∙ inv.writable;
-      no_write = c.in_ok-version.ensures.no_write ∙ inv.no_write;
-      later = omega (arith, c.in_ok-version.ensures.later, inv.later);
+      same = c.in_ok-version.ensures.frame.same ∙ inv.same;
+      readable = c.in_ok-version.ensures.frame.readable ∙ inv.readable;
+      writable = c.in_ok-version.ensures.frame.writable ∙ inv.writable;
+      no_write = c.in_ok-version.ensures.frame.no_write ∙ inv.no_write;
+      later = omega (arith, c.in_ok-version.ensures.frame.later, inv.later);
     }
 
 pub returns-clause-checked : goal.returns-clause-checked

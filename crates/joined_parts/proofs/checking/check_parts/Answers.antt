@@ -14,7 +14,7 @@ check_logs-requires-clause-kept g c = subst (IsFrontKept c.args.plant.now (head_
 pub check_logs-requires-clause-first : goal.check_logs-requires-clause-first
 check_logs-requires-clause-first g c =
     let at = λ (said : LogFront) (told : Option FileMap). IfSome told (λ m. IsFrontOf c.args.plant.now c.args.levels 0 (logs_of m c.args.stem.now 0) said) in
-    subst (at (Whole c.in-Whole.first)) (sym c.in_ok-first.ensures.same) (subst (λ (said : LogFront). at said (g.F.Shelf.files c.args.files.now)) c.in-Whole.is c.in_ok-first.ensures.front)
+    subst (at (Whole c.in-Whole.first)) (sym c.in_ok-first.ensures.frame.same) (subst (λ (said : LogFront). at said (g.F.Shelf.files c.args.files.now)) c.in-Whole.is c.in_ok-first.ensures.front)
 
 pub returns-in-Bad-clause-checked : goal.returns-in-Bad-clause-checked
 returns-in-Bad-clause-checked g c =

@@ -37,7 +37,7 @@ returns-in-Whole-clause-front g c =
     let limits = c.limits_with-limits.ensures ∙ ap (limits_with program c.args.depth) c.len.ensures in
     let stands = subst (λ (l : Limits). IfSome files (λ m. AreSetups l (setup_sizes plant) c.args.head (file_of m name) c.in_ok-setups.field-0)) limits c.in_ok-setups.ensures.stands in
     ok_if c.read_behind.result c.read_behind.ensures.front
-    (λ said has. setups_read plant program c.args.depth files now name c.args.head c.in_ok-setups.field-0 c.in-Whole.setups said c.in_ok-setups.ensures.same c.in-Whole.is stands has)
+    (λ said has. setups_read plant program c.args.depth files now name c.args.head c.in_ok-setups.field-0 c.in-Whole.setups said c.in_ok-setups.ensures.frame.same c.in-Whole.is stands has)
 
 pub returns-in-Bad-clause-front : goal.returns-in-Bad-clause-front
 returns-in-Bad-clause-front g c =

@@ -23,7 +23,7 @@ parts-init g c = record {
   later = omega arith;
   taken = begun c.args.rows.now c.args.depth (g.F.Shelf.files c.args.files.now) c.args.name.now c.args.version c.args.head c.in_ok-reader.reader c.in_ok-checker.checker 0
       (subst (λ l. HasRead (g.F.Shelf.files c.args.files.now) c.args.name.now c.args.version c.args.head l [] None c.in_ok-reader.reader) c.limits_of.ensures (c.in_ok-reader.ensures (g.F.Shelf.files c.args.files.now) c.args.name.now))
-      c.in_ok-checker.ensures.fits c.in_ok-checker.ensures.area c.in_ok-checker.ensures.course c.in_ok-checker.ensures.first c.in_ok-checker.ensures.splits c.in_ok-checker.ensures.expected c.in_ok-checker.ensures.rooms;
+      c.in_ok-checker.ensures.fits c.in_ok-checker.ensures.area c.in_ok-checker.ensures.course c.in_ok-checker.ensures.first c.in_ok-checker.ensures.splits c.in_ok-checker.ensures.expected c.in_ok-checker.ensures.rooms c.in_ok-checker.ensures.ends;
 }
 
 pub take-requires-clause-may : goal.take-requires-clause-may
@@ -79,7 +79,7 @@ pub parts-preserved : goal.parts-preserved
 parts-preserved g c =
     let inv = c.parts.invariant in
     let taken = inv.taken in
-    let still = c.in_ok-line.ensures.same in
+    let still = c.in_ok-line.ensures.frame.same in
     let rows = c.args.rows.now in
     let limits = limits_of rows c.args.depth in
     let told = g.F.Shelf.files c.parts.files in
@@ -87,17 +87,17 @@ parts-preserved g c =
     let part = c.in_ok-line.ensures.part c.args.version c.args.head limits taken.items c.parts.claimed taken.read in
     record {
       same = still ∙ inv.same;
-      readable = c.in_ok-line.ensures.readable ∙ inv.readable;
-      writable = c.in_ok-line.ensures.writable ∙ inv.writable;
-      no_write = c.in_ok-line.ensures.no_write ∙ inv.no_write;
-      later = omega (arith, inv.later, c.in_ok-line.ensures.later);
+      readable = c.in_ok-line.ensures.frame.readable ∙ inv.readable;
+      writable = c.in_ok-line.ensures.frame.writable ∙ inv.writable;
+      no_write = c.in_ok-line.ensures.frame.no_write ∙ inv.no_write;
+      later = omega (arith, inv.later, c.in_ok-line.ensures.frame.later);
       taken = elim c.match-branch-4.branch [
         | in-Item+in_ok-take-in-Item w ↦
             rw w.checker-is (rw w.began-is (rw w.claimed-is (rw still
             (item_taken taken c.next.new.self c.in_ok-line.field-0 part
             w.in-Item.line w.in-Item.item w.take.new.self w.in-Item.is w.take.ensures.fits w.in_ok-take-in-Item.ensures.ready
             (λ at stand. w.in_ok-take-in-Item.ensures.stands (view_of rows.program.root) taken.items at stand)
-            w.take.ensures.rooms))))
+            w.take.ensures.rooms w.take.ensures.ends))))
         | in-Claim w ↦
             rw w.checker-is (rw w.began-is (rw w.claimed-is (rw still
             (claim_taken taken c.next.new.self c.in_ok-line.field-0 part

@@ -9,14 +9,15 @@ use Rattle.range_prop.specs.declared.row_cut.RowCut.{RowCut}
 use Rattle.row_relax.specs.RowProofs.{RowItem}
 use Rattle.row_relax.specs.Steps.{row_steps}
 use Rattle.row_relax.specs.View.{Fits, view_of}
-use Rattle.log_growth.specs.declared.node.Node.{Node}
-use Rattle.log_growth.specs.declared.pair.Growth.{Growth}
-use Rattle.log_growth.specs.Growth.{leaves_open}
-use Rattle.log_growth.specs.Reading.{IsReading, ReadsOn}
-use Rattle.log_growth.specs.laws.Grown.{HasGrown, HasGrownBelow, HasGrownParts, seen}
-use Rattle.log_growth.specs.laws.Nodes.{node_items}
-use Rattle.log_growth.proofs.Readings.{behind-items, behind-tree, some_always}
-use Rattle.log_growth.proofs.Walking.{back-there, leaf-end, mark-within, moved-there}
+use Rattle.log_nodes.specs.declared.node.Node.{Node}
+use Rattle.log_growth.specs.declared.counts.Growth.{Growth}
+use Rattle.log_nodes.specs.OpenEnds.{leaves_open}
+use Rattle.log_nodes.specs.Reading.{IsReading, ReadsOn}
+use Rattle.log_growth.specs.laws.Grown.{HasGrown, HasGrownBelow, HasGrownParts}
+use Rattle.log_nodes.specs.laws.Seen.{seen}
+use Rattle.log_nodes.specs.laws.Nodes.{node_items}
+use Rattle.log_nodes.proofs.Readings.{behind-items, behind-tree, some_always}
+use Rattle.log_nodes.proofs.Walking.{back-there, leaf-end, mark-within, moved-there}
 use Rattle.log_growth.proofs.Grows.{both-if, floor_above, node-grown, split-if}
 use Rattle.log_growth.proofs.growing.+growing.Goals as goal
 
@@ -226,8 +227,8 @@ grown_parts-returns-clause-grown g t c =
     let moves = subst (λ (views : List View). MovesTo ((row_steps rows.program).right (present views) pick) views (map view_of c.right.new.area) c.right.result) again c.right.ensures.moves in
     let right = moved-there ((row_steps c.args.pair.rows.now.program).right (seen c.args.area.now) c.args.pick.now) (map view_of c.args.area.now) (map view_of c.right.new.area) c.right.result c.if-not-right.false moves in
     let first = subst (λ (o : Option Growth). IfSome o (HasGrown rows profit share (c.args.place.depth + 1) c.args.place.number (seen c.left.new.area) (λ items. ReadsOn told log a items b) (λ items. ReadsOn told out a_out items b_out))) c.in-Some.is c.in_ok-first.ensures.grown in
-    let second = subst (λ (o : Option Growth). IfSome o (HasGrown rows profit share (c.args.place.depth + 1) c.in-Some-sum.number (seen c.right.new.area) (λ items. ReadsOn now log b items e) (λ items. ReadsOn now out b_out items e_out))) c.in-Some-2.is c.in_ok-second.ensures.grown in
-    let number = subst (λ (o : Option ℕ). IfSome o (λ n. n ≡ c.args.place.number + c.in-Some.first.ends)) c.in-Some-sum.is c.sum.ensures in
-    both-if rows profit share c.args.place.depth c.args.place.number c.in-Some-sum.number (seen c.args.area.now) (seen c.left.new.area) (seen c.right.new.area) pick (λ items. ReadsOn told log a items b) (λ items. ReadsOn told out a_out items b_out)
+    let second = subst (λ (o : Option Growth). IfSome o (HasGrown rows profit share (c.args.place.depth + 1) c.in-Some-sum_of.number (seen c.right.new.area) (λ items. ReadsOn now log b items e) (λ items. ReadsOn now out b_out items e_out))) c.in-Some-2.is c.in_ok-second.ensures.grown in
+    let number = subst (λ (o : Option ℕ). IfSome o (λ n. n ≡ c.args.place.number + c.in-Some.first.ends)) c.in-Some-sum_of.is c.sum_of.ensures in
+    both-if rows profit share c.args.place.depth c.args.place.number c.in-Some-sum_of.number (seen c.args.area.now) (seen c.left.new.area) (seen c.right.new.area) pick (λ items. ReadsOn told log a items b) (λ items. ReadsOn told out a_out items b_out)
     (λ items. ReadsOn now log b items e) (λ items. ReadsOn now out b_out items e_out) (λ items. ReadsOn told log a items e) (λ items. ReadsOn told out a_out items e_out) c.in-Some.first c.in-Some-2.second c.both.result left.0 right.0 first second number
     (behind-tree told now log a b e same) (behind-tree told now out a_out b_out e_out same) c.both.ensures

@@ -3,10 +3,10 @@ use Rattle.std.proofs.Common.{◌∙◌, ℕ, List, Option, ap, subst}
 use Rattle.std.specs.Prelude.{Bool, ◌&&◌, if◌then◌else◌, IsTrue, IfSome}
 use Rattle.branch_tree.specs.Deep.{is_deep}
 use Rattle.row_relax.specs.RowProofs.{RowItem}
-use Rattle.log_growth.specs.Reading.{ReadsOn}
-use Rattle.log_growth.specs.laws.Grown.{seen}
-use Rattle.log_growth.specs.laws.Nodes.{HasBelow, leaf_of}
-use Rattle.log_growth.proofs.Readings.{reads-none}
+use Rattle.log_nodes.specs.Reading.{ReadsOn}
+use Rattle.log_nodes.specs.laws.Seen.{seen}
+use Rattle.log_nodes.specs.laws.Nodes.{HasBelow, leaf_of}
+use Rattle.log_nodes.proofs.Readings.{reads-none}
 use Rattle.log_growth.proofs.Grows.{IsEndCount, new-end, same-end}
 use Rattle.log_growth.proofs.growing.grown_leaf.Goals as goal
 

@@ -3,9 +3,10 @@ use Rattle.std.proofs.Common.{◌∙◌, List, [], Option, sym, subst}
 use Rattle.std.specs.Prelude.{IfSome}
 use Rattle.stn_edge.specs.Files.{FileMap}
 use Rattle.row_kit.specs.declared.domain.Domain.{Domain}
-use Rattle.log_growth.specs.declared.pair.Growth.{Growth}
-use Rattle.log_growth.specs.Reading.{EndsClean, IsReading, ReadsOn}
-use Rattle.log_growth.specs.laws.Grown.{HasGrown, seen}
+use Rattle.log_growth.specs.declared.counts.Growth.{Growth}
+use Rattle.log_nodes.specs.Reading.{EndsClean, IsReading, ReadsOn}
+use Rattle.log_growth.specs.laws.Grown.{HasGrown}
+use Rattle.log_nodes.specs.laws.Seen.{seen}
 use Rattle.log_growth.proofs.Ended.{are-grown}
 use Rattle.log_growth.proofs.whole.growth.Goals as goal
 

@@ -2,8 +2,8 @@
 use Rattle.std.proofs.Common.{subst}
 use Rattle.std.specs.Prelude.{IfSome}
 use Rattle.log_parts.specs.PartLogs.{logs_of}
-use Rattle.log_merging.specs.declared.checked.Checked.{Checked}
-use Rattle.log_merging.specs.laws.Checked.{AreChecked}
+use Rattle.merge_checks.specs.declared.checked.Checked.{Checked}
+use Rattle.merge_checks.specs.laws.Checked.{AreChecked}
 use Rattle.log_merging.proofs.Mergings.{refused-told}
 use Rattle.log_merging.proofs.merges.look_again.Goals as goal
 

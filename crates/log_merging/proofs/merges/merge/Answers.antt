@@ -5,9 +5,9 @@ use Rattle.stn_edge.specs.Files.{FileMap, OthersStay, file_of}
 use Rattle.proof_log.specs.declared.claim.Claim.{Claim}
 use Rattle.proof_log.specs.LogNames.{log_name}
 use Rattle.log_parts.specs.PartLogs.{logs_of}
-use Rattle.log_merging.specs.declared.checked.Checked.{Checked}
-use Rattle.log_merging.specs.MergedLogs.{IsMergedLog, IsMergingIn, IsNo}
-use Rattle.log_merging.specs.laws.Checked.{AreChecked, AreCheckedTo, AreKnown, AreKnownTo}
+use Rattle.merge_checks.specs.declared.checked.Checked.{Checked}
+use Rattle.log_merging.specs.MergedLogs.{IsMergedLog, IsMergingIn, NamesRefused}
+use Rattle.merge_checks.specs.laws.Checked.{AreChecked, AreCheckedTo, AreKnown, AreKnownTo}
 use Rattle.log_merging.proofs.Mergings.{looked-again, mergeable, ok_then}
 use Rattle.log_merging.proofs.merges.merge.Goals as goal
 
@@ -26,7 +26,7 @@ pub merge_logs-requires-clause-may_read : goal.merge_logs-requires-clause-may_re
 merge_logs-requires-clause-may_read g c = λ number lt.
     let known = subst (AreKnown c.args.count) c.in-All.is c.in_ok-logs.ensures.known in
     let fronts = known.fronts in
-    subst (λ (may : List ℕ → Bool). IsTrue (may (log_name c.args.stem.now number))) (sym c.in_ok-logs.ensures.readable) (c.requires.may_read number (omega (arith, lt, fronts)))
+    subst (λ (may : List ℕ → Bool). IsTrue (may (log_name c.args.stem.now number))) (sym c.in_ok-logs.ensures.frame.readable) (c.requires.may_read number (omega (arith, lt, fronts)))
 
 pub merge_logs-requires-clause-apart : goal.merge_logs-requires-clause-apart
 merge_logs-requires-clause-apart g c = λ number lt.
@@ -40,7 +40,7 @@ merge_logs-requires-clause-checked g c =
     let known = subst (AreKnown c.args.count) c.in-All.is c.in_ok-logs.ensures.known in
     let own = subst (λ (said : Checked). IfSome old (λ m. AreChecked c.args.plant.now c.args.count (logs_of m c.args.stem.now) said)) c.in-All.is c.in_ok-logs.ensures.checked in
     subst (λ (n : ℕ). IfSome (g.F.Shelf.files c.check_logs.new.files) (λ m. AreCheckedTo c.args.plant.now n (logs_of m c.args.stem.now) c.in-All.logs)) (sym known.fronts)
-    (subst (λ (told : Option FileMap). IfSome told (λ m. AreCheckedTo c.args.plant.now c.args.count (logs_of m c.args.stem.now) c.in-All.logs)) (sym c.in_ok-logs.ensures.same) own)
+    (subst (λ (told : Option FileMap). IfSome told (λ m. AreCheckedTo c.args.plant.now c.args.count (logs_of m c.args.stem.now) c.in-All.logs)) (sym c.in_ok-logs.ensures.frame.same) own)
 
 pub returns-in_err-claim-clause-left : goal.returns-in_err-claim-clause-left
 returns-in_err-claim-clause-left g c =
@@ -66,7 +66,7 @@ returns-in-Some-clause-merged g c =
     let known = subst (AreKnown c.args.count) c.in-All.is c.in_ok-logs.ensures.known in
     let has = subst (λ (o : Option Claim). IfSome o (λ own. IfSome mid (λ m. IfSome new (λ n. IsMergedLog plant (length logs.fronts.items) (logs_of m stem) own (file_of n out))))) c.in-Some.is c.in_ok-claim.ensures.merged in
     let all = subst (λ (count : ℕ). IfSome mid (λ m. IfSome new (λ n. IsMergedLog plant count (logs_of m stem) claim (file_of n out)))) known.fronts has in
-    subst (λ (told : Option FileMap). IfSome told (λ m. IfSome new (λ n. IsMergedLog plant c.args.count (logs_of m stem) claim (file_of n out)))) c.in_ok-logs.ensures.same all
+    subst (λ (told : Option FileMap). IfSome told (λ m. IfSome new (λ n. IsMergedLog plant c.args.count (logs_of m stem) claim (file_of n out)))) c.in_ok-logs.ensures.frame.same all
 
 pub returns-in-Some-clause-left : goal.returns-in-Some-clause-left
 returns-in-Some-clause-left g c =
@@ -84,9 +84,9 @@ returns-in-None-clause-merged g c =
     let mid = g.F.Shelf.files c.merge_logs.new.files in
     let new = g.F.Shelf.files c.look_again.new.files in
     let checked = subst (λ (said : Checked). IfSome old (λ m. AreChecked plant count (logs_of m stem) said)) c.in-All.is c.in_ok-logs.ensures.checked in
-    let others = subst (λ (told : Option FileMap). OthersStay out told mid) c.in_ok-logs.ensures.same c.in_ok-claim.ensures.others in
+    let others = subst (λ (told : Option FileMap). OthersStay out told mid) c.in_ok-logs.ensures.frame.same c.in_ok-claim.ensures.frame.others in
     ok_then c.look_again.result (λ said. IsMergingIn plant count stem out old new said × (new ≡ old)) (IsMergingIn plant count stem out old new) (λ said is. is.0)
-    (looked-again plant count stem out old mid new c.in-All.logs c.look_again.result c.requires.some c.requires.apart checked others c.look_again.ensures.same c.look_again.ensures.no (c.look_again.ensures.merged out))
+    (looked-again plant count stem out old mid new c.in-All.logs c.look_again.result c.requires.some c.requires.apart checked others c.look_again.ensures.frame.same c.look_again.ensures.no (c.look_again.ensures.merged out))
 
 pub returns-in-None-clause-kept : goal.returns-in-None-clause-kept
 returns-in-None-clause-kept g c =
@@ -98,9 +98,9 @@ returns-in-None-clause-kept g c =
     let mid = g.F.Shelf.files c.merge_logs.new.files in
     let new = g.F.Shelf.files c.look_again.new.files in
     let checked = subst (λ (said : Checked). IfSome old (λ m. AreChecked plant count (logs_of m stem) said)) c.in-All.is c.in_ok-logs.ensures.checked in
-    let others = subst (λ (told : Option FileMap). OthersStay out told mid) c.in_ok-logs.ensures.same c.in_ok-claim.ensures.others in
-    ok_then c.look_again.result (λ said. IsMergingIn plant count stem out old new said × (new ≡ old)) (λ said. IsNo said → new ≡ old) (λ said is. λ refused. is.1)
-    (looked-again plant count stem out old mid new c.in-All.logs c.look_again.result c.requires.some c.requires.apart checked others c.look_again.ensures.same c.look_again.ensures.no (c.look_again.ensures.merged out))
+    let others = subst (λ (told : Option FileMap). OthersStay out told mid) c.in_ok-logs.ensures.frame.same c.in_ok-claim.ensures.frame.others in
+    ok_then c.look_again.result (λ said. IsMergingIn plant count stem out old new said × (new ≡ old)) (λ said. NamesRefused said → new ≡ old) (λ said is. λ refused. is.1)
+    (looked-again plant count stem out old mid new c.in-All.logs c.look_again.result c.requires.some c.requires.apart checked others c.look_again.ensures.frame.same c.look_again.ensures.no (c.look_again.ensures.merged out))
 
 pub returns-in-None-clause-left : goal.returns-in-None-clause-left
 returns-in-None-clause-left g c =

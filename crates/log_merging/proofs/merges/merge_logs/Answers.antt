@@ -2,9 +2,9 @@
 use Rattle.std.proofs.Common.{◌<◌, ℕ, ℤ, List, Option, ap, length, refl, subst, sym, arith}
 use Rattle.std.specs.Prelude.{All}
 use Rattle.proof_log.specs.declared.claim.Claim.{Claim}
-use Rattle.log_growth.specs.declared.whole.Front.{Front}
+use Rattle.log_nodes.specs.declared.front.Front.{Front}
 use Rattle.log_resuming.specs.Resumed.{IsNoMore, cap_of}
-use Rattle.log_merging.specs.MergedLogs.{IsOrder}
+use Rattle.merge_ends.specs.MergedClaims.{IsOrder}
 use Rattle.log_merging.proofs.Mergings.{merged-there, order-within}
 use Rattle.log_merging.proofs.merges.merge_logs.Goals as goal
 
@@ -31,5 +31,5 @@ returns-then-branch-clause-merged g c =
     let ordered = subst (λ (claims : List Claim). IsOrder claims order) c.as_slice.ensures.value c.in_ok-order.ensures in
     let cap = subst (λ (o : Option ℤ). IsNoMore o (cap_of claim)) c.cap_of-greatest.ensures (c.suits.ensures.cap c.if-not-suits.false) in
     merged-there _ c.joined-best.result claim c.args.stem.now c.args.out.now (g.F.Shelf.files c.args.files.now) (g.F.Shelf.files c.write_merged.new.files) c.in_ok-claim.field-0 c.in_ok-claim.ensures.written c.in-Some.is
-    c.args.plant.now (length logs.fronts.items) (g.F.Shelf.files c.stands.new.files) logs order c.in_ok-stands.ensures.same refl refl c.as_slice-2.ensures.value c.as_slice-3.ensures.value c.requires.checked c.requires.known c.joined-best.ensures.joined ordered
+    c.args.plant.now (length logs.fronts.items) (g.F.Shelf.files c.stands.new.files) logs order c.in_ok-stands.ensures.frame.same refl refl c.as_slice-2.ensures.value c.as_slice-3.ensures.value c.requires.checked c.requires.known c.joined-best.ensures.joined ordered
     (c.in_ok-stands.ensures.valid c.if-branch.true) cap (c.suits.ensures.settled c.if-not-suits.false)

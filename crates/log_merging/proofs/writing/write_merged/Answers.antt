@@ -1,8 +1,7 @@
 -- The merged log is begun, takes the merged proof, and is ended with its claim.
-use Rattle.std.proofs.Common.{◌≡◌, ◌∙◌, [], ℕ, Bool, List, Option, ap, subst, sym}
+use Rattle.std.proofs.Common.{◌≡◌, ◌∙◌, ℕ, Bool, List, Option, ap, subst, sym}
 use Rattle.std.specs.Prelude.{IfSome, IsTrue}
 use Rattle.stn_edge.specs.Files.{OthersStay}
-use Rattle.proof_log.specs.declared.claim.Claim.{Claim}
 use Rattle.proof_log.specs.LogNames.{log_name}
 use Rattle.proof_tree.specs.declared.capped.Capped.{Capped}
 use Rattle.row_relax.specs.RowProofs.{RowItem}
@@ -52,7 +51,7 @@ returns-in-Some-claim_with_cap-clause-written g c =
     let version = c.joined_version-version.result in
     let named = c.in_ok-writer.ensures.named in
     let whole = subst (λ (o : Option Capped). IfSome o (HasMergedWhole work.first.now.rows profit begun new stem before writer later)) c.in-Some.is c.in_ok-cap.ensures.merged in
-    let others = subst (λ (name : List ℕ). OthersStay name begun new) named c.in_ok-cap.ensures.others in
+    let others = subst (λ (name : List ℕ). OthersStay name begun new) named c.in_ok-cap.ensures.frame.others in
     answer-then c.end_log.result (λ own. (own ≡ claim) × ((front : List ℕ) (items : List RowItem) → HasItems front later new items → IsFinished front (name_of later) items larger last)) (HasWritten work best stem out old last)
     (λ own is. subst (HasWritten work best stem out old last) (sym is.0)
     (has-written work best claim profit stem out old begun new last before writer later cap larger version c.requires.order c.requires.apart c.in_ok-writer.ensures.others others c.in_ok-sources.ensures (c.in_ok-cap.ensures.named ∙ named) c.profit_of.ensures

@@ -34,13 +34,13 @@ pub returns-in_err-item-clause-err : goal.returns-in_err-item-clause-err
 returns-in_err-item-clause-err g c =
     let inv = c.parts.invariant in
     err_of c.from_residual-in_err-item.result
-    (on_broken c.args.limits c.args.head c.args.name.now (g.F.Shelf.files c.args.files.now) (g.F.Shelf.files c.parts.files) (g.F.Shelf.files c.next.new.files) c.args.writer.now c.parts.writer c.parts.reader inv.named c.in_err-item.ensures.same inv.on)
+    (on_broken c.args.limits c.args.head c.args.name.now (g.F.Shelf.files c.args.files.now) (g.F.Shelf.files c.parts.files) (g.F.Shelf.files c.next.new.files) c.args.writer.now c.parts.writer c.parts.reader inv.named c.in_err-item.ensures.frame.same inv.on)
 
 pub returns-in_err-put_item-in-Item-clause-err : goal.returns-in_err-put_item-in-Item-clause-err
 returns-in_err-put_item-in-Item-clause-err g c =
     let inv = c.parts.invariant in
     let on = inv.on in
-    let still = c.in_ok-item.ensures.same in
+    let still = c.in_ok-item.ensures.frame.same in
     err_of c.from_residual-in_err-put_item-in-Item.result
     (item_broken c.args.limits c.args.head c.args.name.now (g.F.Shelf.files c.args.files.now) (g.F.Shelf.files c.parts.files) (g.F.Shelf.files c.next.new.files) (g.F.Shelf.files c.put_item.new.files) c.args.writer.now c.parts.writer c.parts.reader c.next.new.self c.in-Item.line c.in-Item.item on inv.named still
     (subst (IsPartAfter (g.F.Shelf.files c.parts.files) c.args.name.now 4 c.args.head c.args.limits on.items on.claim c.next.new.self) c.in-Item.is (c.in_ok-item.ensures.part 4 c.args.head c.args.limits on.items on.claim on.read))
@@ -49,14 +49,14 @@ returns-in_err-put_item-in-Item-clause-err g c =
 pub returns-in-End-clause-copied : goal.returns-in-End-clause-copied
 returns-in-End-clause-copied g c =
     let on = c.parts.invariant.on in
-    subst (λ (told : Option FileMap). HasCopied c.args.limits c.args.head c.args.name.now (g.F.Shelf.files c.args.files.now) c.args.writer.now told c.parts.writer {D = Defect} None) (sym c.in_ok-item.ensures.same)
+    subst (λ (told : Option FileMap). HasCopied c.args.limits c.args.head c.args.name.now (g.F.Shelf.files c.args.files.now) c.args.writer.now told c.parts.writer {D = Defect} None) (sym c.in_ok-item.ensures.frame.same)
     (copied_end c.args.limits c.args.head c.args.name.now (g.F.Shelf.files c.args.files.now) (g.F.Shelf.files c.parts.files) c.args.writer.now c.parts.writer c.parts.reader c.next.new.self c.in-End.version on
     (subst (IsPartAfter (g.F.Shelf.files c.parts.files) c.args.name.now 4 c.args.head c.args.limits on.items on.claim c.next.new.self) c.in-End.is (c.in_ok-item.ensures.part 4 c.args.head c.args.limits on.items on.claim on.read)))
 
 pub returns-in-Bad-clause-copied : goal.returns-in-Bad-clause-copied
 returns-in-Bad-clause-copied g c =
     let on = c.parts.invariant.on in
-    subst (λ (told : Option FileMap). HasCopied c.args.limits c.args.head c.args.name.now (g.F.Shelf.files c.args.files.now) c.args.writer.now told c.parts.writer (Some c.in-Bad.defect)) (sym c.in_ok-item.ensures.same)
+    subst (λ (told : Option FileMap). HasCopied c.args.limits c.args.head c.args.name.now (g.F.Shelf.files c.args.files.now) c.args.writer.now told c.parts.writer (Some c.in-Bad.defect)) (sym c.in_ok-item.ensures.frame.same)
     (copied_bad c.args.limits c.args.head c.args.name.now (g.F.Shelf.files c.args.files.now) (g.F.Shelf.files c.parts.files) c.args.writer.now c.parts.writer c.parts.reader c.next.new.self c.in-Bad.defect on
     (subst (IsPartAfter (g.F.Shelf.files c.parts.files) c.args.name.now 4 c.args.head c.args.limits on.items on.claim c.next.new.self) c.in-Bad.is (c.in_ok-item.ensures.part 4 c.args.head c.args.limits on.items on.claim on.read)))
 
@@ -64,7 +64,7 @@ pub parts-preserved : goal.parts-preserved
 parts-preserved g c =
     let inv = c.parts.invariant in
     let on = inv.on in
-    let still = c.in_ok-item.ensures.same in
+    let still = c.in_ok-item.ensures.frame.same in
     let old = g.F.Shelf.files c.args.files.now in
     let now = g.F.Shelf.files c.parts.files in
     let part = c.in_ok-item.ensures.part 4 c.args.head c.args.limits on.items on.claim on.read in
@@ -80,10 +80,10 @@ parts-preserved g c =
                 (λ front items has. took.ok front items (subst (λ (told : Option FileMap). HasItems front c.parts.writer told items) (sym still) has));
             named = took.named ∙ inv.named;
             others = λ other apart. stays other apart ∙ inv.others other apart;
-            readable = took.readable ∙ c.in_ok-item.ensures.readable ∙ inv.readable;
-            writable = took.writable ∙ c.in_ok-item.ensures.writable ∙ inv.writable;
-            reads = omega (arith, took.reads, c.in_ok-item.ensures.later, inv.reads);
-            writes = omega (arith, took.writes, c.in_ok-item.ensures.no_write, inv.writes);
+            readable = took.readable ∙ c.in_ok-item.ensures.frame.readable ∙ inv.readable;
+            writable = took.writable ∙ c.in_ok-item.ensures.frame.writable ∙ inv.writable;
+            reads = omega (arith, took.reads, c.in_ok-item.ensures.frame.later, inv.reads);
+            writes = omega (arith, took.writes, c.in_ok-item.ensures.frame.no_write, inv.writes);
           })
       | in-Claim w ↦
           rw (w.writer-is, w.files-is) (record {
@@ -92,10 +92,10 @@ parts-preserved g c =
                 (subst (IsPartAfter now c.args.name.now 4 c.args.head c.args.limits on.items on.claim c.next.new.self) w.in-Claim.is part));
             named = inv.named;
             others = λ other apart. ap (option_map (λ (m : FileMap). get m other)) still ∙ inv.others other apart;
-            readable = c.in_ok-item.ensures.readable ∙ inv.readable;
-            writable = c.in_ok-item.ensures.writable ∙ inv.writable;
-            reads = omega (arith, c.in_ok-item.ensures.later, inv.reads);
-            writes = omega (arith, c.in_ok-item.ensures.no_write, inv.writes);
+            readable = c.in_ok-item.ensures.frame.readable ∙ inv.readable;
+            writable = c.in_ok-item.ensures.frame.writable ∙ inv.writable;
+            reads = omega (arith, c.in_ok-item.ensures.frame.later, inv.reads);
+            writes = omega (arith, c.in_ok-item.ensures.frame.no_write, inv.writes);
           })
     ]
 

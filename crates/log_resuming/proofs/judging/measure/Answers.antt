@@ -2,7 +2,7 @@
 use Rattle.std.proofs.Common.{Option, subst}
 use Rattle.std.specs.Prelude.{IfSome}
 use Rattle.stn_edge.specs.Files.{file_of}
-use Rattle.log_growth.specs.declared.pair.Growth.{Growth}
+use Rattle.log_growth.specs.declared.counts.Growth.{Growth}
 use Rattle.log_growth.specs.Logs.{AreGrown}
 use Rattle.log_resuming.proofs.Judgements.{measured}
 use Rattle.log_resuming.proofs.judging.measure.Goals as goal

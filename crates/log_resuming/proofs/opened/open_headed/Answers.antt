@@ -7,7 +7,7 @@ use Rattle.plant_check.specs.Heads.{AreSetupsHeld, IsSetupsHeld}
 use Rattle.plant_check.proofs.HeadJudged.{held_of}
 use Rattle.joined_parts.proofs.Fronts.{setups_counted}
 use Rattle.log_resuming.specs.Opened.{IsOpenedHead, IsOpenedSetUp}
-use Rattle.log_growth.proofs.Readings.{ok_some_then}
+use Rattle.log_nodes.proofs.Readings.{ok_some_then}
 use Rattle.log_resuming.proofs.Opening.{opened-set_up}
 use Rattle.log_resuming.proofs.opened.open_headed.Goals as goal
 
@@ -37,4 +37,4 @@ returns-in-Whole-clause-opened g c =
     let limits = c.limits_with-limits.ensures ∙ ap (limits_with program 4608) c.len.ensures in
     let stands = subst (λ (l : Limits). IfSome told (λ m. AreSetups l (setup_sizes plant) c.args.head (file_of m name) c.in_ok-setups.field-0)) limits c.in_ok-setups.ensures.stands in
     ok_some_then c.open_set_up.result (λ o. IfSome now (λ m. IsOpenedSetUp plant program judged (file_of m name) c.in-Whole.setups o)) (λ o. IfSome told (λ m. IsOpenedHead plant program judged (file_of m name) c.args.head o))
-    (λ o has. opened-set_up plant program judged told now name c.args.head c.in_ok-setups.field-0 c.in-Whole.setups o c.in_ok-setups.ensures.same c.in-Whole.is stands has) c.open_set_up.ensures.opened
+    (λ o has. opened-set_up plant program judged told now name c.args.head c.in_ok-setups.field-0 c.in-Whole.setups o c.in_ok-setups.ensures.frame.same c.in-Whole.is stands has) c.open_set_up.ensures.opened

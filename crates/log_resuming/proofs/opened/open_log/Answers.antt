@@ -7,7 +7,7 @@ use Rattle.sum_slots.specs.Shown.{AreRanges}
 use Rattle.valid_log.proofs.PlantRanges.{plant-ranges}
 use Rattle.valid_log.proofs.Saying.{whole-is_part}
 use Rattle.log_resuming.specs.Opened.{IsOpened, IsOpenedOver}
-use Rattle.log_growth.proofs.Readings.{ok_some_then}
+use Rattle.log_nodes.proofs.Readings.{ok_some_then}
 use Rattle.log_resuming.proofs.Opening.{opened-plant}
 use Rattle.log_resuming.proofs.opened.open_log.Goals as goal
 

@@ -8,7 +8,7 @@ use Rattle.log_parts.specs.Heads.{lines_on}
 use Rattle.log_parts.specs.laws.Checked.{no_head}
 use Rattle.sum_lines.specs.Front.{IsFront}
 use Rattle.log_resuming.specs.Opened.{IsOpenedHead, IsOpenedOver}
-use Rattle.log_growth.proofs.Readings.{ok_some_then}
+use Rattle.log_nodes.proofs.Readings.{ok_some_then}
 use Rattle.log_resuming.proofs.Opening.{opened-headed, opened-plain}
 use Rattle.log_resuming.proofs.opened.open_over.Goals as goal
 
@@ -31,4 +31,4 @@ returns-in-Headed-clause-opened g c =
     let head = c.in-Headed.head in
     let stands = subst (λ (l : Limits). IfSome told (λ m. IsFront l (file_of m name) c.in_ok-read_head.field-0)) c.limits_with-limits.ensures c.in_ok-read_head.ensures.front in
     ok_some_then c.open_headed.result (λ o. IfSome (g.F.Shelf.files c.read_head.new.files) (λ m. IsOpenedHead plant program judged (file_of m name) head o)) (λ o. IfSome told (λ m. IsOpenedOver plant program judged (file_of m name) o))
-    (λ o own. opened-headed plant program judged told name c.in_ok-read_head.field-0 head o c.in-Headed.is stands (subst (λ (files : Option FileMap). IfSome files (λ m. IsOpenedHead plant program judged (file_of m name) head o)) c.in_ok-read_head.ensures.same own)) c.open_headed.ensures.opened
+    (λ o own. opened-headed plant program judged told name c.in_ok-read_head.field-0 head o c.in-Headed.is stands (subst (λ (files : Option FileMap). IfSome files (λ m. IsOpenedHead plant program judged (file_of m name) head o)) c.in_ok-read_head.ensures.frame.same own)) c.open_headed.ensures.opened

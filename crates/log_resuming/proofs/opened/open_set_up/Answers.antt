@@ -6,7 +6,7 @@ use Rattle.valid_log.specs.Heads.{IsWithHead}
 use Rattle.plant_check.specs.Heads.{IsFrontHeld}
 use Rattle.plant_check.proofs.HeadJudged.{held_small}
 use Rattle.log_resuming.specs.Opened.{IsOpenedSetUp}
-use Rattle.log_growth.proofs.Readings.{ok_some_both}
+use Rattle.log_nodes.proofs.Readings.{ok_some_both}
 use Rattle.log_resuming.proofs.Opening.{opened-tailed}
 use Rattle.log_resuming.proofs.opened.open_set_up.Goals as goal
 

@@ -13,15 +13,15 @@ pub go_on-requires-clause-valid : goal.go_on-requires-clause-valid
 go_on-requires-clause-valid g c =
     let told = g.F.Shelf.files c.args.files.now in
     let checked = subst (λ (verdict : LogVerdict). IfSome told (λ m. IsAnyChecked c.args.plant.now (file_of m c.args.going.log.now) verdict)) c.in-Yes.is c.in_ok-claim.ensures.checked in
-    subst (λ (files : Option FileMap). IfSome files (λ m. IsAnyChecked c.args.plant.now (file_of m c.args.going.log.now) (Yes c.in-Yes.claim))) (sym c.in_ok-claim.ensures.same) checked
+    subst (λ (files : Option FileMap). IfSome files (λ m. IsAnyChecked c.args.plant.now (file_of m c.args.going.log.now) (Yes c.in-Yes.claim))) (sym c.in_ok-claim.ensures.frame.same) checked
 
 pub returns-in-Yes-clause-resumed : goal.returns-in-Yes-clause-resumed
 returns-in-Yes-clause-resumed g c =
     let going = c.args.going in
-    subst (λ (files : Option FileMap). IfOk c.go_on.result (IsResumingIn c.args.plant.now going.budget going.share going.log.now going.out.now files (g.F.Shelf.files c.go_on.new.files))) c.in_ok-claim.ensures.same c.go_on.ensures.resumed
+    subst (λ (files : Option FileMap). IfOk c.go_on.result (IsResumingIn c.args.plant.now going.budget going.share going.log.now going.out.now files (g.F.Shelf.files c.go_on.new.files))) c.in_ok-claim.ensures.frame.same c.go_on.ensures.resumed
 
 pub returns-in-Yes-clause-others : goal.returns-in-Yes-clause-others
-returns-in-Yes-clause-others g c = subst (λ (files : Option FileMap). OthersStay c.args.going.out.now files (g.F.Shelf.files c.go_on.new.files)) c.in_ok-claim.ensures.same c.go_on.ensures.others
+returns-in-Yes-clause-others g c = subst (λ (files : Option FileMap). OthersStay c.args.going.out.now files (g.F.Shelf.files c.go_on.new.files)) c.in_ok-claim.ensures.frame.same c.go_on.ensures.frame.others
 
 pub returns-in-Yes-clause-left : goal.returns-in-Yes-clause-left
 returns-in-Yes-clause-left g c =
@@ -36,7 +36,7 @@ returns-in-No-clause-resumed g c =
     (subst (λ (verdict : LogVerdict). IfSome old (λ m. IsAnyChecked c.args.plant.now (file_of m name) verdict)) c.in-No.is c.in_ok-claim.ensures.checked)
 
 pub returns-in-No-clause-left : goal.returns-in-No-clause-left
-returns-in-No-clause-left g c = inl c.in_ok-claim.ensures.same
+returns-in-No-clause-left g c = inl c.in_ok-claim.ensures.frame.same
 
 pub returns-in_err-claim-clause-left : goal.returns-in_err-claim-clause-left
-returns-in_err-claim-clause-left g c = inl c.in_err-claim.ensures.same
+returns-in_err-claim-clause-left g c = inl c.in_err-claim.ensures.frame.same

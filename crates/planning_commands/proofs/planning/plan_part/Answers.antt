@@ -18,6 +18,6 @@ pub returns-clause-answer : goal.returns-clause-answer
 returns-clause-answer g c =
     let part = c.args.part in
     begun_if {E = ℕ} c.args.plant.now part c.args.start.now c.args.since c.args.budget.boxes c.deref.result.now
-    (HasProof c.args.plant.now part c.args.judged (told_log (named_log c.args.log) (g.F.Shelf.files c.outcome_of.new.files))) c.in_ok-outcome.outcome (Ok c.in_ok-reply_of.field-0)
+    (HasProof c.args.plant.now part c.args.judged c.args.levels (told_log (named_log c.args.log) (g.F.Shelf.files c.outcome_of.new.files))) c.in_ok-outcome.outcome (Ok c.in_ok-reply_of.field-0)
     c.requires.sound c.requires.part c.requires.short c.args.budget.most c.in_ok-outcome.ensures.outcome (λ has. c.deref.ensures.value ∙ c.in_ok-point.ensures has) c.in_ok-outcome.ensures.begun c.in_ok-outcome.ensures.proof
     c.in_ok-reply_of.ensures.says c.in_ok-reply_of.ensures.money

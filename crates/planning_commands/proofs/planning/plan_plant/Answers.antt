@@ -11,7 +11,7 @@ use Rattle.answer_texts.specs.Changed.{counted_since}
 use Rattle.answer_texts.specs.Planning.{Planned}
 use Rattle.planning_commands.specs.Improving.{IsGivenOutcome}
 use Rattle.planning_commands.specs.NamedLog.{told_log}
-use Rattle.planning_commands.specs.Replanning.{IsBegunOutcome, LeavesLog}
+use Rattle.planning_commands.specs.Replanning.{IsBegunOutcome, LeavesPartLog}
 use Rattle.planning_commands.specs.Solving.{LeavesPlant}
 use Rattle.std.proofs.Common.{ℕ, List, sym, subst}
 use Rattle.planning_commands.proofs.NamedLemmas.{left-as}
@@ -35,8 +35,8 @@ returns-clause-answer g c =
     let means = c.in_ok-program.ensures.means in
     let log = told_log (named_log c.args.log) (g.F.Shelf.files c.plan_part.new.files) in
     IfOk-weaker c.plan_part.result _ _
-    (λ (reply : Reply) (is : Planned plant (counted_since c.args.since start) (IsBegunOutcome plant program start budget) (HasProof plant program (plant_root plant) log) reply.status reply.text.items).
-    planned-as plant (counted_since c.args.since start) (IsBegunOutcome plant program start budget) (IsGivenOutcome plant start budget) (HasProof plant program (plant_root plant) log) (HasPlantProof plant log) reply.status reply.text.items
+    (λ (reply : Reply) (is : Planned plant (counted_since c.args.since start) (IsBegunOutcome plant program start budget) (HasProof plant program (plant_root plant) 0 log) reply.status reply.text.items).
+    planned-as plant (counted_since c.args.since start) (IsBegunOutcome plant program start budget) (IsGivenOutcome plant start budget) (HasProof plant program (plant_root plant) 0 log) (HasPlantProof plant log) reply.status reply.text.items
     (λ outcome begun. given-outcome plant program made means start budget outcome c.requires.sound begun) (λ outcome has. plant-proof plant program made means log outcome has) is)
     (rw root at c.plan_part.ensures.answer)
 
@@ -47,5 +47,5 @@ returns-clause-left g c =
     let program = c.in_ok-program.program in
     let old = g.F.Shelf.files c.args.files.now in
     let new = g.F.Shelf.files c.plan_part.new.files in
-    left-as (named_log c.args.log) (λ (name : List ℕ). LeavesLog plant program (plant_root plant) name old new) (λ (name : List ℕ). LeavesPlant plant name old new) old new
+    left-as (named_log c.args.log) (λ (name : List ℕ). LeavesPartLog plant program (plant_root plant) 0 name old new) (λ (name : List ℕ). LeavesPlant plant name old new) old new
     (λ name left. leaves-plant plant program c.in_ok-program.ensures.made c.in_ok-program.ensures.means name old new left) (rw root at c.plan_part.ensures.left)

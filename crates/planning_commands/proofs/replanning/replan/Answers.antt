@@ -7,7 +7,7 @@ use Rattle.sum_slots.proofs.Ranges.{own-ranges}
 use Rattle.answer_texts.proofs.KeptLemmas.{broken_open}
 use Rattle.planning_commands.specs.NamedLog.{told_log}
 use Rattle.planning_commands.specs.PlanningOn.{CanGoOn, LeavesOn}
-use Rattle.planning_commands.specs.Replanning.{LeavesLog, SolvedOver}
+use Rattle.planning_commands.specs.Replanning.{LeavesPartLog, SolvedOver}
 use Rattle.planning_commands.proofs.NamedLemmas.{left-as}
 use Rattle.planning_commands.proofs.ReplanLemmas.{replanned_open}
 use Rattle.planning_commands.proofs.replanning.replan.Goals as goal
@@ -32,6 +32,6 @@ returns-in_ok-judged-in-Open-clause-left g c =
     let program = c.in-Open.rows.program in
     let old = g.F.Shelf.files c.args.files.now in
     let new = g.F.Shelf.files c.plan_part.new.files in
-    left-as (named_log c.args.log) (λ (name : List ℕ). LeavesLog plant program program.root name old new)
+    left-as (named_log c.args.log) (λ (name : List ℕ). LeavesPartLog plant program program.root 0 name old new)
     (λ (name : List ℕ). (new ≡ old) ⊎ (CanGoOn (Some c.args.period) plant plan × LeavesOn (Some c.args.period) plant plan name old new)) old new
     (λ name left. inr (is.together, (program, (is, left)))) (rw root at c.plan_part.ensures.left)

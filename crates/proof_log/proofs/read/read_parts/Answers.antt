@@ -38,7 +38,7 @@ parts-preserved c =
     let told = Some c.parts.shelf.files in
     let part = c.in-Ok.ensures.part 2 0 c.args.limits inv.0 c.parts.claim inv.1 in
     let reached = subst (HasReached told (codes "log") c.args.limits c.next.new.self) c.in-Part.is (c.in_ok-more-in-Ok.ensures.reached told (codes "log") c.args.limits inv.0 c.next.new.self part inv.2) in
-    let same : c.next.new.files.files ≡ c.parts.shelf.files = let some = c.in-Ok.ensures.same in cc in
+    let same : c.next.new.files.files ≡ c.parts.shelf.files = let some = c.in-Ok.ensures.frame.same in cc in
     record {
       same = same ∙ c.parts.invariant.same;
       read = subst (λ files. HasReached (Some files) (codes "log") c.args.limits c.next.new.self (Part c.in-Part.more c.in-Part.made)) (sym same) reached;

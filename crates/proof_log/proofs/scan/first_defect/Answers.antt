@@ -47,15 +47,15 @@ pub parts-preserved : goal.parts-preserved
 parts-preserved g c =
     let inv = c.parts.invariant in
     let read = inv.read in
-    let still = c.in_ok-next.ensures.same in
+    let still = c.in_ok-next.ensures.frame.same in
     let told = g.F.Shelf.files c.parts.files in
     let part = c.in_ok-next.ensures.part c.args.version c.args.head c.args.limits read.0 read.1 read.2 in
     record {
       same = still ∙ inv.same;
-      readable = c.in_ok-next.ensures.readable ∙ inv.readable;
-      writable = c.in_ok-next.ensures.writable ∙ inv.writable;
-      no_write = c.in_ok-next.ensures.no_write ∙ inv.no_write;
-      later = omega (arith, inv.later, c.in_ok-next.ensures.later);
+      readable = c.in_ok-next.ensures.frame.readable ∙ inv.readable;
+      writable = c.in_ok-next.ensures.frame.writable ∙ inv.writable;
+      no_write = c.in_ok-next.ensures.frame.no_write ∙ inv.no_write;
+      later = omega (arith, inv.later, c.in_ok-next.ensures.frame.later);
       read = elim c.match-branch-3.branch [
         | in-Item w ↦
             let own = subst (IsPartAfter told c.args.name.now c.args.version c.args.head c.args.limits read.0 read.1 c.next.new.self) w.in-Item.is part in

@@ -1,13 +1,8 @@
 -- The old log is read from its head on.
-use Rattle.std.proofs.Common.{[], sym, subst}
+use Rattle.std.proofs.Common.{sym, subst}
 use Rattle.branch_tree.specs.declared.going_on.GoingOn.{GoingOn}
 use Rattle.branch_tree.specs.laws.Going.{CanGoOn}
 use Rattle.resumed_log.proofs.resuming.look.Goals as goal
-
-pub gather-requires-clause-reading : goal.gather-requires-clause-reading
-gather-requires-clause-reading g c =
-    let front = c.args.task.front in
-    (front.version, (front.head, (front.limits, ([], c.in_ok-reader.ensures (g.F.Shelf.files c.args.files.now) c.args.task.pair.log.now))))
 
 pub gather-requires-clause-can : goal.gather-requires-clause-can
 gather-requires-clause-can g c = subst (λ (going : GoingOn). CanGoOn c.args.task.pair.rows.now going) (sym c.new-gathered.ensures) c.in_ok-going.ensures.can

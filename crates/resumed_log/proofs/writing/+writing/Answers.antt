@@ -1,139 +1,176 @@
 -- A node is walked and written, the area is afterwards as before, and all other files stay.
-use Rattle.std.proofs.Common.{◌≡◌, ◌≢◌, ◌∙◌, ℕ, Bool, List, length, map, Option, sym, ap, subst, rules}
-use Rattle.std.specs.Prelude.{IfSome, IfOk, IsTrue, Result, Ok, Err}
-use Rattle.proof_tree.specs.Views.{MovesTo, View, present}
+use Rattle.std.proofs.Common.{◌∙◌, List, ap, length, map, refl, rules, subst, sym}
+use Rattle.std.specs.Prelude.{IsTrue}
+use Rattle.store_frames.specs.Frames.{ReadsAndWritesOne}
+use Rattle.std.proofs.lemmas.Result.{on_ok_weaker}
+use Rattle.proof_tree.specs.Views.{View}
 use Rattle.row_relax.specs.declared.rows.Rows.{Rows}
-use Rattle.row_relax.specs.Steps.{row_steps}
-use Rattle.row_relax.specs.View.{view_of}
+use Rattle.row_relax.specs.View.{Fits, view_of}
 use Rattle.row_relax.proofs.Marks.{fits_slots}
-use Rattle.branch_tree.specs.laws.Going.{CanGoOn}
-use Rattle.log_growth.specs.declared.node.Node.{Node}
-use Rattle.log_growth.specs.Reading.{IsReading}
-use Rattle.log_growth.proofs.Walking.{back-before, back-there, mark-within, mark-within-before, moved-there}
+use Rattle.log_nodes.proofs.Frames.{both-reads, both-then, both-writes}
+use Rattle.log_nodes.proofs.Walking.{below-back, below-same, below-then, below-within, moved-there}
+use Rattle.log_nodes.specs.laws.Seen.{StandsBelow, seen}
 use Rattle.resumed_log.specs.laws.Beside.{out_name}
-use Rattle.resumed_log.proofs.Readers.{others-same, others-then, reading-stays}
+use Rattle.resumed_log.specs.laws.Walks.{CanWriteBeside, GoesOnWalking}
+use Rattle.resumed_log.proofs.Readers.{still-beside, walks-on}
 use Rattle.resumed_log.proofs.writing.+writing.Goals as goal
 
 -- ---- a node
 
-pub write_node-write_below-requires : goal.write_node-write_below-requires
-write_node-write_below-requires g t c =
-    let log = c.args.pair.log.now in
-    let out = out_name c.args.course.now.out in
-    let named : out_name c.put_head.new.out ≡ out = c.in_ok-put_head.ensures.named in
-    let read = subst (λ (o : Option Node). IfSome o (λ _. IsReading (g.F.Shelf.files c.next_node.new.files) log c.next_node.new.reader)) c.in-Some.is c.in_ok-node.ensures.reading in
-    let reading : IsReading (g.F.Shelf.files c.put_head.new.files) log c.next_node.new.reader =
-    reading-stays log out c.next_node.new.reader (g.F.Shelf.files c.next_node.new.files) (g.F.Shelf.files c.put_head.new.files) c.in_ok-put_head.ensures.others c.requires.apart read in
-    let apart : out_name c.put_head.new.out ≢ log = λ is. c.requires.apart (sym named ∙ is) in
-    let may_write : IsTrue (g.F.Shelf.may_write c.put_head.new.files (out_name c.put_head.new.out)) =
-    subst (λ (may : List ℕ → Bool). IsTrue (may (out_name c.put_head.new.out))) (sym (c.in_ok-put_head.ensures.writable ∙ c.in_ok-node.ensures.writable))
-    (subst (λ (name : List ℕ). IsTrue (g.F.Shelf.may_write c.args.files.now name)) (sym named) c.requires.may_write) in
-    search rules
-
-pub write_node-returns-in_err-put_head-clause-others : goal.write_node-returns-in_err-put_head-clause-others
-write_node-returns-in_err-put_head-clause-others g t c = others-same _ _ _ _ c.in_ok-node.ensures.same c.in_err-put_head.ensures.others
-
-pub write_node-returns-in_err-write_below-clause-others : goal.write_node-returns-in_err-write_below-clause-others
-write_node-returns-in_err-write_below-clause-others g t c =
-    others-then _ _ _ _ _ c.in_ok-put_head.ensures.named (others-same _ _ _ _ c.in_ok-node.ensures.same c.in_ok-put_head.ensures.others) c.in_err-write_below.ensures.others
+pub write_node-back-requires-clause-fits : goal.write_node-back-requires-clause-fits
+write_node-back-requires-clause-fits g t c = c.in_ok-write_entered.ensures.below.fits
 
 pub write_node-back-requires-clause-within : goal.write_node-back-requires-clause-within
-write_node-back-requires-clause-within g t c =
-    mark-within (map view_of c.args.area.now) (map view_of c.cut_down.new.area) (map view_of c.write_below.new.area) c.mark-mark.result c.mark-mark.ensures c.cut_down.ensures.keeps (c.in_ok-write_below.ensures.as_before c.if-branch.true)
+write_node-back-requires-clause-within g t c = below-within c.mark-mark.ensures c.in_ok-write_entered.ensures.below
 
-pub write_node-returns-then-branch-clause-as_before : goal.write_node-returns-then-branch-clause-as_before
-write_node-returns-then-branch-clause-as_before g t c = λ _.
-    back-there (map view_of c.args.area.now) (map view_of c.cut_down.new.area) (map view_of c.write_below.new.area) (map view_of c.back.new.area) c.mark-mark.result c.mark-mark.ensures c.cut_down.ensures.keeps (c.in_ok-write_below.ensures.as_before c.if-branch.true) c.back.ensures.views
+pub write_node-returns-clause-as_before : goal.write_node-returns-clause-as_before
+write_node-returns-clause-as_before g t c = below-back c.mark-mark.result c.mark-mark.ensures c.in_ok-write_entered.ensures.below c.back.ensures.views
 
-pub write_node-returns-then-branch-clause-others : goal.write_node-returns-then-branch-clause-others
-write_node-returns-then-branch-clause-others g t c =
-    others-then _ _ _ _ _ c.in_ok-put_head.ensures.named (others-same _ _ _ _ c.in_ok-node.ensures.same c.in_ok-put_head.ensures.others) c.in_ok-write_below.ensures.others
+-- ---- its cuts
+
+pub write_entered-write_below-requires : goal.write_entered-write_below-requires
+write_entered-write_below-requires g t c =
+    let beside : CanWriteBeside (g.F.Shelf.may_read c.enter_node.new.files) (g.F.Shelf.may_write c.enter_node.new.files) c.args.walk.pair.log.now (out_name c.args.course.now.out) = still-beside c.in_ok-node.ensures.frame.readable c.in_ok-node.ensures.frame.writable refl c.requires.beside in
+    let walking : GoesOnWalking (g.F.Shelf.files c.enter_node.new.files) c.args.walk.pair.log.now c.enter_node.new.reader c.args.walk.pair.rows.now c.args.course.now.going = record { reading = c.in_ok-node.ensures.reading; can = c.requires.walking.can } in
+    let fits : Fits c.args.walk.pair.rows.now.program (seen c.enter_node.new.area) = c.in_ok-node.ensures.below.fits in
+    search rules
+
+pub write_entered-returns-in_err-node-clause-frame : goal.write_entered-returns-in_err-node-clause-frame
+write_entered-returns-in_err-node-clause-frame g t c = both-reads c.in_err-node.ensures.frame
+
+pub write_entered-returns-clause-below : goal.write_entered-returns-clause-below
+write_entered-returns-clause-below g t c = on_ok_weaker c.write_below.result (below-then c.in_ok-node.ensures.below.keeps) c.write_below.ensures.below
+
+pub write_entered-returns-clause-frame : goal.write_entered-returns-clause-frame
+write_entered-returns-clause-frame g t c = both-then refl (both-reads c.in_ok-node.ensures.frame) c.write_below.ensures.frame
 
 -- ---- below a node
 
--- what holds of each answer holds of the answer that was given
-ok_always : {T E : Type 0} (r : Result T E) (P : T → Type 0) → ((x : T) → P x) → IfOk r P
-ok_always (Ok x) P all = all x
-ok_always (Err stop) P all = tt
+pub write_below-returns-in_err-put_head-clause-frame : goal.write_below-returns-in_err-put_head-clause-frame
+write_below-returns-in_err-put_head-clause-frame g t c = both-writes c.in_err-put_head.ensures.frame
 
-pub write_below-returns-then-is_searched-clause-reading : goal.write_below-returns-then-is_searched-clause-reading
-write_below-returns-then-is_searched-clause-reading g t c =
-    let log = c.args.pair.log.now in
-    let now = g.F.Shelf.files c.search_end.new.files in
-    let reading : IsReading now log c.args.reader.now =
-    reading-stays log (out_name c.is_searched.new.course.out) c.args.reader.now (g.F.Shelf.files c.args.files.now) now c.search_end.ensures.others (λ is. c.requires.apart (sym c.is_searched.ensures.named ∙ is)) c.requires.reading in
-    ok_always c.search_end.result (λ whole. IsTrue whole → IsReading now log c.args.reader.now) (λ whole yes. reading)
+pub write_below-search_end-requires-clause-may_write : goal.write_below-search_end-requires-clause-may_write
+write_below-search_end-requires-clause-may_write g t c =
+    let head = c.in_ok-put_head.ensures in
+    (still-beside head.frame.readable head.frame.writable (c.is_searched.ensures.named ∙ head.named) c.requires.beside).may_write
 
-pub write_below-write_split-requires : goal.write_below-write_split-requires
-write_below-write_split-requires g t c =
-    let log = c.args.pair.log.now in
-    let mid = out_name c.is_searched.new.course.out in
-    let named : mid ≡ out_name c.args.course.now.out = c.is_searched.ensures.named in
-    let later : out_name c.put_end.new.out ≡ out_name c.args.course.now.out = c.in_ok-put_end.ensures.named ∙ named in
-    let reading : IsReading (g.F.Shelf.files c.put_end.new.files) log c.args.reader.now =
-    reading-stays log mid c.args.reader.now (g.F.Shelf.files c.args.files.now) (g.F.Shelf.files c.put_end.new.files) c.in_ok-put_end.ensures.others (λ is. c.requires.apart (sym named ∙ is)) c.requires.reading in
-    let apart : out_name c.put_end.new.out ≢ log = λ is. c.requires.apart (sym later ∙ is) in
-    let may_write : IsTrue (g.F.Shelf.may_write c.put_end.new.files (out_name c.put_end.new.out)) =
-    subst (λ (may : List ℕ → Bool). IsTrue (may (out_name c.put_end.new.out))) (sym c.in_ok-put_end.ensures.writable)
-    (subst (λ (name : List ℕ). IsTrue (g.F.Shelf.may_write c.args.files.now name)) (sym later) c.requires.may_write) in
+pub write_below-returns-then-is_searched-clause-walking : goal.write_below-returns-then-is_searched-clause-walking
+write_below-returns-then-is_searched-clause-walking g t c =
+    let head = c.in_ok-put_head.ensures in
+    let named = c.is_searched.ensures.named ∙ head.named in
+    let kept = both-then named (both-writes head.frame) (both-writes c.search_end.ensures.frame) in
+    on_ok_weaker c.search_end.result (λ can. walks-on kept.others c.requires.beside.apart can c.requires.walking) c.search_end.ensures.can
+
+pub write_below-returns-then-is_searched-clause-below : goal.write_below-returns-then-is_searched-clause-below
+write_below-returns-then-is_searched-clause-below g t c = on_ok_weaker c.search_end.result (λ same. below-same same c.requires.fits) c.search_end.ensures.as_before
+
+pub write_below-returns-then-is_searched-clause-frame : goal.write_below-returns-then-is_searched-clause-frame
+write_below-returns-then-is_searched-clause-frame g t c =
+    let head = c.in_ok-put_head.ensures in
+    both-then (c.is_searched.ensures.named ∙ head.named) (both-writes head.frame) (both-writes c.search_end.ensures.frame)
+
+pub write_below-put_found-requires : goal.write_below-put_found-requires
+write_below-put_found-requires g t c =
+    let head = c.in_ok-put_head.ensures in
+    let allowed : IsTrue (g.F.Shelf.may_write c.put_head.new.files (out_name c.is_searched.new.course.out)) = (still-beside head.frame.readable head.frame.writable (c.is_searched.ensures.named ∙ head.named) c.requires.beside).may_write in
     search rules
 
-pub write_below-settle-requires-clause-can : goal.write_below-settle-requires-clause-can
-write_below-settle-requires-clause-can g t c = (c.args.pair.rows.now, c.is_searched.ensures.can)
+pub write_below-returns-in_err-put_found-clause-frame : goal.write_below-returns-in_err-put_found-clause-frame
+write_below-returns-in_err-put_found-clause-frame g t c =
+    let head = c.in_ok-put_head.ensures in
+    both-then (c.is_searched.ensures.named ∙ head.named) (both-writes head.frame) (both-writes c.in_err-put_found.ensures.frame)
 
-pub write_below-settle-requires-clause-slots : goal.write_below-settle-requires-clause-slots
-write_below-settle-requires-clause-slots g t c = fits_slots c.args.pair.rows.now.program c.args.area.now c.requires.fits ∙ sym (ap (λ (rows : Rows). length rows.program.root) c.is_searched.ensures.can.over)
+pub write_below-write_end-requires : goal.write_below-write_end-requires
+write_below-write_end-requires g t c =
+    let head = c.in_ok-put_head.ensures in
+    let found = c.in_ok-put_found.ensures in
+    let kept = both-then (c.is_searched.ensures.named ∙ head.named) (both-writes head.frame) (both-writes found.frame) in
+    let beside : CanWriteBeside (g.F.Shelf.may_read c.put_found.new.files) (g.F.Shelf.may_write c.put_found.new.files) c.args.walk.pair.log.now (out_name c.put_found.new.out) = still-beside (found.frame.readable ∙ head.frame.readable) (found.frame.writable ∙ head.frame.writable) (found.named ∙ c.is_searched.ensures.named ∙ head.named) c.requires.beside in
+    let walking : GoesOnWalking (g.F.Shelf.files c.put_found.new.files) c.args.walk.pair.log.now c.args.reader.now c.args.walk.pair.rows.now c.is_searched.new.course.going = walks-on kept.others c.requires.beside.apart c.is_searched.ensures.can c.requires.walking in
+    let fits : Fits c.args.walk.pair.rows.now.program (seen c.args.area.now) = c.requires.fits in
+    search rules
 
-pub write_below-returns-in-Point-clause-can : goal.write_below-returns-in-Point-clause-can
-write_below-returns-in-Point-clause-can g t c = λ _. c.in_ok-settle-in-Point.ensures c.args.pair.rows.now c.is_searched.ensures.can
+pub write_below-returns-clause-frame : goal.write_below-returns-clause-frame
+write_below-returns-clause-frame g t c =
+    let head = c.in_ok-put_head.ensures in
+    let found = c.in_ok-put_found.ensures in
+    let mid = c.is_searched.ensures.named ∙ head.named in
+    both-then (found.named ∙ mid) (both-then mid (both-writes head.frame) (both-writes found.frame)) c.write_end.ensures.frame
 
-pub write_below-returns-in-Point-clause-reading : goal.write_below-returns-in-Point-clause-reading
-write_below-returns-in-Point-clause-reading g t c = λ _.
-    reading-stays c.args.pair.log.now (out_name c.is_searched.new.course.out) c.args.reader.now (g.F.Shelf.files c.args.files.now) (g.F.Shelf.files c.put_end.new.files) c.in_ok-put_end.ensures.others (λ is. c.requires.apart (sym c.is_searched.ensures.named ∙ is)) c.requires.reading
+-- ---- an end
 
-pub write_below-returns-clause-reading : goal.write_below-returns-clause-reading
-write_below-returns-clause-reading g t c = λ _.
-    reading-stays c.args.pair.log.now (out_name c.is_searched.new.course.out) c.args.reader.now (g.F.Shelf.files c.args.files.now) (g.F.Shelf.files c.put_end.new.files) c.in_ok-put_end.ensures.others (λ is. c.requires.apart (sym c.is_searched.ensures.named ∙ is)) c.requires.reading
+pub write_end-returns-in_err-put-clause-frame : goal.write_end-returns-in_err-put-clause-frame
+write_end-returns-in_err-put-clause-frame g t c = both-writes c.in_err-put.ensures.frame
+
+pub write_end-write_parts-requires : goal.write_end-write_parts-requires
+write_end-write_parts-requires g t c =
+    let put = c.in_ok-put.ensures in
+    let beside : CanWriteBeside (g.F.Shelf.may_read c.put.new.files) (g.F.Shelf.may_write c.put.new.files) c.args.walk.pair.log.now (out_name c.put.new.out) = still-beside put.frame.readable put.frame.writable put.named c.requires.beside in
+    let walking : GoesOnWalking (g.F.Shelf.files c.put.new.files) c.args.walk.pair.log.now c.args.reader.now c.args.walk.pair.rows.now c.args.course.now.going = walks-on put.frame.others c.requires.beside.apart c.requires.walking.can c.requires.walking in
+    let fits : Fits c.args.walk.pair.rows.now.program (seen c.trim.new.area) = c.trim.ensures.fits in
+    search rules
+
+pub write_end-returns-in-Split-clause-below : goal.write_end-returns-in-Split-clause-below
+write_end-returns-in-Split-clause-below g t c = on_ok_weaker c.write_parts.result (below-then c.trim.ensures.keeps) c.write_parts.ensures.below
+
+pub write_end-returns-in-Split-clause-frame : goal.write_end-returns-in-Split-clause-frame
+write_end-returns-in-Split-clause-frame g t c = both-then c.in_ok-put.ensures.named (both-writes c.in_ok-put.ensures.frame) c.write_parts.ensures.frame
+
+pub write_end-settle-requires-clause-can : goal.write_end-settle-requires-clause-can
+write_end-settle-requires-clause-can g t c = (c.args.walk.pair.rows.now, c.requires.walking.can)
+
+pub write_end-settle-requires-clause-slots : goal.write_end-settle-requires-clause-slots
+write_end-settle-requires-clause-slots g t c =
+    fits_slots c.args.walk.pair.rows.now.program c.args.area.now c.requires.fits ∙ sym (ap (λ (rows : Rows). length rows.program.root) c.requires.walking.can.over)
+
+pub write_end-returns-in_ok-settle-in-Point-clause-walking : goal.write_end-returns-in_ok-settle-in-Point-clause-walking
+write_end-returns-in_ok-settle-in-Point-clause-walking g t c =
+    walks-on c.in_ok-put.ensures.frame.others c.requires.beside.apart (c.in_ok-settle-in-Point.ensures c.args.walk.pair.rows.now c.requires.walking.can) c.requires.walking
+
+pub write_end-returns-in_err-settle-in-Point-clause-frame : goal.write_end-returns-in_err-settle-in-Point-clause-frame
+write_end-returns-in_err-settle-in-Point-clause-frame g t c = both-writes c.in_ok-put.ensures.frame
+
+pub write_end-returns-in_default : goal.write_end-returns-in_default
+write_end-returns-in_default g t c =
+    let program = c.args.walk.pair.rows.now.program in
+    let views = map view_of c.args.area.now in
+    let walking : GoesOnWalking (g.F.Shelf.files c.put.new.files) c.args.walk.pair.log.now c.args.reader.now c.args.walk.pair.rows.now c.args.course.now.going =
+    walks-on c.in_ok-put.ensures.frame.others c.requires.beside.apart c.requires.walking.can c.requires.walking in
+    let below : StandsBelow program views views = below-same refl c.requires.fits in
+    let frame : ReadsAndWritesOne g.F.Shelf (out_name c.args.course.now.out) c.args.files.now c.put.new.files = both-writes c.in_ok-put.ensures.frame in
+    search rules
 
 -- ---- the parts of a split
 
-pub write_split-back-requires-clause-within : goal.write_split-back-requires-clause-within
-write_split-back-requires-clause-within g t c =
-    let left = moved-there _ (map view_of c.trim.new.area) (map view_of c.left.new.area) c.left.result c.if-not-left.false c.left.ensures.moves in
-    mark-within (map view_of c.trim.new.area) (map view_of c.left.new.area) (map view_of c.write_node.new.area) c.mark-mark.result c.mark-mark.ensures left.1 (c.in_ok-write_node.ensures.as_before c.if-not-branch.false)
+pub write_parts-back-requires-clause-fits : goal.write_parts-back-requires-clause-fits
+write_parts-back-requires-clause-fits g t c =
+    let left = (moved-there _ (map view_of c.args.area.now) (map view_of c.left.new.area) c.left.result c.if-not-left.false c.left.ensures.moves).1 in
+    let below = below-then left (below-same c.in_ok-write_node.ensures.as_before c.left.ensures.fits) in
+    below.fits
 
-pub write_split-write_node-requires-2 : goal.write_split-write_node-requires-2
-write_split-write_node-requires-2 g t c =
-    let log = c.args.pair.log.now in
-    let named : out_name c.write_node.new.course.out ≡ out_name c.args.course.now.out = c.in_ok-write_node.ensures.named in
-    let reading : IsReading (g.F.Shelf.files c.write_node.new.files) log c.write_node.new.reader = c.in_ok-write_node.ensures.reading c.if-not-branch.false in
-    let can : CanGoOn c.args.pair.rows.now c.write_node.new.course.going = c.in_ok-write_node.ensures.can c.if-not-branch.false in
-    let apart : out_name c.write_node.new.course.out ≢ log = λ is. c.requires.apart (sym named ∙ is) in
-    let may_write : IsTrue (g.F.Shelf.may_write c.write_node.new.files (out_name c.write_node.new.course.out)) =
-    subst (λ (may : List ℕ → Bool). IsTrue (may (out_name c.write_node.new.course.out))) (sym c.in_ok-write_node.ensures.writable)
-    (subst (λ (name : List ℕ). IsTrue (g.F.Shelf.may_write c.args.files.now name)) (sym named) c.requires.may_write) in
+pub write_parts-back-requires-clause-within : goal.write_parts-back-requires-clause-within
+write_parts-back-requires-clause-within g t c =
+    let left = (moved-there _ (map view_of c.args.area.now) (map view_of c.left.new.area) c.left.result c.if-not-left.false c.left.ensures.moves).1 in
+    let below = below-then left (below-same c.in_ok-write_node.ensures.as_before c.left.ensures.fits) in
+    below-within c.mark-mark.ensures below
+
+pub write_parts-write_node-requires-2 : goal.write_parts-write_node-requires-2
+write_parts-write_node-requires-2 g t c =
+    let first = c.in_ok-write_node.ensures in
+    let beside : CanWriteBeside (g.F.Shelf.may_read c.write_node.new.files) (g.F.Shelf.may_write c.write_node.new.files) c.args.walk.pair.log.now (out_name c.write_node.new.course.out) = still-beside first.frame.readable first.frame.writable first.named c.requires.beside in
+    let walking : GoesOnWalking (g.F.Shelf.files c.write_node.new.files) c.args.walk.pair.log.now c.write_node.new.reader c.args.walk.pair.rows.now c.write_node.new.course.going = first.walking in
+    let fits : Fits c.args.walk.pair.rows.now.program (seen c.right.new.area) = c.right.ensures.fits in
     search rules
 
-pub write_split-returns-in_err-write_node-2-clause-others : goal.write_split-returns-in_err-write_node-2-clause-others
-write_split-returns-in_err-write_node-2-clause-others g t c = others-then _ _ _ _ _ c.in_ok-write_node.ensures.named c.in_ok-write_node.ensures.others c.in_err-write_node-2.ensures.others
+pub write_parts-returns-clause-below : goal.write_parts-returns-clause-below
+write_parts-returns-clause-below g t c =
+    let left = (moved-there _ (map view_of c.args.area.now) (map view_of c.left.new.area) c.left.result c.if-not-left.false c.left.ensures.moves).1 in
+    let below = below-then left (below-same c.in_ok-write_node.ensures.as_before c.left.ensures.fits) in
+    let again = below-back c.mark-mark.result c.mark-mark.ensures below c.back.ensures.views in
+    let right = (moved-there _ (map view_of c.back.new.area) (map view_of c.right.new.area) c.right.result c.if-not-right.false c.right.ensures.moves).1 in
+    on_ok_weaker c.write_node-2.result
+    (λ same. subst (λ (old : List View). StandsBelow c.args.walk.pair.rows.now.program old (map view_of c.write_node-2.new.area)) again (below-then right (below-same same c.right.ensures.fits)))
+    c.write_node-2.ensures.as_before
 
-pub write_split-returns-clause-others : goal.write_split-returns-clause-others
-write_split-returns-clause-others g t c = others-then _ _ _ _ _ c.in_ok-write_node.ensures.named c.in_ok-write_node.ensures.others c.in_ok-write_node-2.ensures.others
-
-pub write_split-back-requires-2-clause-within : goal.write_split-back-requires-2-clause-within
-write_split-back-requires-2-clause-within g t c =
-    let rows = c.args.pair.rows.now in
-    let left = moved-there _ (map view_of c.trim.new.area) (map view_of c.left.new.area) c.left.result c.if-not-left.false c.left.ensures.moves in
-    let again = back-there (map view_of c.trim.new.area) (map view_of c.left.new.area) (map view_of c.write_node.new.area) (map view_of c.back.new.area) c.mark-mark.result c.mark-mark.ensures left.1 (c.in_ok-write_node.ensures.as_before c.if-not-branch.false) c.back.ensures.views in
-    let moves = subst (λ (views : List View). MovesTo ((row_steps rows.program).right (present views) c.args.pick.now) views (map view_of c.right.new.area) c.right.result) again c.right.ensures.moves in
-    let right = moved-there _ (map view_of c.trim.new.area) (map view_of c.right.new.area) c.right.result c.if-not-right.false moves in
-    mark-within-before (map view_of c.args.area.now) (map view_of c.trim.new.area) (map view_of c.right.new.area) (map view_of c.write_node-2.new.area) c.mark-start.result c.mark-start.ensures c.trim.ensures.keeps right.1 (c.in_ok-write_node-2.ensures.as_before c.if-not-branch-2.false)
-
-pub write_split-returns-clause-as_before : goal.write_split-returns-clause-as_before
-write_split-returns-clause-as_before g t c = λ _.
-    let rows = c.args.pair.rows.now in
-    let left = moved-there _ (map view_of c.trim.new.area) (map view_of c.left.new.area) c.left.result c.if-not-left.false c.left.ensures.moves in
-    let again = back-there (map view_of c.trim.new.area) (map view_of c.left.new.area) (map view_of c.write_node.new.area) (map view_of c.back.new.area) c.mark-mark.result c.mark-mark.ensures left.1 (c.in_ok-write_node.ensures.as_before c.if-not-branch.false) c.back.ensures.views in
-    let moves = subst (λ (views : List View). MovesTo ((row_steps rows.program).right (present views) c.args.pick.now) views (map view_of c.right.new.area) c.right.result) again c.right.ensures.moves in
-    let right = moved-there _ (map view_of c.trim.new.area) (map view_of c.right.new.area) c.right.result c.if-not-right.false moves in
-    back-before (map view_of c.args.area.now) (map view_of c.trim.new.area) (map view_of c.right.new.area) (map view_of c.write_node-2.new.area) (map view_of c.back-2.new.area) c.mark-start.result c.mark-start.ensures c.trim.ensures.keeps right.1 (c.in_ok-write_node-2.ensures.as_before c.if-not-branch-2.false) c.back-2.ensures.views
+pub write_parts-returns-clause-frame : goal.write_parts-returns-clause-frame
+write_parts-returns-clause-frame g t c = both-then c.in_ok-write_node.ensures.named c.in_ok-write_node.ensures.frame c.write_node-2.ensures.frame

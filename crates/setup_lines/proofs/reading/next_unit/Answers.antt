@@ -22,10 +22,6 @@ returns-in_default g c =
     record {
       short = tt;
       seen = λ start number units passed. end_none files name start units c.args.walk.now c.step.new.self c.in_ok-step.field-0 c.in_default.not-Whole (c.in_ok-step.ensures.stepped start (setups_text units) passed.after);
-      same = c.step.ensures.same;
-      readable = c.step.ensures.readable;
-      writable = c.step.ensures.writable;
-      later = c.step.ensures.later;
-      no_write = c.step.ensures.no_write;
+      frame = c.step.ensures.frame;
       fault = λ e. absurd cc;
     }

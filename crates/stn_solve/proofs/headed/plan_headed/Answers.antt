@@ -24,8 +24,8 @@ returns-clause-outcome g c =
     IfOk-weaker c.plan_over.result _ _ (λ (outcome : Outcome) (over : IsToldOver c.args.plant.now c.in_ok-headed.field-0.headed c.in_ok-headed.field-0.least c.args.budget c.as_slice.result.now None outcome). over-outcome c.args.plant.now c.args.part c.args.judged c.in_ok-headed.field-0.headed c.in_ok-headed.field-0.least c.args.budget c.as_slice.result.now None c.requires.sound c.requires.part c.requires.ranges c.in_ok-headed.ensures.headed c.in_ok-headed.ensures.least c.requires.budget.0 c.requires.many c.requires.budget.1 outcome over) c.plan_over.ensures
 
 pub returns-clause-proof : goal.returns-clause-proof
-returns-clause-proof g c =
-    IfOk-weaker c.plan_over.result _ _ (λ (outcome : Outcome) (over : IsToldOver c.args.plant.now c.in_ok-headed.field-0.headed c.in_ok-headed.field-0.least c.args.budget c.as_slice.result.now None outcome). over-proof c.args.plant.now c.args.part c.args.judged c.in_ok-headed.field-0.headed c.in_ok-headed.field-0.least c.args.budget c.as_slice.result.now None c.requires.sound c.requires.part c.requires.ranges c.in_ok-headed.ensures.headed c.in_ok-headed.ensures.least c.requires.budget.0 c.requires.many c.requires.budget.1 outcome over) c.plan_over.ensures
+returns-clause-proof g c = λ levels has.
+    IfOk-weaker c.plan_over.result _ _ (λ (outcome : Outcome) (over : IsToldOver c.args.plant.now c.in_ok-headed.field-0.headed c.in_ok-headed.field-0.least c.args.budget c.as_slice.result.now None outcome). over-proof c.args.plant.now c.args.part c.args.judged c.in_ok-headed.field-0.headed c.in_ok-headed.field-0.least c.args.budget c.as_slice.result.now None c.requires.sound c.requires.part c.requires.ranges c.in_ok-headed.ensures.headed c.in_ok-headed.ensures.least c.requires.budget.0 c.requires.many c.requires.budget.1 outcome over levels has) c.plan_over.ensures
 
 pub returns-clause-begun : goal.returns-clause-begun
 returns-clause-begun g c =

@@ -27,20 +27,20 @@ returns-clause-outcome g c =
     IfOk-weaker c.solve_over.result _ _ (λ (outcome : Outcome) (over : IsToldOver c.args.plant.now c.in_ok-headed.field-0.headed c.in_ok-headed.field-0.least c.args.budget c.as_slice.result.now (bytes_in c.args.name.now (g.F.Shelf.files c.solve_over.new.files)) outcome). over-outcome c.args.plant.now c.args.part c.args.judged c.in_ok-headed.field-0.headed c.in_ok-headed.field-0.least c.args.budget c.as_slice.result.now (bytes_in c.args.name.now (g.F.Shelf.files c.solve_over.new.files)) c.requires.sound c.requires.part c.requires.ranges c.in_ok-headed.ensures.headed c.in_ok-headed.ensures.least c.requires.budget.0 c.requires.many c.requires.budget.1 outcome over) c.solve_over.ensures.told
 
 pub returns-clause-proof : goal.returns-clause-proof
-returns-clause-proof g c =
-    IfOk-weaker c.solve_over.result _ _ (λ (outcome : Outcome) (over : IsToldOver c.args.plant.now c.in_ok-headed.field-0.headed c.in_ok-headed.field-0.least c.args.budget c.as_slice.result.now (bytes_in c.args.name.now (g.F.Shelf.files c.solve_over.new.files)) outcome). over-proof c.args.plant.now c.args.part c.args.judged c.in_ok-headed.field-0.headed c.in_ok-headed.field-0.least c.args.budget c.as_slice.result.now (bytes_in c.args.name.now (g.F.Shelf.files c.solve_over.new.files)) c.requires.sound c.requires.part c.requires.ranges c.in_ok-headed.ensures.headed c.in_ok-headed.ensures.least c.requires.budget.0 c.requires.many c.requires.budget.1 outcome over) c.solve_over.ensures.told
+returns-clause-proof g c = λ levels has.
+    IfOk-weaker c.solve_over.result _ _ (λ (outcome : Outcome) (over : IsToldOver c.args.plant.now c.in_ok-headed.field-0.headed c.in_ok-headed.field-0.least c.args.budget c.as_slice.result.now (bytes_in c.args.name.now (g.F.Shelf.files c.solve_over.new.files)) outcome). over-proof c.args.plant.now c.args.part c.args.judged c.in_ok-headed.field-0.headed c.in_ok-headed.field-0.least c.args.budget c.as_slice.result.now (bytes_in c.args.name.now (g.F.Shelf.files c.solve_over.new.files)) c.requires.sound c.requires.part c.requires.ranges c.in_ok-headed.ensures.headed c.in_ok-headed.ensures.least c.requires.budget.0 c.requires.many c.requires.budget.1 outcome over levels has) c.solve_over.ensures.told
 
 pub returns-clause-begun : goal.returns-clause-begun
 returns-clause-begun g c =
     IfOk-weaker c.solve_over.result _ _ (λ (outcome : Outcome) (over : IsToldOver c.args.plant.now c.in_ok-headed.field-0.headed c.in_ok-headed.field-0.least c.args.budget c.as_slice.result.now (bytes_in c.args.name.now (g.F.Shelf.files c.solve_over.new.files)) outcome). over-begun c.args.plant.now c.args.part c.args.judged c.in_ok-headed.field-0.headed c.in_ok-headed.field-0.least c.args.budget c.as_slice.result.now (bytes_in c.args.name.now (g.F.Shelf.files c.solve_over.new.files)) c.requires.sound c.requires.part c.requires.ranges c.in_ok-headed.ensures.headed c.in_ok-headed.ensures.least c.requires.budget.0 c.requires.many c.requires.budget.1 outcome over c.args.start.now (λ lawful. c.as_slice.ensures ∙ c.in_ok-headed.ensures.point lawful)) c.solve_over.ensures.told
 
 pub returns-clause-err : goal.returns-clause-err
-returns-clause-err g c =
+returns-clause-err g c = λ levels has.
     let headed = c.in_ok-headed.field-0.headed in
     let is = c.in_ok-headed.ensures.headed in
     on_err_weaker c.solve_over.result
     (λ (left : LeavesBegun headed.rows true headed.head.items c.args.name.now (g.F.Shelf.files c.args.files.now) (g.F.Shelf.files c.solve_over.new.files)).
-    headed-left c.args.plant.now c.args.part headed.rows c.args.judged headed.sums is.units is.derivations headed.head.items c.args.name.now is.can is.head (g.F.Shelf.files c.args.files.now) (g.F.Shelf.files c.solve_over.new.files) left)
+    headed-left c.args.plant.now c.args.part headed.rows c.args.judged levels headed.sums is.units is.derivations headed.head.items c.args.name.now is.can has is.head (g.F.Shelf.files c.args.files.now) (g.F.Shelf.files c.solve_over.new.files) left)
     c.solve_over.ensures.err
 
 pub returns-in_err-headed-clause-kept : goal.returns-in_err-headed-clause-kept

@@ -29,12 +29,12 @@ returns-clause-outcome g c =
     (plain-right c.args.plant.now c.args.rows.now.program c.slot_count.result c.args.budget s.tree c.in_ok-ended.ended c.requires.sound c.requires.part c.slot_count.ensures of c.in_ok-outcome.field-0 c.in_ok-outcome.ensures).outcome
 
 pub returns-clause-proof : goal.returns-clause-proof
-returns-clause-proof g c = λ judged.
+returns-clause-proof g c = λ judged levels none.
     let s = c.in_ok-ended.ensures.ended in
     let of = plain-search c.args.plant.now c.args.rows.now c.slot_count.result c.args.budget c.in_ok-ended.ended s.tree c.requires.plain c.requires.part s.of in
     let told = c.in_ok-outcome.field-0 in
     let right = plain-right c.args.plant.now c.args.rows.now.program c.slot_count.result c.args.budget s.tree c.in_ok-ended.ended c.requires.sound c.requires.part c.slot_count.ensures of told c.in_ok-outcome.ensures in
-    plain-has c.args.plant.now c.args.rows.now.program judged None told.outcome s.tree right.proof tt
+    plain-has c.args.plant.now c.args.rows.now.program judged levels None told.outcome s.tree none right.proof tt
 
 pub returns-clause-begun : goal.returns-clause-begun
 returns-clause-begun g c = told-earns c.args.plant.now c.args.rows.now.program c.args.start.now c.in_ok-ended.ended c.in_ok-outcome.field-0 (worth-plain c.args.rows.now c.args.start.now c.in_ok-ended.ended.best c.requires.plain c.in_ok-ended.ensures.begun) c.in_ok-outcome.ensures

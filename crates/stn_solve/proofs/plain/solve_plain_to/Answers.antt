@@ -30,15 +30,15 @@ told_of-requires-clause-places g c =
     (plain-search c.args.plant.now c.args.rows.now c.slot_count-given.result c.args.budget c.in_ok-ended.field-0.ended logged.tree c.requires.plain c.requires.part logged.is)
 
 pub returns-in_err-ended-clause-err : goal.returns-in_err-ended-clause-err
-returns-in_err-ended-clause-err g c = λ judged. at_err _ _ (plain-left c.args.plant.now c.args.rows.now judged _ c.args.name.now _ _ c.requires.plain (c.as_slice.ensures.value ∙ c.in_ok-head.ensures) c.in_err-ended.ensures.err)
+returns-in_err-ended-clause-err g c = λ judged levels none. at_err _ _ (plain-left c.args.plant.now c.args.rows.now judged levels _ c.args.name.now c.requires.plain none (c.as_slice.ensures.value ∙ c.in_ok-head.ensures) _ _ c.in_err-ended.ensures.err)
 
 pub returns-in_err-told-clause-err : goal.returns-in_err-told-clause-err
-returns-in_err-told-clause-err g c = λ judged.
-    at_err _ _ (inr (plain-told c.args.plant.now c.args.rows.now judged _ c.args.name.now _ c.requires.plain (c.as_slice.ensures.value ∙ c.in_ok-head.ensures) (logged-begun c.args.rows.now false _ c.args.name.now _ c.in_ok-ended.ensures.logged)))
+returns-in_err-told-clause-err g c = λ judged levels none.
+    at_err _ _ (inr (plain-told c.args.plant.now c.args.rows.now judged levels _ c.args.name.now c.requires.plain none (c.as_slice.ensures.value ∙ c.in_ok-head.ensures) _ (logged-begun c.args.rows.now false _ c.args.name.now _ c.in_ok-ended.ensures.logged)))
 
 pub returns-in_err-finish-clause-err : goal.returns-in_err-finish-clause-err
-returns-in_err-finish-clause-err g c = λ judged.
-    at_err _ _ (inr (plain-told c.args.plant.now c.args.rows.now judged _ c.args.name.now _ c.requires.plain (c.as_slice.ensures.value ∙ c.in_ok-head.ensures)
+returns-in_err-finish-clause-err g c = λ judged levels none.
+    at_err _ _ (inr (plain-told c.args.plant.now c.args.rows.now judged levels _ c.args.name.now c.requires.plain none (c.as_slice.ensures.value ∙ c.in_ok-head.ensures) _
     (logged-broke c.args.rows.now false _ c.args.name.now _ _ c.in_ok-told.told.claim c.in_ok-ended.ensures.logged c.in_err-finish.ensures.broke)))
 
 pub returns-clause-outcome : goal.returns-clause-outcome
@@ -48,7 +48,7 @@ returns-clause-outcome g c =
     (plain-search c.args.plant.now c.args.rows.now c.slot_count-given.result c.args.budget c.in_ok-ended.field-0.ended logged.tree c.requires.plain c.requires.part logged.is) c.in_ok-told.told c.in_ok-told.ensures).outcome
 
 pub returns-clause-proof : goal.returns-clause-proof
-returns-clause-proof g c = λ judged.
+returns-clause-proof g c = λ judged levels none.
     let logged = c.in_ok-ended.ensures.logged in
     let part = c.args.rows.now.program in
     let items = tree_items logged.tree in
@@ -57,7 +57,7 @@ returns-clause-proof g c = λ judged.
     let right = plain-right c.args.plant.now part c.slot_count-given.result c.args.budget logged.tree c.in_ok-ended.field-0.ended c.requires.sound c.requires.part c.slot_count-given.ensures
     (plain-search c.args.plant.now c.args.rows.now c.slot_count-given.result c.args.budget c.in_ok-ended.field-0.ended logged.tree c.requires.plain c.requires.part logged.is) told c.in_ok-told.ensures in
     let whole = logged-whole c.args.rows.now false _ c.args.name.now at logged in
-    plain-has c.args.plant.now part judged _ told.outcome logged.tree right.proof
+    plain-has c.args.plant.now part judged levels _ told.outcome logged.tree none right.proof
     (told-bytes c.args.name.now at.name (g.F.Shelf.files c.finish.new.files) _ _ logged.named (ap (λ (head : List ℕ). head ++ lines_text (flat_map item_lines items ++ (claim_lines told.claim ++ End ∷ []))) (c.as_slice.ensures.value ∙ c.in_ok-head.ensures) ∙ plain-text items told.claim ∙ ap (log_text 2 items) right.claim) (c.in_ok-finish.ensures.file _ items whole))
 
 pub returns-clause-begun : goal.returns-clause-begun

@@ -25,7 +25,7 @@ returns-clause-outcome g c =
 pub returns-clause-proof : goal.returns-clause-proof
 returns-clause-proof g c =
     IfOk-weaker c.plan_rows.result _ _
-    (λ (outcome : Outcome) (has : HasProof c.args.plant.now c.in_ok-program.field-0.program c.in_ok-program.field-0.judged None outcome). record { program = c.in_ok-program.field-0.program; made = c.in_ok-program.ensures.made; means = c.in_ok-program.ensures.means; has = subst (λ (ds : List Domain). HasProof c.args.plant.now c.in_ok-program.field-0.program ds None outcome) c.in_ok-program.ensures.judged has })
+    (λ (outcome : Outcome) (has : HasProof c.args.plant.now c.in_ok-program.field-0.program c.in_ok-program.field-0.judged 0 None outcome). record { program = c.in_ok-program.field-0.program; made = c.in_ok-program.ensures.made; means = c.in_ok-program.ensures.means; has = subst (λ (ds : List Domain). HasProof c.args.plant.now c.in_ok-program.field-0.program ds 0 None outcome) c.in_ok-program.ensures.judged has })
     c.plan_rows.ensures.proof
 
 pub returns-clause-begun : goal.returns-clause-begun

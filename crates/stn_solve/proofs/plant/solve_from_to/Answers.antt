@@ -25,14 +25,14 @@ returns-clause-outcome g c =
 pub returns-clause-proof : goal.returns-clause-proof
 returns-clause-proof g c =
     IfOk-weaker c.solve_rows_to.result _ _
-    (λ (outcome : Outcome) (has : HasProof c.args.plant.now c.in_ok-program.field-0.program c.in_ok-program.field-0.judged (bytes_in c.args.name.now (g.F.Shelf.files c.solve_rows_to.new.files)) outcome). record { program = c.in_ok-program.field-0.program; made = c.in_ok-program.ensures.made; means = c.in_ok-program.ensures.means; has = subst (λ (ds : List Domain). HasProof c.args.plant.now c.in_ok-program.field-0.program ds (bytes_in c.args.name.now (g.F.Shelf.files c.solve_rows_to.new.files)) outcome) c.in_ok-program.ensures.judged has })
+    (λ (outcome : Outcome) (has : HasProof c.args.plant.now c.in_ok-program.field-0.program c.in_ok-program.field-0.judged 0 (bytes_in c.args.name.now (g.F.Shelf.files c.solve_rows_to.new.files)) outcome). record { program = c.in_ok-program.field-0.program; made = c.in_ok-program.ensures.made; means = c.in_ok-program.ensures.means; has = subst (λ (ds : List Domain). HasProof c.args.plant.now c.in_ok-program.field-0.program ds 0 (bytes_in c.args.name.now (g.F.Shelf.files c.solve_rows_to.new.files)) outcome) c.in_ok-program.ensures.judged has })
     c.solve_rows_to.ensures.proof
 
 pub returns-clause-err : goal.returns-clause-err
 returns-clause-err g c =
     on_err_weaker c.solve_rows_to.result
-    (λ (left : LeavesSomeBegun c.args.plant.now c.in_ok-program.field-0.program c.in_ok-program.field-0.judged c.args.name.now (g.F.Shelf.files c.args.files.now) (g.F.Shelf.files c.solve_rows_to.new.files)).
-    inr (c.in_ok-program.field-0.program, (c.in_ok-program.ensures.made, (c.in_ok-program.ensures.means, subst (λ (ds : List Domain). LeavesSomeBegun c.args.plant.now c.in_ok-program.field-0.program ds c.args.name.now (g.F.Shelf.files c.args.files.now) (g.F.Shelf.files c.solve_rows_to.new.files)) c.in_ok-program.ensures.judged left))))
+    (λ (left : LeavesSomeBegun c.args.plant.now c.in_ok-program.field-0.program c.in_ok-program.field-0.judged 0 c.args.name.now (g.F.Shelf.files c.args.files.now) (g.F.Shelf.files c.solve_rows_to.new.files)).
+    inr (c.in_ok-program.field-0.program, (c.in_ok-program.ensures.made, (c.in_ok-program.ensures.means, subst (λ (ds : List Domain). LeavesSomeBegun c.args.plant.now c.in_ok-program.field-0.program ds 0 c.args.name.now (g.F.Shelf.files c.args.files.now) (g.F.Shelf.files c.solve_rows_to.new.files)) c.in_ok-program.ensures.judged left))))
     c.solve_rows_to.ensures.err
 
 pub returns-clause-begun : goal.returns-clause-begun

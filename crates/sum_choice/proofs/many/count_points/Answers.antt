@@ -1,5 +1,5 @@
 -- One domain more.
-use Rattle.std.proofs.Common.{◌≡◌, ◌≤◌, ◌+◌, ◌*◌, suc, false, drop, get_or, List, subst, arith}
+use Rattle.std.proofs.Common.{◌≡◌, ◌+◌, ◌-◌, ◌*◌, ◌^◌, suc, false, min, drop, get_or, List, subst, arith}
 use Rattle.std.proofs.Math.Seq.{drop-cons}
 use Rattle.row_kit.specs.declared.domain.Domain.{Domain}
 use Rattle.row_kit.specs.Domain.{count_of}
@@ -11,8 +11,14 @@ pub loop-domain-preserved : goal.loop-domain-preserved
 loop-domain-preserved c =
     let ds = c.args.domains.now in
     let i = c.loop-domain.domain-index in
-    let d = get_or ds i (record { zero = false; lo = 0; hi = 0 }) in
-    let below = subst (λ (rest : List Domain). c.loop-domain.count * points_of rest ≤ points_of ds) (drop-cons ds i (record { zero = false; lo = 0; hi = 0 }) c.loop-domain-test.true) c.loop-domain.invariant in
-    let le : c.times-count.result ≤ c.loop-domain.count * count_of d = subst (λ n. c.times-count.result ≤ c.loop-domain.count * n) c.count.ensures.count c.times-count.ensures in
+    let none : Domain = record { zero = false; lo = 0; hi = 0 } in
+    let d = get_or ds i none in
+    let count = c.loop-domain.count in
+    let before = subst (λ (rest : List Domain). min (count * points_of rest) (2 ^ 64 - 1) ≡ min (points_of ds) (2 ^ 64 - 1)) (drop-cons ds i none c.loop-domain-test.true) c.loop-domain.invariant.left in
+    let is : c.times-count.result ≡ min (count * count_of d) (2 ^ 64 - 1) = subst (λ n. c.times-count.result ≡ min (count * n) (2 ^ 64 - 1)) c.count.ensures.count c.times-count.ensures in
     let one : suc i ≡ i + 1 = omega arith in
-    subst (λ n. c.times-count.result * points_of (drop n ds) ≤ points_of ds) one (points-step c.loop-domain.count c.times-count.result (points_of ds) d (drop (suc i) ds) le below)
+    record {
+      left = subst (λ n. min (c.times-count.result * points_of (drop n ds)) (2 ^ 64 - 1) ≡ min (points_of ds) (2 ^ 64 - 1)) one
+          (points-step (2 ^ 64 - 1) count c.times-count.result (min (points_of ds) (2 ^ 64 - 1)) d (drop (suc i) ds) is before);
+      small = omega (arith, is);
+    }

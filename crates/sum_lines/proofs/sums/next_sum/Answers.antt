@@ -31,6 +31,6 @@ returns-in-Err-clause-bad g c defect is lines passed =
     let opened = c.in-Sum.ensures in
     let has = subst (HasSeen files name c.args.version lines c.next.new.self) opened.0 (c.in_ok-seen.ensures.seen c.args.version lines passed) in
     let all = lines ++ opening_line c.in-Sum.sum c.in-Sum.count ∷ [] in
-    let there = subst (λ (f : Option FileMap). HasPassed f name c.args.version all c.next.new.self) (sym c.next.ensures.same) has.1 in
+    let there = subst (λ (f : Option FileMap). HasPassed f name c.args.version all c.next.new.self) (sym c.next.ensures.frame.same) has.1 in
     let bad = c.in-Err.ensures.bad defect (ap Err own) c.args.version all there in
-    terms_bad files name c.args.version c.args.limits.now c.args.before lines c.in-Sum.sum c.in-Sum.count defect (subst (λ (f : Option FileMap). HasBadTerms f name c.args.version c.args.limits.now.slots c.in-Sum.count all defect) c.next.ensures.same bad) opened.1 opened.2
+    terms_bad files name c.args.version c.args.limits.now c.args.before lines c.in-Sum.sum c.in-Sum.count defect (subst (λ (f : Option FileMap). HasBadTerms f name c.args.version c.args.limits.now.slots c.in-Sum.count all defect) c.next.ensures.frame.same bad) opened.1 opened.2

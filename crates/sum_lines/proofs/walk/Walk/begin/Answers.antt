@@ -21,10 +21,6 @@ returns-in_default g c =
     let after = c.in_ok-walk.ensures.after files name in
     record {
       begun = no_first files name c.in_ok-walk.walk c.step.new.self c.in_ok-step.field-0 c.in_default.not-Whole (c.in_ok-step.ensures.stepped 0 [] after);
-      same = c.step.ensures.same;
-      readable = c.step.ensures.readable;
-      writable = c.step.ensures.writable;
-      later = c.step.ensures.later;
-      no_write = c.step.ensures.no_write;
+      frame = c.step.ensures.frame;
       fault = λ e. absurd (cc);
     }

@@ -1,0 +1,4 @@
+pub mod OpenEnds
+pub mod Reading
+pub mod Texts
+pub mod laws

@@ -1,0 +1,4 @@
+-- What only clauses of private functions cite: the language wants the definitions of every clause in specs/.
+pub mod Nodes
+pub mod Seen
+pub mod WalkStops

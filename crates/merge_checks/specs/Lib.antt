@@ -1,0 +1,2 @@
+pub mod CheckedLogs
+pub mod laws

@@ -1,0 +1,2 @@
+pub mod MergedClaims
+pub mod laws

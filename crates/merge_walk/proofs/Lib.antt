@@ -1,0 +1,3 @@
+pub mod KeptLogs
+pub mod MergedNodes
+pub mod SplitNodes

@@ -1,0 +1,3 @@
+-- What only clauses of what merges cite: the language wants the definitions of every clause in specs/.
+pub mod Looked
+pub mod Puts

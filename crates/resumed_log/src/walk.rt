@@ -1,0 +1,10 @@
+//! What a walk down a log stands on.
+use log_nodes::Pair;
+use std::alloc::Global;
+
+/// Where a walk takes memory, and the logs that it is about.
+#[derive(Clone, Copy)]
+pub struct Walk<'a> {
+    pub alloc: Global,
+    pub pair: Pair<'a>,
+}

@@ -1,0 +1,7 @@
+-- A part that has a head by its later slots has many points in all.
+use Rattle.std.proofs.Common.{◌∙◌, sym}
+use Rattle.stn_solve.proofs.SearchTold.{headed-whole}
+use Rattle.stn_solve.proofs.part.plan_rows.Goals as goal
+
+pub plan_headed-requires-clause-many : goal.plan_headed-requires-clause-many
+plan_headed-requires-clause-many g c = headed-whole c.args.part c.args.levels c.requires.part.each_open (sym c.has_many.ensures ∙ c.if-has_many.true)
