@@ -95,19 +95,19 @@ def numbers_in(text):
 
 
 def check_schema(formats):
-    """The ranges of the schema are those of docs/formats.md, for both versions, and it names no other key."""
+    """The ranges of the schema are those of docs/formats.md, for all versions, and it names no other key."""
     rows = next(rows for head, rows in tables_of(section(formats, "## The plant file")) if head[0] == "Table")
     table, seen = "", {}
     for name, keys, holds, default in rows:
         table = name.replace("v2: ", "") or table
-        for key in keys.replace("v2: ", "").split(", "):
-            seen.setdefault(table, {})[key] = (holds, default, keys.startswith("v2") or name.startswith("v2"))
+        for key in re.sub(r"v[23]: ", "", keys).split(", "):
+            seen.setdefault(table, {})[key] = (holds, default, 3 if keys.startswith("v3") else 2 if "v2" in (keys[:2], name[:2]) else 1)
     yield from check_arrays(seen["top"])
     for table, keys in seen.items():
         for key, (holds, default, late) in keys.items():
             if table != "top" or key in ("version", "periods"):
                 yield from check_key(table, key, holds, default, late)
-        known = set(fields.known(table, 2))
+        known = set(fields.known(table, 3))
         if table != "top" and known != set(keys):
             yield f"schema: the keys of {table} are {sorted(known)}, and docs/formats.md has {sorted(keys)}"
 
@@ -116,15 +116,17 @@ def check_arrays(top):
     """The greatest numbers of items."""
     held = next(holds for keys, (holds, _, _) in top.items() if "at most" in holds)
     names = [it for it in top if it not in ("version", "periods")]
-    for name, most in zip(names, numbers_in(held.split("at most")[1])):
-        if fields.of("top", name, 2)["maxItems"] != most:
-            yield f"schema: {name} has at most {fields.of('top', name, 2)['maxItems']} items, and docs/formats.md says {most}"
+    for version, part in ((2, 0), (3, 1)):
+        for name, most in zip(names, numbers_in(held.split("at most")[1].split("in version 3")[part])):
+            if fields.of("top", name, version)["maxItems"] != most:
+                yield f"schema: {name} has at most {fields.of('top', name, version)['maxItems']} items, and docs/formats.md says {most}"
 
 
 def check_key(table, key, holds, default, late):
-    """The range of a key in both versions, and whether it is required."""
-    what, first = fields.of(table, key, 2), fields.of(table, key, 1)
-    if what is None or (first is not None) == (late and table != "outage"):
+    """The range of a key in version 3 and in version 1, and whether it is required."""
+    what, first = fields.of(table, key, 3), fields.of(table, key, 1)
+    knows = [fields.of(table, key, version) is not None for version in (1, 2, 3)]
+    if knows != [version >= late or table == "outage" for version in (1, 2, 3)]:
         yield f"schema: {table} {key} is known in other versions than docs/formats.md says"
         return
     ends = what.get("items", what)
@@ -318,7 +320,7 @@ def of_type(table, key, what, plant, block):
     line, name, odd = plant.line(block, key), f"{table} {key}", "1.5" if "minimum" in what or "enum" in what else "true"
     yield plant_case(f"6 {name}", plant.put(block, key, odd), f"6 {spot(table)} {key}", line, f"`{odd}`", "should hold")
     ends = what.get("items", what)
-    for number in [ends["minimum"] - 1, ends["maximum"] + 1] if "minimum" in ends else [3] if "enum" in what else []:
+    for number in [ends["minimum"] - 1, ends["maximum"] + 1] if "minimum" in ends else [4] if "enum" in what else []:
         many = 4 if table == "utility" else 1
         written = str(number) if what is ends else "[" + ", ".join(["1"] * (many - 1) + [str(number)]) + "]"
         yield plant_case(f"7 {name} {number}", plant.put(block, key, written), f"7 {spot(table)} {key}", line, f"`{number}`", "is allowed")
@@ -483,7 +485,7 @@ def of_plans():
     yield case("plan 2, unit", "0 X make 3\n", "refused plan 2 1", "line 1, `0 X make 3`", "no unit `X`", "`U`, `V`")
     yield case("plan 2, task", "0 U mike 3\n", "refused plan 2 1", "no task `mike`", "did you mean `make`?")
     yield case("plan 3", "0 U make 1\n" * 2049, "refused plan 3 2049", "line 2049", "2,048 starts")
-    yield case("plan 4", "#" * 262_145, "refused plan 4 0", "262,144 bytes: 262,145")
+    yield case("plan 4", "#" * 262_145, "refused plan 4 0", "262,144 bytes", "version 3: 262,145")
     yield case("unfit, run", "# two\n0 W make 1\n", "broken unfit 1", "`make` on `W` in period 0 (1 quantum, line 2)", "no run has `make` on `W`", "`U`, `V`")
     yield case("unfit, size", "0 U make 5\n", "broken unfit 1", "5 quanta", "takes 1 to 4")
     yield case("unfit, horizon", "2 U rest 1\n", "broken unfit 1", "ends at time 4, after the horizon, 3")

@@ -67,7 +67,7 @@ class Drawing:
         worth = sum(it.price * self.stock(n, plant.periods) for n, it in enumerate(plant.states))
         worth += sum(payment for *_, payment in plant.deliveries)
         worth -= sum(it.holding * self.stock(n, t) for n, it in enumerate(plant.states) for t in range(plant.periods))
-        worth -= sum(it.rate * self.load(n, t) for n, it in enumerate(plant.utilities) for t in range(plant.periods))
+        worth -= sum(it.rates[t] * self.load(n, t) for n, it in enumerate(plant.utilities) for t in range(plant.periods))
         worth -= sum(run.cost for s in self.plan for run in plant.runs if (run.task, run.unit) == (s.task, s.unit))
         worth -= sum(self.gap(a, b, 4) for a in self.plan for b in self.plan if self.is_next(a, b))
         return worth

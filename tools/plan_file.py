@@ -6,7 +6,8 @@ Written from docs/formats.md and docs/model.md alone, as a part of check_log.py.
 from dataclasses import dataclass
 from re import ASCII, fullmatch
 
-GREATEST_PLAN, MOST_STARTS = 262_144, 2048
+# The longest file and the most starts, of a plan for a plant of versions 1 and 2, and of version 3.
+MOST_BYTES, MOST_STARTS = (262_144, 524_288), (2048, 4096)
 
 
 class PlanRefused(Exception):
@@ -29,13 +30,13 @@ class Start:
 
 def read_plan(data, plant):
     """The starts of a plan file, or PlanRefused."""
-    if len(data) > GREATEST_PLAN:
+    if len(data) > MOST_BYTES[plant.is_large]:
         raise PlanRefused("4 0")
     starts, tasks = [], [task.name for task in plant.tasks]
     for number, line in enumerate(data.removesuffix(b"\n").split(b"\n") if data else (), 1):
         if line.startswith(b"#"):
             continue
-        if len(starts) == MOST_STARTS:
+        if len(starts) == MOST_STARTS[plant.is_large]:
             raise PlanRefused(f"3 {number}")
         words = line.decode("latin-1").split(" ")
         if len(words) != 4 or not all(fullmatch("0|[1-9][0-9]{0,8}", it, ASCII) for it in (words[0], words[3])):

@@ -11,7 +11,10 @@ from fractions import Fraction
 from re import ASCII, DOTALL, compile, fullmatch
 
 BILLION, MILLION = 10**9, 10**6
-GREATEST_FILE, GREATEST_DEPTH, GREATEST_SLOTS, GREATEST_PAIRS = 1 << 20, 80, 512, 8192
+GREATEST_DEPTH = 80
+# What a file of versions 1 and 2 has at most, and one of version 3.
+MOST = {"bytes": (1 << 20, 4 << 20), "slots": (512, 4096), "pairs": (8192, 32_768), "state": (40, 160), "utility": (8, 64), "unit": (24, 96),
+        "task": (40, 160), "run": (64, 256), "gap": (4096, 4096), "receipt": (256, 900), "delivery": (256, 900), "outage": (256, 4096)}
 
 
 class Refused(Exception):
@@ -33,7 +36,7 @@ class State:
 @dataclass
 class Utility:
     limits: list  # what is there in each period
-    rate: int
+    rates: list  # what a unit of it costs in each period
 
 
 @dataclass
@@ -69,6 +72,7 @@ class Run:
 @dataclass
 class Plant:
     periods: int
+    is_large: bool = False  # of version 3
     states: list = field(default_factory=list)
     utilities: list = field(default_factory=list)
     units: list = field(default_factory=list)
@@ -157,21 +161,42 @@ class Table:
         return self.numbers("limits", count, 0, BILLION) if has_list else None
 
 
+    def rates(self, periods):
+        """`rate` or `rates`: what a unit costs in each period."""
+        rate = self.whole("rate", -MILLION, MILLION, 0)
+        if "rates" not in self.keys:
+            return [rate] * periods
+        if "rate" in self.keys:
+            self.get("rates", [list])
+            self.refuse(21, "rates")
+        return self.numbers("rates", periods, -MILLION, MILLION)
+
+
+def version_of(document):
+    """The version that a document is read as: 3 or 2 where it names that number, else 1."""
+    named = document.get("version")
+    return named if type(named) is int and named in (2, 3) else 1
+
+
 class PlantFile:
     """Reads the tables of a plant file in the order of docs/formats.md."""
 
     def __init__(self, document):
         self.top = Table(document, "top")
-        is_second = type(document.get("version")) is int and document["version"] == 2
-        self.version = 2 if is_second else 1
+        self.version = version_of(document)
+        is_second = self.version > 1
         arrays = "state utility unit task run gap receipt delivery".split() + ["outage"] * is_second
         if not document.keys() <= {"version", "periods", *arrays}:
             self.top.refuse(3)
         self.top.whole("version", 1, self.version)
-        self.plant = Plant(self.top.whole("periods", 1, 336 if is_second else 96))
+        self.plant = Plant(self.top.whole("periods", 1, 336 if is_second else 96), self.version == 3)
         self.names = {"state": [], "utility": [], "unit": [], "task": []}
         for array in arrays:
             getattr(self, "read_" + array)()
+
+    def most(self, array):
+        """How many items an array of the top has at most."""
+        return MOST[array][self.version == 3]
 
     def tables(self, array, most, keys, of_second="", within=None):
         """The tables of an array, each with no other keys than these; `within` is the table that an inner array stands in."""
@@ -181,7 +206,7 @@ class PlantFile:
         items = holder.get(array, [list])
         if len(items) > most:
             holder.refuse(14, array)
-        known = keys.split() + of_second.split() * (self.version == 2)
+        known = keys.split() + of_second.split() * (self.version > 1)
         for number, item in enumerate(items, 1):
             table = Table(item, array, within.item if within else number, number if within else 0)
             if type(item) is not dict:
@@ -191,24 +216,25 @@ class PlantFile:
             yield table
 
     def read_state(self):
-        for table in self.tables("state", 40, "name initial limit price holding", "limits"):
+        for table in self.tables("state", self.most("state"), "name initial limit price holding", "limits"):
             name, initial = table.own_name(self.names["state"]), table.whole("initial", 0, BILLION, 0)
             limits = table.limits(self.plant.periods + 1, False)
             money = [table.whole(key, -MILLION, MILLION, 0) for key in ("price", "holding")]
             self.plant.states.append(State(name, initial, limits, *money))
 
     def read_utility(self):
-        for table in self.tables("utility", 8, "name limit rate", "limits"):
+        of_third = " rates" * (self.version == 3)
+        for table in self.tables("utility", self.most("utility"), "name limit rate", "limits" + of_third):
             table.own_name(self.names["utility"])
             limits = table.limits(self.plant.periods, True)
-            self.plant.utilities.append(Utility(limits, table.whole("rate", -MILLION, MILLION, 0)))
+            self.plant.utilities.append(Utility(limits, table.rates(self.plant.periods)))
 
     def read_unit(self):
-        for table in self.tables("unit", 24, "name"):
+        for table in self.tables("unit", self.most("unit"), "name"):
             self.plant.units.append(table.own_name(self.names["unit"]))
 
     def read_task(self):
-        for table in self.tables("task", 40, "name quantum input output draw"):
+        for table in self.tables("task", self.most("task"), "name quantum input output draw"):
             task = Task(table.own_name(self.names["task"]), table.whole("quantum", 1, MILLION))
             task.inputs = self.side(table, task, "input", "state part")
             task.outputs = self.side(table, task, "output", "state part delay")
@@ -240,7 +266,7 @@ class PlantFile:
 
     def read_run(self):
         pairs = []
-        for table in self.tables("run", 64, "task unit min max cost"):
+        for table in self.tables("run", self.most("run"), "task unit min max cost"):
             pair = table.named("task", self.names["task"]), table.named("unit", self.names["unit"])
             sizes = table.whole("min", 1, 255), table.whole("max", 1, 255)
             self.plant.runs.append(Run(*pair, *sizes, table.whole("cost", -MILLION, MILLION, 0)))
@@ -251,9 +277,9 @@ class PlantFile:
             pairs.append(pair)
 
     def read_gap(self):
-        for table in self.tables("gap", 4096, "unit from to periods", "cost"):
+        for table in self.tables("gap", self.most("gap"), "unit from to periods", "cost"):
             names = [table.named(key, self.names[of]) for key, of in (("unit", "unit"), ("from", "task"), ("to", "task"))]
-            periods = table.whole("periods", 2 - self.version, 96)
+            periods = table.whole("periods", 1 if self.version == 1 else 0, 96)
             self.plant.gaps.append((*names, periods, table.whole("cost", 0, MILLION, 0)))
 
     def moved(self, table):
@@ -262,15 +288,15 @@ class PlantFile:
         return state, table.whole("time", 0, self.plant.periods), table.whole("amount", 1, BILLION)
 
     def read_receipt(self):
-        for table in self.tables("receipt", 256, "state time amount"):
+        for table in self.tables("receipt", self.most("receipt"), "state time amount"):
             self.plant.receipts.append(self.moved(table))
 
     def read_delivery(self):
-        for table in self.tables("delivery", 256, "state time amount payment"):
+        for table in self.tables("delivery", self.most("delivery"), "state time amount payment"):
             self.plant.deliveries.append((*self.moved(table), table.whole("payment", -BILLION, BILLION, 0)))
 
     def read_outage(self):
-        for table in self.tables("outage", 256, "unit from to"):
+        for table in self.tables("outage", self.most("outage"), "unit from to"):
             unit = table.named("unit", self.names["unit"])
             begin, end = table.whole("from", 0, self.plant.periods - 1), table.whole("to", 1, self.plant.periods)
             if begin >= end:
@@ -314,24 +340,27 @@ def on_one_line(text):
 
 
 def document_of(data):
-    """The TOML document of a file."""
-    if len(data) > GREATEST_FILE:
+    """The TOML document of a file: one that is longer than version 2 allows has to be of version 3."""
+    is_long, most = len(data) > MOST["bytes"][0], MOST["bytes"][1]
+    if len(data) > most:
         Table({}, "top").refuse(1)
     try:
         document = tomllib.loads(on_one_line(data.decode("utf-8-sig")))
     except (UnicodeDecodeError, tomllib.TOMLDecodeError, RecursionError):
-        Table({}, "top").refuse(2)
+        Table({}, "top").refuse(1 if is_long else 2)
     if not is_in_range(document):
-        Table({}, "top").refuse(2)
+        Table({}, "top").refuse(1 if is_long else 2)
+    if is_long and version_of(document) != 3:
+        Table({}, "top").refuse(1)
     return document
 
 
 def read_plant(data):
     """The plant of a file, or Refused."""
     plant = PlantFile(document_of(data)).plant
-    if len(slots_of(plant)) > GREATEST_SLOTS:
+    if len(slots_of(plant)) > MOST["slots"][plant.is_large]:
         Table({}, "run").refuse(18)
-    if len(gap_rows(plant, slots_of(plant))) > GREATEST_PAIRS:
+    if len(gap_rows(plant, slots_of(plant))) > MOST["pairs"][plant.is_large]:
         Table({}, "gap").refuse(19)
     return plant
 
@@ -482,14 +511,19 @@ class Program:
 def profit_entry(plant, slot):
     """What a start in the slot adds to the value: for itself, and for each quantum."""
     task, run = plant.tasks[slot.task], plant.runs[slot.run]
-    fixed = -run.cost - sum(plant.utilities[it.utility].rate * sum(it.fixed) for it in task.draws)
-    each = -sum(plant.utilities[it.utility].rate * sum(it.each) for it in task.draws)
+    fixed = -run.cost - sum(cost_from(plant.utilities[it.utility], slot.period, it.fixed) for it in task.draws)
+    each = -sum(cost_from(plant.utilities[it.utility], slot.period, it.each) for it in task.draws)
     gained = [(s, -mass, slot.period) for s, mass in task.inputs]
     gained += [(s, mass, slot.period + delay) for s, mass, delay in task.outputs]
     for s, mass, time in gained:
         state = plant.states[s]
         each += mass * (state.price - state.holding * (plant.periods - time))
     return fixed, each
+
+
+def cost_from(utility, period, amounts):
+    """What amounts cost that are drawn in a row of periods from one on."""
+    return sum(rate * amount for rate, amount in zip(utility.rates[period:], amounts))
 
 
 def base_of(plant):

@@ -37,12 +37,14 @@ class Utility:
     """Steam, power, people: so much is there in each period.
 
     limit: in units of it. limits: such a limit for each period, in the place of `limit`. rate: money for a unit that is drawn.
+    rates: such a price for each period, in the place of `rate` (version 3).
     """
 
     name: str
     limit: int | None = None
     limits: list[int] | None = None
     rate: int = 0
+    rates: list[int] | None = None
 
 
 @dataclass
@@ -353,6 +355,8 @@ def tables(item):
         found["version"] = item.version
     for each in dataclasses.fields(item):
         value = getattr(item, each.name)
+        if each.name == "rate" and value == 0 and item.rates is not None:
+            continue
         if isinstance(value, list) and value and dataclasses.is_dataclass(value[0]):
             found[key_of(each.name)] = [tables(it) for it in value]
         elif value is not None and not (value == [] and key_of(each.name) in kinds_of(type(item)) and each.name not in ("input", "output")):

@@ -91,8 +91,8 @@ def unknown_key(fault):
         return None
     at = fault.node.held[key].key_at
     where = "at the top" if fault.table == "top" else f"in {fault.name()}"
-    later = key in fields.known(fault.table, 2)
-    hint = f"; version 2 knows it, and this file has version {short(str(fault.version))}" if later else meant(key, known)
+    later = next((it for it in (2, 3) if key in fields.known(fault.table, it)), None)
+    hint = f"; version {later} knows it, and this file has version {short(str(fault.version))}" if later else meant(key, known)
     return at, f"the key `{short(key, 40)}` {where} is not known{hint}", f"Known are {listed(known, 40)}"
 
 
@@ -213,7 +213,7 @@ def too_many_slots(fault):
     plant = Plant(fault.document.root)
     slots = sorted(((len(it), run) for it, run in zip(plant.slots(), plant.runs)), key=lambda it: -it[0])
     most = ", ".join(f"`{task}` on `{unit}` {number}" for number, (task, unit, _, _) in slots[:3])
-    return None, f"the plant has {grouped(sum(it[0] for it in slots))} slots (a run and a period in which it can start), and 512 are allowed", (
+    return None, f"the plant has {grouped(sum(it[0] for it in slots))} slots (a run and a period in which it can start), and {grouped(4096 if fault.version == 3 else 512)} are allowed", (
         f"Most of them: {most}"), do("plant", 18)
 
 
@@ -221,11 +221,12 @@ def too_many_pairs(fault):
     pairs = Plant(fault.document.root).pairs()
     most = sorted(pairs, key=lambda it: -pairs[it])[:3]
     named = ", ".join(f"on `{unit}` from `{a}` to `{b}` {grouped(pairs[unit, a, b])}" for unit, a, b in most)
-    return None, f"gaps keep {grouped(sum(pairs.values()))} pairs of slots apart, and 8,192 are allowed", f"Most of them: {named}", do("plant", 19)
+    return None, f"gaps keep {grouped(sum(pairs.values()))} pairs of slots apart, and {grouped(32_768 if fault.version == 3 else 8192)} are allowed", f"Most of them: {named}", do("plant", 19)
 
 
-def both_limits(fault):
-    return fault.value().at, f"{fault.name()} has both `limit` and `limits`; `limit` stands on line {fault.line_of(fault.value('limit'))}"
+def both_given(fault):
+    one = fault.key.removesuffix("s")
+    return fault.value().at, f"{fault.name()} has both `{one}` and `{fault.key}`; `{one}` stands on line {fault.line_of(fault.value(one))}"
 
 
 def empty_outage(fault):
@@ -234,4 +235,4 @@ def empty_outage(fault):
 
 TELLERS = {1: too_large, 2: no_document, 3: unknown_key, 4: unknown_key, 5: absent, 6: other_type, 7: out_of_range, 8: no_name,
            9: named_twice, 10: not_declared, 11: no_fraction, 12: no_sum, 13: not_whole, 14: too_many, 15: ends_crossed, 16: run_twice,
-           17: wrong_length, 18: too_many_slots, 19: too_many_pairs, 21: both_limits, 22: empty_outage}
+           17: wrong_length, 18: too_many_slots, 19: too_many_pairs, 21: both_given, 22: empty_outage}

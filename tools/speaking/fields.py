@@ -17,19 +17,28 @@ def narrowed(keys, rest):
     for key, what in keys.items():
         less = rest.get("properties", {}).get(key, {})
         if less is not False:
-            found[key] = {**what, **{it: less[it] for it in less if it in ("minimum", "maximum")}}
+            found[key] = {**what, **{it: less[it] for it in less if it in ("minimum", "maximum", "maxItems")}}
     return found
 
 
 def tables(version):
-    """For each table the keys that a version knows and those that it needs: all that is no 2 is read as version 1."""
+    """For each table the keys that a version knows and those that it needs: all that is no 2 or 3 is read as version 1."""
     whole = copy.deepcopy(schema())
-    rest = {} if version == 2 else whole["then"]
-    found = {"top": (narrowed(whole["properties"], rest), whole["required"])}
-    for name, what in whole["$defs"].items():
-        less = rest.get("properties", {}).get(name) or {}
-        less = less.get("items", {})
-        found[name] = (narrowed(what["properties"], less), what["required"] + less.get("required", []))
+    found = {"top": (whole["properties"], whole["required"])}
+    found.update({name: (what["properties"], what["required"]) for name, what in whole["$defs"].items()})
+    of_second, of_third = (it["then"] for it in reversed(whole["allOf"]))
+    for rest in [of_third] * (version != 3) + [of_second] * (version not in (2, 3)):
+        found = less_of(found, rest)
+    return found
+
+
+def less_of(tables, rest):
+    """The tables without what a version has not."""
+    found = {"top": (narrowed(tables["top"][0], rest), tables["top"][1])}
+    for name, (keys, required) in tables.items():
+        if name != "top":
+            less = (rest["properties"].get(name) or {}).get("items", {})
+            found[name] = (narrowed(keys, less), required + less.get("required", []))
     return found
 
 

@@ -13,10 +13,12 @@ use std::alloc::{AllocError, Global};
 
 /// Searches the root with the advice of both advisers, as `branch_tree::search_guided_to` does. The guide may leave boxes open
 /// though budget is left: the answer also says whether the count is exact, so that the budget was spent, or nothing is left open.
-/// Splits may have floors where `floors` says so. The best point is worth as much as `start`, where that is lawful.
+/// At most `most` splits stand one below another; they may have floors where `floors` says so. The best point is worth as much as
+/// `start`, where that is lawful.
 pub fn search_advised<A: Advisers, O, T: NodeTaker<Rows, O>>(
     alloc: Global,
     rows: &Rows,
+    most: u32,
     given: u32,
     floors: bool,
     budget: u32,
@@ -24,11 +26,11 @@ pub fn search_advised<A: Advisers, O, T: NodeTaker<Rows, O>>(
     taker: &mut T,
     out: &mut O,
 ) -> Result<Guided, TakeStop>
-    requires searchable { AreSearchable rows.now }
+    requires searchable { AreSearchable most rows.now }
     requires budget { (1 ≤ budget) × (budget ≤ 100000) }
     requires ready { T.ready taker.old out.old }
     ensures ready { OnOk result (T.ready taker.new out.new) }
-    ensures ok { IfOk result (λ guided. IsSearchedTo T.took rows.now floors given budget
+    ensures ok { IfOk result (λ guided. IsSearchedTo T.took most rows.now floors given budget
         guided.ended taker.old out.old taker.new out.new) }
     ensures begun { IfOk result
         (λ guided. IsWorth (choices_of rows.now) start.now guided.ended.best) }
@@ -37,7 +39,7 @@ pub fn search_advised<A: Advisers, O, T: NodeTaker<Rows, O>>(
     ensures inexact { IfOk result
         (λ guided. guided.exact ≡ false
         → (guided.ended.left_open ≡ true) × (guided.ended.spent ≢ budget)) }
-    ensures err { OnErr result (IsBrokenOff T.took T.broke rows.now floors taker.old
+    ensures err { OnErr result (IsBrokenOff T.took T.broke most rows.now floors taker.old
         out.old taker.new out.new) }
     ensures later { T.faults out.old ≤ T.faults out.new }
     ensures failed { IsErrOf result TakeStop.Failed → Rose (T.faults out.old) (T.faults out.new) }
@@ -53,6 +55,7 @@ pub fn search_advised<A: Advisers, O, T: NodeTaker<Rows, O>>(
     search_guided_to(
         alloc,
         rows,
+        most,
         given,
         floors,
         budget,
@@ -64,11 +67,12 @@ pub fn search_advised<A: Advisers, O, T: NodeTaker<Rows, O>>(
     )
 }
 
-/// Searches the root without advice on where to split, as `branch_tree::search_to` does, and looks for plans on the way. Splits
-/// may have floors where `floors` says so.
+/// Searches the root without advice on where to split, as `branch_tree::search_to` does, and looks for plans on the way. At
+/// most `most` splits stand one below another; they may have floors where `floors` says so.
 pub fn search_hinted<A: Advisers, O, T: NodeTaker<Rows, O>>(
     alloc: Global,
     rows: &Rows,
+    most: u32,
     given: u32,
     floors: bool,
     budget: u32,
@@ -76,15 +80,15 @@ pub fn search_hinted<A: Advisers, O, T: NodeTaker<Rows, O>>(
     taker: &mut T,
     out: &mut O,
 ) -> Result<Ended, TakeStop>
-    requires searchable { AreSearchable rows.now }
+    requires searchable { AreSearchable most rows.now }
     requires budget { (1 ≤ budget) × (budget ≤ 100000) }
     requires ready { T.ready taker.old out.old }
     ensures ready { OnOk result (T.ready taker.new out.new) }
-    ensures ok { IfOk result (λ ended. IsSearchedTo T.took rows.now floors given budget
+    ensures ok { IfOk result (λ ended. IsSearchedTo T.took most rows.now floors given budget
         ended taker.old out.old taker.new out.new) }
     ensures begun { IfOk result (λ ended. IsWorth (choices_of rows.now) start.now ended.best) }
     ensures exact { IfOk result (IsExact rows.now.program budget) }
-    ensures err { OnErr result (IsBrokenOff T.took T.broke rows.now floors taker.old
+    ensures err { OnErr result (IsBrokenOff T.took T.broke most rows.now floors taker.old
         out.old taker.new out.new) }
     ensures later { T.faults out.old ≤ T.faults out.new }
     ensures failed { IsErrOf result TakeStop.Failed → Rose (T.faults out.old) (T.faults out.new) }
@@ -93,6 +97,7 @@ pub fn search_hinted<A: Advisers, O, T: NodeTaker<Rows, O>>(
     search_to(
         alloc,
         rows,
+        most,
         given,
         floors,
         budget,
@@ -108,14 +113,15 @@ pub fn search_hinted<A: Advisers, O, T: NodeTaker<Rows, O>>(
 pub fn build_advised<A: Advisers>(
     alloc: Global,
     rows: &Rows,
+    most: u32,
     given: u32,
     floors: bool,
     budget: u32,
     start: &[u8],
 ) -> Result<(Searched, bool), AllocError>
-    requires searchable { AreSearchable rows.now }
+    requires searchable { AreSearchable most rows.now }
     requires budget { (1 ≤ budget) × (budget ≤ 100000) }
-    ensures ok { IfOk result (λ found. IsSearch rows.now floors given budget
+    ensures ok { IfOk result (λ found. IsSearch most rows.now floors given budget
         (tree_of found.0.tree) (ended_of found.0)) }
     ensures begun { IfOk result (λ found. IsWorth (choices_of rows.now) start.now found.0.best) }
     ensures exact { IfOk result
@@ -134,6 +140,7 @@ pub fn build_advised<A: Advisers>(
     search_guided(
         alloc,
         rows,
+        most,
         given,
         floors,
         budget,
@@ -147,14 +154,15 @@ pub fn build_advised<A: Advisers>(
 pub fn build_hinted<A: Advisers>(
     alloc: Global,
     rows: &Rows,
+    most: u32,
     given: u32,
     floors: bool,
     budget: u32,
     start: &[u8],
 ) -> Result<Searched, AllocError>
-    requires searchable { AreSearchable rows.now }
+    requires searchable { AreSearchable most rows.now }
     requires budget { (1 ≤ budget) × (budget ≤ 100000) }
-    ensures ok { IfOk result (λ searched. IsSearch rows.now floors given budget
+    ensures ok { IfOk result (λ searched. IsSearch most rows.now floors given budget
         (tree_of searched.tree) (ended_of searched)) }
     ensures begun { IfOk result
         (λ searched. IsWorth (choices_of rows.now) start.now searched.best) }
@@ -164,6 +172,7 @@ pub fn build_hinted<A: Advisers>(
     search(
         alloc,
         rows,
+        most,
         given,
         floors,
         budget,

@@ -1,5 +1,5 @@
 -- The text of an answer, read as plan text, says the answer's plan.
-use Rattle.std.proofs.Common.{◌≡◌, ◌≢◌, ℕ, ℤ, pos, negsuc, suc, true, inl, inr, ◌+◌, ◌%◌, ◌<◌, ◌≤◌, ◌^◌, List, [], ◌∷◌, ◌++◌, length, get_or, Option, Some, None, codes, decimal, sym, ap, ◌∙◌, refl, arith, append_assoc, length-append}
+use Rattle.std.proofs.Common.{◌≡◌, ◌≢◌, ℕ, ℤ, pos, negsuc, suc, Bool, true, false, cond, inl, inr, ◌+◌, ◌%◌, ◌<◌, ◌≤◌, ◌^◌, List, [], ◌∷◌, ◌++◌, length, get_or, Option, Some, None, codes, decimal, sym, ap, ◌∙◌, refl, arith, append_assoc, length-append}
 use Rattle.std.proofs.lemmas.List.{append-nil}
 use Rattle.std.specs.Prelude.{All, Ok, IfSome}
 use Rattle.std.specs.Fmt.{signed_decimal}
@@ -31,7 +31,9 @@ use Rattle.plan_text.specs.PlanLines.{plan_lines}
 use Rattle.plan_text.specs.PlanText.{plan_of_text}
 use Rattle.plan_text.specs.ReadsBack.{IsRemark, comment_lines, IsWritable, ReadsBack}
 use Rattle.plan_text.proofs.Again.{ReadsBack-lines}
-use Rattle.plan_text.proofs.Short.{short-lines}
+use Rattle.plan_text.proofs.Short.{lines_fit, short-lines}
+use Rattle.plan_text.specs.Published.{most_lines}
+use Rattle.stn_model.specs.Points.{slot_count}
 use Rattle.answer_texts.specs.Planning.{answer_text, boxes_lines, changed_line, profit_word, status_of, printed_plan, IsMoney, IsInMoney, Planned}
 use Rattle.answer_texts.proofs.Named.{named-Feasible}
 
@@ -225,14 +227,23 @@ length-point_starts plant (slot ∷ grid) (value ∷ values) =
     let more = length-point_starts plant grid values in
     elim (cases_Bool (value == 0)) [ inl is ↦ rw is (omega (arith, more)) | inr is ↦ rw is (omega (arith, more)) ]
 
--- a feasible plan has no more starts than a plant may have slots
-pub few-starts : (plant : Plant) (plan : List Start) → Sound plant → Feasible plant plan → length plan ≤ 512
+-- a number of slots is within the lines of a plan text, of a large plant and of another
+within-lines : (large : Bool) (n : ℕ) → n ≤ 4096 → (large ≡ false → n ≤ 512) → n ≤ cond large 4096 2048
+within-lines true n most small = most
+within-lines false n most small = let few = small refl in omega (arith, few)
+
+-- a plant has no more slots than a plan text for it may have starts
+slots-few : (plant : Plant) → Sound plant → slot_count plant ≤ most_lines plant
+slots-few plant sound = within-lines plant.large (slot_count plant) sound.counts.slots (λ is. (sound.small is).slots)
+
+-- a feasible plan has no more starts than a plan text for the plant may have
+pub few-starts : (plant : Plant) (plan : List Start) → Sound plant → Feasible plant plan → length plan ≤ most_lines plant
 few-starts plant plan sound feasible =
     let point = point_starts plant (slots plant) (plan_point plant plan) in
     let same = length_permutation plan point (starts-permutation plant plan sound (has_point-feasible plant plan sound feasible)) in
     let few = length-point_starts plant (slots plant) (plan_point plant plan) in
     let all = length-slots plant in
-    let most = sound.counts.slots in
+    let most = slots-few plant sound in
     omega (arith, same, few, all, most)
 
 -- a start that fits has numbers of at most three digits
@@ -257,12 +268,13 @@ writable plant plan sound feasible k d within =
 -- ---- the answer
 
 -- the lines of few starts that can be written, after short remarks, say the plan
-pub reads-lines : (plant : Plant) (plan : List Start) (lines : List (List ℕ)) → Sound plant → length plan ≤ 512 → All (IsWritable plant) plan → AreRemarks lines
+pub reads-lines : (plant : Plant) (plan : List Start) (lines : List (List ℕ)) → Sound plant → length plan ≤ most_lines plant → All (IsWritable plant) plan → AreRemarks lines
     → plan_of_text plant (comment_lines lines ++ plan_lines plant plan) ≡ Ok plan
 unfolding ReadsBack
 reads-lines plant plan lines sound few can are =
     let long = short-lines plant plan sound can in
-    ReadsBack-lines plant plan sound (omega (arith, few)) can lines are.plain (omega (arith, few, long, are.short, length-append (comment_lines lines) (plan_lines plant plan)))
+    let whole = lines_fit plant.large (length plan) (length (plan_lines plant plan)) (length (comment_lines lines)) few long are.short in
+    ReadsBack-lines plant plan sound few can lines are.plain (omega (arith, whole, length-append (comment_lines lines) (plan_lines plant plan)))
 
 -- the lines of a feasible plan
 reads-feasible : (plant : Plant) (plan : List Start) (lines : List (List ℕ)) → Sound plant → Feasible plant plan → AreRemarks lines → plan_of_text plant (comment_lines lines ++ plan_lines plant plan) ≡ Ok plan
@@ -287,7 +299,7 @@ reads-back plant admits least count budget used changed answer sound some right 
     ap (plan_of_text plant) (answer-lines plant used changed answer) ∙ reads-answer plant admits least count budget used answer (remarks answer used changed) sound some right (are_remarks answer used changed small (omega (arith, few)) fewer)
 
 -- the text of an answer whose plan is short and can be written says it
-pub reads-printed : (plant : Plant) (used : ℕ) (changed : Option ℕ) (answer : Answer) → Sound plant → length (printed_plan answer) ≤ 512 → All (IsWritable plant) (printed_plan answer) → IsInMoney answer → used < 2 ^ 64 → IsFew changed
+pub reads-printed : (plant : Plant) (used : ℕ) (changed : Option ℕ) (answer : Answer) → Sound plant → length (printed_plan answer) ≤ most_lines plant → All (IsWritable plant) (printed_plan answer) → IsInMoney answer → used < 2 ^ 64 → IsFew changed
     → plan_of_text plant (answer_text plant used changed answer) ≡ Ok (printed_plan answer)
 reads-printed plant used changed answer sound short can small few fewer =
     ap (plan_of_text plant) (answer-lines plant used changed answer) ∙ reads-lines plant (printed_plan answer) (remarks answer used changed) sound short can (are_remarks answer used changed small few fewer)

@@ -67,7 +67,7 @@ counted_once : (t : Bool) (n m : ℕ) → n ≤ m → cond t n 0 ≤ m
 counted_once true n m h = h
 counted_once false n m h = omega arith
 
-supply-small : (plant : Plant) (state time : ℕ) → Sound plant → state < length plant.states → unsigned_abs (supply plant state time) ≤ 257000000000
+supply-small : (plant : Plant) (state time : ℕ) → Sound plant → state < length plant.states → unsigned_abs (supply plant state time) ≤ 901000000000
 unfolding supply received delivered
 supply-small plant state time sound l =
     let initial = (sound.states state no_state l).initial in
@@ -105,7 +105,7 @@ stock_rows-bounded plant sound =
     (All-row_table bounded (low_row plant) times (length plant.states) (λ state time l m. low_row-bounded plant state time sound l))
     (All-row_table bounded (high_row plant) (limit_count plant) (length plant.states) (λ state time l m. high_row-bounded plant state time sound l m))
 
-times-small : (states times : ℕ) → states ≤ 40 → times ≤ 337 → states * times ≤ 13480
+times-small : (states times : ℕ) → states ≤ 160 → times ≤ 337 → states * times ≤ 53920
 times-small states times h k = grind arith
 
 limit_count-small : (plant : Plant) (state : ℕ) → Sound plant → state < length plant.states → limit_count plant state ≤ 337
@@ -117,7 +117,7 @@ limit_count-small plant state sound l =
     ]
 
 -- how many stock rows there are at most
-pub length-stock_rows : (plant : Plant) → Sound plant → length (stock_rows plant) ≤ 26960
+pub length-stock_rows : (plant : Plant) → Sound plant → length (stock_rows plant) ≤ 107840
 unfolding stock_rows low_rows high_rows
 length-stock_rows plant sound =
     let n = length plant.states in

@@ -11,7 +11,7 @@ pub fn supply(plant: &Plant, state: u32, time: u32) -> i128
     requires sound { Sound plant.now }
     requires state { state < length plant.now.states }
     ensures value { result ≡ supply plant.now state time }
-    ensures small { unsigned_abs result ≤ 2 ^ 39 }
+    ensures small { unsigned_abs result ≤ 2 ^ 41 }
 {
     let initial = plant.states.get(state as usize).initial;
     let came = initial + received_by(plant, state, time);

@@ -175,7 +175,7 @@ splits-right program v w pick parted is =
     subst (λ (xs : List Domain). sum_by splits_of xs + 1 ≤ sum_by splits_of ds) (sym (domains_there (ltb pick.slot (length ds)) (kept_at ds pick.slot (over pick.max)) w is))
     (sum_less ds pick.slot (shared (domain_at ds pick.slot) (over pick.max)) parted.slot parted.fewer.right)
 
--- 512 slots have at most 4,608 splits, less one for each slot that is spared one
+-- a slot has at most nine splits, less one where it is spared one
 pub spared_most : (d : Domain) → splits_of d + spared d ≤ 9
 spared_most d = at (d.zero && leb d.lo d.hi)
   where
@@ -183,6 +183,7 @@ spared_most d = at (d.zero && leb d.lo d.hi)
     at true = omega (arith, halvings_most (d.hi + 1 - d.lo))
     at false = omega (arith, halvings_most (d.hi + 1 - d.lo))
 
+-- so slots have at most nine splits each, less one for each slot that is spared one
 pub spared_sum : (ds : List Domain) → sum_by splits_of ds + sum_by spared ds ≤ 9 * length ds
 spared_sum [] = omega arith
 spared_sum (d ∷ ds) = omega (arith, sum_by-cons splits_of d ds, sum_by-cons spared d ds, spared_most d, spared_sum ds)
@@ -197,11 +198,9 @@ splits_part ds n d lt = omega (arith, spared_part ds n d lt)
 pub splits_sum : (ds : List Domain) → sum_by splits_of ds ≤ 9 * length ds
 splits_sum ds = omega (arith, spared_sum ds)
 
-pub splits-few : (ds : List Domain) → length ds ≤ 512 → sum_by splits_of ds + sum_by spared ds ≤ 4608
-splits-few ds few = omega (arith, few, spared_sum ds)
-
-pub splits-root : (program : Program) → IsSearchable program → view_splits (view_of program.root) + sum_by spared program.root ≤ 4608
-splits-root program searchable =
+-- the root of a program that a search takes up has no more splits than may stand one below another
+pub splits-root : (most : ℕ) (program : Program) → IsSearchable most program → view_splits (view_of program.root) + sum_by spared program.root ≤ most
+splits-root most program searchable =
     let few = searchable.few_splits in
     let same = ap (λ (ds : List Domain). sum_by splits_of ds) (domains_of-view_of program.root) in
     omega (arith, few, same)

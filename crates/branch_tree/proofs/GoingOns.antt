@@ -16,20 +16,21 @@ use Rattle.branch_tree.specs.laws.Going.{CanGoOn}
 use Rattle.branch_tree.specs.laws.Grounds.{IsAmong, IsGround, StandsIn, choices_at, program_of, rows_of}
 
 -- a search that can go on stands in a box that fits and is not too deep, whatever certificate is at hand
-pub going-stands : (rows : Rows) (going : GoingOn) (view : View) (depth : ℕ) (held : Option Cert) → CanGoOn rows going → Fits (program_of going.ground) view → is_deep depth view ≡ false
+pub going-stands : (most : ℕ) (rows : Rows) (going : GoingOn) (view : View) (depth : ℕ) (held : Option Cert) → CanGoOn most rows going → Fits (program_of going.ground) view → is_deep going.ground.most depth view ≡ false
     → StandsIn going.ground view depth (record going.reached { changed = None; held = held })
-going-stands rows going view depth held can fits deep = record {
+going-stands most rows going view depth held can fits deep = record {
   indexed = can.indexed;
   fits = fits;
   places = can.places;
-  deep = ltb-false 4608 (depth + view_splits view) deep;
+  deep = ltb-false going.ground.most (depth + view_splits view) deep;
   room = tt;
   own = subst (λ (o : Option Found). IfSome o (λ found. IsGroup (choices_at going.ground) found × IsAmong (rows_of going.ground) view found.point)) (sym can.none) tt;
 }
 
 -- and can go on afterwards
-pub going-goes : (rows : Rows) (old new : GoingOn) → new.ground ≡ old.ground → length new.reached.point.items ≡ length old.reached.point.items → new.reached.own ≡ None → CanGoOn rows old → CanGoOn rows new
-going-goes rows old new ground places none can = record {
+pub going-goes : (most : ℕ) (rows : Rows) (old new : GoingOn) → new.ground ≡ old.ground → length new.reached.point.items ≡ length old.reached.point.items → new.reached.own ≡ None → CanGoOn most rows old → CanGoOn most rows new
+going-goes most rows old new ground places none can = record {
+  limited = ap (λ (g : Ground). g.most) ground ∙ can.limited;
   over = ap (λ (g : Ground). g.rows.now) ground ∙ can.over;
   indexed = subst IsGround (sym ground) can.indexed;
   places = places ∙ can.places ∙ sym (ap (λ (g : Ground). length (program_of g).root) ground);

@@ -111,22 +111,22 @@ root-stands ground point marks start indexed images is begun = subst (λ (ms : L
       indexed = indexed;
       fits = root_fits (rows_of ground);
       places = begun.places;
-      deep = omega (arith, splits-root (program_of ground) indexed.searchable);
+      deep = omega (arith, splits-root ground.most (program_of ground) indexed.searchable);
       room = subst (λ o. IfSome o (λ slot. (slot < length (program_of ground).root) × HaveRoomBut (program_of ground).rows (slot ∷ []) (domains_of (view_of (program_of ground).root)))) (sym begun.changed) tt;
       own = own_at start.own begun.own.group;
     }
 
 -- what is known of the search of the root
-pub record RootSearched {T O : Type 0} (took : T → O → List RowItem → T → O → Type 0) (rows : Rows) (floors : Bool) (point : List ℕ) (given budget : ℕ) (may_leave : Bool) (cap : Capped) (start new : Reached) (left_open : Bool) (t : T) (o : O) (t2 : T) (o2 : O) : Type 0 where
-  pub searchable : AreSearchable rows
+pub record RootSearched {T O : Type 0} (took : T → O → List RowItem → T → O → Type 0) (most : ℕ) (rows : Rows) (floors : Bool) (point : List ℕ) (given budget : ℕ) (may_leave : Bool) (cap : Capped) (start new : Reached) (left_open : Bool) (t : T) (o : O) (t2 : T) (o2 : O) : Type 0 where
+  pub searchable : AreSearchable most rows
   pub box : BoxHanded took (λ parent. ⊤) rows floors given budget may_leave (view_of rows.program.root) cap start t o new t2 o2
   pub begun : IsStart rows point start
   pub own : IsOwnBest start.own new.best
   pub within : new.spent ≤ budget
   pub over : left_open ≡ is_over cap (option_map (λ f. f.value) new.best)
 
-module _ {T O : Type 0} (took : T → O → List RowItem → T → O → Type 0) (rows : Rows) (floors : Bool) (point : List ℕ) (given budget : ℕ) (may_leave : Bool) (cap : Capped) (start new : Reached) (left_open : Bool) (t : T) (o : O) (t2 : T) (o2 : O)
-    (root : RootSearched took rows floors point given budget may_leave cap start new left_open t o t2 o2) where
+module _ {T O : Type 0} (took : T → O → List RowItem → T → O → Type 0) (most : ℕ) (rows : Rows) (floors : Bool) (point : List ℕ) (given budget : ℕ) (may_leave : Bool) (cap : Capped) (start new : Reached) (left_open : Bool) (t : T) (o : O) (t2 : T) (o2 : O)
+    (root : RootSearched took most rows floors point given budget may_leave cap start new left_open t o t2 o2) where
   -- each node of the proof
   nodes : EachNode (NodeDone rows given) (steps_of rows) None [] (view_of rows.program.root) root.box.tree
   nodes = root.box.done None [] tt (subst (λ b. IsBest b []) (sym root.begun.best) refl)
@@ -164,7 +164,7 @@ module _ {T O : Type 0} (took : T → O → List RowItem → T → O → Type 0)
   pub ended_of_root : Ended
   ended_of_root = record { best = new.best; cap = cap; spent = new.spent; left_open = left_open }
 
-  pub root-search : IsSearch rows floors given budget root.box.tree (record { best = new.best; cap = cap; spent = new.spent; left_open = left_open })
+  pub root-search : IsSearch most rows floors given budget root.box.tree (record { best = new.best; cap = cap; spent = new.spent; left_open = left_open })
   root-search = record {
     cap = root.box.capped;
     defined = defined;
@@ -172,7 +172,7 @@ module _ {T O : Type 0} (took : T → O → List RowItem → T → O → Type 0)
     justified = tree-justified rows given root.box.tree None [] (view_of rows.program.root) nodes;
     writable = record {
       fit = root.box.fit;
-      shallow = omega (arith, tree-depth rows given root.box.tree None [] (view_of rows.program.root) (root_fits rows) nodes, splits-root rows.program root.searchable.program);
+      shallow = omega (arith, tree-depth rows given root.box.tree None [] (view_of rows.program.root) (root_fits rows) nodes, splits-root most rows.program root.searchable.program);
     };
     best = best;
     spent = spent_is;
@@ -197,7 +197,7 @@ module _ {T O : Type 0} (took : T → O → List RowItem → T → O → Type 0)
   root-begun = best_worth rows point start.own new.best root.begun.own.given root.own
 
   -- the items of the proof were taken
-  pub root-taken : took t o [] t o → IsSearchedTo took rows floors given budget (record { best = new.best; cap = cap; spent = new.spent; left_open = left_open }) t o t2 o2
+  pub root-taken : took t o [] t o → IsSearchedTo took most rows floors given budget (record { best = new.best; cap = cap; spent = new.spent; left_open = left_open }) t o t2 o2
   root-taken none = record { tree = root.box.tree; search = root-search; handed = root.box.handed t o [] none }
 
   -- a budget that was spent makes the count exact
@@ -211,10 +211,10 @@ module _ {T O : Type 0} (took : T → O → List RowItem → T → O → Type 0)
   root-full never over = root.box.counts.full never (some_open over)
 
 -- what the search of the root comes to
-pub root-searched : {T O : Type 0} (took : T → O → List RowItem → T → O → Type 0) (rows : Rows) (floors : Bool) (point : List ℕ) (given budget : ℕ) (may_leave : Bool) (cap : Capped) (start new : Reached) (left_open : Bool) (t : T) (o : O) (t2 : T) (o2 : O)
-    (marks : List (List Domain)) (worth : Option ℤ) → AreSearchable rows → marks ≡ rows.program.root ∷ [] → BoxHanded took (λ parent. ⊤) rows floors given budget may_leave (seen marks) cap start t o new t2 o2 → IsStart rows point start → IsOwnBest start.own new.best
-    → new.spent ≤ budget → worth ≡ option_map (λ f. f.value) new.best → left_open ≡ is_over cap worth → RootSearched took rows floors point given budget may_leave cap start new left_open t o t2 o2
-root-searched took rows floors point given budget may_leave cap start new left_open t o t2 o2 marks worth searchable is box begun own within worth_is over = record {
+pub root-searched : {T O : Type 0} (took : T → O → List RowItem → T → O → Type 0) (most : ℕ) (rows : Rows) (floors : Bool) (point : List ℕ) (given budget : ℕ) (may_leave : Bool) (cap : Capped) (start new : Reached) (left_open : Bool) (t : T) (o : O) (t2 : T) (o2 : O)
+    (marks : List (List Domain)) (worth : Option ℤ) → AreSearchable most rows → marks ≡ rows.program.root ∷ [] → BoxHanded took (λ parent. ⊤) rows floors given budget may_leave (seen marks) cap start t o new t2 o2 → IsStart rows point start → IsOwnBest start.own new.best
+    → new.spent ≤ budget → worth ≡ option_map (λ f. f.value) new.best → left_open ≡ is_over cap worth → RootSearched took most rows floors point given budget may_leave cap start new left_open t o t2 o2
+root-searched took most rows floors point given budget may_leave cap start new left_open t o t2 o2 marks worth searchable is box begun own within worth_is over = record {
   searchable = searchable;
   box = subst (λ (ms : List (List Domain)). BoxHanded took (λ parent. ⊤) rows floors given budget may_leave (seen ms) cap start t o new t2 o2) is box;
   begun = begun;
@@ -224,16 +224,16 @@ root-searched took rows floors point given budget may_leave cap start new left_o
 }
 
 -- a search that broke off
-pub root-stopped : {T O : Type 0} (took broke : T → O → List RowItem → T → O → Type 0) (rows : Rows) (floors : Bool) (t : T) (o : O) (t2 : T) (o2 : O) → IsSearchable rows.program → took t o [] t o → BoxStopped took broke rows floors (view_of rows.program.root) t o t2 o2 → IsBrokenOff took broke rows floors t o t2 o2
-root-stopped took broke rows floors t o t2 o2 searchable none s = record {
+pub root-stopped : {T O : Type 0} (took broke : T → O → List RowItem → T → O → Type 0) (most : ℕ) (rows : Rows) (floors : Bool) (t : T) (o : O) (t2 : T) (o2 : O) → IsSearchable most rows.program → took t o [] t o → BoxStopped took broke rows floors (view_of rows.program.root) t o t2 o2 → IsBrokenOff took broke most rows floors t o t2 o2
+root-stopped took broke most rows floors t o t2 o2 searchable none s = record {
   tree = s.tree;
   items = s.stopped.items;
   later = s.stopped.later;
   first = s.stopped.first;
   handed = elim s.stopped.grows [ inl grown ↦ inl (grown t o [] none) | inr grown ↦ inr (grown t o [] none) ];
-  writable = record { fit = s.fit; shallow = omega (arith, s.deep, splits-root rows.program searchable) };
+  writable = record { fit = s.fit; shallow = omega (arith, s.deep, splits-root most rows.program searchable) };
 }
 
 -- a search that broke off before its first item
-pub root-before : {T O : Type 0} (took broke : T → O → List RowItem → T → O → Type 0) (rows : Rows) (floors : Bool) (t : T) (o : O) → IsSearchable rows.program → took t o [] t o → IsBrokenOff took broke rows floors t o t o
-root-before took broke rows floors t o searchable none = root-stopped took broke rows floors t o t o searchable none (box_before took broke rows floors (view_of rows.program.root) t o)
+pub root-before : {T O : Type 0} (took broke : T → O → List RowItem → T → O → Type 0) (most : ℕ) (rows : Rows) (floors : Bool) (t : T) (o : O) → IsSearchable most rows.program → took t o [] t o → IsBrokenOff took broke most rows floors t o t o
+root-before took broke most rows floors t o searchable none = root-stopped took broke most rows floors t o t o searchable none (box_before took broke rows floors (view_of rows.program.root) t o)

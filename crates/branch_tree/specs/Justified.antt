@@ -44,7 +44,7 @@ abbrev pub IsAbove : Capped → List Found → Type 0
 IsAbove (AtMost cap) found = All (λ f. f.value <ℤ cap) found
 IsAbove _ found = ⊥
 
--- a certificate of scale 1 or more: no change of a single factor lowers its total by the scale or more, and its cap is not above that of scale 1 without multipliers
+-- a certificate of scale 1 or more, whose cap is not above that of scale 1 without multipliers; where there are no more than 50,000 rows, no change of a single factor lowers its total by the scale or more
 pub record IsPolished (program : Program) (domains : List Domain) (cert : Cert) : Type 0 where
   pub scale : 1 ≤ cert.scale
   pub total : IsSome (total_at program domains cert)

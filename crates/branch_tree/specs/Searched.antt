@@ -42,26 +42,25 @@ IsFitItem rows floors (Split pick cert) = (pick.slot < length rows.program.root)
 abbrev pub spared : Domain → ℕ
 spared domain = if domain.zero && nat_le domain.lo domain.hi then 0 else 1
 
--- a program that a search takes up: each slot of the root has a value, all slots can be split no more than 4,608 times, where one that
--- lacks 0 or holds 0 alone counts once more, and there are no more rows than can have factors
-pub record IsSearchable (program : Program) : Type 0 where
+-- a program that a search takes up: each slot of the root has a value, and all slots can be split no more often than splits may stand one
+-- below another, where a slot that lacks 0 or holds 0 alone counts once more
+pub record IsSearchable (most : ℕ) (program : Program) : Type 0 where
   pub each_open : All IsOpen program.root
-  pub few_splits : sum_by splits_of program.root + sum_by spared program.root ≤ 4608
-  pub few_rows : length program.rows ≤ 50000
+  pub few_splits : sum_by splits_of program.root + sum_by spared program.root ≤ most
 
 -- rows that a search takes up: each lawful point has an image among them, and their program is one that a search takes up
-pub record AreSearchable (rows : Rows) : Type 0 where
+pub record AreSearchable (most : ℕ) (rows : Rows) : Type 0 where
   pub images : HaveImages rows
-  pub program : IsSearchable rows.program
+  pub program : IsSearchable most rows.program
 
--- no node stands below more than 4,608 splits, less one for each slot of the root that lacks 0 or holds 0 alone
-abbrev pub IsShallow : Program → RowTree → Type 0
-IsShallow program tree = depth tree + sum_by spared program.root ≤ 4609
+-- no node stands below more than the most splits, less one for each slot of the root that lacks 0 or holds 0 alone
+abbrev pub IsShallow : ℕ → Program → RowTree → Type 0
+IsShallow most program tree = depth tree + sum_by spared program.root ≤ most + 1
 
 -- a proof that may be written, with floors only where splits may have them
-pub record IsWritable (rows : Rows) (floors : Bool) (tree : RowTree) : Type 0 where
+pub record IsWritable (most : ℕ) (rows : Rows) (floors : Bool) (tree : RowTree) : Type 0 where
   pub fit : All (IsFitItem rows floors) (tree_items tree)
-  pub shallow : IsShallow rows.program tree
+  pub shallow : IsShallow most rows.program tree
 
 -- the best of found points: one that none of them is above, and none exactly where there are none
 abbrev pub IsBest : Option Found → List Found → Type 0
@@ -83,14 +82,14 @@ IsSettled (AtMost cap) (Some best) = cap ≡ best.value
 IsSettled NoPoint None = ⊤
 IsSettled _ _ = ⊥
 
--- what a search of the root with a budget comes to, and the proof that it makes; splits have floors only where `floors` says so, and slots from the number `given` on are sums
-pub record IsSearch (rows : Rows) (floors : Bool) (given budget : ℕ) (tree : RowTree) (ended : Ended) : Type 0 where
+-- what a search of the root with a budget comes to, and the proof that it makes: at most so many splits stand there one below another, splits have floors only where `floors` says so, and slots from the number `given` on are sums
+pub record IsSearch (most : ℕ) (rows : Rows) (floors : Bool) (given budget : ℕ) (tree : RowTree) (ended : Ended) : Type 0 where
   -- the cap is that of the proof, and no lawful point is worth more
   pub cap : ended.cap ≡ tree_cap (steps_of rows) (view_of rows.program.root) tree
   pub defined : ended.cap ≢ Bad
   pub bounds : Bounds (LiesIn (choices_of rows).root) (IsLawful (choices_of rows)) (worth_of (choices_of rows)) ended.cap
   pub justified : IsJustified rows given tree
-  pub writable : IsWritable rows floors tree
+  pub writable : IsWritable most rows floors tree
   pub best : IsBest ended.best (found_points tree)
   -- the counted boxes are at most the budget, and at most twice the points less one
   pub spent : ended.spent ≡ counted tree
@@ -116,16 +115,16 @@ pub record IsExact (program : Program) (budget : ℕ) (ended : Ended) : Type 0 w
   pub below : ended.left_open ≡ true → budget + 1 < 2 * points_of program.root
 
 -- a search whose proof a taker took
-pub record IsSearchedTo {T O : Type 0} (took : T → O → List RowItem → T → O → Type 0) (rows : Rows) (floors : Bool) (given budget : ℕ) (ended : Ended) (taker : T) (out : O) (taker_after : T) (out_after : O) : Type 0 where
+pub record IsSearchedTo {T O : Type 0} (took : T → O → List RowItem → T → O → Type 0) (most : ℕ) (rows : Rows) (floors : Bool) (given budget : ℕ) (ended : Ended) (taker : T) (out : O) (taker_after : T) (out_after : O) : Type 0 where
   pub tree : RowTree
-  pub search : IsSearch rows floors given budget tree ended
+  pub search : IsSearch most rows floors given budget tree ended
   pub handed : took taker out (tree_items tree) taker_after out_after
 
 -- a search that broke off: a taker took, or did not wholly take, the first items of some proof that may be written
-pub record IsBrokenOff {T O : Type 0} (took broke : T → O → List RowItem → T → O → Type 0) (rows : Rows) (floors : Bool) (taker : T) (out : O) (taker_after : T) (out_after : O) : Type 0 where
+pub record IsBrokenOff {T O : Type 0} (took broke : T → O → List RowItem → T → O → Type 0) (most : ℕ) (rows : Rows) (floors : Bool) (taker : T) (out : O) (taker_after : T) (out_after : O) : Type 0 where
   pub tree : RowTree
   pub items : List RowItem
   pub later : List RowItem
   pub first : tree_items tree ≡ items ++ later
   pub handed : took taker out items taker_after out_after ⊎ broke taker out items taker_after out_after
-  pub writable : IsWritable rows floors tree
+  pub writable : IsWritable most rows floors tree

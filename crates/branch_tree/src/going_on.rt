@@ -1,5 +1,5 @@
 //! A search that goes on at boxes of a proof that stands.
-ghost use Rattle.std.specs.Prelude.{◌≡◌, ◌≤◌, ◌<◌, ◌*◌, length, map, IfOk, OnOk, OnErr, IsErrOf, false};
+ghost use Rattle.std.specs.Prelude.{◌≡◌, ℕ, ◌≤◌, ◌<◌, ◌*◌, length, map, IfOk, OnOk, OnErr, IsErrOf, false};
 ghost use Rattle.std.specs.List.{sum_by};
 ghost use Rattle.row_kit.specs.Area.{present};
 ghost use Rattle.proof_tree.specs.Taker.{Rose};
@@ -24,9 +24,6 @@ use row_kit::{Area, Found, worth};
 use row_relax::{Rows, choices_of, put_values};
 use std::alloc::{AllocError, Global};
 
-// The most splits that may be open above a box.
-const MOST_SPLITS: u64 = 4_608;
-
 /// A search that goes on at boxes of a proof that stands, one after another: it keeps its count and its best point from one to the next.
 #[derive(Drop)]
 pub struct GoingOn<'a> {
@@ -46,11 +43,11 @@ fn splits_in(area: &Area) -> u64
     splits
 }
 
-/// Whether an area stands below so many splits that with those which its domains allow there could be more than 4,608.
-pub fn is_deep(area: &Area, depth: u32) -> bool
-    ensures { result ≡ is_deep depth (seen area.now) }
+/// Whether an area stands below so many splits that with those which its domains allow there could be more than the most.
+pub fn is_deep(area: &Area, depth: u32, most: u32) -> bool
+    ensures { result ≡ is_deep most depth (seen area.now) }
 {
-    MOST_SPLITS < u64::from(depth) + splits_in(area)
+    u64::from(most) < u64::from(depth) + splits_in(area)
 }
 
 // Whether a worth is above that of a point, or there is none.
@@ -62,18 +59,20 @@ fn is_more(worth: i128, best: &Option<Found>) -> bool {
 }
 
 impl<'a> GoingOn<'a> {
-    /// A search before its first box, which counts at most so many boxes and knows this point. Slots from the number `given` on are
-    /// sums; splits have floors only where `floors` says so. It takes memory for the rows of each slot.
+    /// A search before its first box, which counts at most so many boxes and knows this point. At most `most` splits stand one below
+    /// another. Slots from the number `given` on are sums; splits have floors only where `floors` says so. It takes memory for the rows
+    /// of each slot.
     pub fn new(
         alloc: Global,
         rows: &'a Rows,
+        most: u32,
         given: u32,
         floors: bool,
         budget: u32,
         best: Option<Found>,
     ) -> Result<GoingOn<'a>, AllocError>
-        requires searchable { IsSearchable rows.now.program }
-        ensures can { IfOk result (CanGoOn rows.now) }
+        requires searchable { IsSearchable most rows.now.program }
+        ensures can { IfOk result (CanGoOn most rows.now) }
     {
         let point = vec![in alloc; 0u8; rows.program.root.len()]?;
         Ok(GoingOn {
@@ -81,6 +80,7 @@ impl<'a> GoingOn<'a> {
                 alloc,
                 rows,
                 index: RowIndex::new(alloc, &rows.program)?,
+                most,
                 given,
                 floors,
                 budget,
@@ -111,7 +111,8 @@ impl<'a> GoingOn<'a> {
 
     /// Keeps a point as the best one, where it is lawful and worth more. It takes memory for the point.
     pub fn offer(&mut self, point: &[u8]) -> Result<(), AllocError>
-        ensures { OnOk result ((rows : Rows) → CanGoOn rows self.old → CanGoOn rows self.new) }
+        ensures { OnOk result ((most : ℕ) (rows : Rows) → CanGoOn most rows self.old
+            → CanGoOn most rows self.new) }
     {
         let found = tested(self.ground.alloc, choices_of(self.ground.rows), point)?;
         self.reached.best = better(self.reached.best.take(), found);
@@ -121,9 +122,10 @@ impl<'a> GoingOn<'a> {
     /// Keeps the only point of an area as the best one, where each slot that points have has one value there, and the point is lawful
     /// and worth more. It takes memory for the point.
     pub fn settle(&mut self, area: &Area) -> Result<(), AllocError>
-        requires can { (rows : Rows) × CanGoOn rows self.old }
+        requires can { (most : ℕ) × ((rows : Rows) × CanGoOn most rows self.old) }
         requires slots { length (present area.now) ≡ length (program_of self.old.ground).root }
-        ensures { OnOk result ((rows : Rows) → CanGoOn rows self.old → CanGoOn rows self.new) }
+        ensures { OnOk result ((most : ℕ) (rows : Rows) → CanGoOn most rows self.old
+            → CanGoOn most rows self.new) }
     {
         if !is_chosen(&self.ground, area) {
             return Ok(());
@@ -140,7 +142,8 @@ impl<'a> GoingOn<'a> {
 
     /// Allows a box more to be counted: that of an end which a proof counts already, and which is searched on.
     pub fn count_again(&mut self)
-        ensures can { (rows : Rows) → CanGoOn rows self.old → CanGoOn rows self.new }
+        ensures can { (most : ℕ) (rows : Rows) → CanGoOn most rows self.old
+            → CanGoOn most rows self.new }
         ensures left { HasLeft self.old → HasLeft self.new }
     {
         self.ground.budget = self.ground.budget.saturating_add(1);
@@ -158,12 +161,13 @@ impl<'a> GoingOn<'a> {
         taker: &mut T,
         out: &mut O,
     ) -> Result<Capped, TakeStop>
-        requires can { (rows : Rows) × CanGoOn rows self.old }
+        requires can { (most : ℕ) × ((rows : Rows) × CanGoOn most rows self.old) }
         requires fits { Fits (program_of self.old.ground) (seen area.old) }
-        requires deep { is_deep depth (seen area.old) ≡ false }
+        requires deep { is_deep self.old.ground.most depth (seen area.old) ≡ false }
         requires room { HasLeft self.old }
         requires ready { T.ready taker.old out.old }
-        ensures can { OnOk result ((rows : Rows) → CanGoOn rows self.old → CanGoOn rows self.new) }
+        ensures can { OnOk result ((most : ℕ) (rows : Rows) → CanGoOn most rows self.old
+            → CanGoOn most rows self.new) }
         ensures as_before { OnOk result (map view_of area.new ≡ map view_of area.old) }
         ensures ready { OnOk result (T.ready taker.new out.new) }
         ensures handed { IfOk result (λ cap. HandsBox T.took self.old held (seen area.old)

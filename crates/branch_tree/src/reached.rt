@@ -12,6 +12,8 @@ pub(crate) struct Ground<'a> {
     pub rows: &'a Rows,
     // The rows of each slot.
     pub index: RowIndex,
+    // So many splits may stand one below another.
+    pub most: u32,
     // Slots from this number on are sums, and may be split at any value.
     pub given: u32,
     // Whether splits may have floors.

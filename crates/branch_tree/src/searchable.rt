@@ -6,30 +6,27 @@ ghost use Rattle.branch_tree.specs.Searched.{AreSearchable, IsSearchable, spared
 ghost use Rattle.branch_tree.specs.Splits.{splits_of};
 
 use crate::picking::splits_of;
-use dual_bound::MOST_MULTS;
 use row_kit::{Domain, Program};
 use row_relax::Rows;
 
-// How often the slots of a program that is searched can be split at most: the splits that stand one below another.
-const MOST_SPLITS: u32 = 4608;
-
-/// Whether a program can be searched: whether each slot of its root has a value, all of them can be split no more than 4,608 times,
-/// as 512 slots always can, and it has no more than 50,000 rows. It costs the slots.
-pub fn is_searchable(program: &Program) -> bool
-    ensures { IsTrue result ↔ IsSearchable program.now }
+/// Whether a program can be searched where at most so many splits may stand one below another: whether each slot of its root has a
+/// value, and all of them can be split no more often, as slots always can of which there are a ninth as many. It costs the slots.
+pub fn is_searchable(program: &Program, most: u32) -> bool
+    ensures { IsTrue result ↔ IsSearchable most program.now }
 {
     let slots = program.root.as_slice();
-    program.rows.len() <= MOST_MULTS && are_open(slots) && all_splits(slots) <= MOST_SPLITS
+    are_open(slots) && all_splits(slots) <= most
 }
 
-/// Whether rows can be searched whose points are judged by their own program. It costs the slots.
-pub fn are_plain_searchable(rows: &Rows) -> bool
+/// Whether rows whose points are judged by their own program can be searched where at most so many splits may stand one below
+/// another. It costs the slots.
+pub fn are_plain_searchable(rows: &Rows, most: u32) -> bool
     ensures exact { IsTrue result
-        ↔ ((rows.now.choices ≡ None) × IsSearchable rows.now.program) }
-    ensures searchable { IsTrue result → AreSearchable rows.now }
+        ↔ ((rows.now.choices ≡ None) × IsSearchable most rows.now.program) }
+    ensures searchable { IsTrue result → AreSearchable most rows.now }
 {
     match &rows.choices {
-        None => is_searchable(&rows.program),
+        None => is_searchable(&rows.program, most),
         Some(_) => false,
     }
 }

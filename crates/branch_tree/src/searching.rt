@@ -69,7 +69,7 @@ fn search_root<H: Hinter, G: Guide, O, T: NodeTaker<Rows, O>>(
     requires budget { 1 ≤ ground.now.budget }
     requires ready { T.ready taker.old out.old }
     ensures ready { OnOk result (T.ready taker.new out.new) }
-    ensures ok { IfOk result (λ ended. IsSearchedTo T.took (rows_of ground.now)
+    ensures ok { IfOk result (λ ended. IsSearchedTo T.took ground.now.most (rows_of ground.now)
         ground.now.floors ground.now.given ground.now.budget ended taker.old out.old
         taker.new out.new) }
     ensures begun { IfOk result
@@ -80,7 +80,7 @@ fn search_root<H: Hinter, G: Guide, O, T: NodeTaker<Rows, O>>(
     ensures guided { IfOk result
         (λ ended. ended.spent ≡ ground.now.budget
         → IsExact (program_of ground.now) ground.now.budget ended) }
-    ensures err { OnErr result (IsBrokenOff T.took T.broke (rows_of ground.now)
+    ensures err { OnErr result (IsBrokenOff T.took T.broke ground.now.most (rows_of ground.now)
         ground.now.floors taker.old out.old taker.new out.new) }
     ensures later { T.faults out.old ≤ T.faults out.new }
     ensures failed { IsErrOf result TakeStop.Failed → Rose (T.faults out.old) (T.faults out.new) }
@@ -110,13 +110,15 @@ fn search_root<H: Hinter, G: Guide, O, T: NodeTaker<Rows, O>>(
 /// As `search_to`, with a guide that may leave boxes open though budget is left. The answer also says whether the count is
 /// exact: whether the budget was spent, or nothing is left open.
 ///
-/// Slots from the number `given` on are sums, and may be split at any value; those below it are split at 0 or in the middle alone.
+/// At most `most` splits stand one below another. Slots from the number `given` on are sums, and may be split at any value; those
+/// below it are split at 0 or in the middle alone.
 /// Where `floors` says so, a split may forget, by its certificate, points that are worth no more than the best one so far.
 /// Points are judged by the choices of the rows, and each lawful one is to have an image there. The best point is worth as much as
 /// `start`, where that is a lawful point; any other is passed over.
 pub fn search_guided_to<H: Hinter, G: Guide, O, T: NodeTaker<Rows, O>>(
     alloc: Global,
     rows: &Rows,
+    most: u32,
     given: u32,
     floors: bool,
     budget: u32,
@@ -126,11 +128,11 @@ pub fn search_guided_to<H: Hinter, G: Guide, O, T: NodeTaker<Rows, O>>(
     taker: &mut T,
     out: &mut O,
 ) -> Result<Guided, TakeStop>
-    requires searchable { AreSearchable rows.now }
+    requires searchable { AreSearchable most rows.now }
     requires budget { (1 ≤ budget) × (budget ≤ 100000) }
     requires ready { T.ready taker.old out.old }
     ensures ready { OnOk result (T.ready taker.new out.new) }
-    ensures ok { IfOk result (λ guided. IsSearchedTo T.took rows.now floors given budget
+    ensures ok { IfOk result (λ guided. IsSearchedTo T.took most rows.now floors given budget
         guided.ended taker.old out.old taker.new out.new) }
     ensures begun { IfOk result
         (λ guided. IsWorth (choices_of rows.now) start.now guided.ended.best) }
@@ -139,7 +141,7 @@ pub fn search_guided_to<H: Hinter, G: Guide, O, T: NodeTaker<Rows, O>>(
     ensures inexact { IfOk result
         (λ guided. guided.exact ≡ false
         → (guided.ended.left_open ≡ true) × (guided.ended.spent ≢ budget)) }
-    ensures err { OnErr result (IsBrokenOff T.took T.broke rows.now floors taker.old out.old
+    ensures err { OnErr result (IsBrokenOff T.took T.broke most rows.now floors taker.old out.old
         taker.new out.new) }
     ensures later { T.faults out.old ≤ T.faults out.new }
     ensures failed { IsErrOf result TakeStop.Failed → Rose (T.faults out.old) (T.faults out.new) }
@@ -148,6 +150,7 @@ pub fn search_guided_to<H: Hinter, G: Guide, O, T: NodeTaker<Rows, O>>(
         alloc,
         rows,
         index: RowIndex::new(alloc, &rows.program)?,
+        most,
         given,
         floors,
         budget,
@@ -163,13 +166,15 @@ pub fn search_guided_to<H: Hinter, G: Guide, O, T: NodeTaker<Rows, O>>(
 /// leaves a box open only where it counted just as many: the guide is not asked which to leave. After an error the taker took the first
 /// items of some proof.
 ///
-/// Slots from the number `given` on are sums, and may be split at any value; those below it are split at 0 or in the middle alone.
+/// At most `most` splits stand one below another. Slots from the number `given` on are sums, and may be split at any value; those
+/// below it are split at 0 or in the middle alone.
 /// Where `floors` says so, a split may forget, by its certificate, points that are worth no more than the best one so far.
 /// Points are judged by the choices of the rows, and each lawful one is to have an image there. The best point is worth as much as
 /// `start`, where that is a lawful point; any other is passed over.
 pub fn search_to<H: Hinter, G: Guide, O, T: NodeTaker<Rows, O>>(
     alloc: Global,
     rows: &Rows,
+    most: u32,
     given: u32,
     floors: bool,
     budget: u32,
@@ -179,15 +184,15 @@ pub fn search_to<H: Hinter, G: Guide, O, T: NodeTaker<Rows, O>>(
     taker: &mut T,
     out: &mut O,
 ) -> Result<Ended, TakeStop>
-    requires searchable { AreSearchable rows.now }
+    requires searchable { AreSearchable most rows.now }
     requires budget { (1 ≤ budget) × (budget ≤ 100000) }
     requires ready { T.ready taker.old out.old }
     ensures ready { OnOk result (T.ready taker.new out.new) }
-    ensures ok { IfOk result (λ ended. IsSearchedTo T.took rows.now floors given budget
+    ensures ok { IfOk result (λ ended. IsSearchedTo T.took most rows.now floors given budget
         ended taker.old out.old taker.new out.new) }
     ensures begun { IfOk result (λ ended. IsWorth (choices_of rows.now) start.now ended.best) }
     ensures exact { IfOk result (IsExact rows.now.program budget) }
-    ensures err { OnErr result (IsBrokenOff T.took T.broke rows.now floors taker.old out.old
+    ensures err { OnErr result (IsBrokenOff T.took T.broke most rows.now floors taker.old out.old
         taker.new out.new) }
     ensures later { T.faults out.old ≤ T.faults out.new }
     ensures failed { IsErrOf result TakeStop.Failed → Rose (T.faults out.old) (T.faults out.new) }
@@ -196,6 +201,7 @@ pub fn search_to<H: Hinter, G: Guide, O, T: NodeTaker<Rows, O>>(
         alloc,
         rows,
         index: RowIndex::new(alloc, &rows.program)?,
+        most,
         given,
         floors,
         budget,
@@ -206,13 +212,15 @@ pub fn search_to<H: Hinter, G: Guide, O, T: NodeTaker<Rows, O>>(
 
 /// As `search`, with a guide that may leave boxes open though budget is left. The answer also says whether the count is exact.
 ///
-/// Slots from the number `given` on are sums, and may be split at any value; those below it are split at 0 or in the middle alone.
+/// At most `most` splits stand one below another. Slots from the number `given` on are sums, and may be split at any value; those
+/// below it are split at 0 or in the middle alone.
 /// Where `floors` says so, a split may forget, by its certificate, points that are worth no more than the best one so far.
 /// Points are judged by the choices of the rows, and each lawful one is to have an image there. The best point is worth as much as
 /// `start`, where that is a lawful point; any other is passed over.
 pub fn search_guided<H: Hinter, G: Guide>(
     alloc: Global,
     rows: &Rows,
+    most: u32,
     given: u32,
     floors: bool,
     budget: u32,
@@ -220,9 +228,9 @@ pub fn search_guided<H: Hinter, G: Guide>(
     hinter: &mut H,
     guide: &mut G,
 ) -> Result<(Searched, bool), AllocError>
-    requires searchable { AreSearchable rows.now }
+    requires searchable { AreSearchable most rows.now }
     requires budget { (1 ≤ budget) × (budget ≤ 100000) }
-    ensures ok { IfOk result (λ found. IsSearch rows.now floors given budget
+    ensures ok { IfOk result (λ found. IsSearch most rows.now floors given budget
         (tree_of found.0.tree) (ended_of found.0)) }
     ensures begun { IfOk result (λ found. IsWorth (choices_of rows.now) start.now found.0.best) }
     ensures exact { IfOk result
@@ -234,6 +242,7 @@ pub fn search_guided<H: Hinter, G: Guide>(
     match search_guided_to(
         alloc,
         rows,
+        most,
         given,
         floors,
         budget,
@@ -251,13 +260,15 @@ pub fn search_guided<H: Hinter, G: Guide>(
 /// Searches the root by branch and bound, and builds the proof: a justified one that covers the root, whose numbers the answer
 /// tells. It counts at most as many boxes as the budget, and leaves a box open only where it counted just as many.
 ///
-/// Slots from the number `given` on are sums, and may be split at any value; those below it are split at 0 or in the middle alone.
+/// At most `most` splits stand one below another. Slots from the number `given` on are sums, and may be split at any value; those
+/// below it are split at 0 or in the middle alone.
 /// Where `floors` says so, a split may forget, by its certificate, points that are worth no more than the best one so far.
 /// Points are judged by the choices of the rows, and each lawful one is to have an image there. The best point is worth as much as
 /// `start`, where that is a lawful point; any other is passed over.
 pub fn search<H: Hinter, G: Guide>(
     alloc: Global,
     rows: &Rows,
+    most: u32,
     given: u32,
     floors: bool,
     budget: u32,
@@ -265,9 +276,9 @@ pub fn search<H: Hinter, G: Guide>(
     hinter: &mut H,
     guide: &mut G,
 ) -> Result<Searched, AllocError>
-    requires searchable { AreSearchable rows.now }
+    requires searchable { AreSearchable most rows.now }
     requires budget { (1 ≤ budget) × (budget ≤ 100000) }
-    ensures ok { IfOk result (λ searched. IsSearch rows.now floors given budget
+    ensures ok { IfOk result (λ searched. IsSearch most rows.now floors given budget
         (tree_of searched.tree) (ended_of searched)) }
     ensures begun { IfOk result
         (λ searched. IsWorth (choices_of rows.now) start.now searched.best) }
@@ -277,6 +288,7 @@ pub fn search<H: Hinter, G: Guide>(
     match search_to(
         alloc,
         rows,
+        most,
         given,
         floors,
         budget,

@@ -6,12 +6,12 @@ ghost use Rattle.row_set.specs.PlantProgram.{IsMadeOf, IsProgramOf};
 use crate::no_answer::NoAnswer;
 use answer_texts::checked;
 use log_lines::Limits;
-use plant_check::{MOST_DEPTH, check_bytes, check_log};
+use plant_check::{check_bytes, check_log};
 use proof_log::{LogStop, read_log};
 use row_relax::Rows;
 use row_set::program_of;
 use std::alloc::{AllocError, Global};
-use stn_model::Plant;
+use stn_model::{Plant, depth_limit};
 use valid_log::LogVerdict;
 
 /// Puts what a check of a log of version 1 or 2 answers: the check of its bytes, or of the log that was read of them first.
@@ -37,7 +37,7 @@ fn read_verdict(alloc: Global, plant: &Plant, log: &[u8]) -> Result<LogVerdict, 
     requires { Sound plant.now }
 {
     let rows = rows_of(alloc, plant)?;
-    match read_log(alloc, log, &limits_of(&rows)) {
+    match read_log(alloc, log, &limits_of(plant, &rows)) {
         Ok(log) => Ok(check_log(alloc, plant, &rows, &log)?),
         Err(LogStop::Defect(defect)) => Ok(LogVerdict::No(defect)),
         Err(LogStop::Memory) => Err(NoAnswer::Memory),
@@ -57,13 +57,13 @@ fn rows_of(alloc: Global, plant: &Plant) -> Result<Rows, AllocError>
     })
 }
 
-fn limits_of(rows: &Rows) -> Limits {
+fn limits_of(plant: &Plant, rows: &Rows) -> Limits {
     let slots = rows.program.root.len() as u32;
     Limits {
         rows: rows.program.rows.len() as u32,
         slots,
         points: slots,
-        depth: MOST_DEPTH,
+        depth: depth_limit(plant),
     }
 }
 

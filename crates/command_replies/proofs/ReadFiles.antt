@@ -1,5 +1,5 @@
 -- What is read of files, where the files may not be told.
-use Rattle.std.proofs.Common.{◌≡◌, ℕ, ◌+◌, ◌<◌, List, length, Option, Some, None, Ok, Err, true, nat_lt, refl, arith, replicate}
+use Rattle.std.proofs.Common.{◌≡◌, ℕ, ◌+◌, ◌<◌, List, length, Option, Some, None, Ok, Err, Bool, true, false, cond, nat_lt, refl, arith, replicate}
 use Rattle.std.specs.Prelude.{IfSome, IfOk, Result}
 use Rattle.std.proofs.lemmas.Bool.{lt-ltb}
 use Rattle.std.proofs.lemmas.List.{length-replicate}
@@ -55,18 +55,23 @@ too-long-refusal reading_of IsRefusal files name fault WriteFault read is = tt
 too-long-refusal reading_of IsRefusal files name fault Memory read is = tt
 
 -- of a plant file
-pub long_plant : (IsRefusal : PlantFault → ℕ → List ℕ → Type 0) (files : Option FileMap) (name : List ℕ) (stopped : Stopped) → IfSome files (λ m. 1048576 < length (file_of m name))
+pub long_plant : (IsRefusal : PlantFault → ℕ → List ℕ → Type 0) (files : Option FileMap) (name : List ℕ) (stopped : Stopped) → IfSome files (λ m. 4194304 < length (file_of m name))
     → IfRefusal stopped (λ reply. IsRefusal too_long reply.status reply.text.items) → IfRefusal stopped (Refuses reading IsRefusal files name)
 long_plant IsRefusal files name stopped long is =
-    too-long-refusal reading IsRefusal files name too_long stopped (too-long reading 1048576 too_long reading-long files name long) is
+    too-long-refusal reading IsRefusal files name too_long stopped (too-long reading 4194304 too_long reading-long files name long) is
 
--- a plan text that is too long has that fault
-plan_of_text-long : (plant : Plant) (text : List ℕ) → 262144 < length text → plan_of_text plant text ≡ Err plan_too_long
+-- such a length is above the limit of each plant
+long-whatever : (large : Bool) (n : ℕ) → 524288 < n → nat_lt (cond large 524288 262144) n ≡ true
+long-whatever true n long = lt-ltb 524288 n long
+long-whatever false n long = lt-ltb 262144 n (omega (arith, long))
+
+-- a plan text that is too long for each plant has that fault
+plan_of_text-long : (plant : Plant) (text : List ℕ) → 524288 < length text → plan_of_text plant text ≡ Err plan_too_long
 unfolding plan_of_text
-plan_of_text-long plant text long = let test : nat_lt 262144 (length text) ≡ true = lt-ltb _ _ long in rw test refl
+plan_of_text-long plant text long = let test = long-whatever plant.large (length text) long in rw test refl
 
 -- of a plan file
-pub long_plan : (plant : Plant) (IsRefusal : PlanFault → ℕ → List ℕ → Type 0) (files : Option FileMap) (name : List ℕ) (stopped : Stopped) → IfSome files (λ m. 262144 < length (file_of m name))
+pub long_plan : (plant : Plant) (IsRefusal : PlanFault → ℕ → List ℕ → Type 0) (files : Option FileMap) (name : List ℕ) (stopped : Stopped) → IfSome files (λ m. 524288 < length (file_of m name))
     → IfRefusal stopped (λ reply. IsRefusal plan_too_long reply.status reply.text.items) → IfRefusal stopped (Refuses (plan_of_text plant) IsRefusal files name)
 long_plan plant IsRefusal files name stopped long is =
-    too-long-refusal (plan_of_text plant) IsRefusal files name plan_too_long stopped (too-long (plan_of_text plant) 262144 plan_too_long (plan_of_text-long plant) files name long) is
+    too-long-refusal (plan_of_text plant) IsRefusal files name plan_too_long stopped (too-long (plan_of_text plant) 524288 plan_too_long (plan_of_text-long plant) files name long) is

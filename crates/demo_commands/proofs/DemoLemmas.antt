@@ -1,6 +1,6 @@
 -- A demonstration: doing nothing is feasible, and a check says yes to the log of an outcome.
 use Rattle.std.proofs.Common.{◌≡◌, ◌≢◌, ℕ, pos, zero, suc, ◌<◌, List, [], ◌∷◌, ◌++◌, length, get_or, Option, Some, None, inl, inr, refl, sym, ap, ◌∙◌, subst, arith}
-use Rattle.std.specs.Prelude.{◌⊎◌, All, IfSome, slice_get, ◌≤ℤ◌}
+use Rattle.std.specs.Prelude.{◌⊎◌, ◌≤◌, All, IfSome, slice_get, ◌≤ℤ◌, Bool, false, Ok}
 use Rattle.std.proofs.lemmas.List.Elements.{All-append, All-cons}
 use Rattle.std.proofs.lemmas.Int.{ints}
 use Rattle.stn_model.specs.declared.plant.Plant.{Plant}
@@ -9,12 +9,15 @@ use Rattle.stn_model.specs.declared.answer.Outcome.{Outcome}
 use Rattle.stn_model.specs.declared.answer.Answer.{Answer}
 use Rattle.stn_model.specs.declared.answer.Answer.TheVariants.{Optimal, Infeasible, BudgetSpent}
 use Rattle.stn_model.specs.Answers.{IsOutcome, IsAnswerOf}
-use Rattle.stn_model.specs.Points.{boxes}
+use Rattle.stn_model.specs.Points.{boxes, depth_limit}
 use Rattle.stn_model.specs.Plant.{state_at, no_state}
 use Rattle.stn_model.specs.Stock.{stock, inflow, outflow, received, delivered}
 use Rattle.stn_model.specs.Load.{load}
 use Rattle.stn_model.specs.Feasible.{Feasible, StockKept}
 use Rattle.plant_make.specs.Made.{chained, states_of, plant_made}
+use Rattle.plant_make.specs.Meaning.{Puts}
+use Rattle.plant_text.specs.Document.{max_bytes}
+use Rattle.plant_text.specs.Reading.{reading}
 use Rattle.answer_texts.specs.Planning.{status_of}
 use Rattle.answer_texts.specs.Checking.{checked_text, claim_text}
 use Rattle.demo_commands.specs.Demo.{shown_plant, demo_head, demo_text, answer_line, Shown}
@@ -104,8 +107,8 @@ own-log plant bytes verdict outcome checked proved =
     let program = proved.program in
     let has = proved.has in
     let claim = claim_of plant outcome.answer in
-    let depth = depth_over program.root in
-    yes-again plant program checked.program (plant_root plant) (plant_root plant) depth 4608 bytes claim verdict (same_program plant program checked.program proved.made checked.of_plant.made) (omega arith)
+    let depth = depth_over (depth_limit plant) program.root in
+    yes-again plant program checked.program (plant_root plant) (plant_root plant) depth (depth_limit plant) bytes claim verdict (same_program plant program checked.program proved.made checked.of_plant.made) (omega arith)
     (subst (λ (b : List ℕ). IsPlantVerdict plant program depth b (Yes claim)) (sym has.told) has.proof.valid) checked.right
 
 -- and its line is that of the claim
@@ -127,3 +130,15 @@ shown seed plant outcome status text line same right is_status is_line is_text =
       found = λ one. found-status seed 500 outcome right_of (sym is_status ∙ one);
       text_is = is_text ∙ (ap (λ (l : List ℕ). demo_head seed plant ++ (answer_line outcome.answer ++ l)) is_line ∙ ap (λ (p : Plant). demo_text seed p outcome.answer) same);
     }
+
+-- what is read of the text of a made plant, where it is not too long for a file that is not of version 3
+pub read-again : (seed : ℕ) (made read : Plant) (old new bytes : List ℕ) → made ≡ plant_made seed 4 → Puts made old new → old ≡ [] → bytes ≡ new → length new ≤ 1048576 → reading bytes ≡ Ok read → read ≡ shown_plant seed
+unfolding plant_made
+read-again seed made read old new bytes is puts none same short reads =
+    let large : made.large ≡ false = ap (λ (p : Plant). p.large) is in
+    let text : new ≡ puts.text = puts.appended ∙ ap (λ (o : List ℕ). o ++ puts.text) none in
+    let few : length puts.text ≤ 1048576 = subst (λ (t : List ℕ). length t ≤ 1048576) text short in
+    let fits : length puts.text ≤ max_bytes made.large = subst (λ (l : Bool). length puts.text ≤ max_bytes l) (sym large) few in
+    let again : reading puts.text ≡ Ok made = puts.reads fits in
+    let plain : read ≡ made = cc in
+    plain ∙ is

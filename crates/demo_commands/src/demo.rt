@@ -13,7 +13,7 @@ use box_advice::Advisers;
 use command_replies::Reply;
 use plant_check::check_stream;
 use plant_make::{make, put_plant};
-use plant_text::{MAX_BYTES, PlantStop, read_plant};
+use plant_text::{PlantStop, read_plant};
 use std::alloc::{AllocError, Global};
 use stn_edge::FixedShelf;
 use stn_model::{Answer, List, Plant, Start};
@@ -22,6 +22,9 @@ use time_grid::Grid;
 
 /// How many chains the plant has.
 const CHAINS: u32 = 4;
+
+// The most bytes of a plant file that is not of version 3.
+const MOST_BYTES: usize = 1_048_576;
 
 /// How many boxes its planning takes at most.
 const BOXES: u32 = 500;
@@ -53,7 +56,7 @@ fn read_made(alloc: Global, seed: u32) -> Result<Plant, AllocError>
     let made = make(alloc, seed, CHAINS)?;
     let mut text = Vec::new(alloc);
     put_plant(alloc, &made, &mut text)?;
-    if text.len() > MAX_BYTES {
+    if text.len() > MOST_BYTES {
         return Ok(made);
     }
     match read_plant(alloc, text.as_slice()) {

@@ -10,7 +10,7 @@ mod law;
 pub mod line;
 mod numbers;
 mod parts;
-mod pieces;
+pub mod pieces;
 mod printing;
 mod reading;
 mod seen;

@@ -15,9 +15,9 @@ use derived_rows::{Derived, Factor, Group, Members};
 use log_lines::kinds::{GRAMMAR, ROW_NUMBER, SLOT_NUMBER, TRUNCATED};
 use row_kit::Entry;
 
-// A part of a derived row.
+/// A part of a derived row.
 #[derive(Clone, Copy)]
-pub(crate) enum Piece {
+pub enum Piece {
     Factor(Factor),
     Group(Group),
     Entry(Entry),

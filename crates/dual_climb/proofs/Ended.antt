@@ -1,5 +1,5 @@
 -- What a polished certificate is of the one that was given.
-use Rattle.std.proofs.Common.{◌≡◌, ◌∙◌, ℕ, ◌≤◌, true, List, length, Option, Some, refl, sym, ap, subst, inl, inr, ◌⊎◌, arith, ℤ, pos, ◌+ℤ◌, ◌≤ℤ◌}
+use Rattle.std.proofs.Common.{◌≡◌, ◌∙◌, ℕ, ◌<◌, ◌≤◌, true, List, length, Option, Some, refl, sym, ap, subst, inl, inr, ◌⊎◌, arith, ℤ, pos, ◌+ℤ◌, ◌≤ℤ◌}
 use Rattle.std.proofs.lemmas.Int.{ints}
 use Rattle.std.specs.Option.{IsSome}
 use Rattle.row_kit.specs.declared.domain.Domain.{Domain}
@@ -10,7 +10,7 @@ use Rattle.dual_bound.specs.Cap.{cert_cap, scaled_cap}
 use Rattle.dual_bound.specs.Total.{are_fit, total_at, total_of}
 use Rattle.dual_climb.specs.Factors.{cert_of}
 use Rattle.dual_climb.specs.Polished.{after, IsKeptOrLower, IsPolishedFrom, IsReached, NeverRises}
-use Rattle.dual_climb.specs.RowBest.{RowBest}
+use Rattle.dual_climb.specs.RowBest.{RowBest, RowBestBy}
 use Rattle.dual_climb.specs.laws.Sums.{HaveSameSums, IsLoweredBy}
 use Rattle.dual_climb.proofs.Lowered.{after_same, each_same, lowered_none}
 use Rattle.dual_climb.proofs.Sums.{best_same, total_same}
@@ -36,7 +36,7 @@ pub record Descended (p : Program) (ds : List Domain) (old : Cert) (stop : Optio
   pub is_total : last ≡ total_of p ds (cert_of old.scale new)
   pub never : last ≤ℤ first
   pub lowered : IsLoweredBy old.scale p ds old.scale ms new
-  pub best : RowBest p ds (cert_of old.scale new) ⊎ IsReached stop (scaled_cap old.scale (Some last))
+  pub best : RowBestBy old.scale p ds (cert_of old.scale new) ⊎ IsReached stop (scaled_cap old.scale (Some last))
 
 -- what is promised of a polished certificate
 pub record IsDone (p : Program) (ds : List Domain) (old new : Cert) (stop : Option ℤ) : Type 0 where
@@ -63,7 +63,7 @@ done_changed p ds old stop ms new list first last d some fell fit few few_rows s
       changes = polished p ds old ms new list k.fit fit d.same same d.lowered;
       kept = inr (fell_to (total_of p ds (cert_of old.scale list)) last first (total_of p ds old) old.scale sum (same_some first (total_of p ds old) (sym d.was ∙ total_is p ds old k.has)) fell);
       best = elim d.best [
-        | inl best ↦ inl (λ row lt. best_same old.scale p ds old.scale new list (λ worth. sym (same worth)) row (best row lt))
+        | inl best ↦ inl (λ few row lt. best_same old.scale p ds old.scale new list (λ worth. sym (same worth)) row (best row lt))
         | inr reached ↦ inr (subst (λ (o : Option ℤ). IsReached stop (scaled_cap old.scale o)) (sym total) reached)
       ];
     }
@@ -83,7 +83,19 @@ done_kept p ds old stop ms new first last d some e =
       changes = polished p ds old old.mults old.mults old.mults k.fit k.fit (λ worth. refl) (λ worth. refl) (lowered_none old.scale p ds old.scale old.mults old.mults refl);
       kept = inl refl;
       best = elim d.best [
-        | inl best ↦ inl (λ row lt. best_same old.scale p ds old.scale new old.mults same row (best row lt))
+        | inl best ↦ inl (λ few row lt. best_same old.scale p ds old.scale new old.mults same row (best row lt))
         | inr reached ↦ inr (subst (λ (o : Option ℤ). IsReached stop (scaled_cap old.scale o)) (sym total) reached)
       ];
+    }
+
+-- where there are too many rows, and the certificate is left as it is
+pub done_untouched : (p : Program) (ds : List Domain) (old : Cert) (stop : Option ℤ) → IsSome (total_at p ds old) → 50000 < length p.rows → IsDone p ds old old stop
+done_untouched p ds old stop some many =
+    let k = keeps p ds old some in
+    let total : total_at p ds old ≡ Some (total_of p ds old) = total_is p ds old k.has in
+    record {
+      total = never_rises (total_at p ds old) (total_at p ds old) (total_of p ds old) (total_of p ds old) total total (same_le (total_of p ds old));
+      changes = polished p ds old old.mults old.mults old.mults k.fit k.fit (λ worth. refl) (λ worth. refl) (lowered_none old.scale p ds old.scale old.mults old.mults refl);
+      kept = inl refl;
+      best = inl (λ few row lt. absurd (omega (arith, few, many)));
     }

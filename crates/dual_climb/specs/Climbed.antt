@@ -18,8 +18,10 @@ IsNoWorse program domains other cert = total_of program domains cert ≤ℤ tota
 abbrev pub IsBetter : Program → List Domain → Cert → Cert → Type 0
 IsBetter program domains other cert = total_of program domains cert <ℤ total_of program domains other
 
--- a row helps where raising its factor by the scale keeps it in its range and lowers the total
+-- a row helps where there are no more than 50,000, as many as a certificate may name, and raising its factor by the scale keeps it in its
+-- range and lowers the total
 pub record Helps (program : Program) (domains : List Domain) (cert : Cert) (row : ℕ) : Type 0 where
+  pub few : length program.rows ≤ 50000
   pub there : row < length program.rows
   pub range : raised cert row ≤ 2 ^ 40
   pub lower : total_of program domains (with_factor cert row (raised cert row)) <ℤ total_of program domains cert

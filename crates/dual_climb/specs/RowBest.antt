@@ -16,6 +16,7 @@ BestBy fall program domains cert row =
 abbrev pub RowBestBy : ℕ → Program → List Domain → Cert → Type 0
 RowBestBy fall program domains cert = (row : ℕ) → row < length program.rows → BestBy fall program domains cert row
 
--- a certificate is row-wise best where no change of a single factor lowers its total by the scale or more
+-- a certificate is row-wise best where no change of a single factor lowers its total by the scale or more; so said only of a program with
+-- no more than 50,000 rows, as many as a certificate may name
 abbrev pub RowBest : Program → List Domain → Cert → Type 0
-RowBest program domains cert = RowBestBy cert.scale program domains cert
+RowBest program domains cert = length program.rows ≤ 50000 → RowBestBy cert.scale program domains cert

@@ -10,8 +10,8 @@ use crate::factors::gathered;
 use crate::moving::Climbing;
 use crate::pace::Pace;
 use crate::polishing::{hold, pass};
-use dual_bound::{Cert, Mult, usable_total};
-use row_kit::{Area, Program};
+use dual_bound::{Cert, MOST_MULTS, Mult, usable_total};
+use row_kit::{Area, List, Program};
 use std::alloc::{AllocError, Global};
 
 // The most steps.
@@ -20,10 +20,10 @@ const MOST_STEPS: u32 = 1_000;
 /// A certificate of the scale of `start` whose total is at most that of `start`, by at most 1,000 subgradient steps: each moves the
 /// factors against what their rows have left at the values at which the slots gain most, and the best factors on the way count.
 /// Where none are better than those of `start`, the factors of the rows are given one after another the least total along the
-/// row.
+/// row. Where there are more rows than a certificate may name, it is a copy of `start`.
 ///
-/// A step costs the entries of all rows and the slots, and no memory. The climb takes memory for three numbers of each row, of
-/// which there are no more than may have a factor, for what each slot gains, and for the certificate.
+/// A step costs the entries of all rows and the slots, and no memory. The climb takes memory for three numbers of each row, for what
+/// each slot gains, and for the certificate.
 pub fn climb(
     alloc: Global,
     program: &Program,
@@ -32,7 +32,6 @@ pub fn climb(
 ) -> Result<Cert, AllocError>
     requires slots { length (present area.now) ≡ length program.now.root }
     requires total { IsSome (total_at program.now (present area.now) start.now) }
-    requires few_rows { length program.now.rows ≤ 50000 }
     ensures total { IfOk result (λ cert. IsSome (total_at program.now (present area.now) cert)) }
     ensures scale { IfOk result (λ cert. cert.scale ≡ start.now.scale) }
     ensures never { IfOk result (λ cert. 1 ≤ start.now.scale → IsNoWorse program.now
@@ -41,6 +40,9 @@ pub fn climb(
         → Helps program.now (present area.now) start.now row → IsBetter program.now
         (present area.now) start.now cert) }
 {
+    if program.rows.len() > MOST_MULTS {
+        return copied(alloc, start);
+    }
     let best = ascend(alloc, program, area, start)?;
     if start.scale == 0 {
         return Ok(best);
@@ -50,6 +52,17 @@ pub fn climb(
     }
     let better = eased(alloc, program, area, start)?;
     Ok(better)
+}
+
+// A copy of a certificate.
+fn copied(alloc: Global, cert: &Cert) -> Result<Cert, AllocError>
+    ensures { IfOk result (λ copy. copy ≡ cert.now) }
+{
+    let mults = List::from_slice(alloc, cert.mults.as_slice())?;
+    Ok(Cert {
+        scale: cert.scale,
+        mults,
+    })
 }
 
 // Whether a certificate has a lower total than another.

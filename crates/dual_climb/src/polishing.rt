@@ -14,20 +14,47 @@ ghost use Rattle.dual_climb.specs.laws.Sums.{HaveSameSums, IsLoweredBy};
 use crate::factors::{gathered, spread};
 use crate::gains::gains_under;
 use crate::held::{Held, improve};
-use dual_bound::{Cert, scaled, usable_total};
+use dual_bound::{Cert, MOST_MULTS, scaled, usable_total};
 use proof_tree::Capped;
 use row_kit::{Area, Program};
 use std::alloc::{AllocError, Global};
 
 /// Lowers the total of a certificate by one row's factor at a time, each time to the least along the row, and only where that
 /// takes the scale or more off the total. It ends where no factor of a row is left that does, or where the cap is at most
-/// `stop`. The scale stays; where no factor changes, and after want of memory, the certificate is as before.
+/// `stop`. The scale stays; where no factor changes, after want of memory, and where there are more rows than a certificate may name, the
+/// certificate is as before.
 ///
 /// A pass looks at the entries of each row once, or twice where the row has a factor, and twice more on a side where the total
 /// falls by less than the scale. A row that changes costs its entries some four times for each time that the distance between
 /// the two factors can be halved. There are at most as many changes as the fall of the total has scales. It takes memory for a
-/// factor of each row, of which there are no more than may have a factor, and for what each slot gains.
+/// factor of each row and for what each slot gains.
 pub fn polish(
+    alloc: Global,
+    program: &Program,
+    area: &Area,
+    cert: &mut Cert,
+    stop: Option<i128>,
+) -> Result<(), AllocError>
+    requires slots { length (present area.now) ≡ length program.now.root }
+    requires scale { 1 ≤ cert.old.scale }
+    requires total { IsSome (total_at program.now (present area.now) cert.old) }
+    ensures scale { cert.new.scale ≡ cert.old.scale }
+    ensures total { NeverRises (total_at program.now (present area.now) cert.old)
+        (total_at program.now (present area.now) cert.new) }
+    ensures changes { IsPolishedFrom program.now (present area.now) cert.old cert.new }
+    ensures kept { IsKeptOrLower program.now (present area.now) cert.old cert.new }
+    ensures err { OnErr result (cert.new ≡ cert.old) }
+    ensures best { IfOk result (λ _. RowBest program.now (present area.now) cert.new
+        ⊎ IsReached stop (cert_cap program.now (present area.now) cert.new)) }
+{
+    if program.rows.len() > MOST_MULTS {
+        return Ok(());
+    }
+    polish_few(alloc, program, area, cert, stop)
+}
+
+// Lowers the total of a certificate over a program with no more rows than it may name.
+fn polish_few(
     alloc: Global,
     program: &Program,
     area: &Area,
@@ -91,7 +118,8 @@ fn descend(program: &Program, area: &Area, scale: u32, stop: Option<i128>, held:
     ensures same { result ≡ false → held.new.mults.items ≡ held.old.mults.items }
     ensures changes { IsLoweredBy scale program.now (present area.now) scale held.old.mults.items
         held.new.mults.items }
-    ensures best { RowBest program.now (present area.now) (cert_of scale held.new.mults.items)
+    ensures best { RowBestBy scale program.now (present area.now)
+        (cert_of scale held.new.mults.items)
         ⊎ IsReached stop (scaled_cap scale (Some held.new.total)) }
 {
     let mut changed = false;

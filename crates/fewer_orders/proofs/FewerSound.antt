@@ -5,7 +5,7 @@ use Rattle.stn_model.specs.declared.plant.Delivery.{Delivery}
 use Rattle.stn_model.specs.Plant.{run_on, end_of, is_in_use, gap_between}
 use Rattle.stn_model.specs.Fits.{is_fit}
 use Rattle.stn_model.specs.Points.{has_slot, slots_of, slot_count, meets_gap, gap_pairs}
-use Rattle.stn_model.specs.Sound.{Sound, SoundTask, SoundRun, SoundGap, SoundReceipt, SoundDelivery, SoundOutage, SoundCounts}
+use Rattle.stn_model.specs.Sound.{Sound, SoundTask, SoundRun, SoundGap, SoundReceipt, SoundDelivery, SoundOutage, SoundCounts, SmallCounts}
 use Rattle.plant_copies.proofs.Alike.{All-each, AreAlike, task_sound, run_sound, gap_sound}
 use Rattle.fewer_orders.specs.Alone.{alone, picked}
 use Rattle.fewer_orders.proofs.Picked.{length-picked, All-picked}
@@ -35,6 +35,23 @@ counts_sound plant kept counts = record {
   gap_pairs = let few = counts.gap_pairs in omega (arith, same_pairs plant kept);
 }
 
+-- a plant that is small is small with fewer deliveries too
+small_sound : (plant : Plant) (kept : List Bool) → SmallCounts plant → SmallCounts (alone plant kept)
+unfolding alone
+small_sound plant kept counts = record {
+  states = counts.states;
+  utilities = counts.utilities;
+  units = counts.units;
+  tasks = counts.tasks;
+  runs = counts.runs;
+  receipts = counts.receipts;
+  deliveries = let few = counts.deliveries in omega (arith, length-picked kept plant.deliveries);
+  outages = counts.outages;
+  slots = let few = counts.slots in omega (arith, same_slots plant kept);
+  gap_pairs = let few = counts.gap_pairs in omega (arith, same_pairs plant kept);
+  rates = counts.rates;
+}
+
 alike : (plant : Plant) (kept : List Bool) → AreAlike (alone plant kept) plant
 unfolding alone
 alike plant kept = record { states = refl; utilities = refl; units = refl; tasks = refl }
@@ -51,6 +68,7 @@ fewer_sound plant kept each sound =
     let same = alike plant kept in
     record {
       counts = counts_sound plant kept sound.counts;
+      small = λ is. small_sound plant kept (sound.small is);
       names = record { states = sound.names.states; utilities = sound.names.utilities; units = sound.names.units; tasks = sound.names.tasks; runs = sound.names.runs };
       states = sound.states;
       utilities = sound.utilities;

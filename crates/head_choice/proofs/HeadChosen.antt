@@ -8,6 +8,7 @@ use Rattle.std.proofs.lemmas.Bool.Decides.{nat_tests}
 use Rattle.std.proofs.lemmas.List.{get_or_past, length-append, length-drop, length-map, take_all}
 use Rattle.std.proofs.lemmas.List.Elements.{All-head, All-tail, All-weaker}
 use Rattle.stn_model.specs.declared.plant.Plant.{Plant}
+use Rattle.stn_model.specs.Points.{depth_limit, slot_limit}
 use Rattle.stn_model.specs.Sound.{Sound}
 use Rattle.time_grid.specs.Slots.{slots}
 use Rattle.row_kit.specs.declared.domain.Domain.{Domain}
@@ -52,7 +53,8 @@ use Rattle.valid_log.specs.Heads.{head_domains, limits_with, setup_sizes, wide_d
 use Rattle.valid_log.proofs.Holding.{head-ranges, setup-ranges}
 use Rattle.plan_told.specs.Heads.{CanHead, limits_before, whole_head}
 use Rattle.head_choice.specs.declared.widening.Widened.{Widened}
-use Rattle.head_choice.specs.Heading.{AreChosen, AreDeclared, CanSetUp, HasForm, IsWidened}
+use Rattle.head_choice.specs.Heading.{AreChosen, AreDeclared, CanSetUp, HasForm, HasUnitRoom, IsWidened}
+use Rattle.head_choice.proofs.Limits.{limits-nine, slots-within}
 use Rattle.head_choice.proofs.UnitsSet.{domains-more, limits-rows, limits-slots, root-more, setups-all, sizes-long, splits-met}
 
 -- a row that is not there shows nothing
@@ -123,12 +125,6 @@ kept_after limits before g (derivation.Row row ∷ ds) rows slots few most deriv
           (All-tail HasForm (derivation.Row row) ds formed),
     )
 
--- how many rows there are after derivations
-rows_after : (g : Growth) (ds : List Derivation) → length (after_all g ds).rows ≡ length g.rows + rows_of ds
-rows_after g [] = omega arith
-rows_after g (derivation.Cut cut ∷ ds) = rows_after (after g (derivation.Cut cut)) ds
-rows_after g (derivation.Row row ∷ ds) = omega (arith, rows_after (after g (derivation.Row row)) ds, length-append g.rows (derived_row g.rows row ∷ []))
-
 -- ---- heads
 
 -- what is left of a root behind a part's slots
@@ -155,20 +151,13 @@ pub given-there : (plant : Plant) (part between wide : Program) (judged : List D
 given-there plant part between wide judged sums units given root all same with' set =
     omega (arith, all, ap length same, ap length (root-more plant units between wide set), length-append between.root (domains_with plant units []), ap length with'.root, length-append part.root (map (sum_domain part judged) sums))
 
-module _ (part between : Program) (judged : List Domain) (sums : List Sum) (chosen : AreChosen part judged sums between) where
+module _ (most : ℕ) (part between : Program) (judged : List Domain) (sums : List Sum) (chosen : AreChosen most part judged sums between) where
   -- as many slots and rows as the sums add
   between_slots : length between.root ≡ length part.root + length sums
   between_slots = ap length chosen.with_sums.root ∙ length-append part.root (map (sum_domain part judged) sums) ∙ ap (λ (n : ℕ). length part.root + n) (length-map sums (sum_domain part judged))
 
   between_rows : length between.rows ≡ length part.rows + 2 * length sums
   between_rows = omega (arith, ap length chosen.with_sums.rows, length-append part.rows (sum_rows (length part.root) sums), two_rows (length part.root) sums)
-
-  -- there are not too many for setups
-  pub between-slots : length between.root ≤ 512
-  between-slots = omega (arith, between_slots, chosen.few_slots)
-
-  pub between-rows : length between.rows ≤ 45904
-  between-rows = omega (arith, between_rows, chosen.few_rows)
 
   -- the program begins with the slots of the plant
   pub plant-slots : (plant : Plant) → IsPartOf plant part → HasPlantSlots plant between
@@ -182,7 +171,7 @@ module _ (part between : Program) (judged : List Domain) (sums : List Sum) (chos
       length_within (d ∷ small) [] within = absurd within
       length_within (d ∷ small) (e ∷ large) within = ap suc (length_within small large within.1)
 
-  module _ (plant : Plant) (wide : Program) (units : List ℕ) (domains : List Domain) (may : CanSetUp plant between units) (set : AreSetUp plant units between wide) (are : domains ≡ wide_domains plant part judged sums units) where
+  module _ (plant : Plant) (limit : most ≡ slot_limit plant) (wide : Program) (units : List ℕ) (domains : List Domain) (may : CanSetUp plant between units) (set : AreSetUp plant units between wide) (are : domains ≡ wide_domains plant part judged sums units) where
     wide_slots : length wide.root ≡ slots_with plant units (length between.root)
     wide_slots = slots-several plant units between wide set
 
@@ -191,10 +180,6 @@ module _ (part between : Program) (judged : List Domain) (sums : List Sum) (chos
 
     wide_ranges : AreRanges wide domains
     wide_ranges = subst (AreRanges wide) (sym are) (setup-ranges plant units between wide (head_domains part judged sums) (head-ranges part between judged sums chosen.ranges chosen.with_sums) set)
-
-    -- there are not too many rows to derive others from
-    pub chosen-rows : length wide.rows ≤ 50000
-    chosen-rows = omega (arith, wide_rows, may.room.rows)
 
     -- a domain for each slot
     pub chosen-slots : length domains ≡ length wide.root
@@ -226,8 +211,8 @@ module _ (part between : Program) (judged : List Domain) (sums : List Sum) (chos
         ascending = may.ascending;
         there = there;
         room = λ some.
-            let slots : leb (limits_before plant part 0 sums units).slots 4096 ≡ true = (let most = may.room.slots in le-leb (limits_before plant part 0 sums units).slots 4096 (omega (arith, limits_slots, wide_slots, most))) in
-            let rows : leb (limits_before plant part 0 sums units).rows 400000 ≡ true = (let most = may.room.rows in le-leb (limits_before plant part 0 sums units).rows 400000 (omega (arith, limits_rows, wide_rows, most))) in
+            let slots : leb (limits_before plant part 0 sums units).slots 4096 ≡ true = (let few = (may.room some).slots in le-leb (limits_before plant part 0 sums units).slots 4096 (omega (arith, limits_slots, wide_slots, few))) in
+            let rows : leb (limits_before plant part 0 sums units).rows 400000 ≡ true = (let few = (may.room some).rows in le-leb (limits_before plant part 0 sums units).rows 400000 (omega (arith, limits_rows, wide_rows, few))) in
             and_from (leb (limits_before plant part 0 sums units).slots 4096) (leb (limits_before plant part 0 sums units).rows 400000) slots rows;
       }
         where
@@ -242,16 +227,16 @@ module _ (part between : Program) (judged : List Domain) (sums : List Sum) (chos
           let slots : length domains ≡ limits.slots = chosen-slots ∙ sym limits_slots in
           let rows : length wide.rows ≡ limits.rows + 0 = omega (arith, limits_rows) in
           let few : limits.slots ≤ 4096 = omega (arith, limits_slots, wide.few_slots) in
-          let most : limits.rows + 0 + rows_of derivations ≤ 400000 = omega (arith, limits_rows, made.few_rows) in
+          let enough : limits.rows + 0 + rows_of derivations ≤ 400000 = omega (arith, limits_rows, made.few_rows) in
           record {
             sums_kept = record {
               declared = chosen.declared;
               rows_there = All-weaker (IsShown part judged) (HasRows (length part.rows)) (shown_there part judged) sums chosen.shown;
-              slots = λ some. omega (arith, chosen.few_slots);
-              rows = λ some. omega (arith, chosen.few_rows);
+              slots = λ some. (let within = slots-within plant in omega (arith, chosen.few_slots, limit, within));
+              rows = λ some. (let within = chosen.few_rows some in omega (arith, within));
             };
             units_kept = units_kept sound;
-            derivations_kept = kept_after limits 0 (begun wide domains) derivations rows slots few most (omega (arith, made.few_derived)) made.shown made.formed;
+            derivations_kept = kept_after limits 0 (begun wide domains) derivations rows slots few enough (omega (arith, made.few_derived)) made.shown made.formed;
             few_bytes = few_bytes;
             enlarged = record {
               sums_shown = chosen.shown;
@@ -266,44 +251,37 @@ module _ (part between : Program) (judged : List Domain) (sums : List Sum) (chos
           }
 
       -- its slots can't be split more often than a search takes up
-      pub head-splits : sum_by splits_of larger.root + sum_by spared larger.root ≤ 4608
+      pub head-splits : sum_by splits_of larger.root + sum_by spared larger.root ≤ depth_limit plant
       head-splits =
           let left = (grown_by wide domains derivations).domains in
           let own = domains_with plant units [] in
           let long : length wide.root ≡ length between.root + length own = ap length (root-more plant units between wide set) ∙ length-append between.root own in
           let root : larger.root ≡ met (between.root ++ own) left = grown.root ∙ ap (λ (ds : List Domain). met ds left) (root-more plant units between wide set) in
-          let splits = may.room.splits in
-          let most : sum_by splits_of (met (between.root ++ own) left) + sum_by spared (met (between.root ++ own) left) ≤ 4608 = omega (arith, splits-met between.root own left (setups-all plant units), long, wide_slots, splits) in
-          subst (λ (ds : List Domain). sum_by splits_of ds + sum_by spared ds ≤ 4608) (sym root) most
-
-      -- nor are there more rows
-      pub head-rows : length larger.rows ≤ 50000
-      head-rows = omega (arith, ap length grown.rows, rows_after (begun wide domains) derivations, made.few_rows)
+          let splits = few_splits units may.room in
+          let all : sum_by splits_of (met (between.root ++ own) left) + sum_by spared (met (between.root ++ own) left) ≤ depth_limit plant = omega (arith, splits-met between.root own left (setups-all plant units), long, wide_slots, splits) in
+          subst (λ (ds : List Domain). sum_by splits_of ds + sum_by spared ds ≤ depth_limit plant) (sym root) all
+        where
+          -- without setups each slot is split at most 9 times
+          few_splits : (us : List ℕ) → (0 < length us → HasUnitRoom plant between us) → 8 * length between.root + slots_with plant us (length between.root) ≤ depth_limit plant
+          few_splits [] room = (let nine = limits-nine plant in omega (arith, between_slots, chosen.few_slots, limit, nine))
+          few_splits (unit ∷ us) room = (room (omega arith)).splits
 
 -- ---- a part with its sums and setups
 
 module _ (plant : Plant) (part : Program) (judged : List Domain) (wide : Widened) (is : IsWidened plant part judged wide) where
   -- a domain for each slot
   pub wide-slots : length wide.domains ≡ length wide.set.program.root
-  wide-slots = chosen-slots part is.between judged wide.sums is.chosen plant wide.set.program wide.units wide.domains is.may is.set is.domains
+  wide-slots = chosen-slots (slot_limit plant) part is.between judged wide.sums is.chosen plant refl wide.set.program wide.units wide.domains is.may is.set is.domains
 
   -- which is normal
   pub wide-normal : All IsNormal wide.domains
-  wide-normal = chosen-normal part is.between judged wide.sums is.chosen plant wide.set.program wide.units wide.domains is.may is.set is.domains
-
-  -- there are not too many rows to derive others from
-  pub wide-rows : length wide.set.program.rows ≤ 50000
-  wide-rows = chosen-rows part is.between judged wide.sums is.chosen plant wide.set.program wide.units wide.domains is.may is.set is.domains
+  wide-normal = chosen-normal (slot_limit plant) part is.between judged wide.sums is.chosen plant refl wide.set.program wide.units wide.domains is.may is.set is.domains
 
   module _ (rows : Rows) (derivations : List Derivation) (made : AreDeclared wide.set.program wide.domains derivations) (anew : IsWithAnew wide.set.program wide.domains derivations rows.program) where
     -- a head can declare them
     pub wide-can : Sound plant → rows.choices ≡ wide.set.choices → length (whole_head wide.sums wide.units derivations) < 2 ^ 64 → CanHead plant part judged wide.sums wide.units derivations rows
-    wide-can sound same few = can-head part is.between judged wide.sums is.chosen plant wide.set.program wide.units wide.domains is.may is.set is.domains rows.program derivations made anew sound rows.choices (same ∙ is.choices) few
+    wide-can sound same few = can-head (slot_limit plant) part is.between judged wide.sums is.chosen plant refl wide.set.program wide.units wide.domains is.may is.set is.domains rows.program derivations made anew sound rows.choices (same ∙ is.choices) few
 
     -- its slots can't be split more often than a search takes up
-    pub wide-splits : sum_by splits_of rows.program.root + sum_by spared rows.program.root ≤ 4608
-    wide-splits = head-splits part is.between judged wide.sums is.chosen plant wide.set.program wide.units wide.domains is.may is.set is.domains rows.program derivations made anew
-
-    -- nor are there more rows
-    pub wide-total : length rows.program.rows ≤ 50000
-    wide-total = head-rows part is.between judged wide.sums is.chosen plant wide.set.program wide.units wide.domains is.may is.set is.domains rows.program derivations made anew
+    pub wide-splits : sum_by splits_of rows.program.root + sum_by spared rows.program.root ≤ depth_limit plant
+    wide-splits = head-splits (slot_limit plant) part is.between judged wide.sums is.chosen plant refl wide.set.program wide.units wide.domains is.may is.set is.domains rows.program derivations made anew

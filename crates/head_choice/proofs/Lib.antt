@@ -1,4 +1,5 @@
 pub mod FactorsRise
 pub mod HeadChosen
+pub mod Limits
 pub mod UnitsRise
 pub mod UnitsSet

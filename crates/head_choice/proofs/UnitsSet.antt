@@ -69,10 +69,12 @@ pub rows-end : (plant : Plant) (units : List ℕ) (i count : ℕ) → length uni
 rows-end plant units i count past = ap (λ (us : List ℕ). rows_with plant us count) (drop_all i units past)
 
 -- where a head may declare setups a program has room for them
-pub room-enough : (plant : Plant) (program : Program) (units : List ℕ) → HasUnitRoom plant program units → HaveRoom plant units program
-room-enough plant program units room =
-    let slots = room.slots in
-    let rows = room.rows in
+pub room-enough : (plant : Plant) (program : Program) (units : List ℕ) → (0 < length units → HasUnitRoom plant program units) → HaveRoom plant units program
+room-enough plant program [] room = record { slots = program.few_slots; rows = program.few_rows }
+room-enough plant program (unit ∷ units) room =
+    let has = room (omega arith) in
+    let slots = has.slots in
+    let rows = has.rows in
     record { slots = omega (arith, slots); rows = omega (arith, rows) }
 
 -- ---- domains

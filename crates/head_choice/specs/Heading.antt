@@ -3,6 +3,7 @@ use Rattle.std.specs.Prelude.{◌≡◌, ℕ, ◌+◌, ◌*◌, ◌<◌, ◌≤�
 use Rattle.std.specs.List.{All, sum_by}
 use Rattle.std.specs.List.Sorted.{IsStrictlyIncreasing}
 use Rattle.stn_model.specs.declared.plant.Plant.{Plant}
+use Rattle.stn_model.specs.Points.{depth_limit, slot_limit}
 use Rattle.row_kit.specs.declared.domain.Domain.{Domain}
 use Rattle.row_kit.specs.declared.program.Program.{Program}
 use Rattle.row_kit.specs.declared.row.Entry.{Entry}
@@ -42,47 +43,47 @@ pub record AreDeclared (program : Program) (domains : List Domain) (derivations 
   pub shown : AreShown (begun program domains) derivations
   pub formed : All HasForm derivations
   pub few_derived : rows_of derivations ≤ 4096
-  pub few_rows : length program.rows + rows_of derivations ≤ 50000
+  pub few_rows : length program.rows + rows_of derivations ≤ 400000
 
 -- There is room for the setups of units behind the slots and rows of a program: with them it has fewer than 1,000 slots, these can't be
--- split more than 4,608 times, where a slot of a setup is split once and each other one at most 9 times, and it has rows to spare.
+-- split more often than a log over the plant allows, where a slot of a setup is split once and each other one at most 9 times, and it has
+-- rows to spare.
 pub record HasUnitRoom (plant : Plant) (program : Program) (units : List ℕ) : Type 0 where
   pub slots : slots_with plant units (length program.root) ≤ 999
-  pub splits : 8 * length program.root + slots_with plant units (length program.root) ≤ 4608
+  pub splits : 8 * length program.root + slots_with plant units (length program.root) ≤ depth_limit plant
   pub rows : rows_with plant units (length program.rows) ≤ 45904
 
--- a head may declare the setups of these units for a program: they ascend and are there, and there is room for their setups
+-- a head may declare the setups of these units for a program: they ascend and are there, and where there are any, there is room for them
 pub record CanSetUp (plant : Plant) (program : Program) (units : List ℕ) : Type 0 where
   pub ascending : IsStrictlyIncreasing units
   pub there : All (λ unit. unit < length plant.units) units
-  pub room : HasUnitRoom plant program units
+  pub room : 0 < length units → HasUnitRoom plant program units
 
--- what is chosen of sums for a part, and its program with them
-pub record AreChosen (part : Program) (judged : List Domain) (sums : List Sum) (between : Program) : Type 0 where
+-- what is chosen of sums for a part, and its program with them, which has at most so many slots
+pub record AreChosen (most : ℕ) (part : Program) (judged : List Domain) (sums : List Sum) (between : Program) : Type 0 where
   pub ranges : AreRanges part judged
   pub declared : All (IsDeclared (length part.root)) sums
   pub shown : All (IsShown part judged) sums
-  pub few_slots : length part.root + length sums ≤ 512
-  pub few_rows : length part.rows + 2 * length sums ≤ 45904
+  pub few_slots : length part.root + length sums ≤ most
+  pub few_rows : 0 < length sums → length part.rows + 2 * length sums ≤ 45904
   pub with_sums : IsWithSums part judged sums between
 
 -- these are the sums and setups that are chosen for a part, its program with both, that by which its points are judged where it has setups,
 -- and the domains over which a head with them is judged
 pub record IsWidened (plant : Plant) (part : Program) (judged : List Domain) (wide : Widened) : Type 0 where
   pub between : Program
-  pub chosen : AreChosen part judged wide.sums between
+  pub chosen : AreChosen (slot_limit plant) part judged wide.sums between
   pub may : CanSetUp plant between wide.units
   pub set : AreSetUp plant wide.units between wide.set.program
   pub choices : wide.set.choices ≡ choices_before wide.units between
   pub domains : wide.domains ≡ wide_domains plant part judged wide.sums wide.units
 
 -- these are the rows of the part with sums, setups and derivations, the head that declares them and is judged over domains, and the number
--- of the part's slots; there are no more splits and rows than a search takes up
+-- of the part's slots; its slots can't be split more often than a search takes up
 pub record IsHeaded (plant : Plant) (part : Program) (judged : List Domain) (headed : Headed) : Type 0 where
   pub units : List ℕ
   pub derivations : List Derivation
   pub can : CanHead plant part judged headed.sums units derivations headed.rows
   pub head : headed.head.items ≡ whole_head headed.sums units derivations
   pub given : headed.given ≡ length part.root
-  pub few_splits : sum_by splits_of headed.rows.program.root + sum_by spared headed.rows.program.root ≤ 4608
-  pub few_rows : length headed.rows.program.rows ≤ 50000
+  pub few_splits : sum_by splits_of headed.rows.program.root + sum_by spared headed.rows.program.root ≤ depth_limit plant

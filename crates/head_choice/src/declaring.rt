@@ -27,7 +27,6 @@ pub fn declared<A: Advisers>(
 ) -> Result<List<Derivation>, AllocError>
     requires same_slots { length domains.now ≡ length program.now.root }
     requires normal { All IsNormal domains.now }
-    requires few_rows { length program.now.rows ≤ 50000 }
     ensures { IfOk result (AreDeclared program.now domains.now) }
 {
     let whole = copy_over(alloc, program, domains)?;

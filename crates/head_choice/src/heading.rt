@@ -1,6 +1,7 @@
 //! The program of a part of a plant's choices with what the head of its log declares, over which a large part is searched.
 ghost use Rattle.std.specs.Prelude.{◌≡◌, ◌+◌, ◌^◌, ◌<◌, ◌≤◌, length, IfOk};
 ghost use Rattle.std.specs.List.{All};
+ghost use Rattle.stn_model.specs.Points.{slot_limit};
 ghost use Rattle.stn_model.specs.Sound.{Sound};
 ghost use Rattle.row_kit.specs.Domain.{IsNormal};
 ghost use Rattle.row_set.specs.Parts.{IsPartOf};
@@ -56,8 +57,8 @@ pub fn with_head<A: Advisers>(
     requires sound { Sound plant.now }
     requires part { IsPartOf plant.now part }
     requires ranges { AreRanges part judged }
-    requires few_slots { length part.root ≤ 512 }
-    requires few_rows { length part.rows ≤ 45904 }
+    requires few_slots { length part.root ≤ slot_limit plant.now }
+    requires few_rows { length part.rows ≤ 194368 }
     ensures { IfOk result (IsHeaded plant.now part judged) }
 {
     let given = part.root.len();
@@ -81,7 +82,6 @@ pub fn with_head<A: Advisers>(
 fn with_declared<A: Advisers>(alloc: Global, wide: &Widened) -> Result<Declared, AllocError>
     requires same_slots { length wide.now.domains ≡ length wide.now.set.program.root }
     requires normal { All IsNormal wide.now.domains }
-    requires few_rows { length wide.now.set.program.rows ≤ 50000 }
     ensures declared { IfOk result
         (λ made. AreDeclared wide.now.set.program wide.now.domains made.derivations) }
     ensures text { IfOk result (λ made. made.head.items

@@ -2,21 +2,19 @@
 ghost use Rattle.std.specs.Prelude.{◌+◌, ◌*◌, ◌≤◌, ◌<◌, length, IfOk, IsTrue};
 ghost use Rattle.std.specs.List.{All};
 ghost use Rattle.std.specs.List.Sorted.{IsStrictlyIncreasing};
+ghost use Rattle.stn_model.specs.Points.{depth_limit};
 ghost use Rattle.stn_model.specs.Sound.{Sound};
 ghost use Rattle.head_choice.specs.Heading.{CanSetUp, HasUnitRoom};
 
 use row_kit::{List, Program};
 use setup_slots::setup_size;
 use std::alloc::{AllocError, Global};
-use stn_model::Plant;
+use stn_model::{Plant, depth_limit};
 
 // The most slots of a program with setups, and the most rows of it before any is derived.
 const MOST_SLOTS: u64 = 999;
 
 const MOST_ROWS: u64 = 45_904;
-
-// How often the slots of a program may be split in all. A slot of a setup is split once, and each other one at most 9 times.
-const MOST_SPLITS: u64 = 4_608;
 
 // A unit with changeover costs: their sum, and how many slots and rows its setup has.
 #[derive(Clone, Copy)]
@@ -42,8 +40,6 @@ pub fn units_to_set_up(
     program: &Program,
 ) -> Result<List<u32>, AllocError>
     requires sound { Sound plant.now }
-    requires few_slots { length program.now.root ≤ 512 }
-    requires few_rows { length program.now.rows ≤ 45904 }
     ensures { IfOk result (CanSetUp plant.now program.now) }
 {
     let units = dearest_units(alloc, plant, program)?;
@@ -84,31 +80,40 @@ fn has_unit_room(
     units: &[u32],
 ) -> Result<bool, AllocError>
     requires sound { Sound plant.now }
-    requires few_slots { length program.now.root ≤ 512 }
-    requires few_rows { length program.now.rows ≤ 45904 }
     ensures { IfOk result (λ has. IsTrue has → HasUnitRoom plant.now program.now units.now) }
 {
     let own = program.root.len() as u64;
     let mut slots = own;
     let mut rows = program.rows.len() as u64;
+    if !are_few(slots, rows) {
+        return Ok(false);
+    }
     for unit in units {
         let (more_slots, more_rows) = setup_size(alloc, plant, *unit)?;
         slots += more_slots as u64;
         rows += more_rows as u64;
-        if slots > MOST_SLOTS || rows > MOST_ROWS {
+        if !are_few(slots, rows) {
             return Ok(false);
         }
     }
-    Ok(are_few_splits(own, slots))
+    Ok(are_few_splits(plant, own, slots))
 }
 
-// Whether so many slots, of which so many are none of setups, can't be split too often.
-fn are_few_splits(own: u64, slots: u64) -> bool
-    requires own { own ≤ 512 }
-    requires slots { slots ≤ 999 }
-    ensures { IsTrue result → 8 * own + slots ≤ 4608 }
+// Whether a program with setups may have so many slots and rows.
+fn are_few(slots: u64, rows: u64) -> bool
+    ensures { IsTrue result → (slots ≤ 999) × (rows ≤ 45904) }
 {
-    8 * own + slots <= MOST_SPLITS
+    slots <= MOST_SLOTS && rows <= MOST_ROWS
+}
+
+// Whether so many slots, of which so many are none of setups, can't be split too often. A slot of a setup is split once, and each other
+// one at most 9 times.
+fn are_few_splits(plant: &Plant, own: u64, slots: u64) -> bool
+    requires own { own ≤ 4096 }
+    requires slots { slots ≤ 999 }
+    ensures { IsTrue result → 8 * own + slots ≤ depth_limit plant.now }
+{
+    8 * own + slots <= u64::from(depth_limit(plant))
 }
 
 // The units with the greatest changeover costs for whose setups there is room.
@@ -116,7 +121,7 @@ fn dearest_units(alloc: Global, plant: &Plant, program: &Program) -> Result<List
     requires { Sound plant.now }
 {
     let mut costly = costly_units(alloc, plant)?;
-    let mut room = room_of(program);
+    let mut room = room_of(plant, program);
     let mut taken = vec![in alloc; false; plant.units.len()]?;
     for _ in 0..costly.len() {
         if let Some(unit) = take_dearest(&mut costly, &mut room) {
@@ -127,10 +132,10 @@ fn dearest_units(alloc: Global, plant: &Plant, program: &Program) -> Result<List
 }
 
 // The room for setups that a program leaves.
-fn room_of(program: &Program) -> Room {
+fn room_of(plant: &Plant, program: &Program) -> Room {
     let slots = program.root.len() as u64;
     let rows = program.rows.len() as u64;
-    let by_splits = MOST_SPLITS.saturating_sub(slots.saturating_mul(9));
+    let by_splits = u64::from(depth_limit(plant)).saturating_sub(slots.saturating_mul(9));
     Room {
         slots: MOST_SLOTS.saturating_sub(slots).min(by_splits),
         rows: MOST_ROWS.saturating_sub(rows),

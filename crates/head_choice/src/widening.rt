@@ -1,5 +1,6 @@
 //! The program of a part of a plant's choices with the sums and the setups that are chosen for it.
-ghost use Rattle.std.specs.Prelude.{◌≡◌, ◌≤◌, ◌++◌, length, IfOk};
+ghost use Rattle.std.specs.Prelude.{◌≡◌, ◌<◌, ◌≤◌, ◌++◌, length, IfOk};
+ghost use Rattle.stn_model.specs.Points.{slot_limit};
 ghost use Rattle.stn_model.specs.Sound.{Sound};
 ghost use Rattle.row_set.specs.Parts.{IsPartOf};
 ghost use Rattle.setup_slots.specs.Larger.{HasPlantSlots};
@@ -11,7 +12,7 @@ use crate::setting::units_to_set_up;
 use row_kit::{Domain, List, Program};
 use setup_slots::{SetUp, set_up};
 use std::alloc::{AllocError, Global};
-use stn_model::Plant;
+use stn_model::{Plant, slot_limit};
 use sum_choice::choose_sums;
 use sum_slots::{Sum, with_sums};
 
@@ -50,12 +51,13 @@ pub fn wide_part(
     requires sound { Sound plant.now }
     requires part { IsPartOf plant.now part }
     requires ranges { AreRanges part judged }
-    requires few_slots { length part.root ≤ 512 }
-    requires few_rows { length part.rows ≤ 45904 }
+    requires few_slots { length part.root ≤ slot_limit plant.now }
+    requires few_rows { length part.rows ≤ 194368 }
     ensures { IfOk result (IsWidened plant.now part judged) }
 {
     let given = part.root.len();
-    let Summed { sums, program } = sums_for(alloc, part, judged.as_slice())?;
+    let most = slot_limit(plant) as usize;
+    let Summed { sums, program } = sums_for(alloc, part, judged.as_slice(), most)?;
     let Equipped { units, set } = setups_for(alloc, plant, program)?;
     let domains = joined(judged, &set.program.root.as_slice()[given..])?;
     Ok(Widened {
@@ -66,14 +68,20 @@ pub fn wide_part(
     })
 }
 
-// A part with the sums that are chosen for it.
-fn sums_for(alloc: Global, part: Program, judged: &[Domain]) -> Result<Summed, AllocError>
+// A part with the sums that are chosen for it, so that it has at most so many slots.
+fn sums_for(
+    alloc: Global,
+    part: Program,
+    judged: &[Domain],
+    most: usize,
+) -> Result<Summed, AllocError>
     requires ranges { AreRanges part judged.now }
-    requires few_slots { length part.root ≤ 512 }
-    requires few_rows { length part.rows ≤ 45904 }
-    ensures { IfOk result (λ made. AreChosen part judged.now made.sums made.program) }
+    requires few_slots { length part.root ≤ most }
+    requires room { most ≤ 4096 }
+    requires few_rows { length part.rows ≤ 194368 }
+    ensures { IfOk result (λ made. AreChosen most part judged.now made.sums made.program) }
 {
-    let sums = choose_sums(alloc, &part, judged)?;
+    let sums = choose_sums(alloc, &part, judged, most)?;
     let program = with_sums(alloc, part, judged, sums.as_slice())?;
     Ok(Summed { sums, program })
 }
@@ -82,8 +90,6 @@ fn sums_for(alloc: Global, part: Program, judged: &[Domain]) -> Result<Summed, A
 fn setups_for(alloc: Global, plant: &Plant, between: Program) -> Result<Equipped, AllocError>
     requires sound { Sound plant.now }
     requires slots { HasPlantSlots plant.now between }
-    requires few_slots { length between.root ≤ 512 }
-    requires few_rows { length between.rows ≤ 45904 }
     ensures can { IfOk result (λ made. CanSetUp plant.now between made.units) }
     ensures made { IfOk result
         (λ made. AreSetUp plant.now made.units between made.set.program) }
@@ -103,7 +109,7 @@ fn with_units(
 ) -> Result<SetUp, AllocError>
     requires sound { Sound plant.now }
     requires slots { HasPlantSlots plant.now between }
-    requires room { HasUnitRoom plant.now between units.now }
+    requires room { 0 < length units.now → HasUnitRoom plant.now between units.now }
     ensures made { IfOk result (λ set. AreSetUp plant.now units.now between set.program) }
     ensures choices { IfOk result (λ set. set.choices ≡ choices_before units.now between) }
 {

@@ -10,6 +10,7 @@ use Rattle.stn_model.specs.Feasible.{Feasible}
 use Rattle.plan_text.specs.PlanLines.{plan_lines}
 use Rattle.plan_text.specs.PlanText.{plan_of_text}
 use Rattle.plan_text.specs.ReadsBack.{IsRemark, IsWritable}
+use Rattle.plan_text.specs.Published.{most_lines}
 use Rattle.least_horizon.specs.declared.answer.LeastAnswer.{LeastAnswer}
 use Rattle.least_horizon.specs.declared.answer.LeastAnswer.TheVariants.{At, Nowhere, Open}
 use Rattle.shorter_plant.specs.PlantAt.{plant_at}
@@ -40,6 +41,11 @@ writable-within plant horizon plan sound feasible k d within =
     let is = writable (plant_at plant horizon) plan sound feasible k d within in
     record { named = record { unit = is.named.unit; task = is.named.task }; period = is.period; quanta = is.quanta }
 
+-- and are as few as a text may have
+few-within : (plant : Plant) (horizon : ℕ) (plan : List Start) → Sound (plant_at plant horizon) → Feasible (plant_at plant horizon) plan → length plan ≤ most_lines plant
+unfolding plant_at
+few-within plant horizon plan sound feasible = few-starts (plant_at plant horizon) plan sound feasible
+
 -- a comment alone is a text of no starts
 reads-comment : (plant : Plant) (remark : List ℕ) → Sound plant → IsRemark remark → length remark ≤ 100 → plan_of_text plant ((35 ∷ remark) ++ (10 ∷ [])) ≡ Ok []
 unfolding plan_lines
@@ -57,7 +63,7 @@ least-reads-back plant (At horizon earned plan) sound right money =
     both_remarks (codes " least " ++ decimal horizon) (codes " feasible " ++ signed_decimal earned) first.0 second.0 first.1 second.1 in
     ap (plan_of_text plant) (sym (two_lines (codes " least ") (decimal horizon) (codes " feasible ") (signed_decimal earned) (plan_lines plant plan)))
     ∙ reads-lines plant plan ((codes " least " ++ decimal horizon) ∷ (codes " feasible " ++ signed_decimal earned) ∷ []) sound
-    (few-starts (plant_at plant horizon) plan shorter feasible) (writable-within plant horizon plan shorter feasible) remarks
+    (few-within plant horizon plan shorter feasible) (writable-within plant horizon plan shorter feasible) remarks
 least-reads-back plant Nowhere sound right money = reads-comment plant (codes " no-horizon") sound (plain_word (codes " no-horizon") refl) (omega arith)
 least-reads-back plant (Open horizon) sound right money =
     let remark = numbered (codes " open ") horizon (plain_word (codes " open ") refl) (omega arith) (omega (arith, sound.counts.periods.1, right.0.1)) in

@@ -1,6 +1,7 @@
 //! The check of the logs of all parts.
-ghost use Rattle.std.specs.Prelude.{◌≡◌, ◌⊎◌, ◌↔◌, true, ◌≤◌, ◌<◌, ◌^◌, ℕ, [], ◌∷◌, ◌++◌, IsTrue, IfOk, IfSome, OnOk, Err, length};
+ghost use Rattle.std.specs.Prelude.{◌≡◌, ◌⊎◌, ◌↔◌, true, ◌≤◌, ◌<◌, ◌^◌, ◌-◌, ℕ, [], ◌∷◌, ◌++◌, IsTrue, IfOk, IfSome, OnOk, Err, length};
 ghost use Rattle.stn_edge.specs.Count.{Rose};
+ghost use Rattle.stn_model.specs.Points.{depth_limit};
 ghost use Rattle.stn_model.specs.Sound.{Sound};
 ghost use Rattle.time_grid.specs.Slots.{slots};
 ghost use Rattle.proof_log.specs.LogNames.{log_name};
@@ -12,12 +13,12 @@ ghost use Rattle.store_frames.specs.Frames.{OnlyReads};
 use crate::heads::read_front;
 use log_check::CheckStop;
 use log_parts::{Checked, Declared, LogFront, LogHead, PartCheck, compared};
-use plant_check::{MOST_DEPTH, check_part};
+use plant_check::check_part;
 use plant_parts::part_rows;
 use proof_log::{Claim, log_name};
 use std::alloc::{AllocError, Global};
 use stn_edge::Shelf;
-use stn_model::Plant;
+use stn_model::{Plant, depth_limit};
 use valid_log::LogVerdict;
 
 // The version whose heads have derivations.
@@ -115,6 +116,14 @@ fn part_count(levels: u32) -> u32
     1 << levels
 }
 
+// How many splits of the log of a part may be open: as many as of the plant's, less one for each level.
+fn part_depth(plant: &Plant, levels: u32) -> u32
+    requires { levels ≤ 8 }
+    ensures { result ≡ depth_limit plant.now - levels }
+{
+    depth_limit(plant) - levels
+}
+
 // Whether one log is of version 4, where one before it is, or it is.
 fn is_newest(before: bool, version: u8) -> bool
     ensures { (result ≡ true) ↔ ((before ≡ true) ⊎ (version ≡ 4)) }
@@ -145,14 +154,8 @@ fn first_front<F: Shelf>(
     let rows = part_rows(alloc, plant, levels, 0)?;
     let name = log_name(alloc, stem, 0)?;
     let file = name.as_str();
-    let front = read_front(
-        alloc,
-        plant,
-        &rows.program,
-        MOST_DEPTH - levels,
-        files,
-        file,
-    )?;
+    let depth = part_depth(plant, levels);
+    let front = read_front(alloc, plant, &rows.program, depth, files, file)?;
     Ok(front)
 }
 
@@ -182,15 +185,9 @@ fn check_log<F: Shelf>(
     let rows = part_rows(alloc, plant, levels, part)?;
     let name = log_name(alloc, stem, part)?;
     let file = name.as_str();
-    let front = read_front(
-        alloc,
-        plant,
-        &rows.program,
-        MOST_DEPTH - levels,
-        files,
-        file,
-    )?;
-    match check_part(alloc, plant, rows.program, MOST_DEPTH - levels, files, file)? {
+    let depth = part_depth(plant, levels);
+    let front = read_front(alloc, plant, &rows.program, depth, files, file)?;
+    match check_part(alloc, plant, rows.program, depth, files, file)? {
         LogVerdict::Yes(claim) => Ok(compared(declared, &front, claim)),
         LogVerdict::No(defect) => Ok(PartCheck::Bad(defect)),
     }

@@ -13,6 +13,7 @@ use Rattle.time_grid.specs.Slots.{slots}
 use Rattle.row_set.specs.Parts.{plan_of_values}
 use Rattle.plan_text.specs.PlanLines.{plan_lines}
 use Rattle.plan_text.specs.PlanText.{plan_of_text}
+use Rattle.plan_text.specs.Published.{most_lines}
 use Rattle.plan_text.specs.ReadsBack.{IsRemark, IsWritable, comment_lines}
 use Rattle.proof_log.specs.declared.claim.Claim.{Claim}
 use Rattle.proof_log.specs.declared.claim.Claim.TheVariants.{Optimal, Infeasible, Between, Below}
@@ -56,7 +57,7 @@ plan-writable plant point plan sound feasible of =
     All-permutation (IsWritable plant) (point_starts plant (slots plant) point) plan of.starts (writable plant (plan_of_values plant point) sound feasible)
 
 -- and is short
-pub plan-few : (plant : Plant) (point : List ℕ) (plan : List Start) → Sound plant → Feasible plant (plan_of_values plant point) → IsPlanOf plant point plan → length plan ≤ 512
+pub plan-few : (plant : Plant) (point : List ℕ) (plan : List Start) → Sound plant → Feasible plant (plan_of_values plant point) → IsPlanOf plant point plan → length plan ≤ most_lines plant
 unfolding plan_of_values
 plan-few plant point plan sound feasible of =
     let same = length_permutation (point_starts plant (slots plant) point) plan of.starts in
@@ -75,7 +76,7 @@ writable-if plant point (Ok plan) sound feasible of = plan-writable plant point 
 writable-if plant point (Err e) sound feasible of = tt
 
 pub few-if : {E : Type 0} (plant : Plant) (point : List ℕ) (r : Result (List Start) E) → Sound plant → Feasible plant (plan_of_values plant point) → IfOk r (IsPlanOf plant point)
-    → IfOk r (λ plan. length plan ≤ 512)
+    → IfOk r (λ plan. length plan ≤ most_lines plant)
 few-if plant point (Ok plan) sound feasible of = plan-few plant point plan sound feasible of
 few-if plant point (Err e) sound feasible of = tt
 
@@ -123,14 +124,14 @@ claim-remarks (Below most) small =
     one_remark (claim_remark (Below most)) words.0 (omega (arith, words.1))
 
 -- the text on a claim, read as plan text, says its plan
-pub reads-claim : (plant : Plant) (claim : Claim) (plan : List Start) (text : List ℕ) → Sound plant → length plan ≤ 512 → All (IsWritable plant) plan → IsClaimInMoney claim
+pub reads-claim : (plant : Plant) (claim : Claim) (plan : List Start) (text : List ℕ) → Sound plant → length plan ≤ most_lines plant → All (IsWritable plant) plan → IsClaimInMoney claim
     → text ≡ claim_comment claim ++ plan_lines plant plan → plan_of_text plant text ≡ Ok plan
 reads-claim plant claim plan text sound few can small is =
     ap (plan_of_text plant) (is ∙ ap (λ (x : List ℕ). x ++ plan_lines plant plan) (comment-is claim))
     ∙ reads-lines plant plan (claim_remark claim ∷ []) sound few can (claim-remarks claim small)
 
 -- so it is the text on the claim
-pub shown-text : (plant : Plant) (claim : Claim) (plan : List Start) (head text : List ℕ) → Sound plant → IsClaimedPlan plant claim plan → All (IsWritable plant) plan → length plan ≤ 512 → IsClaimInMoney claim
+pub shown-text : (plant : Plant) (claim : Claim) (plan : List Start) (head text : List ℕ) → Sound plant → IsClaimedPlan plant claim plan → All (IsWritable plant) plan → length plan ≤ most_lines plant → IsClaimInMoney claim
     → head ≡ claim_comment claim → text ≡ head ++ plan_lines plant plan → IsPlanText plant claim text
 shown-text plant claim plan head text sound of can few small is put =
     let whole = put ∙ ap (λ (x : List ℕ). x ++ plan_lines plant plan) is in

@@ -4,6 +4,7 @@ ghost use Rattle.stn_model.specs.Feasible.{Feasible};
 ghost use Rattle.stn_model.specs.Sound.{Sound};
 ghost use Rattle.time_grid.specs.PlanPoint.{IsPlanOf};
 ghost use Rattle.row_set.specs.Parts.{plan_of_values};
+ghost use Rattle.plan_text.specs.Published.{most_lines};
 ghost use Rattle.plan_text.specs.ReadsBack.{IsWritable};
 ghost use Rattle.valid_log.specs.Claims.{SaysOfPlans};
 ghost use Rattle.listing_commands.specs.Showing.{IsClaimedPlan};
@@ -22,7 +23,7 @@ pub fn claimed_plan(alloc: Global, plant: &Plant, claim: &Claim) -> Result<List<
     requires says { SaysOfPlans plant.now claim.now }
     ensures plan { IfOk result (IsClaimedPlan plant.now claim.now) }
     ensures writable { IfOk result (λ plan. All (IsWritable plant.now) plan) }
-    ensures few { IfOk result (λ plan. length plan ≤ 512) }
+    ensures few { IfOk result (λ plan. length plan ≤ most_lines plant.now) }
 {
     match claim {
         Claim::Optimal { profit: _, point } => plan_of(alloc, plant, point.as_slice()),
@@ -42,7 +43,7 @@ fn plan_of(alloc: Global, plant: &Plant, point: &[u8]) -> Result<List<Start>, Al
     requires feasible { Feasible plant.now (plan_of_values plant.now point.now) }
     ensures plan { IfOk result (IsPlanOf plant.now point.now) }
     ensures writable { IfOk result (λ plan. All (IsWritable plant.now) plan) }
-    ensures few { IfOk result (λ plan. length plan ≤ 512) }
+    ensures few { IfOk result (λ plan. length plan ≤ most_lines plant.now) }
 {
     let grid = Grid::new(alloc, plant)?;
     let values = values_of(alloc, grid.slot_count() as usize, point)?;

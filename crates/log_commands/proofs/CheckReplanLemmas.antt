@@ -1,6 +1,7 @@
 -- Checking a replanning: answers over the plans that keep the first starts of a plan.
 use Rattle.std.proofs.Common.{ℕ, List, Option, Some, None, Ok, Err, inr}
 use Rattle.std.specs.Prelude.{IfSome, IfOk, Result}
+use Rattle.stn_model.specs.Points.{depth_limit}
 use Rattle.stn_model.specs.declared.plant.Plant.{Plant}
 use Rattle.stn_model.specs.declared.start.Start.{Start}
 use Rattle.stn_model.specs.Profit.{profit}
@@ -34,13 +35,13 @@ module _ (plant : Plant) (A B : List Start → Type 0) (to : (plan : List Start)
 -- ---- over a program of the plans that keep the starts
 
 -- the verdict on a log that may be told
-told-verdict : (plant : Plant) (part : Program) (log : Option (List ℕ)) (verdict : LogVerdict) → IfSome log (λ bytes. IsAnyKeptChecked plant part 4608 bytes verdict) → IfSome log (λ bytes. IsKeptVerdict plant part 4608 bytes verdict)
+told-verdict : (plant : Plant) (part : Program) (log : Option (List ℕ)) (verdict : LogVerdict) → IfSome log (λ bytes. IsAnyKeptChecked plant part (depth_limit plant) bytes verdict) → IfSome log (λ bytes. IsKeptVerdict plant part (depth_limit plant) bytes verdict)
 told-verdict plant part None verdict right = tt
 told-verdict plant part (Some bytes) verdict right = right.right
 
 -- an answer of checking
 checked-over : (plant : Plant) (period : ℕ) (kept : List Start) (part : Program) (log : Option (List ℕ)) (status : ℕ) (text : List ℕ) → IsKeptPart plant period kept part
-    → Judged (IsAnyKeptChecked plant part 4608) (YesSaysOf plant part) log status text → CheckedOver log plant period kept part status text
+    → Judged (IsAnyKeptChecked plant part (depth_limit plant)) (YesSaysOf plant part) log status text → CheckedOver log plant period kept part status text
 checked-over plant period kept part log status text is judged = record {
   verdict = judged.verdict;
   right = told-verdict plant part log judged.verdict judged.right;
@@ -52,7 +53,7 @@ checked-over plant period kept part log status text is judged = record {
 module _ {E : Type 0} (plant : Plant) (period : ℕ) (kept : List Start) where
   -- a reply on kept starts
   pub checked_open : (log : Option (List ℕ)) (Unchanged : Type 0) (part : Program) (r : Result Reply E) → IsKeptPart plant period kept part
-      → IfOk r (λ reply. Judged (IsAnyKeptChecked plant part 4608) (YesSaysOf plant part) log reply.status reply.text.items)
+      → IfOk r (λ reply. Judged (IsAnyKeptChecked plant part (depth_limit plant)) (YesSaysOf plant part) log reply.status reply.text.items)
       → IfOk r (λ reply. ReplanChecked log plant period kept Unchanged reply.status reply.text.items)
   checked_open log Unchanged part (Ok reply) is judged = inr (part, (is, checked-over plant period kept part log reply.status reply.text.items is judged))
   checked_open log Unchanged part (Err e) is judged = tt

@@ -20,11 +20,11 @@ use command_replies::{Reply, Stopped, plan_in, plant_in};
 use command_words::Period;
 use frozen_plan::{Keeping, keep};
 use log_check::CheckStop;
-use plant_check::{MOST_DEPTH, check_kept};
+use plant_check::check_kept;
 use row_kit::Program;
 use std::alloc::Global;
 use stn_edge::Shelf;
-use stn_model::{Plant, Start};
+use stn_model::{Plant, Start, depth_limit};
 
 /// Checks the log in a file against the plant in another and the starts of the plan in a third before a period. The files are as
 /// before.
@@ -100,24 +100,27 @@ fn check_replan<F: Shelf>(
     ensures kept { OnlyReads F.Shelf files.old files.new }
 {
     match keep(alloc, plant, plan, period.number)? {
-        Keeping::Open(rows) => check_log_of(alloc, files, plant, rows.program, log),
+        Keeping::Open(rows) => {
+            check_log_of(alloc, files, plant, rows.program, depth_limit(plant), log)
+        }
         Keeping::Broken(violation) => Ok(broken(alloc, plant, &violation)?),
     }
 }
 
-// The answer of checking the log in a file against the program that kept starts leave, whose head in version 4 is
-// judged over these choices.
+// The answer of checking the log in a file, in which at most so many splits may be open, against the program that kept starts
+// leave, whose head in version 4 is judged over these choices.
 fn check_log_of<F: Shelf>(
     alloc: Global,
     files: &mut F,
     plant: &Plant,
     part: Program,
+    depth: u32,
     name: &str,
 ) -> Result<Reply, Stopped>
     requires sound { Sound plant.now }
     requires part { IsPartOf plant.now part }
     requires allowed { IsTrue (F.may_read files.old name.now) }
-    ensures answer { IfOk result (λ reply. Judged (IsAnyKeptChecked plant.now part 4608)
+    ensures answer { IfOk result (λ reply. Judged (IsAnyKeptChecked plant.now part depth)
         (YesSaysOf plant.now part)
         (option_map (λ m. file_of m name.now) (F.files files.old)) reply.status reply.text.items) }
     ensures none { IfRefused result (λ _. ⊥) }
@@ -125,7 +128,7 @@ fn check_log_of<F: Shelf>(
     ensures unwritten { result ≢ Err Stopped.WriteFault }
     ensures kept { OnlyReads F.Shelf files.old files.new }
 {
-    match check_kept(alloc, plant, part, MOST_DEPTH, files, name) {
+    match check_kept(alloc, plant, part, depth, files, name) {
         Ok(verdict) => Ok(checked(alloc, &verdict)?),
         Err(CheckStop::Fault) => Err(Stopped::ReadFault),
         Err(CheckStop::Memory) => Err(Stopped::Memory),

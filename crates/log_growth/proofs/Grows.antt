@@ -67,57 +67,57 @@ begins cuts more own found (Split pick cert) below is = (more, is)
 -- ---- an end
 
 -- what an end was counted as, which stands over this view after its cuts
-pub record IsEndCount (rows : Rows) (profit : Option ℤ) (depth : ℕ) (view : View) (end : Leaf Cert) (growth : Growth) : Type 0 where
+pub record IsEndCount (most : ℕ) (rows : Rows) (profit : Option ℤ) (depth : ℕ) (view : View) (end : Leaf Cert) (growth : Growth) : Type 0 where
   pub ends : growth.ends ≡ (if is_open (row_steps rows.program) profit view end then 1 else 0)
-  pub deep : growth.deep ≡ (if is_open (row_steps rows.program) profit view end && is_deep depth view then 1 else 0)
+  pub deep : growth.deep ≡ (if is_open (row_steps rows.program) profit view end && is_deep most depth view then 1 else 0)
   pub floors : growth.floors ≡ 0
   pub before : growth.before ≡ counted_leaf end
 
 -- an end is as it was, or a proof stands in the place of an open one
-pub end-grown : (rows : Rows) (profit : Option ℤ) (share : Option Share) (depth n : ℕ) (v w : View) (cuts : List RowCut) (found : Option Found) (end : Leaf Cert) (grown : RowTree) (growth : Growth) → after_cuts (row_steps rows.program) v cuts ≡ Some w
-    → ((grown ≡ leaf cuts found end) ⊎ (IsTrue (in_share share n) × IsTrue (is_open (row_steps rows.program) profit w end) × BeginsWithTree cuts grown)) → IsEndCount rows profit depth w end growth → growth.after ≡ counted grown
-    → IsGrowth rows profit share depth n v (leaf cuts found end) grown growth
-end-grown rows profit share depth n v w cuts found end grown growth there is counts after = record {
+pub end-grown : (most : ℕ) (rows : Rows) (profit : Option ℤ) (share : Option Share) (depth n : ℕ) (v w : View) (cuts : List RowCut) (found : Option Found) (end : Leaf Cert) (grown : RowTree) (growth : Growth) → after_cuts (row_steps rows.program) v cuts ≡ Some w
+    → ((grown ≡ leaf cuts found end) ⊎ (IsTrue (in_share share n) × IsTrue (is_open (row_steps rows.program) profit w end) × BeginsWithTree cuts grown)) → IsEndCount most rows profit depth w end growth → growth.after ≡ counted grown
+    → IsGrowth most rows profit share depth n v (leaf cuts found end) grown growth
+end-grown most rows profit share depth n v w cuts found end grown growth there is counts after = record {
   goes_on = elim is [
     | inl same ↦ inl same
     | inr new ↦ inr (new.0, subst (λ (o : Option View). IsSomeAnd o (λ x. IsTrue (is_open (row_steps rows.program) profit x end))) (sym there) new.1, new.2)
   ];
   ends = counts.ends ∙ sym (ap (λ (o : Option View). count_if o (λ x. if is_open (row_steps rows.program) profit x end then 1 else 0)) there);
-  deep = counts.deep ∙ sym (ap (λ (o : Option View). count_if o (λ x. if is_open (row_steps rows.program) profit x end && is_deep depth x then 1 else 0)) there);
+  deep = counts.deep ∙ sym (ap (λ (o : Option View). count_if o (λ x. if is_open (row_steps rows.program) profit x end && is_deep most depth x then 1 else 0)) there);
   floors = counts.floors;
   before = counts.before ∙ sym (leaf-counted cuts found end);
   after = after;
 }
 
 -- the end is as it was
-pub same-end : (rows : Rows) (profit : Option ℤ) (share : Option Share) (depth n : ℕ) (w : View) (node other : Node) (reads reads_out : List RowItem → Type 0) (growth : Growth) → (is : IsLeafEnd node.end) → node ≡ other → reads [] → reads_out [] → IsEndCount rows profit depth w (leaf_of node.end) growth
-    → growth.after ≡ growth.before → HasGrownBelow rows profit share depth n w node other reads reads_out growth
-same-end rows profit share depth n w node other reads reads_out growth is same none none_out counts after =
+pub same-end : (most : ℕ) (rows : Rows) (profit : Option ℤ) (share : Option Share) (depth n : ℕ) (w : View) (node other : Node) (reads reads_out : List RowItem → Type 0) (growth : Growth) → (is : IsLeafEnd node.end) → node ≡ other → reads [] → reads_out [] → IsEndCount most rows profit depth w (leaf_of node.end) growth
+    → growth.after ≡ growth.before → HasGrownBelow most rows profit share depth n w node other reads reads_out growth
+same-end most rows profit share depth n w node other reads reads_out growth is same none none_out counts after =
     let below = leaf-below node.end is in
     let tree = leaf-tree node.cuts node.found node.end is in
     let items = leaf-items node.end is in
-    subst (λ (own : Node). HasGrownBelow rows profit share depth n w node own reads reads_out growth) same (record {
+    subst (λ (own : Node). HasGrownBelow most rows profit share depth n w node own reads reads_out growth) same (record {
       below = below;
       below_out = below;
       read = subst reads (sym items) none;
       read_out = subst reads_out (sym items) none_out;
-      is = λ v there. subst (λ (own : RowTree). IsGrowth rows profit share depth n v own own growth) (sym tree)
-          (end-grown rows profit share depth n v w node.cuts node.found (leaf_of node.end) (leaf node.cuts node.found (leaf_of node.end)) growth there (inl refl) counts (after ∙ counts.before ∙ sym (leaf-counted node.cuts node.found (leaf_of node.end))));
+      is = λ v there. subst (λ (own : RowTree). IsGrowth most rows profit share depth n v own own growth) (sym tree)
+          (end-grown most rows profit share depth n v w node.cuts node.found (leaf_of node.end) (leaf node.cuts node.found (leaf_of node.end)) growth there (inl refl) counts (after ∙ counts.before ∙ sym (leaf-counted node.cuts node.found (leaf_of node.end))));
     })
 
 -- a proof stands in the place of an open end of the share, and begins with its cuts
-pub new-end : (rows : Rows) (profit : Option ℤ) (share : Option Share) (depth n : ℕ) (w : View) (node other : Node) (reads reads_out : List RowItem → Type 0) (growth : Growth) (more : List RowCut) → (is : IsLeafEnd node.end) → reads []
-    → IsTrue (in_share share n) → IsTrue (is_open (row_steps rows.program) profit w (leaf_of node.end)) → other.cuts ≡ node.cuts ++ more → HasBelow reads_out other.end growth.after → IsEndCount rows profit depth w (leaf_of node.end) growth
-    → HasGrownBelow rows profit share depth n w node other reads reads_out growth
-new-end rows profit share depth n w node other reads reads_out growth more is none searched opened cuts has counts =
+pub new-end : (most : ℕ) (rows : Rows) (profit : Option ℤ) (share : Option Share) (depth n : ℕ) (w : View) (node other : Node) (reads reads_out : List RowItem → Type 0) (growth : Growth) (more : List RowCut) → (is : IsLeafEnd node.end) → reads []
+    → IsTrue (in_share share n) → IsTrue (is_open (row_steps rows.program) profit w (leaf_of node.end)) → other.cuts ≡ node.cuts ++ more → HasBelow reads_out other.end growth.after → IsEndCount most rows profit depth w (leaf_of node.end) growth
+    → HasGrownBelow most rows profit share depth n w node other reads reads_out growth
+new-end most rows profit share depth n w node other reads reads_out growth more is none searched opened cuts has counts =
     let own = tree_with other.cuts other.found other.end has.below in
     record {
       below = leaf-below node.end is;
       below_out = has.below;
       read = subst reads (sym (leaf-items node.end is)) none;
       read_out = has.read;
-      is = λ v there. subst (λ (tree : RowTree). IsGrowth rows profit share depth n v tree own growth) (sym (leaf-tree node.cuts node.found node.end is))
-          (end-grown rows profit share depth n v w node.cuts node.found (leaf_of node.end) own growth there (inr (searched, opened, begins node.cuts more other.cuts other.found other.end has.below cuts)) counts
+      is = λ v there. subst (λ (tree : RowTree). IsGrowth most rows profit share depth n v tree own growth) (sym (leaf-tree node.cuts node.found node.end is))
+          (end-grown most rows profit share depth n v w node.cuts node.found (leaf_of node.end) own growth there (inr (searched, opened, begins node.cuts more other.cuts other.found other.end has.below cuts)) counts
           (has.counts ∙ sym (counted-tree other.cuts other.found other.end has.below)));
     }
 
@@ -135,10 +135,10 @@ pub record IsSplitCount (above : ℕ) (parts whole : Growth) : Type 0 where
   pub before : whole.before ≡ 1 + parts.before
   pub after : whole.after ≡ 1 + parts.after
 
-split-grown : (rows : Rows) (profit : Option ℤ) (share : Option Share) (depth n : ℕ) (w : View) (cuts : List RowCut) (found : Option Found) (pick : RowPick) (cert : Cert) (reads reads_out : List RowItem → Type 0) (parts whole : Growth)
-    → HasGrownParts rows profit share depth n ((row_steps rows.program).trim w pick cert) pick reads reads_out parts → IsSplitCount (floor_above rows profit w pick cert) parts whole
-    → HasGrownBelow rows profit share depth n w (record { cuts = cuts; found = found; end = Split pick cert }) (record { cuts = cuts; found = found; end = Split pick cert }) reads reads_out whole
-split-grown rows profit share depth n w cuts found pick cert reads reads_out parts whole has counts =
+split-grown : (most : ℕ) (rows : Rows) (profit : Option ℤ) (share : Option Share) (depth n : ℕ) (w : View) (cuts : List RowCut) (found : Option Found) (pick : RowPick) (cert : Cert) (reads reads_out : List RowItem → Type 0) (parts whole : Growth)
+    → HasGrownParts most rows profit share depth n ((row_steps rows.program).trim w pick cert) pick reads reads_out parts → IsSplitCount (floor_above rows profit w pick cert) parts whole
+    → HasGrownBelow most rows profit share depth n w (record { cuts = cuts; found = found; end = Split pick cert }) (record { cuts = cuts; found = found; end = Split pick cert }) reads reads_out whole
+split-grown most rows profit share depth n w cuts found pick cert reads reads_out parts whole has counts =
     let s = row_steps rows.program in
     record {
       below = (has.first, has.second);
@@ -158,8 +158,8 @@ split-grown rows profit share depth n w cuts found pick cert reads reads_out par
           ),
         );
         ends = counts.ends ∙ has.ends ∙ sym (ap (λ (o : Option View). count_if o (λ z. count_if (s.left (s.trim z pick cert) pick) (λ x. open_ends s profit x has.first) + count_if (s.right (s.trim z pick cert) pick) (λ y. open_ends s profit y has.second))) there);
-        deep = counts.deep ∙ has.deep ∙ sym (ap (λ (o : Option View). count_if o (λ z. count_if (s.left (s.trim z pick cert) pick) (λ x. deep_ends s profit is_deep (depth + 1) x has.first)
-            + count_if (s.right (s.trim z pick cert) pick) (λ y. deep_ends s profit is_deep (depth + 1) y has.second))) there);
+        deep = counts.deep ∙ has.deep ∙ sym (ap (λ (o : Option View). count_if o (λ z. count_if (s.left (s.trim z pick cert) pick) (λ x. deep_ends s profit (is_deep most) (depth + 1) x has.first)
+            + count_if (s.right (s.trim z pick cert) pick) (λ y. deep_ends s profit (is_deep most) (depth + 1) y has.second))) there);
         floors = counts.floors ∙ ap (λ (k : ℕ). floor_above rows profit w pick cert + k) has.floors
             ∙ sym (ap (λ (o : Option View). count_if o (λ z. floor_above rows profit z pick cert + (count_if (s.left (s.trim z pick cert) pick) (λ x. floors_above s profit x has.first) + count_if (s.right (s.trim z pick cert) pick) (λ y. floors_above s profit y has.second)))) there);
         before = omega (arith, counts.before, has.before);
@@ -168,20 +168,20 @@ split-grown rows profit share depth n w cuts found pick cert reads reads_out par
     }
 
 -- a node that splits, in both proofs
-pub same-split : (rows : Rows) (profit : Option ℤ) (share : Option Share) (depth n : ℕ) (w : View) (node other : Node) (pick : RowPick) (cert : Cert) (reads reads_out : List RowItem → Type 0) (parts whole : Growth) → node.end ≡ Split pick cert → node ≡ other
-    → HasGrownParts rows profit share depth n ((row_steps rows.program).trim w pick cert) pick reads reads_out parts → IsSplitCount (floor_above rows profit w pick cert) parts whole → HasGrownBelow rows profit share depth n w node other reads reads_out whole
-same-split rows profit share depth n w node other pick cert reads reads_out parts whole splits same has counts =
-    subst (λ (own : Node). HasGrownBelow rows profit share depth n w node own reads reads_out whole) same
-    (subst (λ (end : Ending). HasGrownBelow rows profit share depth n w (record { cuts = node.cuts; found = node.found; end = end }) (record { cuts = node.cuts; found = node.found; end = end }) reads reads_out whole) (sym splits)
-    (split-grown rows profit share depth n w node.cuts node.found pick cert reads reads_out parts whole has counts))
+pub same-split : (most : ℕ) (rows : Rows) (profit : Option ℤ) (share : Option Share) (depth n : ℕ) (w : View) (node other : Node) (pick : RowPick) (cert : Cert) (reads reads_out : List RowItem → Type 0) (parts whole : Growth) → node.end ≡ Split pick cert → node ≡ other
+    → HasGrownParts most rows profit share depth n ((row_steps rows.program).trim w pick cert) pick reads reads_out parts → IsSplitCount (floor_above rows profit w pick cert) parts whole → HasGrownBelow most rows profit share depth n w node other reads reads_out whole
+same-split most rows profit share depth n w node other pick cert reads reads_out parts whole splits same has counts =
+    subst (λ (own : Node). HasGrownBelow most rows profit share depth n w node own reads reads_out whole) same
+    (subst (λ (end : Ending). HasGrownBelow most rows profit share depth n w (record { cuts = node.cuts; found = node.found; end = end }) (record { cuts = node.cuts; found = node.found; end = end }) reads reads_out whole) (sym splits)
+    (split-grown most rows profit share depth n w node.cuts node.found pick cert reads reads_out parts whole has counts))
 
 -- so where the counts are numbers of 64 bits
-pub split-if : (rows : Rows) (profit : Option ℤ) (share : Option Share) (depth n : ℕ) (w rest : View) (node other : Node) (pick : RowPick) (cert : Cert) (above : ℕ) (reads reads_out : List RowItem → Type 0) (parts : Growth) (whole : Option Growth) → node.end ≡ Split pick cert → node ≡ other
-    → rest ≡ (row_steps rows.program).trim w pick cert → above ≡ floor_above rows profit w pick cert → HasGrownParts rows profit share depth n rest pick reads reads_out parts
-    → IfSome whole (λ g. (g.ends ≡ parts.ends) × (g.deep ≡ parts.deep) × (g.floors ≡ above + parts.floors) × (g.before ≡ 1 + parts.before) × (g.after ≡ 1 + parts.after)) → IfSome whole (HasGrownBelow rows profit share depth n w node other reads reads_out)
-split-if rows profit share depth n w rest node other pick cert above reads reads_out parts None splits same trimmed floor has counts = tt
-split-if rows profit share depth n w rest node other pick cert above reads reads_out parts (Some whole) splits same trimmed floor has counts =
-    same-split rows profit share depth n w node other pick cert reads reads_out parts whole splits same (subst (λ (v : View). HasGrownParts rows profit share depth n v pick reads reads_out parts) trimmed has) (record {
+pub split-if : (most : ℕ) (rows : Rows) (profit : Option ℤ) (share : Option Share) (depth n : ℕ) (w rest : View) (node other : Node) (pick : RowPick) (cert : Cert) (above : ℕ) (reads reads_out : List RowItem → Type 0) (parts : Growth) (whole : Option Growth) → node.end ≡ Split pick cert → node ≡ other
+    → rest ≡ (row_steps rows.program).trim w pick cert → above ≡ floor_above rows profit w pick cert → HasGrownParts most rows profit share depth n rest pick reads reads_out parts
+    → IfSome whole (λ g. (g.ends ≡ parts.ends) × (g.deep ≡ parts.deep) × (g.floors ≡ above + parts.floors) × (g.before ≡ 1 + parts.before) × (g.after ≡ 1 + parts.after)) → IfSome whole (HasGrownBelow most rows profit share depth n w node other reads reads_out)
+split-if most rows profit share depth n w rest node other pick cert above reads reads_out parts None splits same trimmed floor has counts = tt
+split-if most rows profit share depth n w rest node other pick cert above reads reads_out parts (Some whole) splits same trimmed floor has counts =
+    same-split most rows profit share depth n w node other pick cert reads reads_out parts whole splits same (subst (λ (v : View). HasGrownParts most rows profit share depth n v pick reads reads_out parts) trimmed has) (record {
       ends = counts.0;
       deep = counts.1;
       floors = counts.2 ∙ ap (λ (k : ℕ). k + parts.floors) floor;
@@ -198,11 +198,11 @@ pub record IsSum (first second both : Growth) : Type 0 where
   pub after : both.after ≡ first.after + second.after
 
 -- both parts of a split
-pub both-parts : (rows : Rows) (profit : Option ℤ) (share : Option Share) (depth n next : ℕ) (view x y : View) (pick : RowPick) (one one_out two two_out reads reads_out : List RowItem → Type 0) (first second both : Growth)
-    → (row_steps rows.program).left view pick ≡ Some x → (row_steps rows.program).right view pick ≡ Some y → HasGrown rows profit share (depth + 1) n x one one_out first → HasGrown rows profit share (depth + 1) next y two two_out second
+pub both-parts : (most : ℕ) (rows : Rows) (profit : Option ℤ) (share : Option Share) (depth n next : ℕ) (view x y : View) (pick : RowPick) (one one_out two two_out reads reads_out : List RowItem → Type 0) (first second both : Growth)
+    → (row_steps rows.program).left view pick ≡ Some x → (row_steps rows.program).right view pick ≡ Some y → HasGrown most rows profit share (depth + 1) n x one one_out first → HasGrown most rows profit share (depth + 1) next y two two_out second
     → next ≡ n + first.ends → ((a b : List RowItem) → one a → two b → reads (a ++ b)) → ((a b : List RowItem) → one_out a → two_out b → reads_out (a ++ b)) → IsSum first second both
-    → HasGrownParts rows profit share depth n view pick reads reads_out both
-both-parts rows profit share depth n next view x y pick one one_out two two_out reads reads_out first second both left right a b number behind behind_out sums =
+    → HasGrownParts most rows profit share depth n view pick reads reads_out both
+both-parts most rows profit share depth n next view x y pick one one_out two two_out reads reads_out first second both left right a b number behind behind_out sums =
     let s = row_steps rows.program in
     let on : GoesOn s profit (in_share share) (n + open_ends s profit x a.tree) y b.tree b.grown =
     subst (λ (m : ℕ). GoesOn s profit (in_share share) m y b.tree b.grown) (number ∙ ap (λ (k : ℕ). n + k) a.is.ends) b.is.goes_on in
@@ -220,8 +220,8 @@ both-parts rows profit share depth n next view x y pick one one_out two two_out 
           let there = ap (λ (o : Option View). count_if o (λ q. open_ends s profit q b.tree)) right in
           omega (arith, sums.ends, a.is.ends, b.is.ends, here, there);
       deep =
-          let here = ap (λ (o : Option View). count_if o (λ z. deep_ends s profit is_deep (depth + 1) z a.tree)) left in
-          let there = ap (λ (o : Option View). count_if o (λ q. deep_ends s profit is_deep (depth + 1) q b.tree)) right in
+          let here = ap (λ (o : Option View). count_if o (λ z. deep_ends s profit (is_deep most) (depth + 1) z a.tree)) left in
+          let there = ap (λ (o : Option View). count_if o (λ q. deep_ends s profit (is_deep most) (depth + 1) q b.tree)) right in
           omega (arith, sums.deep, a.is.deep, b.is.deep, here, there);
       floors =
           let here = ap (λ (o : Option View). count_if o (λ z. floors_above s profit z a.tree)) left in
@@ -232,14 +232,14 @@ both-parts rows profit share depth n next view x y pick one one_out two two_out 
     }
 
 -- so where the counts are numbers of 64 bits
-pub both-if : (rows : Rows) (profit : Option ℤ) (share : Option Share) (depth n next : ℕ) (view x y : View) (pick : RowPick) (one one_out two two_out reads reads_out : List RowItem → Type 0) (first second : Growth) (both : Option Growth)
-    → (row_steps rows.program).left view pick ≡ Some x → (row_steps rows.program).right view pick ≡ Some y → HasGrown rows profit share (depth + 1) n x one one_out first → HasGrown rows profit share (depth + 1) next y two two_out second
+pub both-if : (most : ℕ) (rows : Rows) (profit : Option ℤ) (share : Option Share) (depth n next : ℕ) (view x y : View) (pick : RowPick) (one one_out two two_out reads reads_out : List RowItem → Type 0) (first second : Growth) (both : Option Growth)
+    → (row_steps rows.program).left view pick ≡ Some x → (row_steps rows.program).right view pick ≡ Some y → HasGrown most rows profit share (depth + 1) n x one one_out first → HasGrown most rows profit share (depth + 1) next y two two_out second
     → next ≡ n + first.ends → ((a b : List RowItem) → one a → two b → reads (a ++ b)) → ((a b : List RowItem) → one_out a → two_out b → reads_out (a ++ b))
     → IfSome both (λ g. (g.ends ≡ first.ends + second.ends) × (g.deep ≡ first.deep + second.deep) × (g.floors ≡ first.floors + second.floors) × (g.before ≡ first.before + second.before) × (g.after ≡ first.after + second.after))
-    → IfSome both (HasGrownParts rows profit share depth n view pick reads reads_out)
-both-if rows profit share depth n next view x y pick one one_out two two_out reads reads_out first second None left right a b number behind behind_out sums = tt
-both-if rows profit share depth n next view x y pick one one_out two two_out reads reads_out first second (Some both) left right a b number behind behind_out sums =
-    both-parts rows profit share depth n next view x y pick one one_out two two_out reads reads_out first second both left right a b number behind behind_out (record {
+    → IfSome both (HasGrownParts most rows profit share depth n view pick reads reads_out)
+both-if most rows profit share depth n next view x y pick one one_out two two_out reads reads_out first second None left right a b number behind behind_out sums = tt
+both-if most rows profit share depth n next view x y pick one one_out two two_out reads reads_out first second (Some both) left right a b number behind behind_out sums =
+    both-parts most rows profit share depth n next view x y pick one one_out two two_out reads reads_out first second both left right a b number behind behind_out (record {
       ends = sums.0;
       deep = sums.1;
       floors = sums.2;
@@ -250,10 +250,10 @@ both-if rows profit share depth n next view x y pick one one_out two two_out rea
 -- ---- a whole node
 
 -- the cuts of a node were made, and what stands below it was read
-pub node-grown : (rows : Rows) (profit : Option ℤ) (share : Option Share) (depth n : ℕ) (v w : View) (node other : Node) (reads reads_out all all_out : List RowItem → Type 0) (growth : Growth) → after_cuts (row_steps rows.program) v node.cuts ≡ Some w
-    → ((items : List RowItem) → reads items → all (node_items node ++ items)) → ((items : List RowItem) → reads_out items → all_out (node_items other ++ items)) → HasGrownBelow rows profit share depth n w node other reads reads_out growth
-    → HasGrown rows profit share depth n v all all_out growth
-node-grown rows profit share depth n v w node other reads reads_out all all_out growth there behind behind_out has = record {
+pub node-grown : (most : ℕ) (rows : Rows) (profit : Option ℤ) (share : Option Share) (depth n : ℕ) (v w : View) (node other : Node) (reads reads_out all all_out : List RowItem → Type 0) (growth : Growth) → after_cuts (row_steps rows.program) v node.cuts ≡ Some w
+    → ((items : List RowItem) → reads items → all (node_items node ++ items)) → ((items : List RowItem) → reads_out items → all_out (node_items other ++ items)) → HasGrownBelow most rows profit share depth n w node other reads reads_out growth
+    → HasGrown most rows profit share depth n v all all_out growth
+node-grown most rows profit share depth n v w node other reads reads_out all all_out growth there behind behind_out has = record {
   tree = tree_with node.cuts node.found node.end has.below;
   grown = tree_with other.cuts other.found other.end has.below_out;
   read = subst all (tree-items node.cuts node.found node.end has.below) (behind (below_items node.end has.below) has.read);

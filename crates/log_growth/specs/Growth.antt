@@ -62,11 +62,12 @@ GoesOn {U} {C} {P} {F} s profit searched n v (split cuts found pick cert a b) gr
     (λ w. IsSomeAnd (s.left (s.trim w pick cert) pick) (λ x. GoesOn s profit searched n x a first
     × IsSomeAnd (s.right (s.trim w pick cert) pick) (λ y. GoesOn s profit searched (n + open_ends s profit x a) y b second)))))
 
--- how one proof goes on from another over a view below so many splits, with open ends numbered from n on, and their counts
-pub record IsGrowth (rows : Rows) (profit : Option ℤ) (share : Option Share) (depth n : ℕ) (view : View) (tree grown : RowTree) (growth : Growth) : Type 0 where
+-- how one proof goes on from another over a view below so many splits, of which at most so many may stand one below another, with open ends
+-- numbered from n on, and their counts
+pub record IsGrowth (most : ℕ) (rows : Rows) (profit : Option ℤ) (share : Option Share) (depth n : ℕ) (view : View) (tree grown : RowTree) (growth : Growth) : Type 0 where
   pub goes_on : GoesOn (row_steps rows.program) profit (in_share share) n view tree grown
   pub ends : growth.ends ≡ open_ends (row_steps rows.program) profit view tree
-  pub deep : growth.deep ≡ deep_ends (row_steps rows.program) profit is_deep depth view tree
+  pub deep : growth.deep ≡ deep_ends (row_steps rows.program) profit (is_deep most) depth view tree
   pub floors : growth.floors ≡ floors_above (row_steps rows.program) profit view tree
   pub before : growth.before ≡ counted tree
   pub after : growth.after ≡ counted grown

@@ -9,10 +9,11 @@ use Rattle.log_nodes.specs.declared.front.Front.{Front}
 use Rattle.log_growth.specs.Growth.{IsGrowth}
 use Rattle.log_nodes.specs.Texts.{IsTextBehind}
 
--- the bytes are, behind their heads, the texts of two logs, and the proof of the second goes on from that of the first
-pub record AreGrown (rows : Rows) (profit : Option ℤ) (share : Option Share) (log out : Front) (bytes bytes_out : List ℕ) (growth : Growth) : Type 0 where
+-- the bytes are, behind their heads, the texts of two logs, and the proof of the second goes on from that of the first, where at most so
+-- many splits may stand one below another
+pub record AreGrown (most : ℕ) (rows : Rows) (profit : Option ℤ) (share : Option Share) (log out : Front) (bytes bytes_out : List ℕ) (growth : Growth) : Type 0 where
   pub tree : RowTree
   pub grown : RowTree
   pub text : IsTextBehind log bytes tree
   pub text_out : IsTextBehind out bytes_out grown
-  pub is : IsGrowth rows profit share 0 0 (view_of rows.program.root) tree grown growth
+  pub is : IsGrowth most rows profit share 0 0 (view_of rows.program.root) tree grown growth

@@ -15,8 +15,8 @@ use crate::counts::Growth;
 use branch_tree::is_deep;
 use dual_bound::Cert;
 use log_nodes::{
-    Ending, MOST_NODES, Node, Pair, begins_with, boxes_of, cut_down, in_share, is_open,
-    is_same_node, leaves_open, read_node, skip_below, sum_of,
+    Ending, Node, Pair, begins_with, boxes_of, cut_down, in_share, is_open, is_same_node,
+    leaves_open, read_node, skip_below, sum_of,
 };
 use proof_log::LogReader;
 use proof_tree::{Relaxation, floor_cap};
@@ -58,8 +58,9 @@ pub fn grown<F: Shelf>(
     requires log_reading { IsReading (F.files files.old) pair.log.now readers.old.log }
     requires out_reading { IsReading (F.files files.old) pair.out.now readers.old.out }
     requires fits { Fits pair.rows.now.program (seen area.old) }
-    ensures grown { IfOk result (λ growth. IfSome growth (HasGrown pair.entry.rows.now
-        pair.entry.profit pair.entry.share place.depth place.number (seen area.old)
+    ensures grown { IfOk result (λ growth. IfSome growth (HasGrown pair.entry.most
+        pair.entry.rows.now pair.entry.profit pair.entry.share place.depth place.number
+        (seen area.old)
         (λ items. ReadsOn (F.files files.old) pair.entry.log.now readers.old.log items
         readers.new.log)
         (λ items. ReadsOn (F.files files.old) pair.entry.out.now readers.old.out items
@@ -114,9 +115,9 @@ fn grown_below<F: Shelf>(
     requires log_reading { IsReading (F.files files.old) pair.log.now readers.old.log }
     requires out_reading { IsReading (F.files files.old) pair.out.now readers.old.out }
     requires fits { Fits pair.rows.now.program (seen area.old) }
-    ensures grown { IfOk result (λ growth. IfSome growth (HasGrownBelow pair.entry.rows.now
-        pair.entry.profit pair.entry.share place.depth place.number (seen area.old) node.now
-        other.now
+    ensures grown { IfOk result (λ growth. IfSome growth (HasGrownBelow pair.entry.most
+        pair.entry.rows.now pair.entry.profit pair.entry.share place.depth place.number
+        (seen area.old) node.now other.now
         (λ items. ReadsOn (F.files files.old) pair.entry.log.now readers.old.log items
         readers.new.log)
         (λ items. ReadsOn (F.files files.old) pair.entry.out.now readers.old.out items
@@ -163,9 +164,9 @@ fn grown_split<F: Shelf>(
     requires out_reading { IsReading (F.files files.old) pair.out.now readers.old.out }
     requires fits { Fits pair.rows.now.program (seen area.old) }
     requires splits { node.now.end ≡ Split pick.now cert.now }
-    ensures grown { IfOk result (λ growth. IfSome growth (HasGrownBelow pair.entry.rows.now
-        pair.entry.profit pair.entry.share place.depth place.number (seen area.old) node.now
-        other.now
+    ensures grown { IfOk result (λ growth. IfSome growth (HasGrownBelow pair.entry.most
+        pair.entry.rows.now pair.entry.profit pair.entry.share place.depth place.number
+        (seen area.old) node.now other.now
         (λ items. ReadsOn (F.files files.old) pair.entry.log.now readers.old.log items
         readers.new.log)
         (λ items. ReadsOn (F.files files.old) pair.entry.out.now readers.old.out items
@@ -184,7 +185,7 @@ fn grown_split<F: Shelf>(
     ensures fault { result ≡ Err Stop.Failed
         → Rose (F.read_faults files.old) (F.read_faults files.new) }
 {
-    if place.depth >= MOST_NODES || !is_same_node(node, other) {
+    if place.depth >= pair.most || !is_same_node(node, other) {
         return Ok(None);
     }
     let mark = pair.rows.mark(area);
@@ -214,9 +215,10 @@ fn grown_parts<F: Shelf>(
     requires log_reading { IsReading (F.files files.old) pair.log.now readers.old.log }
     requires out_reading { IsReading (F.files files.old) pair.out.now readers.old.out }
     requires fits { Fits pair.rows.now.program (seen area.old) }
-    requires depth { place.depth < 4609 }
-    ensures grown { IfOk result (λ growth. IfSome growth (HasGrownParts pair.entry.rows.now
-        pair.entry.profit pair.entry.share place.depth place.number (seen area.old) pick.now
+    requires depth { place.depth < pair.most }
+    ensures grown { IfOk result (λ growth. IfSome growth (HasGrownParts pair.entry.most
+        pair.entry.rows.now pair.entry.profit pair.entry.share place.depth place.number
+        (seen area.old) pick.now
         (λ items. ReadsOn (F.files files.old) pair.entry.log.now readers.old.log items
         readers.new.log)
         (λ items. ReadsOn (F.files files.old) pair.entry.out.now readers.old.out items
@@ -320,10 +322,10 @@ fn with_split(above: bool, growth: Growth) -> Option<Growth>
 }
 
 // Whether an end stands too deep that may be open.
-fn is_deep_end(open: bool, area: &Area, depth: u32) -> bool
-    ensures { result ≡ («open» && is_deep depth (seen area.now)) }
+fn is_deep_end(open: bool, area: &Area, depth: u32, most: u32) -> bool
+    ensures { result ≡ («open» && is_deep most depth (seen area.now)) }
 {
-    open && is_deep(area, depth)
+    open && is_deep(area, depth, most)
 }
 
 // The counts of an end that is as it was, which may be open, and too deep.
@@ -374,9 +376,9 @@ fn grown_leaf<F: Shelf>(
     requires out_reading { IsReading (F.files files.old) pair.out.now readers.old.out }
     requires fits { Fits pair.rows.now.program (seen area.now) }
     requires leaf { IsLeafEnd node.now.end }
-    ensures grown { IfOk result (λ growth. IfSome growth (HasGrownBelow pair.entry.rows.now
-        pair.entry.profit pair.entry.share place.depth place.number (seen area.now) node.now
-        other.now
+    ensures grown { IfOk result (λ growth. IfSome growth (HasGrownBelow pair.entry.most
+        pair.entry.rows.now pair.entry.profit pair.entry.share place.depth place.number
+        (seen area.now) node.now other.now
         (λ items. ReadsOn (F.files files.old) pair.entry.log.now readers.old.log items
         readers.new.log)
         (λ items. ReadsOn (F.files files.old) pair.entry.out.now readers.old.out items
@@ -394,7 +396,7 @@ fn grown_leaf<F: Shelf>(
         → Rose (F.read_faults files.old) (F.read_faults files.new) }
 {
     let open = is_open(pair.rows, area, &pair.profit, &node.end);
-    let deep = is_deep_end(open, area, place.depth);
+    let deep = is_deep_end(open, area, place.depth, pair.most);
     let as_before = leaf_growth(open, deep, &node.end);
     if is_same_node(node, other) {
         return Ok(Some(as_before));
@@ -408,7 +410,7 @@ fn grown_leaf<F: Shelf>(
         pair.out,
         &mut readers.out,
         &other.end,
-        MOST_NODES,
+        pair.most,
     )? {
         Some(after) => Ok(Some(Growth { after, ..as_before })),
         None => Ok(None),

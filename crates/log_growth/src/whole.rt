@@ -24,7 +24,8 @@ pub fn growth<F: Shelf>(
     requires log_allowed { IsTrue (F.may_read files.old pair.log.now) }
     requires out_allowed { IsTrue (F.may_read files.old pair.out.now) }
     ensures grown { IfOk result (λ growth. IfSome growth (λ g. IfSome (F.files files.old)
-        (λ m. AreGrown pair.entry.rows.now pair.entry.profit pair.entry.share log out
+        (λ m. AreGrown pair.entry.most pair.entry.rows.now pair.entry.profit pair.entry.share log
+        out
         (file_of m pair.entry.log.now) (file_of m pair.entry.out.now) g))) }
     ensures same { F.files files.new ≡ F.files files.old }
     ensures readable { F.may_read files.new ≡ F.may_read files.old }

@@ -10,6 +10,7 @@ use Rattle.std.proofs.lemmas.List.FromFn.{get_or-range_with_len, length-range_wi
 use Rattle.std.proofs.lemmas.List.Sorted.{All-permutation, Contains-permutation, IsPermutation-sym, length_permutation}
 use Rattle.std.proofs.Math.Seq.{get_or-append_seam}
 use Rattle.stn_edge.specs.Files.{FileMap, OthersStay, file_of}
+use Rattle.stn_model.specs.Points.{depth_limit}
 use Rattle.stn_model.specs.declared.plant.Plant.{Plant}
 use Rattle.stn_model.specs.Profit.{profit}
 use Rattle.row_kit.specs.declared.program.Program.{Program}
@@ -358,8 +359,8 @@ same-made plant a b one other = same-program a b
 yes-once : (plant : Plant) (bytes : List ℕ) (claim : Claim) (defect : Defect) → IsAnyChecked plant bytes (verdict.Yes claim) → IsAnyChecked plant bytes (verdict.No defect) → ⊥
 yes-once plant bytes claim defect valid refused =
     let same = same-made plant refused.program valid.program refused.of_plant.made valid.of_plant.made in
-    let right = subst (λ (program : Program). IsPlantVerdict plant program 4608 bytes (verdict.No defect)) same refused.right in
-    let is : verdict.No defect ≡ verdict.Yes claim = yes-stays plant valid.program (plant_root plant) (plant_root plant) 4608 4608 bytes claim (verdict.No defect) (omega arith) valid.right right in
+    let right = subst (λ (program : Program). IsPlantVerdict plant program (depth_limit plant) bytes (verdict.No defect)) same refused.right in
+    let is : verdict.No defect ≡ verdict.Yes claim = yes-stays plant valid.program (plant_root plant) (plant_root plant) (depth_limit plant) (depth_limit plant) bytes claim (verdict.No defect) (omega arith) valid.right right in
     cc
 
 -- a log has one head
@@ -367,7 +368,7 @@ one-opened : (plant : Plant) (bytes : List ℕ) (a b : Opened) → IsOpened plan
 one-opened plant bytes a b one other =
     let same = same-made plant other.program one.program other.made one.made in
     let is = subst (λ (program : Program). IsOpenedOver plant program (plant_root plant) bytes b) same other.is in
-    one_head plant one.program 4608 bytes a.head b.head one.is.stands is.stands
+    one_head plant one.program (depth_limit plant) bytes a.head b.head one.is.stands is.stands
 
 -- of logs that are all valid and have the same head none is refused
 never-refused : (plant : Plant) (count : ℕ) (logs own : ℕ → List ℕ) (all : Logs) (number : ℕ) (defect : Defect) (declared : Declared) → AreCheckedTo plant count logs all → ((part : ℕ) → part < count → own part ≡ logs part) → number < count

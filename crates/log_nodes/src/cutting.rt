@@ -11,8 +11,8 @@ use range_prop::RowCut;
 use row_kit::Area;
 use row_relax::Rows;
 
-/// So many nodes may stand one below another in a log.
-pub const MOST_NODES: u32 = 4_609;
+/// So many nodes may stand one below another in a log of any plant.
+pub const MOST_NODES: u32 = 36_865;
 
 /// Makes the cuts of a node; false where one of them names nothing that is there.
 pub fn cut_down(rows: &Rows, area: &mut Area, cuts: &[RowCut]) -> bool

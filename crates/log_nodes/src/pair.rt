@@ -17,6 +17,8 @@ pub struct Share {
 #[derive(Clone, Copy)]
 pub struct Pair<'a> {
     pub rows: &'a Rows,
+    /// So many splits may stand one below another.
+    pub most: u32,
     /// The name of the file of the log.
     pub log: &'a str,
     /// The name of the file of the one that is to go on from it.

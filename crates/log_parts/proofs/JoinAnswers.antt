@@ -7,6 +7,7 @@ use Rattle.std.proofs.lemmas.List.{get_or_append_left, length-map}
 use Rattle.std.proofs.lemmas.List.Elements.{All-head, All-tail}
 use Rattle.std.proofs.lemmas.List.FromFn.{get_or-map-range_with_len, length-map-range_with_len}
 use Rattle.stn_edge.specs.Files.{FileMap, file_of, OthersStay}
+use Rattle.stn_model.specs.Points.{depth_limit}
 use Rattle.stn_model.specs.declared.plant.Plant.{Plant}
 use Rattle.stn_model.specs.Sound.{Sound}
 use Rattle.time_grid.specs.Slots.{slots}
@@ -103,7 +104,7 @@ set_up-points limits sizes [] = (refl, refl)
 set_up-points limits sizes (unit ∷ units) = set_up-points (with_setup limits (size_of sizes unit)) sizes units
 
 limits_larger : (plant : Plant) (levels part : ℕ) (declared : Declared) (program : Program) (rows : Rows) → IsPartProgram plant levels part program → All (λ unit. unit < length (setup_sizes plant)) declared.units
-    → length (plant_root plant) ≡ length program.root → IsWithHead plant 4 program (plant_root plant) declared.sums declared.units declared.derivations rows → limits_of rows (4608 - levels) ≡ part_limits plant levels declared
+    → length (plant_root plant) ≡ length program.root → IsWithHead plant 4 program (plant_root plant) declared.sums declared.units declared.derivations rows → limits_of rows (depth_limit plant - levels) ≡ part_limits plant levels declared
 limits_larger plant levels part declared program rows is there judged added =
     let units = declared.units in
     let sizes = setup_sizes plant in
@@ -135,7 +136,7 @@ are_logs plant levels logs declared heads claims n sound within there have part 
     (part-stays plant levels part is.program is.enlarged.between is.enlarged.wide sums units sound within is.of_part.root is.enlarged.with_sums is.enlarged.with_setups) in
     let same = limits_larger plant levels part declared is.program is.rows is.of_part there judged four in
     subst (λ (l : Limits). IsLogOf l (behind 4 (get_or heads part 0) (logs part)) (get_or have.trees part no_tree)) same
-    (read-newest is.rows (4608 - levels) (logs part) is.version (get_or heads part 0) (get_or have.trees part no_tree) is.own is.log is.clean)
+    (read-newest is.rows (depth_limit plant - levels) (logs part) is.version (get_or heads part 0) (get_or have.trees part no_tree) is.own is.log is.clean)
 
 -- ---- the told case
 

@@ -101,20 +101,20 @@ pub record AreAsMany (whole part : Rows) : Type 0 where
   pub points : length (choices_of part).root ≡ length (choices_of whole).root
 
 -- a part's limits, with a split more for each level, are the plant's
-deeper-same : (whole part : Rows) (levels : ℕ) → AreAsMany whole part → levels ≤ 4608 → deeper (limits_of part (4608 - levels)) levels ≡ limits_of whole 4608
-deeper-same whole part levels same few =
-    let depth : 4608 - levels + levels ≡ 4608 = omega arith in
-    λ i. record { rows = same.rows i; slots = same.slots i; points = same.points i; depth = depth i }
+deeper-same : (whole part : Rows) (depth levels : ℕ) → AreAsMany whole part → levels ≤ depth → deeper (limits_of part (depth - levels)) levels ≡ limits_of whole depth
+deeper-same whole part depth levels same few =
+    let all : depth - levels + levels ≡ depth = omega arith in
+    λ i. record { rows = same.rows i; slots = same.slots i; points = same.points i; depth = all i }
 
 -- the lines of a part's tree lead through it in a log of the plant in which a split is open for each level
-pub part-lead : (wide : ℕ) (whole part : Rows) (levels : ℕ) (bytes : List ℕ) (tree : RowTree) (claim : Claim) → AreAsMany whole part → levels ≤ 4608
-    → (is : IsLog part bytes tree claim) → HasLinesOf wide is.version → log_text_defect (limits_of part (4608 - levels)) bytes ≡ None
-    → (outer : List Bool) → length outer ≡ levels → leads (limits_of whole 4608) (at wide AtNode outer) (tree_lines tree) ≡ Some (closed wide outer)
-part-lead wide whole part levels bytes tree claim counts few is has clean outer same =
-    let limits = limits_of part (4608 - levels) in
-    let found = log-leads part (4608 - levels) bytes tree claim is clean in
+pub part-lead : (wide : ℕ) (whole part : Rows) (depth levels : ℕ) (bytes : List ℕ) (tree : RowTree) (claim : Claim) → AreAsMany whole part → levels ≤ depth
+    → (is : IsLog part bytes tree claim) → HasLinesOf wide is.version → log_text_defect (limits_of part (depth - levels)) bytes ≡ None
+    → (outer : List Bool) → length outer ≡ levels → leads (limits_of whole depth) (at wide AtNode outer) (tree_lines tree) ≡ Some (closed wide outer)
+part-lead wide whole part depth levels bytes tree claim counts few is has clean outer same =
+    let limits = limits_of part (depth - levels) in
+    let found = log-leads part (depth - levels) bytes tree claim is clean in
     let within = tree_within wide limits is.version tree claim found.0 outer has found.1 in
-    subst (λ (l : Limits). leads l (at wide AtNode outer) (tree_lines tree) ≡ Some (closed wide outer)) (ap (deeper limits) same ∙ deeper-same whole part levels counts few) within
+    subst (λ (l : Limits). leads l (at wide AtNode outer) (tree_lines tree) ≡ Some (closed wide outer)) (ap (deeper limits) same ∙ deeper-same whole part depth levels counts few) within
 
 -- ---- lines that may be written
 

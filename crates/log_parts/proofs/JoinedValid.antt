@@ -8,6 +8,7 @@ use Rattle.std.proofs.lemmas.List.{get_or_append_left, get_or_default, length-ma
 use Rattle.std.proofs.lemmas.List.Elements.{All-append, All-nil, All-weaker}
 use Rattle.stn_model.specs.declared.plant.Plant.{Plant}
 use Rattle.stn_model.specs.declared.start.Start.{Start}
+use Rattle.stn_model.specs.Points.{depth_limit}
 use Rattle.stn_model.specs.Profit.{profit}
 use Rattle.stn_model.specs.Sound.{Sound}
 use Rattle.time_grid.specs.Slots.{slots}
@@ -64,6 +65,7 @@ use Rattle.valid_log.specs.Claims.{SaysOf}
 use Rattle.valid_log.specs.Heads.{IsWithHead, wide_domains}
 use Rattle.valid_log.specs.AnyVersion.{IsAnyVerdict, given_claim}
 use Rattle.valid_log.specs.PlantLogs.{IsAnyChecked}
+use Rattle.valid_log.proofs.Depths.{depth-within}
 use Rattle.valid_log.specs.SumTexts.{larger_claim}
 use Rattle.valid_log.proofs.Holding.{head-points, larger-none}
 use Rattle.valid_log.proofs.LogFronts.{plain-verdict}
@@ -95,14 +97,14 @@ use Rattle.log_parts.proofs.RootSplits.{left_root, no-cut, over-cap, over-items,
 -- ---- the log of a part
 
 -- what the log of a part, whose lines a log of a version may have, says over the plant's own rows, of whose slots' domains cuts have left some
-record IsPartProof (target : ℕ) (whole : Rows) (base left : List Domain) (levels number : ℕ) (tree : RowTree) (claim : Claim) : Type 0 where
+record IsPartProof (target depth : ℕ) (whole : Rows) (base left : List Domain) (levels number : ℕ) (tree : RowTree) (claim : Claim) : Type 0 where
   part : Rows
   bytes : List ℕ
   is : AreParts whole part
   root : part.program.root ≡ left_root base left levels number
   log : IsLog part bytes tree claim
   lines : HasLinesOf target log.version
-  clean : log_text_defect (limits_of part (4608 - levels)) bytes ≡ None
+  clean : log_text_defect (limits_of part (depth - levels)) bytes ≡ None
   sound : IsSoundLog part tree claim
 
 -- a part of the plant is the plant's program but for its root
@@ -127,7 +129,7 @@ ended-cap Bad proof_cap is = absurd (cc)
 ended-cap NoPoint proof_cap is = (let e : NoPoint ≡ proof_cap = cc in e, λ bad. let e : NoPoint ≡ proof_cap = cc in cc)
 ended-cap (AtMost n) proof_cap is = (let e : AtMost n ≡ proof_cap = cc in e, λ bad. let e : AtMost n ≡ proof_cap = cc in cc)
 
-module _ (target : ℕ) (whole : Rows) (base left : List Domain) (levels number : ℕ) (tree : RowTree) (claim : Claim) (proof : IsPartProof target whole base left levels number tree claim) where
+module _ (target depth : ℕ) (whole : Rows) (base left : List Domain) (levels number : ℕ) (tree : RowTree) (claim : Claim) (proof : IsPartProof target depth whole base left levels number tree claim) where
   -- the cap of its proof, over the part's rows
   own-led : (tree_cap (steps_of proof.part) (view_of proof.part.program.root) tree ≡ proof.sound.proof_cap) × (proof.sound.proof_cap ≢ Bad)
   own-led =
@@ -155,9 +157,9 @@ module _ (target : ℕ) (whole : Rows) (base left : List Domain) (levels number 
   own-written = subst (λ (n : ℕ). IsWrittenLog n tree claim) proof.is.points (log-written proof.part proof.bytes tree claim proof.log)
 
   -- its lines lead through it in a log of the plant
-  own-lead : levels ≤ 4608 → (outer : List Bool) → length outer ≡ levels → leads (limits_of whole 4608) (at target AtNode outer) (tree_lines tree) ≡ Some (closed target outer)
+  own-lead : levels ≤ depth → (outer : List Bool) → length outer ≡ levels → leads (limits_of whole depth) (at target AtNode outer) (tree_lines tree) ≡ Some (closed target outer)
   own-lead few =
-      part-lead target whole proof.part levels proof.bytes tree claim (record { rows = ap length proof.is.alike.rows; slots = proof.is.slots; points = proof.is.points }) few proof.log proof.lines proof.clean
+      part-lead target whole proof.part depth levels proof.bytes tree claim (record { rows = ap length proof.is.alike.rows; slots = proof.is.slots; points = proof.is.points }) few proof.log proof.lines proof.clean
 
 -- ---- the joined log
 
@@ -165,8 +167,8 @@ module _ (target : ℕ) (whole : Rows) (base left : List Domain) (levels number 
 abbrev root_cap : Rows → RowTree → Capped
 root_cap rows tree = tree_cap (steps_of rows) (view_of rows.program.root) tree
 
-module _ (target : ℕ) (known : IsVersion target) (whole : Rows) (base left : List Domain) (long : length left ≡ length base) (root_is : whole.program.root ≡ met base left) (levels : ℕ) (trees : List RowTree) (claims : List Claim) (claim : Claim) (are : AreFirstOfSlots levels base)
-    (few : levels ≤ 8) (within : levels ≤ length base) (each : (part : ℕ) → part < 2 ^ levels → IsPartProof target whole base left levels part (get_or trees part no_tree) (get_or claims part Infeasible)) (all : length claims ≡ 2 ^ levels) (joined : IsJoined claims claim) where
+module _ (target depth : ℕ) (known : IsVersion target) (whole : Rows) (base left : List Domain) (long : length left ≡ length base) (root_is : whole.program.root ≡ met base left) (levels : ℕ) (trees : List RowTree) (claims : List Claim) (claim : Claim) (are : AreFirstOfSlots levels base)
+    (few : levels ≤ 8) (deep : levels ≤ depth) (within : levels ≤ length base) (each : (part : ℕ) → part < 2 ^ levels → IsPartProof target depth whole base left levels part (get_or trees part no_tree) (get_or claims part Infeasible)) (all : length claims ≡ 2 ^ levels) (joined : IsJoined claims claim) where
   -- the root has a domain for each slot
   there : levels ≤ length whole.program.root
   there = omega (arith, within, ap length root_is, length-met base left long)
@@ -179,10 +181,10 @@ module _ (target : ℕ) (known : IsVersion target) (whole : Rows) (base left : L
       (λ i l.
       let number : i ≡ 0 * 2 ^ levels + i = omega arith in
       subst (λ (n : ℕ). Q (part_cap whole base left levels n (get_or trees i no_tree))) number
-      (of-cap target whole base left levels i (get_or trees i no_tree) (get_or claims i Infeasible) (each i l) Q (holds i l))))
+      (of-cap target depth whole base left levels i (get_or trees i no_tree) (get_or claims i Infeasible) (each i l) Q (holds i l))))
 
   real : root_cap whole (tree_over 0 levels trees) ≢ Bad
-  real = joined-cap (λ (c : Capped). c ≢ Bad) greater-real (λ part l. (own-led target whole base left levels part (get_or trees part no_tree) (get_or claims part Infeasible) (each part l)).1)
+  real = joined-cap (λ (c : Capped). c ≢ Bad) greater-real (λ part l. (own-led target depth whole base left levels part (get_or trees part no_tree) (get_or claims part Infeasible) (each part l)).1)
 
   -- the items lead to the joined cap
   led : walked {R = Rows} {A = Area} {F = Found} (steps_of whole) (start (view_of whole.program.root)) (tree_items (tree_over 0 levels trees)) ≡ ended (root_cap whole (tree_over 0 levels trees))
@@ -192,14 +194,14 @@ module _ (target : ℕ) (known : IsVersion target) (whole : Rows) (base left : L
   all-fine : All (IsFine (choices_of whole)) (tree_items (tree_over 0 levels trees))
   all-fine =
       over-items (IsFine (choices_of whole)) levels levels 0 trees tt (λ k l. tt) (omega arith)
-      (λ i l. fine-parts target whole base left levels i (get_or trees i no_tree) (get_or claims i Infeasible) (each i l))
+      (λ i l. fine-parts target depth whole base left levels i (get_or trees i no_tree) (get_or claims i Infeasible) (each i l))
 
   -- what a place of the claims has
-  at-place : (place : ℕ) → place < length claims → IsPartProof target whole base left levels place (get_or trees place no_tree) (get_or claims place Infeasible)
+  at-place : (place : ℕ) → place < length claims → IsPartProof target depth whole base left levels place (get_or trees place no_tree) (get_or claims place Infeasible)
   at-place place l = each place (omega (arith, l, all))
 
   written-at : (place : ℕ) → place < length claims → IsWrittenClaim (length (choices_of whole).root) (get_or claims place Infeasible)
-  written-at place l = (own-written target whole base left levels place (get_or trees place no_tree) (get_or claims place Infeasible) (at-place place l)).claim_written
+  written-at place l = (own-written target depth whole base left levels place (get_or trees place no_tree) (get_or claims place Infeasible) (at-place place l)).claim_written
 
   -- the best plan has no defect, and may be written
   best-fine : (plan : Option ClaimedPlan) → IsBestPlan claims plan → IfSome plan (λ p. IsFinePoint (choices_of whole) p.profit p.point)
@@ -246,9 +248,9 @@ module _ (target : ℕ) (known : IsVersion target) (whole : Rows) (base left : L
       let few_slots = whole.program.few_slots in
       record {
         items_over = over-items (IsOver (length (choices_of whole).root)) levels levels 0 trees tt (λ k l. tt) (omega arith)
-            (λ i l. (own-written target whole base left levels i (get_or trees i no_tree) (get_or claims i Infeasible) (each i l)).items_over);
+            (λ i l. (own-written target depth whole base left levels i (get_or trees i no_tree) (get_or claims i Infeasible) (each i l)).items_over);
         items = over-items IsWrittenItem levels levels 0 trees node-written (λ k l. split-written k (omega (arith, l, few))) (omega arith)
-            (λ i l. (own-written target whole base left levels i (get_or trees i no_tree) (get_or claims i Infeasible) (each i l)).items);
+            (λ i l. (own-written target depth whole base left levels i (get_or trees i no_tree) (get_or claims i Infeasible) (each i l)).items);
         claim_written = subst (IsWrittenClaim (length (choices_of whole).root)) (sym joined.is)
             (with-written (length (choices_of whole).root) joined.plan joined.cap (best-written joined.plan joined.best_plan) (cap-short joined.cap joined.best_cap));
       }
@@ -257,14 +259,14 @@ module _ (target : ℕ) (known : IsVersion target) (whole : Rows) (base left : L
   joined-log = record { version = target; text = refl; over = log-over target (length (choices_of whole).root) (tree_over 0 levels trees) claim known joined-written }
 
   -- its text has no text defect
-  joined-clean : log_text_defect (limits_of whole 4608) (log_text target (tree_items (tree_over 0 levels trees)) claim) ≡ None
+  joined-clean : log_text_defect (limits_of whole depth) (log_text target (tree_items (tree_over 0 levels trees)) claim) ≡ None
   joined-clean =
-      text-clean target (limits_of whole 4608) (tree_over 0 levels trees) claim (log-over target (length (choices_of whole).root) (tree_over 0 levels trees) claim known joined-written)
-      (over-lead target (limits_of whole 4608) levels levels 0 trees [] (omega arith) there (omega (arith, few)) refl
-      (λ i l. own-lead target whole base left levels i (get_or trees i no_tree) (get_or claims i Infeasible) (each i l) (omega (arith, few))))
+      text-clean target (limits_of whole depth) (tree_over 0 levels trees) claim (log-over target (length (choices_of whole).root) (tree_over 0 levels trees) claim known joined-written)
+      (over-lead target (limits_of whole depth) levels levels 0 trees [] (omega arith) there (omega (arith, deep)) refl
+      (λ i l. own-lead target depth whole base left levels i (get_or trees i no_tree) (get_or claims i Infeasible) (each i l) deep))
 
   -- the verdict on it is yes
-  joined-right : IsVerdict whole 4608 (log_text target (tree_items (tree_over 0 levels trees)) claim) (verdict.Yes claim)
+  joined-right : IsVerdict whole depth (log_text target (tree_items (tree_over 0 levels trees)) claim) (verdict.Yes claim)
   joined-right =
       let bytes = log_text target (tree_items (tree_over 0 levels trees)) claim in
       subst (λ (found : Option (ℕ × ℕ)). IsVerdictGiven whole bytes found (verdict.Yes claim)) (sym joined-clean)
@@ -455,7 +457,7 @@ module _ (plant : Plant) (levels : ℕ) (logs : ℕ → List ℕ) (declared : De
 
   -- what each log says over the plant's rows with the head
   each-proof : (target : ℕ) → ((k : ℕ) (l : k < 2 ^ levels) → HasLinesOf target (all.each k l).log.version) → (wide : Rows) (added : IsWithHead plant 4 whole base sums units derivations wide) → (k : ℕ) → k < 2 ^ levels
-      → IsPartProof target wide added.wide.root (left-of wide added) levels k (get_or trees k no_tree) (get_or (map (larger_claim sums) claims) k Infeasible)
+      → IsPartProof target (depth_limit plant) wide added.wide.root (left-of wide added) levels k (get_or trees k no_tree) (get_or (map (larger_claim sums) claims) k Infeasible)
   each-proof target has wide added k l =
       let is = all.each k l in
       let but = but-root plant whole is.program made is.of_part.is_part in
@@ -516,10 +518,10 @@ module _ (plant : Plant) (levels : ℕ) (logs : ℕ → List ℕ) (declared : De
   module _ (claim : Claim) (joined : IsJoined claims claim) where
     -- the joined log over the plant's rows with the head
     right-over : (target : ℕ) → IsVersion target → ((k : ℕ) (l : k < 2 ^ levels) → HasLinesOf target (all.each k l).log.version) → (wide : Rows) → IsWithHead plant 4 whole base sums units derivations wide
-        → IsVerdict wide 4608 (log_text target (tree_items (tree_over 0 levels trees)) (larger_claim sums claim)) (verdict.Yes (larger_claim sums claim))
+        → IsVerdict wide (depth_limit plant) (log_text target (tree_items (tree_over 0 levels trees)) (larger_claim sums claim)) (verdict.Yes (larger_claim sums claim))
     right-over target known has wide added =
-        joined-right target known wide added.wide.root (left-of wide added) (left-long wide added) (derived-of plant whole base sums units derivations wide added).root levels trees (map (larger_claim sums) claims) (larger_claim sums claim)
-        (first-here added.between added.wide added.with_sums added.with_setups) all.few (wide-there added.between added.wide added.with_sums added.with_setups)
+        joined-right target (depth_limit plant) known wide added.wide.root (left-of wide added) (left-long wide added) (derived-of plant whole base sums units derivations wide added).root levels trees (map (larger_claim sums) claims) (larger_claim sums claim)
+        (first-here added.between added.wide added.with_sums added.with_setups) all.few (omega (arith, all.few, (depth-within plant).0)) (wide-there added.between added.wide added.with_sums added.with_setups)
         (each-proof target has wide added) (length-map claims (larger_claim sums) ∙ all.all_claims) (joined-larger sums claims claim joined)
 
     -- its point is lawful
@@ -559,11 +561,11 @@ module _ (plant : Plant) (levels : ℕ) (logs : ℕ → List ℕ) (declared : De
     abbrev text : ℕ → List ℕ
     text version = declared_text version declared (tree_over 0 levels trees) (larger_claim sums claim)
 
-    may-here : (version : ℕ) → MayDeclare plant (head_limits plant levels) version declared → MayDeclare plant (limits_of (plain whole) 4608) version declared
+    may-here : (version : ℕ) → MayDeclare plant (head_limits plant levels) version declared → MayDeclare plant (limits_of (plain whole) (depth_limit plant)) version declared
     may-here version may =
-        let deeper = may_deeper plant (head_limits plant levels) 4608 version declared may in
-        let made' : ℕ → ℕ → Limits = λ r s. record { rows = r; slots = s; points = s; depth = 4608 } in
-        let same : made' (length (plant_rows plant)) (length (slots plant)) ≡ limits_of (plain whole) 4608 =
+        let deeper = may_deeper plant (head_limits plant levels) (depth_limit plant) version declared may in
+        let made' : ℕ → ℕ → Limits = λ r s. record { rows = r; slots = s; points = s; depth = depth_limit plant } in
+        let same : made' (length (plant_rows plant)) (length (slots plant)) ≡ limits_of (plain whole) (depth_limit plant) =
         ap (λ (r : ℕ). made' r (length (slots plant))) (sym (ap length made.rows_are)) ∙ ap (made' (length whole.rows)) (sym slots-same) in
         subst (λ (l : Limits). MayDeclare plant l version declared) same deeper
 
@@ -571,7 +573,7 @@ module _ (plant : Plant) (levels : ℕ) (logs : ℕ → List ℕ) (declared : De
     given-here wide added = given-larger whole (choices_of wide) sums claim (same-whole wide added) joint-pointed
 
     -- the text of version 2, which declares nothing
-    right-plain : newest ≡ false → sums ≡ [] → units ≡ [] → derivations ≡ [] → IsAnyVerdict plant whole base base 4608 (text 2) (verdict.Yes claim)
+    right-plain : newest ≡ false → sums ≡ [] → units ≡ [] → derivations ≡ [] → IsAnyVerdict plant whole base base (depth_limit plant) (text 2) (verdict.Yes claim)
     right-plain old none unset nothing =
         let tree = tree_over 0 levels trees in
         let own : larger_claim sums claim ≡ claim = ap (λ (ss : List Sum). larger_claim ss claim) none ∙ larger-none claim in
@@ -579,19 +581,19 @@ module _ (plant : Plant) (levels : ℕ) (logs : ℕ → List ℕ) (declared : De
         (subst (λ (us : List ℕ). IsWithHead plant 4 whole base [] us derivations (plain whole)) (sym unset)
         (subst (λ (ds : List Derivation). IsWithHead plant 4 whole base [] [] ds (plain whole)) (sym nothing) plain-head)) in
         let larger = larger_claim sums claim in
-        let right = subst (λ (c : Claim). IsVerdict (plain whole) 4608 (log_text 2 (tree_items tree) larger) (verdict.Yes c)) own (right-over 2 (omega arith, omega arith, omega arith) (lines-two old) (plain whole) is) in
-        subst (λ (bytes : List ℕ). IsAnyVerdict plant whole base base 4608 bytes (verdict.Yes claim)) (sym (text_plain declared tree larger))
-        (plain-verdict plant whole base base 4608 (tree_items tree) larger (verdict.Yes claim) right)
+        let right = subst (λ (c : Claim). IsVerdict (plain whole) (depth_limit plant) (log_text 2 (tree_items tree) larger) (verdict.Yes c)) own (right-over 2 (omega arith, omega arith, omega arith) (lines-two old) (plain whole) is) in
+        subst (λ (bytes : List ℕ). IsAnyVerdict plant whole base base (depth_limit plant) bytes (verdict.Yes claim)) (sym (text_plain declared tree larger))
+        (plain-verdict plant whole base base (depth_limit plant) (tree_items tree) larger (verdict.Yes claim) right)
 
-    pub right-any : IsAnyVerdict plant whole base base 4608 (text (joined_version newest sums)) (verdict.Yes claim)
+    pub right-any : IsAnyVerdict plant whole base base (depth_limit plant) (text (joined_version newest sums)) (verdict.Yes claim)
     right-any = by (joined_version newest sums) refl all.may
       where
-        by : (version : ℕ) → joined_version newest sums ≡ version → MayDeclare plant (head_limits plant levels) version declared → IsAnyVerdict plant whole base base 4608 (text version) (verdict.Yes claim)
+        by : (version : ℕ) → joined_version newest sums ≡ version → MayDeclare plant (head_limits plant levels) version declared → IsAnyVerdict plant whole base base (depth_limit plant) (text version) (verdict.Yes claim)
         by version is_version may = elim may.known [
           | inl two ↦
               let old = not-newest newest sums (λ four. omega (arith, is_version, two, four)) in
               let other : version ≢ 4 = λ four. omega (arith, two, four) in
-              subst (λ (v : ℕ). IsAnyVerdict plant whole base base 4608 (text v) (verdict.Yes claim)) (sym two) (right-plain old (may.plain two) (may.few_units other) (may.few other))
+              subst (λ (v : ℕ). IsAnyVerdict plant whole base base (depth_limit plant) (text v) (verdict.Yes claim)) (sym two) (right-plain old (may.plain two) (may.few_units other) (may.few other))
           | inr known ↦ elim known [
             | inl three ↦
                 let other : version ≢ 4 = λ four. omega (arith, three, four) in
@@ -600,16 +602,16 @@ module _ (plant : Plant) (levels : ℕ) (logs : ℕ → List ℕ) (declared : De
                 let old = not-newest newest sums (λ four. omega (arith, is_version, three, four)) in
                 let inner : 2 ≡ version_behind version = sym (behind-other version other) in
                 let own = subst (λ (v : ℕ). IsWithHead plant v whole base sums units derivations three-rows) (sym three) (three-of unset) in
-                headed_any plant whole three-rows base version 4608 declared (tree_over 0 levels trees) (larger_claim sums claim) claim (inl three) (may-here version may) own
-                (subst (λ (v : ℕ). IsVerdict three-rows 4608 (log_text v (tree_items (tree_over 0 levels trees)) (larger_claim sums claim)) (verdict.Yes (larger_claim sums claim))) inner
+                headed_any plant whole three-rows base version (depth_limit plant) declared (tree_over 0 levels trees) (larger_claim sums claim) claim (inl three) (may-here version may) own
+                (subst (λ (v : ℕ). IsVerdict three-rows (depth_limit plant) (log_text v (tree_items (tree_over 0 levels trees)) (larger_claim sums claim)) (verdict.Yes (larger_claim sums claim))) inner
                 (right-over 2 (omega arith, omega arith, omega arith) (lines-two old) three-rows (three-wide unset none)))
                 (given-here three-rows (three-wide unset none))
             | inr four ↦
                 let wide = wide-some in
                 let inner : 4 ≡ version_behind version = sym (behind-newest version four) in
-                headed_any plant whole wide.0 base version 4608 declared (tree_over 0 levels trees) (larger_claim sums claim) claim (inr four) (may-here version may)
+                headed_any plant whole wide.0 base version (depth_limit plant) declared (tree_over 0 levels trees) (larger_claim sums claim) claim (inr four) (may-here version may)
                 (subst (λ (v : ℕ). IsWithHead plant v whole base sums units derivations wide.0) (sym four) wide.1)
-                (subst (λ (v : ℕ). IsVerdict wide.0 4608 (log_text v (tree_items (tree_over 0 levels trees)) (larger_claim sums claim)) (verdict.Yes (larger_claim sums claim))) inner
+                (subst (λ (v : ℕ). IsVerdict wide.0 (depth_limit plant) (log_text v (tree_items (tree_over 0 levels trees)) (larger_claim sums claim)) (verdict.Yes (larger_claim sums claim))) inner
                 (right-over 4 (omega arith, omega arith, omega arith) (λ k l. inl refl) wide.0 wide.1))
                 (given-here wide.0 wide.1)
           ]

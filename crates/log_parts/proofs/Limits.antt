@@ -3,6 +3,7 @@ use Rattle.std.proofs.Common.{◌≡◌, ℕ, ◌-◌, List, length, ap, ◌∙�
 use Rattle.std.specs.Prelude.{map}
 use Rattle.std.proofs.lemmas.Bool.{cases_eq, cond-true, cond-false, eq-eqb, ne_eqb}
 use Rattle.std.proofs.lemmas.List.{length-map}
+use Rattle.stn_model.specs.Points.{depth_limit}
 use Rattle.stn_model.specs.declared.plant.Plant.{Plant}
 use Rattle.time_grid.specs.Slots.{slots}
 use Rattle.row_kit.specs.declared.domain.Domain.{Domain}
@@ -17,9 +18,9 @@ use Rattle.plant_parts.proofs.Cutting.{length-cut}
 use Rattle.log_parts.specs.laws.Checked.{head_limits}
 
 -- the limits of the heads of a part's logs
-pub head_same : (plant : Plant) (levels part : ℕ) (program : Program) → IsPartProgram plant levels part program → limits_of (plain program) (4608 - levels) ≡ head_limits plant levels
+pub head_same : (plant : Plant) (levels part : ℕ) (program : Program) → IsPartProgram plant levels part program → limits_of (plain program) (depth_limit plant - levels) ≡ head_limits plant levels
 head_same plant levels part program is =
-    let made : ℕ → ℕ → Limits = λ r s. record { rows = r; slots = s; points = s; depth = 4608 - levels } in
+    let made : ℕ → ℕ → Limits = λ r s. record { rows = r; slots = s; points = s; depth = depth_limit plant - levels } in
     let rows : length program.rows ≡ length (plant_rows plant) = ap length (is.is_part.but_root.rows ∙ is.is_part.made.rows_are) in
     let slots' : length program.root ≡ length (slots plant) = ap length is.root ∙ length-cut levels part (map (slot_domain plant) (slots plant)) ∙ length-map (slots plant) (slot_domain plant) in
     ap (λ (r : ℕ). made r (length program.root)) rows ∙ ap (made (length (plant_rows plant))) slots'

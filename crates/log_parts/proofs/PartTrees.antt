@@ -2,6 +2,7 @@
 use Rattle.std.proofs.Common.{◌≡◌, ℕ, ◌-◌, List, [], ◌∷◌, ◌++◌, append_assoc, drop, length, None, refl, sym, ap, ◌∙◌, subst, arith, inl, inr}
 use Rattle.std.proofs.lemmas.List.{take_all}
 use Rattle.std.proofs.lemmas.List.Elements.{All-nil}
+use Rattle.stn_model.specs.Points.{depth_limit}
 use Rattle.stn_model.specs.declared.plant.Plant.{Plant}
 use Rattle.row_kit.specs.declared.domain.Domain.{Domain}
 use Rattle.row_kit.specs.declared.program.Program.{Program}
@@ -259,14 +260,14 @@ pub record IsPartTree (plant : Plant) (levels part : ℕ) (bytes : List ℕ) (de
   pub newest : version ≡ 4 → IsNewest bytes
   pub own : Claim
   pub log : IsLog rows (behind version head_bytes bytes) tree own
-  pub clean : log_text_defect (limits_of rows (4608 - levels)) (behind version head_bytes bytes) ≡ None
+  pub clean : log_text_defect (limits_of rows (depth_limit plant - levels)) (behind version head_bytes bytes) ≡ None
   pub sound : IsSoundLog rows tree own
   pub claim_is : claim ≡ given_claim (length program.root) own
   pub is : IsPartLog plant levels part bytes declared tree claim
 
 -- a valid log with a head that was found has a tree
 with_head : (plant : Plant) (levels part : ℕ) (bytes : List ℕ) (own : LogHead) (claim : Claim) (found : IsFoundLog plant levels part bytes own.declared own.version own.bytes claim)
-    → IsHeadLog plant found.program (plant_root plant) (4608 - levels) bytes own claim → (tree : RowTree) × IsPartTree plant levels part bytes own.declared own.bytes tree claim
+    → IsHeadLog plant found.program (plant_root plant) (depth_limit plant - levels) bytes own claim → (tree : RowTree) × IsPartTree plant levels part bytes own.declared own.bytes tree claim
 with_head plant levels part bytes own claim found says = (
   says.valid.valid.tree,
   record {
@@ -288,7 +289,7 @@ with_head plant levels part bytes own claim found says = (
 
 -- the front of a part's log under the limits of the part's program
 pub front_here : (plant : Plant) (levels part : ℕ) (program : Program) (bytes : List ℕ) (said : LogFront) → IsPartProgram plant levels part program → IsLogFront plant (head_limits plant levels) bytes said
-    → IsLogFront plant (limits_of (plain program) (4608 - levels)) bytes said
+    → IsLogFront plant (limits_of (plain program) (depth_limit plant - levels)) bytes said
 front_here plant levels part program bytes said is stands = subst (λ (l : Limits). IsLogFront plant l bytes said) (sym (head_same plant levels part program is)) stands
 
 -- a valid log that was found has a tree
@@ -296,7 +297,7 @@ pub part_tree : (plant : Plant) (levels part : ℕ) (bytes : List ℕ) (declared
     → (tree : RowTree) × IsPartTree plant levels part bytes declared head_bytes tree claim
 part_tree plant levels part bytes declared version head_bytes claim found =
     let program = found.program in
-    let depth = 4608 - levels in
+    let depth = depth_limit plant - levels in
     let judged = plant_root plant in
     let valid = (any_exact plant program judged judged depth bytes (Yes claim) claim found.right.right).0 refl in
     let has = by_front plant program judged depth bytes valid.front claim valid.stands valid.valid in

@@ -5,6 +5,7 @@ use Rattle.std.proofs.lemmas.Bool.{cases_eq}
 use Rattle.std.proofs.lemmas.List.{get_or_append_left}
 use Rattle.std.specs.Prelude.{◌↔◌}
 use Rattle.stn_edge.specs.Files.{FileMap, file_of}
+use Rattle.stn_model.specs.Points.{depth_limit}
 use Rattle.stn_model.specs.declared.plant.Plant.{Plant}
 use Rattle.stn_model.specs.declared.start.Start.{Start}
 use Rattle.stn_model.specs.Profit.{profit}
@@ -66,17 +67,17 @@ part_said plant levels part program declared (head.Whole own) claim said exact s
 part_said plant levels part program declared (head.Bad defect) claim said exact says is = subst (PartSays plant levels part) (sym is) tt
 
 -- a front with a defect is the verdict's
-bad_front : (plant : Plant) (levels part : ℕ) (program : Program) (bytes : List ℕ) (f : Front) (defect : Defect) → IsPartProgram plant levels part program → IsFront (limits_of (plain program) (4608 - levels)) bytes f
-    → HasFront plant (limits_of (plain program) (4608 - levels)) bytes f (head.Bad defect) → IsPartVerdict plant levels part bytes (No defect)
+bad_front : (plant : Plant) (levels part : ℕ) (program : Program) (bytes : List ℕ) (f : Front) (defect : Defect) → IsPartProgram plant levels part program → IsFront (limits_of (plain program) (depth_limit plant - levels)) bytes f
+    → HasFront plant (limits_of (plain program) (depth_limit plant - levels)) bytes f (head.Bad defect) → IsPartVerdict plant levels part bytes (No defect)
 bad_front plant levels part program bytes front.Plain defect of_part stands has = absurd cc
 bad_front plant levels part program bytes (front.Headed own) defect of_part stands has = by has.setups has.set_up has.has
   where
-    stands' : IsFront (limits_with program (4608 - levels) 0) bytes (front.Headed own)
-    stands' = subst (λ (l : Limits). IsFront l bytes (front.Headed own)) (limits_same program (4608 - levels)) stands
+    stands' : IsFront (limits_with program (depth_limit plant - levels) 0) bytes (front.Headed own)
+    stands' = subst (λ (l : Limits). IsFront l bytes (front.Headed own)) (limits_same program (depth_limit plant - levels)) stands
 
     -- the answer on the file, whatever stands behind the sums
-    over : (set : SetupFront) → AreSetups (limits_with program (4608 - levels) (length own.sums)) (setup_sizes plant) own bytes set
-        → ((judged : List Domain) → IsSetupsVerdict plant program judged (4608 - levels) bytes set (No defect)) → IsPartVerdict plant levels part bytes (No defect)
+    over : (set : SetupFront) → AreSetups (limits_with program (depth_limit plant - levels) (length own.sums)) (setup_sizes plant) own bytes set
+        → ((judged : List Domain) → IsSetupsVerdict plant program judged (depth_limit plant - levels) bytes set (No defect)) → IsPartVerdict plant levels part bytes (No defect)
     over set stands_set right = record {
       program = program;
       of_part = of_part;
@@ -86,28 +87,28 @@ bad_front plant levels part program bytes (front.Headed own) defect of_part stan
       };
     }
 
-    bad_tail : (setups : Setups) (tail : TailFront) → IsTail setups.limits setups.head bytes tail → head.Bad defect ≡ front_with setups tail → (judged : List Domain) → IsSetUpVerdict plant program judged (4608 - levels) bytes setups (No defect)
+    bad_tail : (setups : Setups) (tail : TailFront) → IsTail setups.limits setups.head bytes tail → head.Bad defect ≡ front_with setups tail → (judged : List Domain) → IsSetUpVerdict plant program judged (depth_limit plant - levels) bytes setups (No defect)
     bad_tail setups (tailed.Whole tail) follows' is judged = absurd cc
     bad_tail setups (tailed.Bad other) follows' is judged = (let e : defect ≡ other = cc in record { tail = tailed.Bad other; follows = follows'; right = ap No e })
 
-    by : (set : SetupFront) → AreSetups (limits_with program (4608 - levels) (length own.sums)) (setup_sizes plant) own bytes set → HasSetups bytes set (head.Bad defect) → IsPartVerdict plant levels part bytes (No defect)
+    by : (set : SetupFront) → AreSetups (limits_with program (depth_limit plant - levels) (length own.sums)) (setup_sizes plant) own bytes set → HasSetups bytes set (head.Bad defect) → IsPartVerdict plant levels part bytes (No defect)
     by (setting.Whole setups) stands_set has' = over (setting.Whole setups) stands_set (bad_tail setups has'.tail has'.follows has'.is)
     by (setting.Bad other) stands_set has' = (let e : defect ≡ other = cc in over (setting.Bad other) stands_set (λ judged. ap No e))
 bad_front plant levels part program bytes (front.Bad other) defect of_part stands has =
-    let stands' = subst (λ (l : Limits). IsFront l bytes (front.Bad other)) (limits_same program (4608 - levels)) stands in
+    let stands' = subst (λ (l : Limits). IsFront l bytes (front.Bad other)) (limits_same program (depth_limit plant - levels)) stands in
     let same : No defect ≡ No other = (let e : defect ≡ other = cc in ap No e) in
     record { program = program; of_part = of_part; right = record { right = record { front = front.Bad other; stands = stands'; right = same }; holds = tt } }
 
-bad_log : (plant : Plant) (levels part : ℕ) (program : Program) (bytes : List ℕ) (defect : Defect) → IsPartProgram plant levels part program → IsLogFront plant (limits_of (plain program) (4608 - levels)) bytes (head.Bad defect) → IsPartVerdict plant levels part bytes (No defect)
+bad_log : (plant : Plant) (levels part : ℕ) (program : Program) (bytes : List ℕ) (defect : Defect) → IsPartProgram plant levels part program → IsLogFront plant (limits_of (plain program) (depth_limit plant - levels)) bytes (head.Bad defect) → IsPartVerdict plant levels part bytes (No defect)
 bad_log plant levels part program bytes defect of_part is = bad_front plant levels part program bytes is.front defect of_part is.stands is.has
 
 compared_head : (plant : Plant) (levels part : ℕ) (program : Program) (bytes : List ℕ) (declared : Declared) (own : LogHead) (claim : Claim) (said : PartCheck) → IsPartProgram plant levels part program
-    → IsLogFront plant (head_limits plant levels) bytes (head.Whole own) → IsAnyPartChecked plant program (4608 - levels) bytes (Yes claim) → IsHeadCompared declared own claim said → IsPartCheck plant levels part bytes declared said
+    → IsLogFront plant (head_limits plant levels) bytes (head.Whole own) → IsAnyPartChecked plant program (depth_limit plant - levels) bytes (Yes claim) → IsHeadCompared declared own claim said → IsPartCheck plant levels part bytes declared said
 compared_head plant levels part program bytes declared own claim (check.Valid version head_bytes other) of_part stands right is =
     record {
       program = program;
       of_part = of_part;
-      right = subst (λ (c : Claim). IsAnyPartChecked plant program (4608 - levels) bytes (Yes c)) (sym is.0) right;
+      right = subst (λ (c : Claim). IsAnyPartChecked plant program (depth_limit plant - levels) bytes (Yes c)) (sym is.0) right;
       own = own;
       stands = stands;
       declares = is.1;
@@ -126,7 +127,7 @@ compared_head plant levels part program bytes declared own claim (check.Bad defe
     })
 
 compared_at : (plant : Plant) (levels part : ℕ) (program : Program) (bytes : List ℕ) (declared : Declared) (own : LogFront) (claim : Claim) (said : PartCheck) → IsPartProgram plant levels part program
-    → IsLogFront plant (limits_of (plain program) (4608 - levels)) bytes own → IsAnyPartChecked plant program (4608 - levels) bytes (Yes claim) → IsCompared declared own claim said → IsPartCheck plant levels part bytes declared said
+    → IsLogFront plant (limits_of (plain program) (depth_limit plant - levels)) bytes own → IsAnyPartChecked plant program (depth_limit plant - levels) bytes (Yes claim) → IsCompared declared own claim said → IsPartCheck plant levels part bytes declared said
 compared_at plant levels part program bytes declared (head.Whole own) claim said of_part stands right is =
     compared_head plant levels part program bytes declared own claim said of_part (subst (λ (l : Limits). IsLogFront plant l bytes (head.Whole own)) (head_same plant levels part program of_part) stands) right is
 compared_at plant levels part program bytes declared (head.Bad defect) claim said of_part stands right is =
@@ -135,38 +136,38 @@ compared_at plant levels part program bytes declared (head.Bad defect) claim sai
 -- a yes to the log of a part, against what is declared, where the files are told
 pub yes_checked : (plant : Plant) (levels part : ℕ) (program : Program) (files now : Option FileMap) (name stem : List ℕ) (declared : Declared) (own : LogFront) (claim : Claim) (said : PartCheck) → name ≡ log_name stem part → now ≡ files
     → IsPartOf plant program → program.root ≡ part_root plant levels part
-    → IfSome files (λ m. IsLogFront plant (limits_of (plain program) (4608 - levels)) (file_of m name) own) → IfSome now (λ m. IsAnyPartChecked plant program (4608 - levels) (file_of m name) (Yes claim)) → IsCompared declared own claim said
+    → IfSome files (λ m. IsLogFront plant (limits_of (plain program) (depth_limit plant - levels)) (file_of m name) own) → IfSome now (λ m. IsAnyPartChecked plant program (depth_limit plant - levels) (file_of m name) (Yes claim)) → IsCompared declared own claim said
     → IfSome files (λ m. IsPartCheck plant levels part (logs_of m stem part) declared said)
 yes_checked plant levels part program None now name stem declared own claim said named same of_plant root stands right is = tt
 yes_checked plant levels part program (Some m) now name stem declared own claim said named same of_plant root stands right is =
-    let told = subst (λ (files : Option FileMap). IfSome files (λ m. IsAnyPartChecked plant program (4608 - levels) (file_of m name) (Yes claim))) same right in
+    let told = subst (λ (files : Option FileMap). IfSome files (λ m. IsAnyPartChecked plant program (depth_limit plant - levels) (file_of m name) (Yes claim))) same right in
     subst (λ (n : List ℕ). IsPartCheck plant levels part (file_of m n) declared said) named
     (compared_at plant levels part program (file_of m name) declared own claim said (record { is_part = of_plant; root = root }) stands told is)
 
 -- a no
 pub no_checked : (plant : Plant) (levels part : ℕ) (program : Program) (files now : Option FileMap) (name stem : List ℕ) (declared : Declared) (defect : Defect) → name ≡ log_name stem part → now ≡ files
-    → IsPartOf plant program → program.root ≡ part_root plant levels part → IfSome now (λ m. IsAnyPartChecked plant program (4608 - levels) (file_of m name) (No defect))
+    → IsPartOf plant program → program.root ≡ part_root plant levels part → IfSome now (λ m. IsAnyPartChecked plant program (depth_limit plant - levels) (file_of m name) (No defect))
     → IfSome files (λ m. IsPartCheck plant levels part (logs_of m stem part) declared (check.Bad defect))
 no_checked plant levels part program None now name stem declared defect named same of_plant root right = tt
 no_checked plant levels part program (Some m) now name stem declared defect named same of_plant root right =
-    let told = subst (λ (files : Option FileMap). IfSome files (λ m. IsAnyPartChecked plant program (4608 - levels) (file_of m name) (No defect))) same right in
-    inl (record { program = program; of_part = record { is_part = of_plant; root = root }; right = subst (λ (n : List ℕ). IsAnyPartChecked plant program (4608 - levels) (file_of m n) (No defect)) named told })
+    let told = subst (λ (files : Option FileMap). IfSome files (λ m. IsAnyPartChecked plant program (depth_limit plant - levels) (file_of m name) (No defect))) same right in
+    inl (record { program = program; of_part = record { is_part = of_plant; root = root }; right = subst (λ (n : List ℕ). IsAnyPartChecked plant program (depth_limit plant - levels) (file_of m n) (No defect)) named told })
 
 -- ---- the head of the first log
 
 -- the front of a part's log, under the limits of all parts
-front_at : (plant : Plant) (levels part : ℕ) (program : Program) (bytes : List ℕ) (own : LogFront) → IsPartProgram plant levels part program → IsLogFront plant (limits_of (plain program) (4608 - levels)) bytes own → IsFrontOf plant levels part bytes own
+front_at : (plant : Plant) (levels part : ℕ) (program : Program) (bytes : List ℕ) (own : LogFront) → IsPartProgram plant levels part program → IsLogFront plant (limits_of (plain program) (depth_limit plant - levels)) bytes own → IsFrontOf plant levels part bytes own
 front_at plant levels part program bytes (head.Whole own) is stands = subst (λ (l : Limits). IsLogFront plant l bytes (head.Whole own)) (head_same plant levels part program is) stands
 front_at plant levels part program bytes (head.Bad defect) is stands = bad_log plant levels part program bytes defect is stands
 
 pub front_found : (plant : Plant) (levels part : ℕ) (program : Program) (files : Option FileMap) (name stem : List ℕ) (own : LogFront) → name ≡ log_name stem part → IsPartOf plant program → program.root ≡ part_root plant levels part
-    → IfSome files (λ m. IsLogFront plant (limits_of (plain program) (4608 - levels)) (file_of m name) own) → IfSome files (λ m. IsFrontOf plant levels part (logs_of m stem part) own)
+    → IfSome files (λ m. IsLogFront plant (limits_of (plain program) (depth_limit plant - levels)) (file_of m name) own) → IfSome files (λ m. IsFrontOf plant levels part (logs_of m stem part) own)
 front_found plant levels part program None name stem own named of_plant root stands = tt
 front_found plant levels part program (Some m) name stem own named of_plant root stands =
     subst (λ (n : List ℕ). IsFrontOf plant levels part (file_of m n) own) named (front_at plant levels part program (file_of m name) own (record { is_part = of_plant; root = root }) stands)
 
 -- and what it keeps
-pub front_kept : (plant : Plant) (levels part : ℕ) (program : Program) (own : LogFront) → IsPartOf plant program → program.root ≡ part_root plant levels part → IsFrontKept plant (limits_of (plain program) (4608 - levels)) own → IsFrontKept plant (head_limits plant levels) own
+pub front_kept : (plant : Plant) (levels part : ℕ) (program : Program) (own : LogFront) → IsPartOf plant program → program.root ≡ part_root plant levels part → IsFrontKept plant (limits_of (plain program) (depth_limit plant - levels)) own → IsFrontKept plant (head_limits plant levels) own
 front_kept plant levels part program own of_plant root kept = subst (λ (l : Limits). IsFrontKept plant l own) (head_same plant levels part program (record { is_part = of_plant; root = root })) kept
 
 -- where its head has a defect no log was valid
@@ -236,7 +237,7 @@ not_first plant levels part logs first defect are other =
           let found = subst (λ (n : ℕ). IsFoundLog plant levels n (logs n) other.found_declared other.found_version other.found_bytes other.claim) none other.found in
           let here = front_here plant levels 0 found.program (logs 0) (head.Whole first) found.of_part are in
           let own = front_here plant levels 0 found.program (logs 0) (head.Whole found.own) found.of_part found.stands in
-          let same : first ≡ found.own = one_head plant found.program (4608 - levels) (logs 0) first found.own here own in
+          let same : first ≡ found.own = one_head plant found.program (depth_limit plant - levels) (logs 0) first found.own here own in
           let declared : first.declared ≡ other.found_declared = ap (λ (h : LogHead). h.declared) same ∙ sym found.declares in
           absurd (no_other (items_of first.declared) (items_of other.found_declared) (lines_on other.found_declared) defect.line (ap items_of declared) other.differ)
       | inr later ↦ omega (arith, later)

@@ -1,6 +1,7 @@
 -- The logs of a plant's parts, and the log that is joined of them.
 use Rattle.std.specs.Prelude.{◌≡◌, ◌⊎◌, ◌↔◌, Bool, true, ℕ, ◌+◌, ◌-◌, ◌^◌, ◌<◌, zero, suc, ⊤, List, [], ◌++◌, length, take, drop, slice_index_or, Option, None, IfSome}
 use Rattle.stn_edge.specs.Files.{FileMap, file_of}
+use Rattle.stn_model.specs.Points.{depth_limit}
 use Rattle.stn_model.specs.declared.plant.Plant.{Plant}
 use Rattle.row_kit.specs.declared.program.Program.{Program}
 use Rattle.dual_bound.specs.declared.cert.Cert.{Cert}
@@ -29,13 +30,13 @@ use Rattle.plant_parts.specs.PlantParts.{IsPartProgram}
 pub record IsPartVerdict (plant : Plant) (levels part : ℕ) (bytes : List ℕ) (said : LogVerdict) : Type 0 where
   pub program : Program
   pub of_part : IsPartProgram plant levels part program
-  pub right : IsAnyPartChecked plant program (4608 - levels) bytes said
+  pub right : IsAnyPartChecked plant program (depth_limit plant - levels) bytes said
 
 -- the bytes are a valid log of a part, which declares this, of this tree and this claim
 pub record IsPartLog (plant : Plant) (levels part : ℕ) (bytes : List ℕ) (declared : Declared) (tree : RowTree) (claim : Claim) : Type 0 where
   pub program : Program
   pub of_part : IsPartProgram plant levels part program
-  pub right : IsAnyPartChecked plant program (4608 - levels) bytes (verdict.Yes claim)
+  pub right : IsAnyPartChecked plant program (depth_limit plant - levels) bytes (verdict.Yes claim)
   pub log : IsAnyLog plant program (plant_root plant) (plant_root plant) bytes declared.sums declared.units declared.derivations tree claim
 
 -- the bytes are a valid log of a part, which declares this

@@ -3,6 +3,7 @@ use Rattle.std.proofs.Common.{◌≡◌, ◌≢◌, ℕ, ◌+◌, ◌≤◌, Lis
 use Rattle.std.specs.Prelude.{IfOk, IfSome, Result, Ok, Err}
 use Rattle.std.specs.Option.{option_map}
 use Rattle.stn_edge.specs.Files.{FileMap, OthersStay, file_of}
+use Rattle.stn_model.specs.Points.{depth_limit}
 use Rattle.stn_model.specs.declared.plant.Plant.{Plant}
 use Rattle.branch_tree.specs.Searched.{IsSearchable}
 use Rattle.log_lines.specs.declared.defect.Defect.{Defect}
@@ -22,12 +23,12 @@ use Rattle.log_resuming.specs.Resumed.{IsNoLess, IsNoMore, IsOpenClaim, IsResume
 use Rattle.log_resuming.specs.laws.Judged.{IsMeasured, Judges}
 
 -- both logs were read side by side, and the counts and the claims are right
-pub measured : (told : Option FileMap) (name out : List ℕ) (budget : ℕ) (share : Option Share) (log : Opened) (head : LogHead) (old_claim claim : Claim) (growth : Growth)
-    → IfSome told (λ m. AreGrown log.rows (profit_of old_claim) share (front_of log.head) (front_of head) (file_of m name) (file_of m out) growth) → growth.after ≤ growth.before + budget
-    → (share ≡ None → IsOpenClaim claim → growth.deep ≡ 0 → growth.floors ≡ 0 → IsSearchable log.rows.program → growth.after ≡ growth.before + budget) → IsNoLess (profit_of old_claim) (profit_of claim) → IsNoMore (cap_of old_claim) (cap_of claim)
-    → IfSome told (λ m. IsMeasured (file_of m name) (file_of m out) budget share log head old_claim claim growth.after)
-measured None name out budget share log head old_claim claim growth are within exactly profit cap = tt
-measured (Some m) name out budget share log head old_claim claim growth are within exactly profit cap = record {
+pub measured : (most : ℕ) (told : Option FileMap) (name out : List ℕ) (budget : ℕ) (share : Option Share) (log : Opened) (head : LogHead) (old_claim claim : Claim) (growth : Growth)
+    → IfSome told (λ m. AreGrown most log.rows (profit_of old_claim) share (front_of log.head) (front_of head) (file_of m name) (file_of m out) growth) → growth.after ≤ growth.before + budget
+    → (share ≡ None → IsOpenClaim claim → growth.deep ≡ 0 → growth.floors ≡ 0 → IsSearchable most log.rows.program → growth.after ≡ growth.before + budget) → IsNoLess (profit_of old_claim) (profit_of claim) → IsNoMore (cap_of old_claim) (cap_of claim)
+    → IfSome told (λ m. IsMeasured most (file_of m name) (file_of m out) budget share log head old_claim claim growth.after)
+measured most None name out budget share log head old_claim claim growth are within exactly profit cap = tt
+measured most (Some m) name out budget share log head old_claim claim growth are within exactly profit cap = record {
   tree = are.tree;
   grown = are.grown;
   text = are.text;
@@ -43,7 +44,7 @@ measured (Some m) name out budget share log head old_claim claim growth are with
 
 -- and the second is valid, with the head of the first
 pub judges : (told : Option FileMap) (plant : Plant) (name out : List ℕ) (budget : ℕ) (share : Option Share) (log own : Opened) (old_claim claim : Claim) (boxes : ℕ) → IfSome told (λ m. IsAnyChecked plant (file_of m out) (Yes claim)) → IfSome told (λ m. IsOpened plant (file_of m out) own)
-    → own.head.declared ≡ log.head.declared → own.head.version ≡ 4 → IfSome told (λ m. IsMeasured (file_of m name) (file_of m out) budget share log own.head old_claim claim boxes)
+    → own.head.declared ≡ log.head.declared → own.head.version ≡ 4 → IfSome told (λ m. IsMeasured (depth_limit plant) (file_of m name) (file_of m out) budget share log own.head old_claim claim boxes)
     → IfSome told (λ m. Judges plant (file_of m name) (file_of m out) budget share log old_claim claim boxes)
 judges None plant name out budget share log own old_claim claim boxes checked opened same newest is = tt
 judges (Some m) plant name out budget share log own old_claim claim boxes checked opened same newest is = λ old_checked old_opened. record {

@@ -2,6 +2,7 @@
 use Rattle.std.proofs.Common.{◌≡◌, ◌∙◌, ℕ, List, length, Option, inl, inr, refl, sym, ap, subst}
 use Rattle.std.specs.Prelude.{IfSome}
 use Rattle.stn_edge.specs.Files.{FileMap, file_of}
+use Rattle.stn_model.specs.Points.{depth_limit}
 use Rattle.stn_model.specs.declared.plant.Plant.{Plant}
 use Rattle.row_kit.specs.declared.domain.Domain.{Domain}
 use Rattle.row_kit.specs.declared.program.Program.{Program}
@@ -30,22 +31,22 @@ use Rattle.log_resuming.specs.declared.opened.Opened.{Opened}
 use Rattle.log_resuming.specs.Opened.{IsOpened, IsOpenedHead, IsOpenedOver, IsOpenedSetUp}
 
 -- a log without a head
-pub opened-plain : (plant : Plant) (program : Program) (judged : List Domain) (told : Option FileMap) (name : List ℕ) (f : Front) (own : LogHead) → f ≡ Plain → own ≡ no_head (limits_with program 4608 0)
-    → IfSome told (λ m. IsFront (limits_with program 4608 0) (file_of m name) f) → IfSome told (λ m. IsOpenedOver plant program judged (file_of m name) (record { head = own; rows = plain program }))
+pub opened-plain : (plant : Plant) (program : Program) (judged : List Domain) (told : Option FileMap) (name : List ℕ) (f : Front) (own : LogHead) → f ≡ Plain → own ≡ no_head (limits_with program (depth_limit plant) 0)
+    → IfSome told (λ m. IsFront (limits_with program (depth_limit plant) 0) (file_of m name) f) → IfSome told (λ m. IsOpenedOver plant program judged (file_of m name) (record { head = own; rows = plain program }))
 opened-plain plant program judged told name f own is none stands =
-    some_then told (λ m. IsLogFront plant (limits_of (plain program) 4608) (file_of m name) (front.Whole own)) (λ m. IsOpenedOver plant program judged (file_of m name) (record { head = own; rows = plain program }))
+    some_then told (λ m. IsLogFront plant (limits_of (plain program) (depth_limit plant)) (file_of m name) (front.Whole own)) (λ m. IsOpenedOver plant program judged (file_of m name) (record { head = own; rows = plain program }))
     (λ m it. record { stands = it; over = inl (ap (λ (h : LogHead). h.bytes) none, refl) })
-    (none_read plant program 4608 told name f own (none ∙ ap no_head (sym (limits_same program 4608))) is stands)
+    (none_read plant program (depth_limit plant) told name f own (none ∙ ap no_head (sym (limits_same program (depth_limit plant)))) is stands)
 
 -- a log with a head, behind which this stands
-pub opened-headed : (plant : Plant) (program : Program) (judged : List Domain) (told : Option FileMap) (name : List ℕ) (f : Front) (head : Head) (opened : Opened) → f ≡ Headed head → IfSome told (λ m. IsFront (limits_with program 4608 0) (file_of m name) f)
+pub opened-headed : (plant : Plant) (program : Program) (judged : List Domain) (told : Option FileMap) (name : List ℕ) (f : Front) (head : Head) (opened : Opened) → f ≡ Headed head → IfSome told (λ m. IsFront (limits_with program (depth_limit plant) 0) (file_of m name) f)
     → IfSome told (λ m. IsOpenedHead plant program judged (file_of m name) head opened) → IfSome told (λ m. IsOpenedOver plant program judged (file_of m name) opened)
 opened-headed plant program judged told name f head opened is stands =
-    some_both told (λ m. IsFront (limits_with program 4608 0) (file_of m name) f) (λ m. IsOpenedHead plant program judged (file_of m name) head opened) (λ m. IsOpenedOver plant program judged (file_of m name) opened)
+    some_both told (λ m. IsFront (limits_with program (depth_limit plant) 0) (file_of m name) f) (λ m. IsOpenedHead plant program judged (file_of m name) head opened) (λ m. IsOpenedOver plant program judged (file_of m name) opened)
     (λ m it own. record {
       stands = record {
         front = Headed head;
-        stands = subst (λ (l : Limits). IsFront l (file_of m name) (Headed head)) (sym (limits_same program 4608)) (subst (IsFront (limits_with program 4608 0) (file_of m name)) is it);
+        stands = subst (λ (l : Limits). IsFront l (file_of m name) (Headed head)) (sym (limits_same program (depth_limit plant))) (subst (IsFront (limits_with program (depth_limit plant) 0) (file_of m name)) is it);
         has = own.stands;
       };
       over = inr own.over;
@@ -53,13 +54,13 @@ opened-headed plant program judged told name f head opened is stands =
 
 -- the setups behind the sums of a head, behind which this stands
 pub opened-set_up : (plant : Plant) (program : Program) (judged : List Domain) (told now : Option FileMap) (name : List ℕ) (head : Head) (set : SetupFront) (setups : Setups) (opened : Opened) → now ≡ told → set ≡ setting.Whole setups
-    → IfSome told (λ m. AreSetups (limits_with program 4608 (length head.sums)) (setup_sizes plant) head (file_of m name) set) → IfSome now (λ m. IsOpenedSetUp plant program judged (file_of m name) setups opened)
+    → IfSome told (λ m. AreSetups (limits_with program (depth_limit plant) (length head.sums)) (setup_sizes plant) head (file_of m name) set) → IfSome now (λ m. IsOpenedSetUp plant program judged (file_of m name) setups opened)
     → IfSome told (λ m. IsOpenedHead plant program judged (file_of m name) head opened)
 opened-set_up plant program judged told now name head set setups opened same is stands has =
     let has_now = subst (λ (files : Option FileMap). IfSome files (λ m. IsOpenedSetUp plant program judged (file_of m name) setups opened)) same has in
     let fronts = some_then told (λ m. IsOpenedSetUp plant program judged (file_of m name) setups opened) (λ m. IsSetUpFront (file_of m name) setups (front.Whole opened.head)) (λ m it. it.stands) has_now in
-    some_both told (λ m. IsHeadFront plant (limits_of (plain program) 4608) (file_of m name) head (front.Whole opened.head)) (λ m. IsOpenedSetUp plant program judged (file_of m name) setups opened) (λ m. IsOpenedHead plant program judged (file_of m name) head opened)
-    (λ m it own. record { stands = it; over = own.over }) (setups_read plant program 4608 told told name head set setups (front.Whole opened.head) refl is stands fronts) has_now
+    some_both told (λ m. IsHeadFront plant (limits_of (plain program) (depth_limit plant)) (file_of m name) head (front.Whole opened.head)) (λ m. IsOpenedSetUp plant program judged (file_of m name) setups opened) (λ m. IsOpenedHead plant program judged (file_of m name) head opened)
+    (λ m it own. record { stands = it; over = own.over }) (setups_read plant program (depth_limit plant) told told name head set setups (front.Whole opened.head) refl is stands fronts) has_now
 
 -- what stands behind the setups of a head
 pub opened-tailed : (plant : Plant) (program : Program) (judged : List Domain) (told : Option FileMap) (name : List ℕ) (setups : Setups) (t : TailFront) (tail : Tail) (opened : Opened) → t ≡ Whole tail → IfSome told (λ m. IsTail setups.limits setups.head (file_of m name) t)

@@ -1,5 +1,6 @@
 -- A log that is opened: its head, and the rows that its proof is over.
 use Rattle.std.specs.Prelude.{◌≡◌, ◌⊎◌, ℕ, List}
+use Rattle.stn_model.specs.Points.{depth_limit}
 use Rattle.stn_model.specs.declared.plant.Plant.{Plant}
 use Rattle.row_kit.specs.declared.domain.Domain.{Domain}
 use Rattle.row_kit.specs.declared.program.Program.{Program}
@@ -31,12 +32,12 @@ front_of head = record { limits = head.limits; version = head.version; head = he
 -- the bytes begin with a head, or have none, whose sums, setups and derivations are all shown over a program of a plant, and these are its
 -- head and the rows of the program with what it declares
 pub record IsOpenedOver (plant : Plant) (program : Program) (judged : List Domain) (bytes : List ℕ) (opened : Opened) : Type 0 where
-  pub stands : IsLogFront plant (limits_of (plain program) 4608) bytes (Whole opened.head)
+  pub stands : IsLogFront plant (limits_of (plain program) (depth_limit plant)) bytes (Whole opened.head)
   pub over : IsWithLogHead plant program judged opened.head opened.rows
 
 -- the same of bytes that begin with this head
 pub record IsOpenedHead (plant : Plant) (program : Program) (judged : List Domain) (bytes : List ℕ) (head : Head) (opened : Opened) : Type 0 where
-  pub stands : IsHeadFront plant (limits_of (plain program) 4608) bytes head (Whole opened.head)
+  pub stands : IsHeadFront plant (limits_of (plain program) (depth_limit plant)) bytes head (Whole opened.head)
   pub over : IsWithDeclared plant program judged opened.head opened.rows
 
 -- the same of bytes that begin with a head and these setups

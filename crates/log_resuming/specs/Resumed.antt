@@ -2,6 +2,7 @@
 use Rattle.std.specs.Prelude.{◌≡◌, ◌⊎◌, ◌+◌, ◌≤◌, ⊤, ℕ, ℤ, ◌≤ℤ◌, List, Option, Some, None, IfSome}
 use Rattle.std.specs.Option.{IsSomeAnd}
 use Rattle.stn_edge.specs.Files.{FileMap, file_of}
+use Rattle.stn_model.specs.Points.{depth_limit}
 use Rattle.stn_model.specs.declared.plant.Plant.{Plant}
 use Rattle.row_relax.specs.RowProofs.{RowTree}
 use Rattle.row_relax.specs.View.{view_of}
@@ -67,12 +68,12 @@ pub record IsResumed (plant : Plant) (bytes bytes_out : List ℕ) (budget : ℕ)
   pub text : IsTextBehind (front_of log.head) bytes tree
   pub text_out : IsTextBehind (front_of out.head) bytes_out grown
   pub growth : Growth
-  pub goes_on : IsGrowth log.rows (profit_of old_claim) share 0 0 (view_of log.rows.program.root) tree grown growth
+  pub goes_on : IsGrowth (depth_limit plant) log.rows (profit_of old_claim) share 0 0 (view_of log.rows.program.root) tree grown growth
   pub boxes_are : boxes ≡ growth.after
   pub within : growth.after ≤ growth.before + budget
   -- where something is left open, exactly so many, but for ends that stand too deep, splits with floors above the first claim's plan, and
   -- programs too large to search
-  pub exactly : share ≡ None → IsOpenClaim claim → growth.deep ≡ 0 → growth.floors ≡ 0 → IsSearchable log.rows.program → growth.after ≡ growth.before + budget
+  pub exactly : share ≡ None → IsOpenClaim claim → growth.deep ≡ 0 → growth.floors ≡ 0 → IsSearchable (depth_limit plant) log.rows.program → growth.after ≡ growth.before + budget
   pub profit : IsNoLess (profit_of old_claim) (profit_of claim)
   pub cap : IsNoMore (cap_of old_claim) (cap_of claim)
 

@@ -23,7 +23,7 @@ use proof_log::Claim;
 use row_relax::Rows;
 use std::alloc::Global;
 use stn_edge::Shelf;
-use stn_model::Plant;
+use stn_model::{Plant, depth_limit};
 use valid_log::LogVerdict;
 
 // The version of a log that is written.
@@ -47,39 +47,50 @@ pub fn front_of(head: &LogHead) -> Front
     }
 }
 
-// Whether what was read of both logs is what going on from the first with so many boxes comes to: where a box is left open, exactly so
-// many more, but for ends that stand too deep, floors above the old claim's plan, programs too large to search, and shares.
+// The claims of a log and of one that goes on from it.
+#[derive(Clone, Copy)]
+struct Claims<'a> {
+    old: &'a Claim,
+    new: &'a Claim,
+}
+
+// Whether what was read of both logs is what going on from the first with so many boxes comes to, where at most so many splits may stand
+// one below another: where a box is left open, exactly so many more, but for ends that stand too deep, floors above the old claim's
+// plan, programs too large to search, and shares.
 fn is_right(
     rows: &Rows,
+    most: u32,
     growth: &Growth,
-    old: &Claim,
-    new: &Claim,
+    claims: Claims,
     budget: u32,
     share: &Option<Share>,
 ) -> bool
     ensures within { IsTrue result → growth.now.after ≤ growth.now.before + budget }
-    ensures exactly { IsTrue result → share.now ≡ None → IsOpenClaim new.now
-        → growth.now.deep ≡ 0 → growth.now.floors ≡ 0 → IsSearchable rows.now.program
+    ensures exactly { IsTrue result → share.now ≡ None → IsOpenClaim claims.entry.new.now
+        → growth.now.deep ≡ 0 → growth.now.floors ≡ 0 → IsSearchable most rows.now.program
         → growth.now.after ≡ growth.now.before + budget }
-    ensures profit { IsTrue result → IsNoLess (profit_of old.now) (profit_of new.now) }
-    ensures cap { IsTrue result → IsNoMore (cap_of old.now) (cap_of new.now) }
+    ensures profit { IsTrue result → IsNoLess (profit_of claims.entry.old.now)
+        (profit_of claims.entry.new.now) }
+    ensures cap { IsTrue result → IsNoMore (cap_of claims.entry.old.now)
+        (cap_of claims.entry.new.now) }
 {
+    let Claims { old, new } = claims;
     is_within(growth, budget)
         && is_no_less(profit_of(old), profit_of(new))
         && is_no_more(cap_of(old), cap_of(new))
-        && (is_spent(growth, budget) || may_be_less(rows, growth, new, share))
+        && (is_spent(growth, budget) || may_be_less(rows, most, growth, new, share))
 }
 
 // Whether fewer boxes may be counted.
-fn may_be_less(rows: &Rows, growth: &Growth, new: &Claim, share: &Option<Share>) -> bool
+fn may_be_less(rows: &Rows, most: u32, growth: &Growth, new: &Claim, share: &Option<Share>) -> bool
     ensures { IsTrue result → share.now ≡ None → IsOpenClaim new.now → growth.now.deep ≡ 0
-        → growth.now.floors ≡ 0 → ¬ IsSearchable rows.now.program }
+        → growth.now.floors ≡ 0 → ¬ IsSearchable most rows.now.program }
 {
     share.is_some()
         || !is_open(new)
         || growth.deep != 0
         || growth.floors != 0
-        || !is_searchable(&rows.program)
+        || !is_searchable(&rows.program, most)
 }
 
 /// Judges a log that was written to go on from another with at most so many boxes more, where the other is valid with this claim and is
@@ -113,27 +124,38 @@ pub fn judge<F: Shelf>(
     if head.version != NEWEST || !declares_same(&opened.head.declared, head) {
         return Ok(None);
     }
-    match measure(alloc, files, going, opened, head, old, &claim)? {
+    let claims = Claims { old, new: &claim };
+    match measure(
+        alloc,
+        depth_limit(plant),
+        files,
+        going,
+        opened,
+        head,
+        claims,
+    )? {
         Some(boxes) => Ok(Some(Judged { claim, boxes })),
         None => Ok(None),
     }
 }
 
-// Reads both logs side by side, and answers how many boxes the second counts, where it is what going on from the first comes to.
+// Reads both logs side by side, and answers how many boxes the second counts, where it is what going on from the first comes to and at
+// most so many splits may stand one below another.
 fn measure<F: Shelf>(
     alloc: Global,
+    most: u32,
     files: &mut F,
     going: Going,
     opened: &Opened,
     head: &LogHead,
-    old: &Claim,
-    new: &Claim,
+    claims: Claims,
 ) -> Result<Option<u64>, CheckStop>
     requires log_allowed { IsTrue (F.may_read files.old going.log.now) }
     requires out_allowed { IsTrue (F.may_read files.old going.out.now) }
     ensures measured { IfOk result (λ boxes. IfSome boxes (λ n. IfSome (F.files files.old)
-        (λ m. IsMeasured (file_of m going.entry.log.now) (file_of m going.entry.out.now)
-        going.entry.budget going.entry.share opened.now head.now old.now new.now n))) }
+        (λ m. IsMeasured most (file_of m going.entry.log.now) (file_of m going.entry.out.now)
+        going.entry.budget going.entry.share opened.now head.now claims.entry.old.now
+        claims.entry.new.now n))) }
     ensures frame { OnlyReads F.Shelf files.old files.new }
     ensures fault { result ≡ Err CheckStop.Fault
         → Rose (F.read_faults files.old) (F.read_faults files.new) }
@@ -141,15 +163,16 @@ fn measure<F: Shelf>(
     let rows = &opened.rows;
     let pair = Pair {
         rows,
+        most,
         log: going.log,
         out: going.out,
-        profit: profit_of(old),
+        profit: profit_of(claims.old),
         share: going.share,
     };
     let log = front_of(&opened.head);
     let out = front_of(head);
     match growth(alloc, pair, log, out, files)? {
-        Some(growth) if is_right(rows, &growth, old, new, going.budget, &going.share) => {
+        Some(growth) if is_right(rows, most, &growth, claims, going.budget, &going.share) => {
             Ok(Some(growth.after))
         }
         _ => Ok(None),

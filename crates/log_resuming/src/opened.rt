@@ -3,6 +3,7 @@ ghost use Rattle.std.specs.Prelude.{◌≡◌, ◌≢◌, Err, IsTrue, IfOk, IfS
 ghost use Rattle.stn_edge.specs.Count.{Rose};
 ghost use Rattle.store_frames.specs.Frames.{OnlyReads};
 ghost use Rattle.stn_edge.specs.Files.{file_of};
+ghost use Rattle.stn_model.specs.Points.{depth_limit};
 ghost use Rattle.stn_model.specs.Sound.{Sound};
 ghost use Rattle.row_set.specs.Parts.{IsPartOf};
 ghost use Rattle.sum_slots.specs.Shown.{AreRanges};
@@ -16,14 +17,14 @@ ghost use Rattle.log_resuming.specs.Opened.{IsOpened, IsOpenedHead, IsOpenedOver
 use derivation_lines::{Tail, TailFront};
 use log_check::CheckStop;
 use log_parts::{LogHead, head_with, no_head};
-use plant_check::{MOST_DEPTH, judge_head, limits_behind, limits_with, read_setups, read_tail};
+use plant_check::{judge_head, limits_behind, plant_limits, read_setups, read_tail};
 use row_kit::{Domain, Program};
 use row_relax::Rows;
 use row_set::{plant_root, program_of};
 use setup_lines::{SetupFront, Setups};
 use std::alloc::Global;
 use stn_edge::Shelf;
-use stn_model::Plant;
+use stn_model::{Plant, depth_limit};
 use sum_lines::{Front, Head, read_head};
 
 /// The head of a log, and the rows of the plant's program with what it declares.
@@ -76,7 +77,7 @@ fn open_over<F: Shelf>(
     ensures fault { result ≡ Err CheckStop.Fault
         → Rose (F.read_faults files.old) (F.read_faults files.new) }
 {
-    let limits = limits_with(&program, MOST_DEPTH, 0);
+    let limits = plant_limits(plant, &program, 0);
     match read_head(alloc, &limits, files, name)? {
         Front::Plain => Ok(Some(Opened {
             head: no_head(alloc, limits),
@@ -103,7 +104,7 @@ fn open_headed<F: Shelf>(
     requires sound { Sound plant.now }
     requires part { IsPartOf plant.now program }
     requires ranges { AreRanges program judged.now }
-    requires kept { IsKeptHead (limits_with program 4608 0) head }
+    requires kept { IsKeptHead (limits_with program (depth_limit plant.now) 0) head }
     requires allowed { IsTrue (F.may_read files.old name.now) }
     ensures opened { IfOk result (λ opened. IfSome opened (λ o. IfSome (F.files files.old)
         (λ m. IsOpenedHead plant.now program judged.now (file_of m name.now) head o))) }
@@ -113,7 +114,7 @@ fn open_headed<F: Shelf>(
     ensures fault { result ≡ Err CheckStop.Fault
         → Rose (F.read_faults files.old) (F.read_faults files.new) }
 {
-    let limits = limits_with(&program, MOST_DEPTH, head.sums.len());
+    let limits = plant_limits(plant, &program, head.sums.len());
     match read_setups(alloc, plant, &limits, head, files, name)? {
         SetupFront::Whole(setups) => {
             open_set_up(alloc, plant, program, judged, setups, files, name)
@@ -135,7 +136,7 @@ fn open_set_up<F: Shelf>(
     requires sound { Sound plant.now }
     requires part { IsPartOf plant.now program }
     requires ranges { AreRanges program judged.now }
-    requires held { IsHeadHeld plant.now program 4608 setups }
+    requires held { IsHeadHeld plant.now program (depth_limit plant.now) setups }
     requires counted { IsCounted setups }
     requires allowed { IsTrue (F.may_read files.old name.now) }
     ensures opened { IfOk result (λ opened. IfSome opened (λ o. IfSome (F.files files.old)
@@ -164,7 +165,7 @@ fn open_tailed(
     requires sound { Sound plant.now }
     requires part { IsPartOf plant.now program }
     requires ranges { AreRanges program judged.now }
-    requires held { IsHeadHeld plant.now program 4608 setups }
+    requires held { IsHeadHeld plant.now program (depth_limit plant.now) setups }
     requires counted { IsCounted setups }
     requires tailed { IsTailHeld setups.limits setups.head tail }
     ensures over { IfOk result (λ opened. IfSome opened (λ o.
@@ -176,7 +177,15 @@ fn open_tailed(
     ensures no_fault { result ≢ Err CheckStop.Fault }
 {
     let limits = limits_behind(&setups, &tail);
-    match judge_head(alloc, plant, program, MOST_DEPTH, judged, &setups, &tail)? {
+    match judge_head(
+        alloc,
+        plant,
+        program,
+        depth_limit(plant),
+        judged,
+        &setups,
+        &tail,
+    )? {
         Ok(rows) => Ok(Some(Opened {
             head: head_with(setups, tail, limits)?,
             rows,

@@ -23,7 +23,7 @@ use resumed_log::{Task, write_resumed};
 use row_relax::choices_of;
 use std::alloc::Global;
 use stn_edge::Shelf;
-use stn_model::Plant;
+use stn_model::{Plant, depth_limit};
 use valid_log::LogVerdict;
 
 /// Which log is gone on from, and how far.
@@ -131,7 +131,7 @@ fn go_on_opened<A: EndAdvisers, F: Shelf>(
     ensures write_fault { result ≡ Err JoinStop.WriteFault
         → Rose (F.write_faults files.old) (F.write_faults files.new) }
 {
-    if !write_out::<A, _>(alloc, files, going, opened, claim)? {
+    if !write_out::<A, _>(alloc, plant, files, going, opened, claim)? {
         return look_again(alloc, plant, files, going);
     }
     match judge(alloc, plant, files, going, opened, claim)? {
@@ -167,6 +167,7 @@ fn look_again<F: Shelf>(
 // Writes the log that goes on from one that is opened; false where that one shows something else than before.
 fn write_out<A: EndAdvisers, F: Shelf>(
     alloc: Global,
+    plant: &Plant,
     files: &mut F,
     going: Going,
     opened: &Opened,
@@ -185,6 +186,7 @@ fn write_out<A: EndAdvisers, F: Shelf>(
     let task = Task {
         pair: Pair {
             rows: &opened.rows,
+            most: depth_limit(plant),
             log: going.log,
             out: going.out,
             profit: profit_of(claim),

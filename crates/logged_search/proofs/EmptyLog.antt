@@ -1,5 +1,5 @@
 -- A log that begins with a head and the lines of one empty box.
-use Rattle.std.proofs.Common.{◌≡◌, ℕ, Bool, List, [], ◌∷◌, ◌++◌, flat_map, Option, None, Some, refl, sym, ap, ◌∙◌, subst, append_assoc}
+use Rattle.std.proofs.Common.{◌≡◌, ℕ, Bool, List, [], ◌∷◌, ◌++◌, flat_map, Option, None, Some, refl, sym, ap, ◌∙◌, subst, append_assoc, arith}
 use Rattle.std.specs.Option.{option_map}
 use Rattle.std.specs.List.{All}
 use Rattle.stn_edge.specs.Files.{FileMap, cleared, file_of}
@@ -15,7 +15,7 @@ use Rattle.proof_log.specs.Writer.{IsWhole}
 use Rattle.proof_log.proofs.Writing.{Rest, Took-held, at}
 use Rattle.plan_told.specs.Ended.{IsEmptyRoot, empty_end, empty_tree}
 use Rattle.plan_told.proofs.EmptyRoots.{empty-writable}
-use Rattle.logged_search.specs.Logging.{IsLogged}
+use Rattle.logged_search.specs.Logging.{HasFewSplits, IsLogged}
 
 -- the lines of one empty box
 abbrev pub empty_lines : List ℕ
@@ -41,12 +41,12 @@ whole_head head name own old files rest named is =
     by_files (Some m) = ap (λ (n : List ℕ). file_of (cleared name m) n ++ head) named ∙ ap (λ (file : List ℕ). file ++ head) (file_of-cleared name m)
 
 -- a writer that holds back a head and the lines of one empty box has taken both
-pub empty-logged : (rows : Rows) (floors : Bool) (head name own text : List ℕ) (old files : Option FileMap) (rest : Rest) (ended : Ended) → (¬ All IsOpen rows.program.root) → own ≡ name → text ≡ head ++ empty_lines → files ≡ option_map (cleared name) old → ended ≡ empty_end
-    → IsLogged (IsEmptyRoot rows.program ended) rows floors head name (at own text files rest)
-empty-logged rows floors head name own text old files rest ended bare named is cleared_is end = record {
+pub empty-logged : (most : ℕ) (rows : Rows) (floors : Bool) (head name own text : List ℕ) (old files : Option FileMap) (rest : Rest) (ended : Ended) → (¬ All IsOpen rows.program.root) → HasFewSplits most rows.program → own ≡ name → text ≡ head ++ empty_lines → files ≡ option_map (cleared name) old → ended ≡ empty_end
+    → IsLogged (IsEmptyRoot rows.program ended) most rows floors head name (at own text files rest)
+empty-logged most rows floors head name own text old files rest ended bare splits named is cleared_is end = record {
   tree = empty_tree;
   is = record { bare = bare; ended_is = end; tree_is = refl };
-  writable = empty-writable rows floors;
+  writable = empty-writable most rows floors (omega (arith, splits));
   named = named;
   first = at own head files rest;
   header = whole_head head name own old files rest named cleared_is;

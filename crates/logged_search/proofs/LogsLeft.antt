@@ -7,6 +7,7 @@ use Rattle.std.proofs.lemmas.List.{append-nil}
 use Rattle.stn_edge.specs.Files.{FileMap, MayClear, OthersStay, cleared, file_of}
 use Rattle.stn_edge.proofs.FileLemmas.{get-cleared_other}
 use Rattle.stn_model.specs.declared.plant.Plant.{Plant}
+use Rattle.stn_model.specs.Points.{depth_limit}
 use Rattle.row_kit.specs.declared.domain.Domain.{Domain}
 use Rattle.row_kit.specs.declared.program.Program.{Program}
 use Rattle.row_relax.specs.declared.rows.Rows.{Rows}
@@ -43,22 +44,22 @@ others-may_clear name old new (inl same) other apart = ap (option_map (λ (m : F
 others-may_clear name old new (inr is) other apart = others-clear name old new is other apart
 
 -- a log that was begun is begun after an attempt that did not end
-pub left-then : (rows : Rows) (floors : Bool) (head name : List ℕ) (mid new : Option FileMap) → IfSome (bytes_in name mid) (IsBegun rows floors head) → LeavesBegun rows floors head name mid new → IfSome (bytes_in name new) (IsBegun rows floors head)
-left-then rows floors head name mid new begun (inl same) = subst (λ (files : Option FileMap). IfSome (bytes_in name files) (IsBegun rows floors head)) (sym same) begun
-left-then rows floors head name mid new begun (inr is) = is
+pub left-then : (most : ℕ) (rows : Rows) (floors : Bool) (head name : List ℕ) (mid new : Option FileMap) → IfSome (bytes_in name mid) (IsBegun most rows floors head) → LeavesBegun most rows floors head name mid new → IfSome (bytes_in name new) (IsBegun most rows floors head)
+left-then most rows floors head name mid new begun (inl same) = subst (λ (files : Option FileMap). IfSome (bytes_in name files) (IsBegun most rows floors head)) (sym same) begun
+left-then most rows floors head name mid new begun (inr is) = is
 
 -- a log that lacks its claim is begun
-pub logged-begun : {Is : RowTree → Type 0} (rows : Rows) (floors : Bool) (head name : List ℕ) (at : Writing) → IsLogged Is rows floors head name at → IfSome (bytes_in name at.files) (IsBegun rows floors head)
-logged-begun rows floors head name at is =
-    let begun = begun-took rows floors head is.first at is.tree (tree_items is.tree) [] is.header (sym (append-nil (tree_items is.tree))) is.writable is.took in
-    subst (λ (own : List ℕ). IfSome (bytes_in own at.files) (IsBegun rows floors head)) (sym is.took.keeps.name ∙ is.named) begun
+pub logged-begun : {Is : RowTree → Type 0} (most : ℕ) (rows : Rows) (floors : Bool) (head name : List ℕ) (at : Writing) → IsLogged Is most rows floors head name at → IfSome (bytes_in name at.files) (IsBegun most rows floors head)
+logged-begun most rows floors head name at is =
+    let begun = begun-took most rows floors head is.first at is.tree (tree_items is.tree) [] is.header (sym (append-nil (tree_items is.tree))) is.writable is.took in
+    subst (λ (own : List ℕ). IfSome (bytes_in own at.files) (IsBegun most rows floors head)) (sym is.took.keeps.name ∙ is.named) begun
 
 -- a log whose claim was not written, or in part, is begun
-pub logged-broke : {Is : RowTree → Type 0} (rows : Rows) (floors : Bool) (head name : List ℕ) (at new : Writing) (claim : Claim) → IsLogged Is rows floors head name at
-    → Broke at new (lines_text (claim_lines claim ++ End ∷ [])) → IfSome (bytes_in name new.files) (IsBegun rows floors head)
-logged-broke rows floors head name at new claim is broke =
-    let begun = begun-finish rows floors head is.first at new is.tree claim is.header is.writable is.took broke in
-    subst (λ (own : List ℕ). IfSome (bytes_in own new.files) (IsBegun rows floors head)) (sym is.took.keeps.name ∙ is.named) begun
+pub logged-broke : {Is : RowTree → Type 0} (most : ℕ) (rows : Rows) (floors : Bool) (head name : List ℕ) (at new : Writing) (claim : Claim) → IsLogged Is most rows floors head name at
+    → Broke at new (lines_text (claim_lines claim ++ End ∷ [])) → IfSome (bytes_in name new.files) (IsBegun most rows floors head)
+logged-broke most rows floors head name at new claim is broke =
+    let begun = begun-finish most rows floors head is.first at new is.tree claim is.header is.writable is.took broke in
+    subst (λ (own : List ℕ). IfSome (bytes_in own new.files) (IsBegun most rows floors head)) (sym is.took.keeps.name ∙ is.named) begun
 
 -- what was taken or not wholly taken keeps the rest
 pub handed-keeps : (old new : Writing) (text : List ℕ) → Took old new text ⊎ Broke old new text → KeepsOthers old new
@@ -96,9 +97,9 @@ kept-finished files reads may_read may_write name writer before store store_afte
 }
 
 -- all items of the proof stand behind the head in the log that lacks its claim
-pub logged-whole : {Is : RowTree → Type 0} (rows : Rows) (floors : Bool) (head name : List ℕ) (at : Writing) → (is : IsLogged Is rows floors head name at)
+pub logged-whole : {Is : RowTree → Type 0} (most : ℕ) (rows : Rows) (floors : Bool) (head name : List ℕ) (at : Writing) → (is : IsLogged Is most rows floors head name at)
     → IsWhole at (head ++ lines_text (flat_map item_lines (tree_items is.tree)))
-logged-whole rows floors head name at is = IsWhole-took is.first at head (lines_text (flat_map item_lines (tree_items is.tree))) is.header is.took
+logged-whole most rows floors head name at is = IsWhole-took is.first at head (lines_text (flat_map item_lines (tree_items is.tree))) is.header is.took
 
 -- what is known of the bytes that are told, weaker
 told_weaker : (told : Option (List ℕ)) (P Q : List ℕ → Type 0) → ((bytes : List ℕ) → P bytes → Q bytes) → IfSome told P → IfSome told Q
@@ -111,13 +112,13 @@ unfolding log_lines log_text
 plain-text items claim = sym (lines_text-append (Header 2 ∷ []) (flat_map item_lines items ++ (claim_lines claim ++ End ∷ [])))
 
 -- the same of a log of which more is known
-pub logged-as : {Is Was : RowTree → Type 0} (rows : Rows) (floors : Bool) (head name : List ℕ) (at : Writing) → ((tree : RowTree) → Is tree → Was tree) → IsLogged Is rows floors head name at → IsLogged Was rows floors head name at
-logged-as rows floors head name at then' is =
+pub logged-as : {Is Was : RowTree → Type 0} (most : ℕ) (rows : Rows) (floors : Bool) (head name : List ℕ) (at : Writing) → ((tree : RowTree) → Is tree → Was tree) → IsLogged Is most rows floors head name at → IsLogged Was most rows floors head name at
+logged-as most rows floors head name at then' is =
     record { tree = is.tree; is = then' is.tree is.is; writable = is.writable; named = is.named; first = is.first; header = is.header; took = is.took }
 
 -- what was begun is a first part of the part's log, with a head or without one as that has
 some_begun : (headed : Bool) (plant : Plant) (part : Program) (rows : Rows) (judged : List Domain) (levels : ℕ) (sums : List Sum) (units : List ℕ) (derivations : List Derivation) (tree : RowTree) (own : Claim) (bytes rest : List ℕ) → is_headed part levels ≡ headed
-    → IsLogText headed plant part judged sums units derivations rows tree own (bytes ++ rest) → IsWritable rows headed tree → IsSomeLogBegun plant part judged levels bytes
+    → IsLogText headed plant part judged sums units derivations rows tree own (bytes ++ rest) → IsWritable (depth_limit plant) rows headed tree → IsSomeLogBegun plant part judged levels bytes
 some_begun headed plant part rows judged levels sums units derivations tree own bytes rest has is writable = record {
   sums = sums;
   units = units;
@@ -127,39 +128,39 @@ some_begun headed plant part rows judged levels sums units derivations tree own 
   own = own;
   rest = rest;
   is = subst (λ (h : Bool). IsLogText h plant part judged sums units derivations rows tree own (bytes ++ rest)) (sym has) is;
-  writable = subst (λ (h : Bool). IsWritable rows h tree) (sym has) writable;
+  writable = subst (λ (h : Bool). IsWritable (depth_limit plant) rows h tree) (sym has) writable;
 }
 
 module _ (plant : Plant) (rows : Rows) (judged : List Domain) (levels : ℕ) (head name : List ℕ) (bare : rows.choices ≡ None) (none : is_headed rows.program levels ≡ false) (is : head ≡ lines_text (Header 2 ∷ [])) where
   -- a log with the header that was begun is one of version 2
-  plain_begun : (bytes : List ℕ) → IsBegun rows false head bytes → IsSomeLogBegun plant rows.program judged levels bytes
+  plain_begun : (bytes : List ℕ) → IsBegun (depth_limit plant) rows false head bytes → IsSomeLogBegun plant rows.program judged levels bytes
   plain_begun bytes given =
-      let begun : IsBegun (plain rows.program) false (lines_text (Header 2 ∷ [])) bytes =
-      subst (λ (r : Rows). IsBegun r false (lines_text (Header 2 ∷ [])) bytes) (plain-rows rows bare) (subst (λ (h : List ℕ). IsBegun rows false h bytes) is given) in
+      let begun : IsBegun (depth_limit plant) (plain rows.program) false (lines_text (Header 2 ∷ [])) bytes =
+      subst (λ (r : Rows). IsBegun (depth_limit plant) r false (lines_text (Header 2 ∷ [])) bytes) (plain-rows rows bare) (subst (λ (h : List ℕ). IsBegun (depth_limit plant) rows false h bytes) is given) in
       some_begun false plant rows.program (plain rows.program) judged levels [] [] [] begun.tree begun.claim bytes begun.rest none
       (refl, refl, refl, refl, begun.text ∙ plain-text (tree_items begun.tree) begun.claim) begun.writable
 
   -- so it is what an attempt leaves that did not end
-  pub plain-told : (files : Option FileMap) → IfSome (bytes_in name files) (IsBegun rows false head) → IfSome (bytes_in name files) (IsSomeLogBegun plant rows.program judged levels)
-  plain-told files begun = told_weaker (bytes_in name files) (IsBegun rows false head) (IsSomeLogBegun plant rows.program judged levels) plain_begun begun
+  pub plain-told : (files : Option FileMap) → IfSome (bytes_in name files) (IsBegun (depth_limit plant) rows false head) → IfSome (bytes_in name files) (IsSomeLogBegun plant rows.program judged levels)
+  plain-told files begun = told_weaker (bytes_in name files) (IsBegun (depth_limit plant) rows false head) (IsSomeLogBegun plant rows.program judged levels) plain_begun begun
 
-  pub plain-left : (old new : Option FileMap) → LeavesBegun rows false head name old new → LeavesSomeBegun plant rows.program judged levels name old new
+  pub plain-left : (old new : Option FileMap) → LeavesBegun (depth_limit plant) rows false head name old new → LeavesSomeBegun plant rows.program judged levels name old new
   plain-left old new (inl same) = inl same
   plain-left old new (inr begun) = inr (plain-told new begun)
 
 module _ (plant : Plant) (part : Program) (rows : Rows) (judged : List Domain) (levels : ℕ) (sums : List Sum) (units : List ℕ) (derivations : List Derivation) (head name : List ℕ) (can : CanHead plant part judged sums units derivations rows)
     (has : is_headed part levels ≡ true) (is : head ≡ whole_head sums units derivations) where
   -- a log with a head that was begun is one of version 4
-  headed_begun : (bytes : List ℕ) → IsBegun rows true head bytes → IsSomeLogBegun plant part judged levels bytes
+  headed_begun : (bytes : List ℕ) → IsBegun (depth_limit plant) rows true head bytes → IsSomeLogBegun plant part judged levels bytes
   headed_begun bytes given =
-      let begun = subst (λ (h : List ℕ). IsBegun rows true h bytes) is given in
+      let begun = subst (λ (h : List ℕ). IsBegun (depth_limit plant) rows true h bytes) is given in
       some_begun true plant part rows judged levels sums units derivations begun.tree begun.claim bytes begun.rest has (can.enlarged, begun.text) begun.writable
 
   -- so it is what an attempt leaves that did not end
-  pub headed-told : (files : Option FileMap) → IfSome (bytes_in name files) (IsBegun rows true head) → IfSome (bytes_in name files) (IsSomeLogBegun plant part judged levels)
-  headed-told files begun = told_weaker (bytes_in name files) (IsBegun rows true head) (IsSomeLogBegun plant part judged levels) headed_begun begun
+  pub headed-told : (files : Option FileMap) → IfSome (bytes_in name files) (IsBegun (depth_limit plant) rows true head) → IfSome (bytes_in name files) (IsSomeLogBegun plant part judged levels)
+  headed-told files begun = told_weaker (bytes_in name files) (IsBegun (depth_limit plant) rows true head) (IsSomeLogBegun plant part judged levels) headed_begun begun
 
-  pub headed-left : (old new : Option FileMap) → LeavesBegun rows true head name old new → LeavesSomeBegun plant part judged levels name old new
+  pub headed-left : (old new : Option FileMap) → LeavesBegun (depth_limit plant) rows true head name old new → LeavesSomeBegun plant part judged levels name old new
   headed-left old new (inl same) = inl same
   headed-left old new (inr begun) = inr (headed-told new begun)
 

@@ -41,17 +41,16 @@ pub fn search_logged<A: Advisers, F: Shelf>(
     name: &str,
 ) -> Result<Logged, Stop>
     requires images { HaveImages rows.now }
-    requires splits { HasFewSplits rows.now.program }
-    requires rows { length rows.now.program.rows ≤ 50000 }
+    requires splits { HasFewSplits rules.most rows.now.program }
     requires budget { (1 ≤ budget) × (budget ≤ 100000) }
     requires allowed { IsTrue (F.may_write files.old name.now) }
     ensures logged { IfOk result (λ logged. IsLogged
-        (IsEnding rows.now rules.floors rules.given budget logged.ended)
-        rows.now rules.floors head.now name.now
+        (IsEnding rules.most rows.now rules.floors rules.given budget logged.ended)
+        rules.most rows.now rules.floors head.now name.now
         (writing F.files F.read_faults F.may_read F.may_write logged.writer files.new)) }
     ensures begun { IfOk result
         (λ logged. IsWorth (choices_of rows.now) start.now logged.ended.best) }
-    ensures err { OnErr result (LeavesBegun rows.now rules.floors head.now name.now
+    ensures err { OnErr result (LeavesBegun rules.most rows.now rules.floors head.now name.now
         (F.files files.old) (F.files files.new)) }
     ensures kept { KeepsOthers
         (stored F.files F.read_faults F.may_read F.may_write name.now files.old)
@@ -60,8 +59,8 @@ pub fn search_logged<A: Advisers, F: Shelf>(
     ensures failed { result ≡ Err Stop.Failed
         → Rose (F.write_faults files.old) (F.write_faults files.new) }
 {
-    if !is_searchable(&rows.program) {
-        return log_empty(alloc, rows, head, files, name);
+    if !is_searchable(&rows.program, rules.most) {
+        return log_empty(alloc, rows, rules.most, head, files, name);
     }
     let (logged, exact) = log_advised::<A, _>(
         alloc, rows, rules, budget, start, head, files, name,
@@ -76,18 +75,20 @@ pub fn search_logged<A: Advisers, F: Shelf>(
 fn log_empty<F: Shelf>(
     alloc: Global,
     rows: &Rows,
+    most: u32,
     head: &[u8],
     files: &mut F,
     name: &str,
 ) -> Result<Logged, Stop>
     requires bare { ¬ All IsOpen rows.now.program.root }
+    requires splits { HasFewSplits most rows.now.program }
     requires allowed { IsTrue (F.may_write files.old name.now) }
     ensures logged { (floors : Bool)
         → IfOk result (λ logged. IsLogged (IsEmptyRoot rows.now.program logged.ended)
-        rows.now floors head.now name.now
+        most rows.now floors head.now name.now
         (writing F.files F.read_faults F.may_read F.may_write logged.writer files.new)) }
     ensures err { (floors : Bool)
-        → OnErr result (LeavesBegun rows.now floors head.now name.now
+        → OnErr result (LeavesBegun most rows.now floors head.now name.now
         (F.files files.old) (F.files files.new)) }
     ensures kept { KeepsOthers
         (stored F.files F.read_faults F.may_read F.may_write name.now files.old)
@@ -115,19 +116,19 @@ fn log_advised<A: Advisers, F: Shelf>(
     files: &mut F,
     name: &str,
 ) -> Result<(Logged, bool), Stop>
-    requires searchable { AreSearchable rows.now }
+    requires searchable { AreSearchable rules.most rows.now }
     requires budget { (1 ≤ budget) × (budget ≤ 100000) }
     requires allowed { IsTrue (F.may_write files.old name.now) }
     ensures logged { IfOk result (λ found.
         IsLogged
-        (λ tree. IsSearch rows.now rules.floors rules.given budget tree found.0.ended)
-        rows.now rules.floors head.now name.now
+        (λ tree. IsSearch rules.most rows.now rules.floors rules.given budget tree found.0.ended)
+        rules.most rows.now rules.floors head.now name.now
         (writing F.files F.read_faults F.may_read F.may_write found.0.writer files.new)) }
     ensures begun { IfOk result
         (λ found. IsWorth (choices_of rows.now) start.now found.0.ended.best) }
     ensures exact { IfOk result
         (λ found. found.1 ≡ true → IsExact rows.now.program budget found.0.ended) }
-    ensures err { OnErr result (LeavesBegun rows.now rules.floors head.now name.now
+    ensures err { OnErr result (LeavesBegun rules.most rows.now rules.floors head.now name.now
         (F.files files.old) (F.files files.new)) }
     ensures kept { KeepsOthers
         (stored F.files F.read_faults F.may_read F.may_write name.now files.old)
@@ -140,6 +141,7 @@ fn log_advised<A: Advisers, F: Shelf>(
     match search_advised::<A, _, _>(
         alloc,
         rows,
+        rules.most,
         rules.given,
         rules.floors,
         budget,
@@ -170,18 +172,18 @@ fn log_hinted<A: Advisers, F: Shelf>(
     files: &mut F,
     name: &str,
 ) -> Result<Logged, Stop>
-    requires searchable { AreSearchable rows.now }
+    requires searchable { AreSearchable rules.most rows.now }
     requires budget { (1 ≤ budget) × (budget ≤ 100000) }
     requires allowed { IsTrue (F.may_write files.old name.now) }
     ensures logged { IfOk result (λ logged.
         IsLogged
-        (λ tree. IsSearch rows.now rules.floors rules.given budget tree logged.ended)
-        rows.now rules.floors head.now name.now
+        (λ tree. IsSearch rules.most rows.now rules.floors rules.given budget tree logged.ended)
+        rules.most rows.now rules.floors head.now name.now
         (writing F.files F.read_faults F.may_read F.may_write logged.writer files.new)) }
     ensures begun { IfOk result
         (λ logged. IsWorth (choices_of rows.now) start.now logged.ended.best) }
     ensures exact { IfOk result (λ logged. IsExact rows.now.program budget logged.ended) }
-    ensures err { OnErr result (LeavesBegun rows.now rules.floors head.now name.now
+    ensures err { OnErr result (LeavesBegun rules.most rows.now rules.floors head.now name.now
         (F.files files.old) (F.files files.new)) }
     ensures kept { KeepsOthers
         (stored F.files F.read_faults F.may_read F.may_write name.now files.old)
@@ -194,6 +196,7 @@ fn log_hinted<A: Advisers, F: Shelf>(
     match search_hinted::<A, _, _>(
         alloc,
         rows,
+        rules.most,
         rules.given,
         rules.floors,
         budget,

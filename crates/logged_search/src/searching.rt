@@ -37,13 +37,12 @@ pub fn search_only<A: Advisers>(
     start: &[u8],
 ) -> Result<Ended, AllocError>
     requires images { HaveImages rows.now }
-    requires splits { HasFewSplits rows.now.program }
-    requires rows { length rows.now.program.rows ≤ 50000 }
+    requires splits { HasFewSplits rules.most rows.now.program }
     requires budget { (1 ≤ budget) × (budget ≤ 100000) }
-    ensures ended { IfOk result (IsSearched rows.now rules.floors rules.given budget) }
+    ensures ended { IfOk result (IsSearched rules.most rows.now rules.floors rules.given budget) }
     ensures begun { IfOk result (λ ended. IsWorth (choices_of rows.now) start.now ended.best) }
 {
-    if is_searchable(&rows.program) {
+    if is_searchable(&rows.program, rules.most) {
         search_open::<A>(alloc, rows, rules, budget, start)
     } else {
         Ok(empty_end())
@@ -58,15 +57,16 @@ fn search_open<A: Advisers>(
     budget: u32,
     start: &[u8],
 ) -> Result<Ended, AllocError>
-    requires searchable { AreSearchable rows.now }
+    requires searchable { AreSearchable rules.most rows.now }
     requires budget { (1 ≤ budget) × (budget ≤ 100000) }
-    ensures ended { IfOk result (IsSearched rows.now rules.floors rules.given budget) }
+    ensures ended { IfOk result (IsSearched rules.most rows.now rules.floors rules.given budget) }
     ensures begun { IfOk result (λ ended. IsWorth (choices_of rows.now) start.now ended.best) }
 {
     let mut taker = ItemDropper;
     let Ok(guided) = search_advised::<A, _, _>(
         alloc,
         rows,
+        rules.most,
         rules.given,
         rules.floors,
         budget,
@@ -82,6 +82,7 @@ fn search_open<A: Advisers>(
     match search_hinted::<A, _, _>(
         alloc,
         rows,
+        rules.most,
         rules.given,
         rules.floors,
         budget,
@@ -101,14 +102,15 @@ pub fn search_built<A: Advisers>(
     rules: SplitRules,
     budget: u32,
 ) -> Result<Searched, AllocError>
-    requires searchable { AreSearchable rows.now }
+    requires searchable { AreSearchable rules.most rows.now }
     requires budget { (1 ≤ budget) × (budget ≤ 100000) }
-    ensures { IfOk result (λ searched. IsSearchOf rows.now rules.floors rules.given budget
+    ensures { IfOk result (λ searched. IsSearchOf rules.most rows.now rules.floors rules.given budget
         (ended_of searched) (tree_of searched.tree)) }
 {
     let (searched, exact) = build_advised::<A>(
         alloc,
         rows,
+        rules.most,
         rules.given,
         rules.floors,
         budget,
@@ -117,5 +119,13 @@ pub fn search_built<A: Advisers>(
     if exact {
         return Ok(searched);
     }
-    build_hinted::<A>(alloc, rows, rules.given, rules.floors, budget, &[])
+    build_hinted::<A>(
+        alloc,
+        rows,
+        rules.most,
+        rules.given,
+        rules.floors,
+        budget,
+        &[],
+    )
 }

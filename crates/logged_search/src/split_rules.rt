@@ -7,4 +7,6 @@ pub struct SplitRules {
     pub given: u32,
     /// Whether splits may have floors, as in logs of version 4.
     pub floors: bool,
+    /// How many splits may stand one below another.
+    pub most: u32,
 }

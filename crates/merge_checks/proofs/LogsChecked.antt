@@ -6,6 +6,7 @@ use Rattle.std.proofs.lemmas.Bool.{cases_eq}
 use Rattle.std.proofs.lemmas.List.{get_or_append_left, length_push}
 use Rattle.std.proofs.lemmas.Option.{get_or_from_slice_get, slice_get-get_or}
 use Rattle.stn_edge.specs.Files.{FileMap, file_of}
+use Rattle.stn_model.specs.Points.{depth_limit}
 use Rattle.stn_model.specs.declared.plant.Plant.{Plant}
 use Rattle.row_relax.specs.Choices.{plain}
 use Rattle.log_lines.specs.declared.defect.Defect.{Defect}
@@ -44,7 +45,7 @@ log-valid plant (Some m) mid name own said claim opened named same is checked fo
 
 -- a log that is opened is of version 4 where its head is
 newest-opened : (plant : Plant) (bytes : List ℕ) (opened : Opened) → IsOpened plant bytes opened → (opened.head.version ≡ 4) ↔ IsNewest bytes
-newest-opened plant bytes opened is = newest_head plant (limits_of (plain is.program) 4608) bytes opened.head is.is.stands
+newest-opened plant bytes opened is = newest_head plant (limits_of (plain is.program) (depth_limit plant)) bytes opened.head is.is.stands
 
 -- ---- the first log
 

@@ -74,7 +74,7 @@ fn merge_looked<F: Shelf>(
     requires apart { AreApart (name_of writer.old) merging.stem.now sources.old.items }
     requires reading { AreReading (F.files files.old) merging.stem.now sources.old.items }
     requires fits { Fits merging.rows.now.program (seen area.old) }
-    requires depth { depth < 4609 }
+    requires depth { depth < 36865 }
     ensures merged { (before : Items Source) → HasLooked merging.entry.rows.now
         (seen area.old) (F.files files.old) merging.entry.stem.now depth before
         sources.old.items looked → IfOk result (λ cap. IfSome cap
@@ -143,7 +143,7 @@ fn merge_split<F: Shelf>(
     requires apart { AreApart (name_of writer.old) merging.stem.now sources.old.items }
     requires reading { AreReading (F.files files.old) merging.stem.now sources.old.items }
     requires fits { Fits merging.rows.now.program (seen area.old) }
-    requires depth { depth < 4609 }
+    requires depth { depth < 36865 }
     ensures merged { IfOk result (λ cap. IfSome cap (HasMergedSplit merging.entry.rows.now
         merging.entry.best (seen area.old) node (F.files files.old) (F.files files.new)
         merging.entry.stem.now depth sources.old.items sources.new.items writer.old
@@ -196,7 +196,7 @@ fn merge_parts<F: Shelf>(
     requires apart { AreApart (name_of writer.old) merging.stem.now sources.old.items }
     requires reading { AreReading (F.files files.old) merging.stem.now sources.old.items }
     requires fits { Fits merging.rows.now.program (seen area.old) }
-    requires depth { depth < 4609 }
+    requires depth { depth < 36865 }
     ensures merged { IfOk result (λ cap. IfSome cap (HasMergedParts merging.entry.rows.now
         merging.entry.best (seen area.old) pick.now (F.files files.old) (F.files files.new)
         merging.entry.stem.now depth sources.old.items sources.new.items writer.old

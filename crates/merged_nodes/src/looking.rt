@@ -47,7 +47,7 @@ pub fn look<F: Shelf>(
     requires allowed { MayReadAll (F.may_read files.old) merging.stem.now sources.old.items }
     requires reading { AreReading (F.files files.old) merging.stem.now sources.old.items }
     requires fits { Fits merging.rows.now.program (seen area.old) }
-    requires depth { depth < 4609 }
+    requires depth { depth < 36865 }
     ensures looked { IfOk result (λ looked. IfSome looked (HasLooked merging.entry.rows.now
         (seen area.old) (F.files files.old) merging.entry.stem.now depth sources.old.items
         sources.new.items)) }
@@ -90,7 +90,7 @@ fn look_at<F: Shelf>(
     requires reading { IsSourceReading (F.files files.old) merging.stem.now source.old }
     requires fits { Fits merging.rows.now.program (seen area.old) }
     requires here { source.old.depth ≡ depth }
-    requires depth { depth < 4609 }
+    requires depth { depth < 36865 }
     ensures looked { IfOk result (λ whole. IsTrue whole → HasLookedAt merging.entry.rows.now
         (seen area.old) (F.files files.old) merging.entry.stem.now depth source.old source.new
         looked.old looked.new) }
@@ -131,7 +131,7 @@ fn take_or_pass<F: Shelf>(
     requires allowed { IsTrue (F.may_read files.old name.now) }
     requires reading { IsReading (F.files files.old) name.now source.old.reader }
     requires splits { ¬ IsLeafEnd node.end }
-    requires depth { depth < 4609 }
+    requires depth { depth < 36865 }
     ensures taken { IfOk result (λ whole. IsTrue whole → HasTakenSplit (F.files files.old)
         name.now depth node source.old source.new looked.old looked.new) }
     ensures reading { IfOk result (λ whole. IsTrue whole

@@ -5,7 +5,7 @@ use Rattle.std.proofs.lemmas.Int.{ints}
 use Rattle.std.proofs.lemmas.List.Sums.{sum_by-cons}
 use Rattle.stn_model.specs.declared.plant.Plant.{Plant}
 use Rattle.stn_model.specs.declared.start.Start.{Start}
-use Rattle.stn_model.specs.Plant.{state_at, utility_at}
+use Rattle.stn_model.specs.Plant.{state_at, utility_at, rate_in}
 use Rattle.stn_model.specs.Stock.{given, taken, inflow, outflow, stock}
 use Rattle.stn_model.specs.Load.{drawn, load}
 use Rattle.stn_model.specs.Sums.{total, total_below}
@@ -80,11 +80,11 @@ module _ (plant : Plant) (a : Start) (P : List Start) where
   utility-parts : utility_cost plant (a ∷ P) +ℤ utility_cost plant [] ≡ utility_cost plant P +ℤ utility_cost plant (a ∷ [])
   unfolding utility_cost
   utility-parts =
-      let used : List Start → ℕ → ℕ → ℤ = λ plan utility period. (utility_at plant utility).rate *ℤ pos (load plant plan utility period) in
+      let used : List Start → ℕ → ℕ → ℤ = λ plan utility period. rate_in (utility_at plant utility) period *ℤ pos (load plant plan utility period) in
       below-parts (λ utility. total_below (used (a ∷ P) utility) plant.periods) (λ utility. total_below (used [] utility) plant.periods)
       (λ utility. total_below (used P utility) plant.periods) (λ utility. total_below (used (a ∷ []) utility) plant.periods)
       (λ utility. below-parts (used (a ∷ P) utility) (used [] utility) (used P utility) (used (a ∷ []) utility)
-      (λ period. times-parts (utility_at plant utility).rate (pos (load plant (a ∷ P) utility period)) (pos (load plant [] utility period)) (pos (load plant P utility period)) (pos (load plant (a ∷ []) utility period)) (load-parts utility period))
+      (λ period. times-parts (rate_in (utility_at plant utility) period) (pos (load plant (a ∷ P) utility period)) (pos (load plant [] utility period)) (pos (load plant P utility period)) (pos (load plant (a ∷ []) utility period)) (load-parts utility period))
       plant.periods)
       (length plant.utilities)
 

@@ -4,6 +4,7 @@ ghost use Rattle.std.specs.Prelude.{
   ◌≤◌,
   ◌<◌,
   ◌^◌,
+  ◌+◌,
   pos,
   ◌*ℤ◌,
   ◌-ℤ◌,
@@ -15,7 +16,7 @@ ghost use Rattle.std.specs.Prelude.{
 };
 ghost use Rattle.std.specs.Prelude.{not};
 ghost use Rattle.std.specs.List.{list_all};
-ghost use Rattle.stn_model.specs.Plant.{state_at, utility_at, run_on};
+ghost use Rattle.stn_model.specs.Plant.{state_at, utility_at, rate_in, run_on};
 ghost use Rattle.stn_model.specs.Batches.{is_amid, is_next};
 ghost use Rattle.stn_model.specs.Stock.{stock};
 ghost use Rattle.stn_model.specs.Load.{load};
@@ -35,7 +36,7 @@ ghost use Rattle.stn_model.specs.Sound.{Sound};
 
 use crate::load::load_in;
 use crate::stock::stock_at;
-use stn_model::{Plant, Start, all_payments, change_cost, run_for};
+use stn_model::{Plant, Start, all_payments, change_cost, rate_in, run_for};
 
 /// What the plan earns, in money: end stocks and payments, less the costs of holding, utilities,
 /// starts and changeovers. It takes no memory, and time with the cube of the plan.
@@ -53,7 +54,7 @@ fn income(plant: &Plant, plan: &[Start]) -> i128
     requires sound { Sound plant.now }
     requires few { length plan.now < 2 ^ 32 }
     ensures value { result ≡ end_value plant.now plan.now +ℤ payments plant.now }
-    ensures small { unsigned_abs result ≤ 2 ^ 115 }
+    ensures small { unsigned_abs result ≤ 2 ^ 117 }
 {
     end_value(plant, plan) + all_payments(plant)
 }
@@ -64,7 +65,7 @@ fn less_holding(plant: &Plant, plan: &[Start]) -> i128
     requires few { length plan.now < 2 ^ 32 }
     ensures value { result ≡ (end_value plant.now plan.now +ℤ payments plant.now)
         -ℤ holding_cost plant.now plan.now }
-    ensures small { unsigned_abs result ≤ 2 ^ 124 }
+    ensures small { unsigned_abs result ≤ 2 ^ 125 + 2 ^ 117 }
 {
     income(plant, plan) - holding_cost(plant, plan)
 }
@@ -75,7 +76,7 @@ fn less_utilities(plant: &Plant, plan: &[Start]) -> i128
     requires few { length plan.now < 2 ^ 32 }
     ensures value { result ≡ ((end_value plant.now plan.now +ℤ payments plant.now)
         -ℤ holding_cost plant.now plan.now) -ℤ utility_cost plant.now plan.now }
-    ensures small { unsigned_abs result ≤ 2 ^ 125 }
+    ensures small { unsigned_abs result ≤ 2 ^ 125 + 2 ^ 124 }
 {
     less_holding(plant, plan) - utility_cost(plant, plan)
 }
@@ -106,7 +107,7 @@ fn end_value(plant: &Plant, plan: &[Start]) -> i128
     requires sound { Sound plant.now }
     requires few { length plan.now < 2 ^ 32 }
     ensures value { result ≡ end_value plant.now plan.now }
-    ensures small { unsigned_abs result ≤ 2 ^ 114 }
+    ensures small { unsigned_abs result ≤ 2 ^ 116 }
 {
     let mut sum: i128 = 0;
     for state in 0..plant.states.len() {
@@ -131,7 +132,7 @@ fn holding_cost(plant: &Plant, plan: &[Start]) -> i128
     requires sound { Sound plant.now }
     requires few { length plan.now < 2 ^ 32 }
     ensures value { result ≡ holding_cost plant.now plan.now }
-    ensures small { unsigned_abs result ≤ 2 ^ 123 }
+    ensures small { unsigned_abs result ≤ 2 ^ 125 }
 {
     let mut sum: i128 = 0;
     for state in 0..plant.states.len() {
@@ -172,7 +173,7 @@ fn utility_cost(plant: &Plant, plan: &[Start]) -> i128
     requires sound { Sound plant.now }
     requires few { length plan.now < 2 ^ 32 }
     ensures value { result ≡ utility_cost plant.now plan.now }
-    ensures small { unsigned_abs result ≤ 2 ^ 120 }
+    ensures small { unsigned_abs result ≤ 2 ^ 123 }
 {
     let mut sum: i128 = 0;
     for utility in 0..plant.utilities.len() {
@@ -187,7 +188,7 @@ fn used(plant: &Plant, plan: &[Start], utility: u32) -> i128
     requires few { length plan.now < 2 ^ 32 }
     requires there { utility < length plant.now.utilities }
     ensures value { result ≡ total_below
-        (λ period. (utility_at plant.now utility).rate *ℤ pos
+        (λ period. rate_in (utility_at plant.now utility) period *ℤ pos
         (load plant.now plan.now utility period)) plant.now.periods }
     ensures small { unsigned_abs result ≤ 2 ^ 117 }
 {
@@ -202,11 +203,11 @@ fn used_in(plant: &Plant, plan: &[Start], utility: u32, period: u32) -> i128
     requires sound { Sound plant.now }
     requires few { length plan.now < 2 ^ 32 }
     requires there { utility < length plant.now.utilities }
-    ensures value { result ≡ (utility_at plant.now utility).rate *ℤ pos
+    ensures value { result ≡ rate_in (utility_at plant.now utility) period *ℤ pos
         (load plant.now plan.now utility period) }
     ensures small { unsigned_abs result ≤ 2 ^ 108 }
 {
-    let rate = plant.utilities.get(utility as usize).rate;
+    let rate = rate_in(plant.utilities.get(utility as usize), period);
     scaled(rate, load_in(plant, plan, utility, period) as i128)
 }
 

@@ -122,7 +122,7 @@ pub fn unit_top(unit: u32) -> u64
 pub fn stocks_top(plant: &Plant) -> u64
     requires { Sound plant.now }
     ensures value { result ≡ stocks_top plant.now }
-    ensures small { result ≤ 2 ^ 11 }
+    ensures small { result ≤ 2 ^ 12 }
 {
     22 + 22 * plant.units.len() as u64
 }

@@ -3,7 +3,7 @@ use Rattle.std.proofs.Common.{◌≡◌, ℕ, List, length, ap, arith, ◌∙◌
 use Rattle.std.specs.Prelude.{ℤ, pos, ◌*ℤ◌, ◌+ℤ◌, ◌-ℤ◌}
 use Rattle.stn_model.specs.declared.plant.Plant.{Plant}
 use Rattle.stn_model.specs.declared.start.Start.{Start}
-use Rattle.stn_model.specs.Plant.{state_at, utility_at}
+use Rattle.stn_model.specs.Plant.{state_at, utility_at, rate_in}
 use Rattle.stn_model.specs.Profit.{end_value, payments, holding_cost, utility_cost, start_cost, change_costs, profit}
 use Rattle.plan_sim.specs.Money.{levels_worth, levels_held, uses_cost}
 use Rattle.plan_sim.specs.Tables.{IsStockTable, IsLoadTable}
@@ -20,7 +20,7 @@ module _ (plant : Plant) (plan : List Start) (stocks : List ℤ) (loads : List �
 
   uses_is : uses_cost plant loads ≡ utility_cost plant plan
   unfolding utility_cost
-  uses_is = total_below-agree _ _ (length plant.utilities) (λ utility h. total_below-agree _ _ plant.periods (λ period k. ap (λ (n : ℕ). (utility_at plant utility).rate *ℤ pos n) (l.level utility period h k)))
+  uses_is = total_below-agree _ _ (length plant.utilities) (λ utility h. total_below-agree _ _ plant.periods (λ period k. ap (λ (n : ℕ). rate_in (utility_at plant utility) period *ℤ pos n) (l.level utility period h k)))
 
   pub profit_is : (x : ℤ) (costs : ℕ) → x ≡ (((levels_worth plant stocks +ℤ payments plant) -ℤ levels_held plant stocks) -ℤ uses_cost plant loads) -ℤ start_cost plant plan → costs ≡ change_costs plant plan → x -ℤ pos costs ≡ profit plant plan
   unfolding profit

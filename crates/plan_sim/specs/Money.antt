@@ -1,7 +1,7 @@
 -- What the stocks and loads of two tables are worth and cost, in money.
 use Rattle.std.specs.Prelude.{ℕ, ℤ, pos, ◌*ℤ◌, List, length}
 use Rattle.stn_model.specs.declared.plant.Plant.{Plant}
-use Rattle.stn_model.specs.Plant.{state_at, utility_at}
+use Rattle.stn_model.specs.Plant.{state_at, utility_at, rate_in}
 use Rattle.stn_model.specs.Sums.{total_below}
 use Rattle.plan_sim.specs.Faults.{level, used}
 
@@ -19,7 +19,7 @@ levels_held plant stocks = total_below (level_cost plant stocks) (length plant.s
 
 -- what a utility costs, over all periods
 abbrev pub use_cost : Plant → List ℕ → ℕ → ℤ
-use_cost plant loads utility = total_below (λ period. (utility_at plant utility).rate *ℤ pos (used plant loads utility period)) plant.periods
+use_cost plant loads utility = total_below (λ period. rate_in (utility_at plant utility) period *ℤ pos (used plant loads utility period)) plant.periods
 
 -- what all utilities cost
 abbrev pub uses_cost : Plant → List ℕ → ℤ

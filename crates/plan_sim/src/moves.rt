@@ -64,14 +64,14 @@ pub fn add_outputs(cells: &mut [u128], width: usize, outputs: &[Output], start: 
 
 /// Adds what comes from outside.
 pub fn add_receipts(cells: &mut [u128], width: usize, receipts: &[Receipt])
-    requires few { length receipts.now ≤ 256 }
+    requires few { length receipts.now ≤ 900 }
     requires rows { All (λ receipt. HasRow cells.old width receipt.state) receipts.now }
     requires small { All (λ receipt. receipt.amount ≤ 2 ^ 30) receipts.now }
     requires room { sum cells.old < 2 ^ 99 }
     ensures moved { (r c : ℕ) → c < width →
         summed cells.new width r c
         ≡ summed cells.old width r c + sum_by (brought r c) receipts.now }
-    ensures total { sum cells.new ≤ sum cells.old + 2 ^ 38 }
+    ensures total { sum cells.new ≤ sum cells.old + 2 ^ 40 }
 {
     for receipt in receipts {
         add_move(
@@ -86,14 +86,14 @@ pub fn add_receipts(cells: &mut [u128], width: usize, receipts: &[Receipt])
 
 /// Adds what goes out to customers.
 pub fn add_deliveries(cells: &mut [u128], width: usize, deliveries: &[Delivery])
-    requires few { length deliveries.now ≤ 256 }
+    requires few { length deliveries.now ≤ 900 }
     requires rows { All (λ delivery. HasRow cells.old width delivery.state) deliveries.now }
     requires small { All (λ delivery. delivery.amount ≤ 2 ^ 30) deliveries.now }
     requires room { sum cells.old < 2 ^ 99 }
     ensures moved { (r c : ℕ) → c < width →
         summed cells.new width r c
         ≡ summed cells.old width r c + sum_by (carried_off r c) deliveries.now }
-    ensures total { sum cells.new ≤ sum cells.old + 2 ^ 38 }
+    ensures total { sum cells.new ≤ sum cells.old + 2 ^ 40 }
 {
     for delivery in deliveries {
         add_move(

@@ -1,6 +1,6 @@
 //! What a feasible plan earns, in money, from the tables of its stocks and loads.
 ghost use Rattle.std.specs.Prelude.{◌≡◌, ◌≤◌, ◌<◌, ◌^◌, ◌+◌, ◌*◌, pos, ◌*ℤ◌, ◌+ℤ◌, ◌-ℤ◌, length, All, unsigned_abs};
-ghost use Rattle.stn_model.specs.Plant.{state_at, utility_at, run_on};
+ghost use Rattle.stn_model.specs.Plant.{state_at, utility_at, rate_in, run_on};
 ghost use Rattle.stn_model.specs.Sums.{total, total_below};
 ghost use Rattle.stn_model.specs.Profit.{payments, cost_of, start_cost, change_costs, profit};
 ghost use Rattle.stn_model.specs.Sound.{Sound};
@@ -11,7 +11,7 @@ ghost use Rattle.plan_sim.specs.Units.{NoTwins};
 
 use crate::stocks::level_at;
 use crate::units::change_costs;
-use stn_model::{Plant, Start, all_payments, run_for};
+use stn_model::{Plant, Start, all_payments, rate_in, run_for};
 
 /// What a plan earns: end stocks and payments, less the costs of holding, utilities, starts and
 /// changeovers.
@@ -34,7 +34,7 @@ fn income(plant: &Plant, stocks: &[i128]) -> i128
     requires stocks { length stocks.now ≡ length plant.now.states * (plant.now.periods + 1) }
     requires small { All (λ level. unsigned_abs level ≤ 2 ^ 90) stocks.now }
     ensures value { result ≡ levels_worth plant.now stocks.now +ℤ payments plant.now }
-    ensures small { unsigned_abs result ≤ 2 ^ 117 }
+    ensures small { unsigned_abs result ≤ 2 ^ 119 }
 {
     worth_of_levels(plant, stocks) + all_payments(plant)
 }
@@ -46,7 +46,7 @@ fn less_holding(plant: &Plant, stocks: &[i128]) -> i128
     requires small { All (λ level. unsigned_abs level ≤ 2 ^ 90) stocks.now }
     ensures value { result ≡ (levels_worth plant.now stocks.now +ℤ payments plant.now)
         -ℤ levels_held plant.now stocks.now }
-    ensures small { unsigned_abs result ≤ 2 ^ 125 + 2 ^ 117 }
+    ensures small { unsigned_abs result ≤ 2 ^ 126 + 2 ^ 119 }
 {
     income(plant, stocks) - cost_of_levels(plant, stocks)
 }
@@ -60,7 +60,7 @@ fn less_utilities(plant: &Plant, stocks: &[i128], loads: &[u128]) -> i128
     requires kept { AreUsesKept plant.now loads.now }
     ensures value { result ≡ ((levels_worth plant.now stocks.now +ℤ payments plant.now)
         -ℤ levels_held plant.now stocks.now) -ℤ uses_cost plant.now loads.now }
-    ensures small { unsigned_abs result ≤ 2 ^ 125 + 2 ^ 123 }
+    ensures small { unsigned_abs result ≤ 2 ^ 126 + 2 ^ 125 + 2 ^ 119 }
 {
     less_holding(plant, stocks) - cost_of_uses(plant, loads)
 }
@@ -76,7 +76,7 @@ fn less_starts(plant: &Plant, plan: &[Start], stocks: &[i128], loads: &[u128]) -
     ensures value { result ≡ (((levels_worth plant.now stocks.now +ℤ payments plant.now)
         -ℤ levels_held plant.now stocks.now) -ℤ uses_cost plant.now loads.now)
         -ℤ start_cost plant.now plan.now }
-    ensures small { unsigned_abs result ≤ 2 ^ 126 }
+    ensures small { unsigned_abs result ≤ 2 ^ 126 + 2 ^ 125 + 2 ^ 120 }
 {
     less_utilities(plant, stocks, loads) - start_cost(plant, plan)
 }
@@ -96,7 +96,7 @@ fn worth_of_levels(plant: &Plant, stocks: &[i128]) -> i128
     requires stocks { length stocks.now ≡ length plant.now.states * (plant.now.periods + 1) }
     requires small { All (λ level. unsigned_abs level ≤ 2 ^ 90) stocks.now }
     ensures value { result ≡ levels_worth plant.now stocks.now }
-    ensures small { unsigned_abs result ≤ 2 ^ 116 }
+    ensures small { unsigned_abs result ≤ 2 ^ 118 }
 {
     let mut sum: i128 = 0;
     for state in 0..plant.states.len() {
@@ -127,7 +127,7 @@ fn cost_of_levels(plant: &Plant, stocks: &[i128]) -> i128
     requires stocks { length stocks.now ≡ length plant.now.states * (plant.now.periods + 1) }
     requires small { All (λ level. unsigned_abs level ≤ 2 ^ 90) stocks.now }
     ensures value { result ≡ levels_held plant.now stocks.now }
-    ensures small { unsigned_abs result ≤ 2 ^ 125 }
+    ensures small { unsigned_abs result ≤ 2 ^ 126 }
 {
     let mut sum: i128 = 0;
     for state in 0..plant.states.len() {
@@ -143,7 +143,7 @@ fn cost_of_level(plant: &Plant, stocks: &[i128], state: usize) -> i128
     requires small { All (λ level. unsigned_abs level ≤ 2 ^ 90) stocks.now }
     requires there { state < length plant.now.states }
     ensures value { result ≡ level_cost plant.now stocks.now state }
-    ensures small { unsigned_abs result ≤ 2 ^ 119 }
+    ensures small { unsigned_abs result ≤ 336 * 2 ^ 110 }
 {
     let mut sum: i128 = 0;
     for time in 0..plant.periods as usize {
@@ -172,7 +172,7 @@ fn cost_of_uses(plant: &Plant, loads: &[u128]) -> i128
     requires loads { length loads.now ≡ length plant.now.utilities * plant.now.periods }
     requires kept { AreUsesKept plant.now loads.now }
     ensures value { result ≡ uses_cost plant.now loads.now }
-    ensures small { unsigned_abs result ≤ 2 ^ 122 }
+    ensures small { unsigned_abs result ≤ 2 ^ 125 }
 {
     let mut sum: i128 = 0;
     for utility in 0..plant.utilities.len() {
@@ -203,11 +203,11 @@ fn cost_in(plant: &Plant, loads: &[u128], utility: usize, period: usize) -> i128
     requires kept { AreUsesKept plant.now loads.now }
     requires there { utility < length plant.now.utilities }
     requires within { period < plant.now.periods }
-    ensures value { result ≡ (utility_at plant.now utility).rate *ℤ pos
+    ensures value { result ≡ rate_in (utility_at plant.now utility) period *ℤ pos
         (used plant.now loads.now utility period) }
     ensures small { unsigned_abs result ≤ 2 ^ 110 }
 {
-    let rate = plant.utilities.get(utility).rate;
+    let rate = rate_in(plant.utilities.get(utility), period as u32);
     scaled(rate, used_in(plant, loads, utility, period) as i128)
 }
 

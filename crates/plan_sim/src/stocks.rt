@@ -101,7 +101,7 @@ fn receive(plant: &Plant, cells: &mut [u128])
     requires empty { sum cells.old ≡ 0 }
     ensures moved { (state time : ℕ) → time < plant.now.periods + 1 →
         summed cells.new (plant.now.periods + 1) state time ≡ received plant.now state time }
-    ensures total { sum cells.new ≤ 2 ^ 38 }
+    ensures total { sum cells.new ≤ 2 ^ 40 }
 {
     add_receipts(cells, plant.periods as usize + 1, plant.receipts.as_slice());
 }
@@ -170,7 +170,7 @@ fn deliver(plant: &Plant, cells: &mut [u128])
     requires empty { sum cells.old ≡ 0 }
     ensures moved { (state time : ℕ) → time < plant.now.periods + 1 →
         summed cells.new (plant.now.periods + 1) state time ≡ delivered plant.now state time }
-    ensures total { sum cells.new ≤ 2 ^ 38 }
+    ensures total { sum cells.new ≤ 2 ^ 40 }
 {
     add_deliveries(
         cells,

@@ -170,7 +170,7 @@ fn received_at(plant: &Plant, state: u32, time: u32) -> u64
 }
 
 fn brought_by_all(receipts: &[Receipt], state: u32, time: u32) -> u64
-    requires few { length receipts.now ≤ 256 }
+    requires few { length receipts.now ≤ 900 }
     requires each { All (λ receipt. receipt.amount ≤ 2 ^ 30) receipts.now }
     ensures { result ≡ sum_by (brought_at state time) receipts.now }
 {
@@ -202,7 +202,7 @@ fn delivered_at(plant: &Plant, state: u32, time: u32) -> u64
 }
 
 fn carried_by_all(deliveries: &[Delivery], state: u32, time: u32) -> u64
-    requires few { length deliveries.now ≤ 256 }
+    requires few { length deliveries.now ≤ 900 }
     requires each { All (λ delivery. delivery.amount ≤ 2 ^ 30) deliveries.now }
     ensures { result ≡ sum_by (carried_at state time) deliveries.now }
 {

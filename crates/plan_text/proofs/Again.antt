@@ -202,13 +202,13 @@ puts : (number : ℕ) (plan : List Start) (comment full : Bool) (answer : Result
 puts number plan comment full answer start fault is_1 is_2 is_3 = rw (is_1, is_2, is_3) refl
 
 -- a start on a line of its own is put at the end of the plan
-after_line-start : (plant : Plant) (number : ℕ) (plan : List Start) (start : Start) (line : List ℕ) → IsLineOf plant start line → length plan < most_lines → after_line plant number plan line ≡ Ok (plan ++ start ∷ [])
+after_line-start : (plant : Plant) (number : ℕ) (plan : List Start) (start : Start) (line : List ℕ) → IsLineOf plant start line → length plan < most_lines plant → after_line plant number plan line ≡ Ok (plan ++ start ∷ [])
 unfolding after_line
 after_line-start plant number plan start line is room =
-    puts number plan (is_comment line) (length plan == most_lines) (line_start plant line) start _ is.no_comment (fails (length plan == most_lines) (Decides-eqb (length plan) most_lines) (λ same. omega arith)) is.says
+    puts number plan (is_comment line) (length plan == most_lines plant) (line_start plant line) start _ is.no_comment (fails (length plan == most_lines plant) (Decides-eqb (length plan) (most_lines plant)) (λ same. omega arith)) is.says
 
 -- the lines of starts give the starts
-starts_read : (plant : Plant) (number : ℕ) (done starts : List Start) → Sound plant → All (IsWritable plant) starts → length done + length starts ≤ most_lines
+starts_read : (plant : Plant) (number : ℕ) (done starts : List Start) → Sound plant → All (IsWritable plant) starts → length done + length starts ≤ most_lines plant
     → read_on plant number done (text_lines (plan_lines plant starts)) ≡ Ok (done ++ starts)
 unfolding plan_lines plan_line
 starts_read plant number done [] sound writable room = rw text_lines-nil (ap Ok (sym (append-nil done)))

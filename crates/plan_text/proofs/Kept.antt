@@ -18,7 +18,7 @@ use Rattle.plan_text.proofs.Reading.{read_on, and_then, word_of, rest_of, line_s
 
 -- the starts can be written, and there are not too many
 pub record IsKept (plant : Plant) (plan : List Start) : Type 0 where
-  pub few : length plan ≤ most_lines
+  pub few : length plan ≤ most_lines plant
   pub writable : All (IsWritable plant) plan
 
 -- what is found is there
@@ -71,7 +71,7 @@ line_start-writable plant line start is =
 
 -- a line keeps the plan before it
 kept_by : (plant : Plant) (number : ℕ) (done more : List Start) (comment full : Bool) (answer : Result Start ℕ) (fault : PlanFault) → IsKept plant done
-    → (full ≡ false → length done < most_lines) → ((start : Start) → answer ≡ Ok start → IsWritable plant start)
+    → (full ≡ false → length done < most_lines plant) → ((start : Start) → answer ≡ Ok start → IsWritable plant start)
     → (if comment then Ok done else (if full then Err fault else with_start number done answer)) ≡ Ok more → IsKept plant more
 kept_by plant number done more true full answer fault kept room writable is = let same : done ≡ more = cc in subst (IsKept plant) same kept
 kept_by plant number done more false true answer fault kept room writable is = absurd (cc)
@@ -84,13 +84,13 @@ kept_by plant number done more false false (Ok start) fault kept room writable i
 kept_by plant number done more false false (Err kind) fault kept room writable is = absurd (cc)
 
 -- a test of fullness that failed
-has_room : (n : ℕ) → n ≤ most_lines → (n == most_lines) ≡ false → n < most_lines
-has_room n few other = grind (arith, nat_tests)
+has_room : (n most : ℕ) → n ≤ most → (n == most) ≡ false → n < most
+has_room n most few other = grind (arith, nat_tests)
 
 after_line-kept : (plant : Plant) (number : ℕ) (done more : List Start) (line : List ℕ) → IsKept plant done → after_line plant number done line ≡ Ok more → IsKept plant more
 unfolding after_line
 after_line-kept plant number done more line kept is =
-    kept_by plant number done more (is_comment line) (length done == most_lines) (line_start plant line) (record { kind = too_many_lines; line = number }) kept (has_room (length done) kept.few) (line_start-writable plant line) is
+    kept_by plant number done more (is_comment line) (length done == most_lines plant) (line_start plant line) (record { kind = too_many_lines; line = number }) kept (has_room (length done) (most_lines plant) kept.few) (line_start-writable plant line) is
 
 -- what went on
 went_on : (answer : Result (List Start) PlanFault) (next : List Start → Result (List Start) PlanFault) (plan : List Start) → and_then answer next ≡ Ok plan → (more : List Start) × (answer ≡ Ok more) × (next more ≡ Ok plan)
@@ -108,7 +108,7 @@ read_on-kept plant number done plan (line ∷ lines) kept is =
 plan_of_text-kept : (plant : Plant) (text : List ℕ) (plan : List Start) → plan_of_text plant text ≡ Ok plan → IsKept plant plan
 unfolding plan_of_text
 plan_of_text-kept plant text plan is =
-    let said = not_failed (nat_lt most_bytes (length text)) (record { kind = too_long; line = 0 }) (plan_of_lines plant (text_lines text)) plan is in
+    let said = not_failed (nat_lt (most_bytes plant) (length text)) (record { kind = too_long; line = 0 }) (plan_of_lines plant (text_lines text)) plan is in
     read_on-kept plant 0 [] plan (text_lines text) (record { few = omega arith; writable = All-nil (IsWritable plant) }) (sym (plan_of_lines-is plant (text_lines text)) ∙ said)
 
 -- so is the plan that an answer has
@@ -116,8 +116,17 @@ pub IsKept-answer : (plant : Plant) (text : List ℕ) (answer : Result (List Sta
 IsKept-answer plant text (Ok plan) gives = plan_of_text-kept plant text plan gives
 IsKept-answer plant text (Err stop) gives = tt
 
-pub few-answer : (plant : Plant) (answer : Result (List Start) PlanStop) → IfOk answer (IsKept plant) → IfOk answer (λ plan. length plan ≤ most_lines)
-few-answer plant (Ok plan) kept = kept.few
+pub lines-answer : (plant : Plant) (answer : Result (List Start) PlanStop) → IfOk answer (IsKept plant) → IfOk answer (λ plan. length plan ≤ most_lines plant)
+lines-answer plant (Ok plan) kept = kept.few
+lines-answer plant (Err stop) kept = tt
+
+-- whatever the plant, there are not too many
+lines_most : (large : Bool) → cond large 4096 2048 ≤ 4096
+lines_most true = omega arith
+lines_most false = omega arith
+
+pub few-answer : (plant : Plant) (answer : Result (List Start) PlanStop) → IfOk answer (IsKept plant) → IfOk answer (λ plan. length plan ≤ 4096)
+few-answer plant (Ok plan) kept = omega (arith, kept.few, lines_most plant.large)
 few-answer plant (Err stop) kept = tt
 
 pub writable-answer : (plant : Plant) (answer : Result (List Start) PlanStop) → IfOk answer (IsKept plant) → IfOk answer (All (IsWritable plant))
@@ -125,5 +134,5 @@ writable-answer plant (Ok plan) kept = kept.writable
 writable-answer plant (Err stop) kept = tt
 
 -- an answer of the lines is one of a text that is not too long
-pub ReadsPlan-short : (plant : Plant) (text : List ℕ) (answer : Result (List Start) PlanStop) → length text ≤ most_bytes → ReadsPlan (plan_of_lines plant (text_lines text)) answer → ReadsPlan (plan_of_text plant text) answer
+pub ReadsPlan-short : (plant : Plant) (text : List ℕ) (answer : Result (List Start) PlanStop) → length text ≤ most_bytes plant → ReadsPlan (plan_of_lines plant (text_lines text)) answer → ReadsPlan (plan_of_text plant text) answer
 ReadsPlan-short plant text answer short gives = rw (plan_of_text-short plant text short) gives

@@ -155,7 +155,7 @@ unfolding fault_at after_line
 agrees plant done line rest plan count =
     rw (get_or-append_seam done line rest [])
     (rw (take-append_seam done (line ∷ rest))
-    (rw count (agrees_by (is_comment line) (length plan == most_lines) (line_start plant line) plan (length done + 1))))
+    (rw count (agrees_by (is_comment line) (length plan == most_lines plant) (line_start plant line) plan (length done + 1))))
 
 -- what one item gives
 one_item : {X : Type 0} (item : Option X) → cons_option item [] ≡ option_to_list item
@@ -207,12 +207,12 @@ pub gives_stop : (expected : Result (List Start) PlanFault) (answer : Result (Li
 gives_stop expected answer stop is stops = rw is stops
 
 -- a text that is not too long
-pub plan_of_text-short : (plant : Plant) (text : List ℕ) → length text ≤ most_bytes → plan_of_text plant text ≡ plan_of_lines plant (text_lines text)
+pub plan_of_text-short : (plant : Plant) (text : List ℕ) → length text ≤ most_bytes plant → plan_of_text plant text ≡ plan_of_lines plant (text_lines text)
 unfolding plan_of_text
 plan_of_text-short plant text short = grind (arith, nat_tests)
 
 -- a text that is too long
-pub plan_of_text-long : (plant : Plant) (text : List ℕ) → most_bytes < length text → plan_of_text plant text ≡ Err (record { kind = too_long; line = 0 })
+pub plan_of_text-long : (plant : Plant) (text : List ℕ) → most_bytes plant < length text → plan_of_text plant text ≡ Err (record { kind = too_long; line = 0 })
 unfolding plan_of_text
 plan_of_text-long plant text long = grind (arith, nat_tests)
 

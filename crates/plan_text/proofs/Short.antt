@@ -1,5 +1,5 @@
--- That a line is short, and so 2,048 lines are a text that is not too long.
-use Rattle.std.proofs.Common.{◌≡◌, ℕ, suc, ◌*◌, ◌<◌, ◌≤◌, true, ◌&&◌, nat_le, List, [], ◌∷◌, ◌++◌, All, length, get_or, map, decimal, slice_index_or, arith, length-append}
+-- That a line is short, and so as many lines as a plan text may have are a text that is not too long.
+use Rattle.std.proofs.Common.{◌≡◌, ℕ, suc, ◌+◌, ◌*◌, ◌<◌, ◌≤◌, Bool, true, false, cond, ◌&&◌, nat_le, List, [], ◌∷◌, ◌++◌, All, length, get_or, map, decimal, slice_index_or, arith, length-append}
 use Rattle.std.specs.Prelude.{IsTrue}
 use Rattle.std.specs.List.{flat_map, list_all}
 use Rattle.std.specs.Char.{is_ascii_alphabetic}
@@ -49,8 +49,14 @@ short-lines plant (start ∷ plan) sound writable =
     let others = short-lines plant plan sound (λ k d within. writable (suc k) d (omega arith)) in
     omega (arith, first, others, length-append (plan_line plant start) (flat_map (plan_line plant) plan))
 
+-- as many lines as a plan text may have are, with short comments, no longer than it may be
+pub lines_fit : (large : Bool) (starts lines comments : ℕ) → starts ≤ cond large 4096 2048 → lines ≤ 86 * starts → comments ≤ 300 → comments + lines ≤ cond large 524288 262144
+lines_fit true starts lines comments few long short = omega (arith, few, long, short)
+lines_fit false starts lines comments few long short = omega (arith, few, long, short)
+
 -- the lines of a plan say the plan again
 pub SaysAgain-lines : (plant : Plant) (plan : List Start) → SaysAgain plant plan
 unfolding SaysAgain ReadsBack
 SaysAgain-lines plant plan = λ sound few writable.
-    ReadsBack-lines plant plan sound few writable [] (λ k d within. absurd (omega arith)) (omega (arith, few, short-lines plant plan sound writable))
+    let fit = lines_fit plant.large (length plan) (length (plan_lines plant plan)) 0 few (short-lines plant plan sound writable) (omega arith) in
+    ReadsBack-lines plant plan sound few writable [] (λ k d within. absurd (omega arith)) (omega (arith, fit))

@@ -74,7 +74,7 @@ unfoldable pub fault_at : Plant → List (List ℕ) → ℕ → Option PlanFault
 fault_at plant lines place =
     let line = slice_index_or lines place []
     in if is_comment line then None
-    else (if start_count (take place lines) == most_lines then Some (record { kind = too_many_lines; line = place + 1 })
+    else (if start_count (take place lines) == most_lines plant then Some (record { kind = too_many_lines; line = place + 1 })
     else option_map (λ kind. record { kind = kind; line = place + 1 }) (result_err (line_start plant line)))
 
 -- the first fault of the lines, if there is one
@@ -92,7 +92,7 @@ plan_of_lines plant lines = fault_or (fault_of_lines plant lines) (filter_map (s
 -- the plan that the text says, or its first fault: that it is too long comes before all others
 unfoldable pub plan_of_text : Plant → List ℕ → Result (List Start) PlanFault
 plan_of_text plant text =
-    if nat_lt most_bytes (length text) then Err (record { kind = too_long; line = 0 }) else plan_of_lines plant (text_lines text)
+    if nat_lt (most_bytes plant) (length text) then Err (record { kind = too_long; line = 0 }) else plan_of_lines plant (text_lines text)
 
 -- the stop is the fault of the text, or want of memory
 abbrev pub IsStop : Result (List Start) PlanFault → PlanStop → Type 0
@@ -112,4 +112,4 @@ with_start number plan (Err kind) = Err (record { kind = kind; line = number })
 unfoldable pub after_line : Plant → ℕ → List Start → List ℕ → Result (List Start) PlanFault
 after_line plant number plan line =
     if is_comment line then Ok plan
-    else (if length plan == most_lines then Err (record { kind = too_many_lines; line = number }) else with_start number plan (line_start plant line))
+    else (if length plan == most_lines plant then Err (record { kind = too_many_lines; line = number }) else with_start number plan (line_start plant line))

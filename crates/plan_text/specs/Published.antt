@@ -1,5 +1,6 @@
 -- The numbers that the format of plan texts fixes.
-use Rattle.std.specs.Prelude.{ℕ}
+use Rattle.std.specs.Prelude.{ℕ, if◌then◌else◌}
+use Rattle.stn_model.specs.declared.plant.Plant.{Plant}
 
 -- the kind of a line that is not of the form
 abbrev pub bad_line : ℕ
@@ -17,13 +18,13 @@ too_many_lines = 3
 abbrev pub too_long : ℕ
 too_long = 4
 
--- how many bytes a plan text has at most
-abbrev pub most_bytes : ℕ
-most_bytes = 262144
+-- how many bytes a plan text for the plant has at most
+abbrev pub most_bytes : Plant → ℕ
+most_bytes plant = if plant.large then 524288 else 262144
 
--- how many lines of a plan text are no comments, at most
-abbrev pub most_lines : ℕ
-most_lines = 2048
+-- how many lines of a plan text for the plant are no comments, at most
+abbrev pub most_lines : Plant → ℕ
+most_lines plant = if plant.large then 4096 else 2048
 
 -- a number in a plan text has at most nine digits: it is below this
 abbrev pub number_limit : ℕ

@@ -21,13 +21,13 @@ pub record IsWritable (plant : Plant) (start : Start) : Type 0 where
   pub period : start.period < number_limit
   pub quanta : start.quanta < number_limit
 
--- The lines of the plan are a text that says the plan: for a sound plant, and at most 2,048 starts in it
+-- The lines of the plan are a text that says the plan: for a sound plant, and at most as many starts in it as a text may have
 -- whose numbers have at most nine digits.
 unfoldable pub SaysAgain : Plant → List Start → Type 0
-SaysAgain plant plan = Sound plant → length plan ≤ most_lines → All (IsWritable plant) plan → plan_of_text plant (plan_lines plant plan) ≡ Ok plan
+SaysAgain plant plan = Sound plant → length plan ≤ most_lines plant → All (IsWritable plant) plan → plan_of_text plant (plan_lines plant plan) ≡ Ok plan
 
 -- So they are after comments, where the text is not too long.
 unfoldable pub ReadsBack : Plant → List Start → Type 0
 ReadsBack plant plan =
-    Sound plant → length plan ≤ most_lines → All (IsWritable plant) plan → (remarks : List (List ℕ)) → All IsRemark remarks
-    → length (comment_lines remarks ++ plan_lines plant plan) ≤ most_bytes → plan_of_text plant (comment_lines remarks ++ plan_lines plant plan) ≡ Ok plan
+    Sound plant → length plan ≤ most_lines plant → All (IsWritable plant) plan → (remarks : List (List ℕ)) → All IsRemark remarks
+    → length (comment_lines remarks ++ plan_lines plant plan) ≤ most_bytes plant → plan_of_text plant (comment_lines remarks ++ plan_lines plant plan) ≡ Ok plan

@@ -19,10 +19,16 @@ pub const TOO_MANY_LINES: u8 = 3;
 pub const TOO_LONG: u8 = 4;
 
 /// How many bytes a plan text has at most.
-pub const MAX_BYTES: usize = 262_144;
+pub const MAX_BYTES: usize = 524_288;
+
+/// How many bytes it has at most for a plant that is not large.
+pub const SMALL_BYTES: usize = 262_144;
 
 /// How many lines of a plan text are no comments, at most.
-pub const MAX_STARTS: usize = 2_048;
+pub const MAX_STARTS: usize = 4_096;
+
+/// How many of its lines are no comments, at most, for a plant that is not large.
+pub const SMALL_STARTS: usize = 2_048;
 
 /// Numbers in a plan text are below this: they have at most nine digits.
 pub const NUMBER_LIMIT: u32 = 1_000_000_000;

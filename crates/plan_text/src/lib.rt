@@ -12,8 +12,8 @@ pub mod print;
 pub mod read;
 
 pub use fault::{
-    BAD_LINE, MAX_BYTES, MAX_STARTS, NUMBER_LIMIT, PlanFault, PlanStop, TOO_LONG, TOO_MANY_LINES,
-    UNKNOWN_NAME,
+    BAD_LINE, MAX_BYTES, MAX_STARTS, NUMBER_LIMIT, PlanFault, PlanStop, SMALL_BYTES, SMALL_STARTS,
+    TOO_LONG, TOO_MANY_LINES, UNKNOWN_NAME,
 };
 pub use print::put_plan;
 pub use read::read_plan;

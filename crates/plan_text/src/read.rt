@@ -2,11 +2,12 @@
 
 ghost use Rattle.std.specs.Prelude.{◌≡◌, ◌<◌, ◌≤◌, ◌^◌, length, position, bytes_eq, All, IfOk, MatchResult};
 ghost use Rattle.plan_text.specs.PlanText.{IsStop, ReadsPlan, after_line, is_comment, line_start, named_start, plan_of_lines, plan_of_text, start_of, task_named, text_lines, unit_named};
+ghost use Rattle.plan_text.specs.Published.{most_bytes, most_lines};
 ghost use Rattle.plan_text.specs.ReadsBack.{IsWritable};
 
 use crate::fault::{
-    BAD_LINE, MAX_BYTES, MAX_STARTS, NUMBER_LIMIT, PlanFault, PlanStop, TOO_LONG, TOO_MANY_LINES,
-    UNKNOWN_NAME,
+    BAD_LINE, MAX_BYTES, MAX_STARTS, NUMBER_LIMIT, PlanFault, PlanStop, SMALL_BYTES, SMALL_STARTS,
+    TOO_LONG, TOO_MANY_LINES, UNKNOWN_NAME,
 };
 use std::alloc::Global;
 use stn_model::limits::{MAX_TASKS, MAX_UNITS};
@@ -20,16 +21,35 @@ pub fn read_plan(alloc: Global, plant: &Plant, bytes: &[u8]) -> Result<List<Star
     requires units { length plant.now.units ≤ MAX_UNITS }
     requires tasks { length plant.now.tasks ≤ MAX_TASKS }
     ensures gives { ReadsPlan (plan_of_text plant.now bytes.now) result }
-    ensures few { IfOk result (λ plan. length plan ≤ 2048) }
+    ensures lines { IfOk result (λ plan. length plan ≤ most_lines plant.now) }
+    ensures few { IfOk result (λ plan. length plan ≤ 4096) }
     ensures writable { IfOk result (All (IsWritable plant.now)) }
 {
-    if bytes.len() > MAX_BYTES {
+    if bytes.len() > most_bytes(plant) {
         return Err(PlanStop::Fault(PlanFault {
             kind: TOO_LONG,
             line: 0,
         }));
     }
     read_lines(alloc, plant, bytes)
+}
+
+// How many bytes a plan text for the plant has at most.
+fn most_bytes(plant: &Plant) -> usize
+    ensures { result ≡ most_bytes plant.now }
+{
+    if plant.large { MAX_BYTES } else { SMALL_BYTES }
+}
+
+// How many lines of a plan text for the plant are no comments, at most.
+fn most_starts(plant: &Plant) -> usize
+    ensures { result ≡ most_lines plant.now }
+{
+    if plant.large {
+        MAX_STARTS
+    } else {
+        SMALL_STARTS
+    }
 }
 
 // The plan that the lines of the text say, or their first fault.
@@ -65,7 +85,7 @@ fn take_line(
     if is_comment(line) {
         return Ok(());
     }
-    if plan.len() == MAX_STARTS {
+    if plan.len() == most_starts(plant) {
         return Err(PlanStop::Fault(PlanFault {
             kind: TOO_MANY_LINES,
             line: number,

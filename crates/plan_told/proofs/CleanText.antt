@@ -65,8 +65,8 @@ fit_newest rows floors Point fit = tt
 fit_newest rows floors (Pending cert) fit = fit
 fit_newest rows floors (Split pick cert) fit = (fit.0, fit.1, fit.2, λ is. cc, fit.4)
 
-pub writable-newest : (rows : Rows) (floors : Bool) (tree : RowTree) → IsWritable rows floors tree → IsWritable rows true tree
-writable-newest rows floors tree writable = record {
+pub writable-newest : (most : ℕ) (rows : Rows) (floors : Bool) (tree : RowTree) → IsWritable most rows floors tree → IsWritable most rows true tree
+writable-newest most rows floors tree writable = record {
   fit = All-weaker (IsFitItem rows floors) (IsFitItem rows true) (fit_newest rows floors) (tree_items tree) writable.fit;
   shallow = writable.shallow;
 }
@@ -106,17 +106,17 @@ claim_short program proof_cap Infeasible sound small = tt
 claim_short program proof_cap (Between profit most point) sound small = (subst IsShort sound.0.1 (worth_short program point sound.0.0), small, lawful_bytes program point sound.0.0)
 claim_short program proof_cap (Below most) sound small = small
 
-module _ (rows : Rows) (floors : Bool) (tree : RowTree) (claim : Claim) (proof_cap : Capped) (writable : IsWritable rows floors tree) (sound : IsSoundClaim (choices_of rows) proof_cap claim) (small : IsSmallClaim claim) where
-  fit : All (MayBeItem (limits_of rows (depth_over rows.program.root)) (text_version floors)) (tree_items tree)
-  fit = All-weaker (IsFitItem rows floors) (MayBeItem (limits_of rows (depth_over rows.program.root)) (text_version floors)) (item_fits rows floors (depth_over rows.program.root)) (tree_items tree) writable.fit
+module _ (most : ℕ) (rows : Rows) (floors : Bool) (tree : RowTree) (claim : Claim) (proof_cap : Capped) (writable : IsWritable most rows floors tree) (sound : IsSoundClaim (choices_of rows) proof_cap claim) (small : IsSmallClaim claim) where
+  fit : All (MayBeItem (limits_of rows (depth_over most rows.program.root)) (text_version floors)) (tree_items tree)
+  fit = All-weaker (IsFitItem rows floors) (MayBeItem (limits_of rows (depth_over most rows.program.root)) (text_version floors)) (item_fits rows floors (depth_over most rows.program.root)) (tree_items tree) writable.fit
 
-  fits : IsFitClaim (limits_of rows (depth_over rows.program.root)) claim
-  fits = claim_fits (limits_of rows (depth_over rows.program.root)) claim (claim_over (choices_of rows) proof_cap claim sound)
+  fits : IsFitClaim (limits_of rows (depth_over most rows.program.root)) claim
+  fits = claim_fits (limits_of rows (depth_over most rows.program.root)) claim (claim_over (choices_of rows) proof_cap claim sound)
 
   -- the lines may be written
   pub lines_written : All IsLine (log_lines (text_version floors) (tree_items tree) claim)
   lines_written =
-      logs_written (limits_of rows (depth_over rows.program.root)) (text_version floors) tree claim (omega (arith, rows.program.few_rows)) (omega (arith, rows.program.few_slots)) (omega (arith, (choices_of rows).few_slots)) (version_known floors) fit fits
+      logs_written (limits_of rows (depth_over most rows.program.root)) (text_version floors) tree claim (omega (arith, rows.program.few_rows)) (omega (arith, rows.program.few_slots)) (omega (arith, (choices_of rows).few_slots)) (version_known floors) fit fits
       (All-weaker (IsFitItem rows floors) IsShortItem (item_short rows floors) (tree_items tree) writable.fit) (claim_short (choices_of rows) proof_cap claim sound small)
 
   -- it is a log over the slots of the choices
@@ -128,5 +128,5 @@ module _ (rows : Rows) (floors : Bool) (tree : RowTree) (claim : Claim) (proof_c
   }
 
   -- its text has no text defect
-  pub text_clean : log_text_defect (limits_of rows (depth_over rows.program.root)) (log_text (text_version floors) (tree_items tree) claim) ≡ None
-  text_clean = logs_clean (limits_of rows (depth_over rows.program.root)) (text_version floors) tree claim fit (omega (arith, writable.shallow)) fits lines_written
+  pub text_clean : log_text_defect (limits_of rows (depth_over most rows.program.root)) (log_text (text_version floors) (tree_items tree) claim) ≡ None
+  text_clean = logs_clean (limits_of rows (depth_over most rows.program.root)) (text_version floors) tree claim fit (omega (arith, writable.shallow)) fits lines_written

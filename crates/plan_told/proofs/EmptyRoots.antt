@@ -1,6 +1,6 @@
 -- A root in which some slot has no value has no point, which a proof of one empty box says.
 use Rattle.std.proofs.Common.{◌≡◌, ℕ, ◌≤◌, leb, Bool, true, false, ◌&&◌, cond, List, [], ◌∷◌, get_or, refl, sym, ap, subst, arith}
-use Rattle.std.specs.List.{All, list_any}
+use Rattle.std.specs.List.{All, list_any, sum_by}
 use Rattle.std.proofs.lemmas.List.Elements.{All-nil, All-cons}
 use Rattle.std.proofs.lemmas.List.Sums.{sum_by-le}
 use Rattle.row_kit.specs.declared.domain.Domain.{Domain}
@@ -52,11 +52,15 @@ spared_one d = at (d.zero && leb d.lo d.hi)
     at true = omega arith
     at false = omega arith
 
+-- no more slots than a program may have are split once less
+pub spared-few : (program : Program) → sum_by spared program.root ≤ 4096
+spared-few program = omega (arith, sum_by-le spared 1 program.root (λ k d within. spared_one (get_or program.root k d)), program.few_slots)
+
 -- it may be written
-pub empty-writable : (rows : Rows) (floors : Bool) → IsWritable rows floors empty_tree
-empty-writable rows floors = record {
+pub empty-writable : (most : ℕ) (rows : Rows) (floors : Bool) → sum_by spared rows.program.root ≤ most → IsWritable most rows floors empty_tree
+empty-writable most rows floors few = record {
   fit = All-cons (IsFitItem rows floors) Node (Empty ∷ []) tt (All-cons (IsFitItem rows floors) Empty [] tt (All-nil (IsFitItem rows floors)));
-  shallow = omega (arith, sum_by-le spared 1 rows.program.root (λ k d within. spared_one (get_or rows.program.root k d)), rows.program.few_slots);
+  shallow = omega (arith, few);
 }
 
 -- and is justified: nothing is split

@@ -1,5 +1,5 @@
 -- A proof that may be written, and whose cap is defined, has no meaning defect.
-use Rattle.std.proofs.Common.{◌≡◌, ◌≢◌, Bool, sym, ap, ◌∙◌}
+use Rattle.std.proofs.Common.{◌≡◌, ◌≢◌, ℕ, Bool, sym, ap, ◌∙◌}
 use Rattle.std.proofs.lemmas.List.Elements.{All-weaker}
 use Rattle.row_kit.specs.declared.area.Area.{Area}
 use Rattle.row_kit.specs.declared.found.Found.{Found}
@@ -30,7 +30,7 @@ item_fine rows floors Point fit = tt
 item_fine rows floors (Pending cert) fit = tt
 item_fine rows floors (Split pick cert) fit = tt
 
-module _ (rows : Rows) (floors : Bool) (tree : RowTree) (cap : Capped) (writable : IsWritable rows floors tree) (is : cap ≡ tree_cap (steps_of rows) (view_of rows.program.root) tree) (defined : cap ≢ Bad) where
+module _ (most : ℕ) (rows : Rows) (floors : Bool) (tree : RowTree) (cap : Capped) (writable : IsWritable most rows floors tree) (is : cap ≡ tree_cap (steps_of rows) (view_of rows.program.root) tree) (defined : cap ≢ Bad) where
   -- the items of a proof lead to its cap
   items_led : walked {R = Rows} {A = Area} {F = Found} (steps_of rows) (start (view_of rows.program.root)) (tree_items tree) ≡ ended cap
   items_led = walked-whole Rows Area Found (steps_of rows) tree (view_of rows.program.root) ∙ (ap outcome_of (sym is) ∙ real_outcome cap defined)

@@ -5,6 +5,7 @@ use Rattle.std.specs.List.{All}
 use Rattle.std.proofs.lemmas.Int.{ints}
 use Rattle.std.proofs.lemmas.List.Elements.{All-contains}
 use Rattle.stn_model.specs.declared.plant.Plant.{Plant}
+use Rattle.stn_model.specs.Points.{depth_limit}
 use Rattle.stn_model.specs.Sound.{Sound}
 use Rattle.stn_model.specs.Profit.{profit}
 use Rattle.time_grid.specs.Slots.{slots}
@@ -45,7 +46,7 @@ use Rattle.plan_told.proofs.Texts.{plain-is}
 use Rattle.plan_told.proofs.ValidLog.{cap-short, valid-tree}
 
 -- the found points of a search are lawful, and stand with their worth
-groups_of : {given : ℕ} (rows : Rows) (floors : Bool) (budget : ℕ) (tree : RowTree) (ended : Ended) → IsSearch rows floors given budget tree ended → All (IsGroup (choices_of rows)) (found_points tree)
+groups_of : {most given : ℕ} (rows : Rows) (floors : Bool) (budget : ℕ) (tree : RowTree) (ended : Ended) → IsSearch most rows floors given budget tree ended → All (IsGroup (choices_of rows)) (found_points tree)
 groups_of rows floors budget tree ended made = subst (All (IsGroup (choices_of rows))) (found_in-tree Rows Area tree) (fit-groups rows floors (tree_items tree) made.writable.fit)
 
 best_group : (program : Program) (best : Option Found) (fs : List Found) → IsBest best fs → All (IsGroup program) fs → IfSome best (IsGroup program)
@@ -53,7 +54,7 @@ best_group program None fs best groups = tt
 best_group program (Some found) fs best groups = All-contains (IsGroup program) fs found groups best.0
 
 -- the best found point of a search is lawful, and stands with its worth
-pub best-group : {given : ℕ} (rows : Rows) (floors : Bool) (budget : ℕ) (tree : RowTree) (ended : Ended) → IsSearch rows floors given budget tree ended → IfSome ended.best (IsGroup (choices_of rows))
+pub best-group : {most given : ℕ} (rows : Rows) (floors : Bool) (budget : ℕ) (tree : RowTree) (ended : Ended) → IsSearch most rows floors given budget tree ended → IfSome ended.best (IsGroup (choices_of rows))
 best-group rows floors budget tree ended made = best_group (choices_of rows) ended.best (found_points tree) made.best (groups_of rows floors budget tree ended made)
 
 -- a proof that is justified counts a box: its root was not left open, since no certificate is held above it
@@ -92,7 +93,7 @@ over_of (AtMost n) None fs best above = tt
 over_of NoPoint best fs is above = above
 over_of Bad best fs is above = above
 
-module _ (plant : Plant) (part : Program) (sound : Sound plant) (is : IsPartOf plant part) (budget : ℕ) (tree : RowTree) (ended : Ended) (of : IsSearchOf (plain part) false (length part.root) budget ended tree) where
+module _ (plant : Plant) (part : Program) (sound : Sound plant) (is : IsPartOf plant part) (budget : ℕ) (tree : RowTree) (ended : Ended) (of : IsSearchOf (depth_limit plant) (plain part) false (length part.root) budget ended tree) where
   -- what the search ended with
   plain_end : IsEnd plant part budget (HasOpenBox (plain part) (view_of part.root) tree) ended
   plain_end =
@@ -103,7 +104,7 @@ module _ (plant : Plant) (part : Program) (sound : Sound plant) (is : IsPartOf p
         group = best-group (plain part) false budget tree ended of.search;
         least = of.search.least;
         caps = bounds-cap (IsAdmitted plant part) (profit plant) part (LiesIn part.root) ended.cap (part-relaxes plant part is) (λ point lawful. lawful.lies) of.search.bounds;
-        short = cap-short (plain part) false tree ended.cap of.search.writable of.search.cap;
+        short = cap-short (depth_limit plant) (plain part) false tree ended.cap of.search.writable of.search.cap;
         shut = λ closed. shut_of ended.cap ended.best (of.search.settled closed);
         over = λ left.
             let was = of.search.left_open left in
@@ -122,14 +123,14 @@ module _ (plant : Plant) (part : Program) (sound : Sound plant) (is : IsPartOf p
         boxes = sym of.search.spent;
         justified = of.search.justified;
         is = plain-is plant part judged tree (claim_of plant said);
-        valid = plain-verdict plant part (plant_root plant) judged (depth_over part.root) (tree_items tree) (claim_of plant said) (Yes (claim_of plant said))
-            (valid-tree (plain part) false tree ended.cap of.search.writable of.search.cap (claim_of plant said) of.search.defined borne small);
+        valid = plain-verdict plant part (plant_root plant) judged (depth_over (depth_limit plant) part.root) (tree_items tree) (claim_of plant said) (Yes (claim_of plant said))
+            (valid-tree (depth_limit plant) (plain part) false tree ended.cap of.search.writable of.search.cap (claim_of plant said) of.search.defined borne small);
         cap = subst (IsCapOf said) of.search.cap most;
         left_open = left;
       }) told says in
       record { outcome = with'.outcome; proof = with'.proof; claim = with'.claim }
 
 -- the best found point of a search has a value for each slot
-pub best-places : (plant : Plant) (part : Program) (sound : Sound plant) (is : IsPartOf plant part) (floors : Bool) (budget : ℕ) (tree : RowTree) (ended : Ended) → IsSearch (plain part) floors (length part.root) budget tree ended
+pub best-places : {most : ℕ} (plant : Plant) (part : Program) (sound : Sound plant) (is : IsPartOf plant part) (floors : Bool) (budget : ℕ) (tree : RowTree) (ended : Ended) → IsSearch most (plain part) floors (length part.root) budget tree ended
     → IfSome ended.best (λ found. length found.point ≡ length (slots plant))
 best-places plant part sound is floors budget tree ended search = group-places plant part sound is ended.best (best-group (plain part) floors budget tree ended search)

@@ -3,6 +3,7 @@ use Rattle.std.proofs.Common.{◌≡◌, ◌≢◌, ℕ, Bool, ◌-◌, ◌*◌,
 use Rattle.std.specs.Prelude.{IfSome, int_lt}
 use Rattle.std.proofs.lemmas.Int.{ints}
 use Rattle.stn_model.specs.declared.plant.Plant.{Plant}
+use Rattle.stn_model.specs.Points.{depth_limit}
 use Rattle.stn_model.specs.Sound.{Sound}
 use Rattle.stn_model.specs.Profit.{profit}
 use Rattle.time_grid.specs.Slots.{slots}
@@ -30,6 +31,7 @@ use Rattle.sum_slots.specs.declared.sum.Sum.{Sum}
 use Rattle.sum_slots.specs.Larger.{completed, given_of}
 use Rattle.sum_slots.specs.Shown.{AreRanges}
 use Rattle.derivations.specs.declared.derivation.Derivation.{Derivation}
+use Rattle.valid_log.proofs.Depths.{depth-within}
 use Rattle.plan_told.specs.Outcomes.{whole_count}
 use Rattle.plan_told.specs.Ended.{IsEnding}
 use Rattle.plan_told.specs.Heads.{CanHead}
@@ -76,7 +78,7 @@ over_of NoPoint found real over = cc
 over_of Bad found real over = absurd (real refl)
 
 module _ (plant : Plant) (part : Program) (rows : Rows) (judged : List Domain) (sums : List Sum) (units : List ℕ) (derivations : List Derivation) (sound : Sound plant) (is : IsPartOf plant part) (ranges : AreRanges part judged)
-    (can : CanHead plant part judged sums units derivations rows) (many : 50000 < points_of part.root) (floors : Bool) (budget : ℕ) (few : budget ≤ 100000) (tree : RowTree) (ended : Ended) (has : HasEnded rows floors (length part.root) budget ended tree) where
+    (can : CanHead plant part judged sums units derivations rows) (many : 50000 < points_of part.root) (floors : Bool) (budget : ℕ) (few : budget ≤ 100000) (tree : RowTree) (ended : Ended) (has : HasEnded (depth_limit plant) rows floors (length part.root) budget ended tree) where
   same : HaveSamePoints part (choices_of rows) (completed sums) (given_of part)
   same = head-same plant part rows judged sums units derivations ranges can
 
@@ -94,7 +96,7 @@ module _ (plant : Plant) (part : Program) (rows : Rows) (judged : List Domain) (
         group = group;
         least = given-least part ended.best;
         caps = bounds-cap (IsAdmitted plant part) (profit plant) choices (LiesIn choices.root) ended.cap (head-relaxes plant part rows judged sums units derivations ranges can is) (λ point lawful. lawful.lies) has.bounds;
-        short = cap-short rows floors tree ended.cap has.writable has.cap;
+        short = cap-short (depth_limit plant) rows floors tree ended.cap has.writable has.cap;
         shut = λ closed. shut_of part ended.cap (best_given part ended.best) has.defined points group closed;
         over = λ over.
             let left = open-left part ended.best ended.cap ended.left_open has.defined has.settled over in
@@ -115,7 +117,7 @@ module _ (plant : Plant) (part : Program) (rows : Rows) (judged : List Domain) (
           boxes = sym has.spent;
           justified = has.justified;
           is = (can.enlarged, refl);
-          valid = valid-head plant part rows judged sums units derivations ranges can tree ended.cap (claim_of plant said) (writable-newest rows floors tree has.writable) has.cap has.defined borne small;
+          valid = valid-head plant part rows judged sums units derivations ranges can tree ended.cap (claim_of plant said) (writable-newest (depth_limit plant) rows floors tree has.writable) has.cap has.defined borne small;
           cap = subst (IsCapOf said) has.cap most;
           left_open = left;
         },
@@ -126,13 +128,13 @@ module _ (plant : Plant) (part : Program) (rows : Rows) (judged : List Domain) (
 pub told-by_head : HeadsAreTold
 told-by_head plant part rows judged sums units derivations floors budget tree ended given told sound is ranges can many some few of given_is says =
     let images = head-images plant part rows judged sums units derivations sound is ranges can in
-    told_given plant part rows judged sums units derivations sound is ranges can many floors budget few tree ended (has-ended rows floors (length part.root) budget images some ended tree of) told (subst (λ (end : Ended). IsTold plant end told) given_is says)
+    told_given plant part rows judged sums units derivations sound is ranges can many floors budget few tree ended (has-ended (depth_limit plant) rows floors (length part.root) budget (depth-within plant).0 images some ended tree of) told (subst (λ (end : Ended). IsTold plant end told) given_is says)
 
 -- the best point as of the part has a value for each slot of the plant
 pub given-places : {floors : Bool} {budget : ℕ} (plant : Plant) (part : Program) (rows : Rows) (judged : List Domain) (sums : List Sum) (units : List ℕ) (derivations : List Derivation) (tree : RowTree) (ended given : Ended) → Sound plant → IsPartOf plant part
-    → AreRanges part judged → CanHead plant part judged sums units derivations rows → 1 ≤ budget → IsEnding rows floors (length part.root) budget ended tree → IsGivenEnded part ended given → IfSome given.best (λ found. length found.point ≡ length (slots plant))
+    → AreRanges part judged → CanHead plant part judged sums units derivations rows → 1 ≤ budget → IsEnding (depth_limit plant) rows floors (length part.root) budget ended tree → IsGivenEnded part ended given → IfSome given.best (λ found. length found.point ≡ length (slots plant))
 given-places {floors = floors} {budget = budget} plant part rows judged sums units derivations tree ended given sound is ranges can some of given_is =
     let images = head-images plant part rows judged sums units derivations sound is ranges can in
     subst (λ (end : Ended). IfSome end.best (λ found. length found.point ≡ length (slots plant))) (sym given_is)
     (group-places plant part sound is (best_given part ended.best)
-    (given-group part (choices_of rows) sums (head-same plant part rows judged sums units derivations ranges can) ended.best (has-ended rows floors (length part.root) budget images some ended tree of).group))
+    (given-group part (choices_of rows) sums (head-same plant part rows judged sums units derivations ranges can) ended.best (has-ended (depth_limit plant) rows floors (length part.root) budget (depth-within plant).0 images some ended tree of).group))

@@ -3,6 +3,7 @@ use Rattle.std.proofs.Common.{◌≡◌, ◌≢◌, ◌⊎◌, inl, inr, ℕ, �
 use Rattle.std.specs.List.{sum_by}
 use Rattle.std.proofs.lemmas.List.Sums.{sum_by-append}
 use Rattle.stn_model.specs.declared.plant.Plant.{Plant}
+use Rattle.stn_model.specs.Points.{depth_limit}
 use Rattle.stn_model.specs.Profit.{profit}
 use Rattle.row_kit.specs.declared.domain.Domain.{Domain}
 use Rattle.row_kit.specs.declared.program.Program.{Program}
@@ -95,7 +96,7 @@ module _ (plant : Plant) (part : Program) (rows : Rows) (judged : List Domain) (
       by_version (inr four) = four.1
 
   -- it lets no more splits be open
-  depth_less : depth_over rows.program.root ≤ depth_over part.root
+  depth_less : depth_over (depth_limit plant) rows.program.root ≤ depth_over (depth_limit plant) part.root
   depth_less =
       let own = map (sum_domain part judged) sums in
       let left = (grown_by wide domains derivations).domains in
@@ -119,11 +120,11 @@ module _ (plant : Plant) (part : Program) (rows : Rows) (judged : List Domain) (
   head-relaxes is = same-relaxes (IsAdmitted plant part) (profit plant) part (choices_of rows) (completed sums) (given_of part) head-same (part-relaxes plant part is)
 
   -- the text of a proof over it, with a claim over the part that its cap bears out, is a valid log
-  pub valid-head : (tree : RowTree) (cap : Capped) (claim : Claim) → IsWritable rows true tree → cap ≡ tree_cap (steps_of rows) (view_of rows.program.root) tree → cap ≢ Bad → IsSoundClaim part cap claim → IsSmallClaim claim
-      → IsAnyVerdict plant part (plant_root plant) judged (depth_over part.root) (headed_text sums units derivations tree (larger_claim sums claim)) (Yes claim)
+  pub valid-head : (tree : RowTree) (cap : Capped) (claim : Claim) → IsWritable (depth_limit plant) rows true tree → cap ≡ tree_cap (steps_of rows) (view_of rows.program.root) tree → cap ≢ Bad → IsSoundClaim part cap claim → IsSmallClaim claim
+      → IsAnyVerdict plant part (plant_root plant) judged (depth_over (depth_limit plant) part.root) (headed_text sums units derivations tree (larger_claim sums claim)) (Yes claim)
   valid-head tree cap claim writable is defined sound small =
       let whole = larger_claim sums claim in
-      let valid = valid-tree rows true tree cap writable is whole defined (sound_larger part (choices_of rows) sums head-same cap claim sound) (small_larger sums claim small) in
-      headed-valid plant part rows (plant_root plant) judged sums units derivations (depth_over part.root) tree whole claim can
-      (yes-deeper rows (depth_over rows.program.root) (depth_over part.root) (log_text 4 (tree_items tree) whole) whole depth_less valid)
+      let valid = valid-tree (depth_limit plant) rows true tree cap writable is whole defined (sound_larger part (choices_of rows) sums head-same cap claim sound) (small_larger sums claim small) in
+      headed-valid plant part rows (plant_root plant) judged sums units derivations (depth_over (depth_limit plant) part.root) tree whole claim can
+      (yes-deeper rows (depth_over (depth_limit plant) rows.program.root) (depth_over (depth_limit plant) part.root) (log_text 4 (tree_items tree) whole) whole depth_less valid)
       (sym (cut_same part (choices_of rows) sums head-same cap claim sound))

@@ -10,9 +10,9 @@ use Rattle.row_relax.specs.RowProofs.{RowTree}
 use Rattle.branch_tree.specs.declared.ended.Ended.{Ended}
 use Rattle.branch_tree.specs.Searched.{IsExact, IsSearch}
 
--- this proof is that of a search over rows whose count is exact; splits have floors only where `floors` says so, and slots from the number `given` on are sums
-pub record IsSearchOf (rows : Rows) (floors : Bool) (given budget : ℕ) (ended : Ended) (tree : RowTree) : Type 0 where
-  pub search : IsSearch rows floors given budget tree ended
+-- this proof is that of a search over rows whose count is exact: at most so many splits stand there one below another, splits have floors only where `floors` says so, and slots from the number `given` on are sums
+pub record IsSearchOf (most : ℕ) (rows : Rows) (floors : Bool) (given budget : ℕ) (ended : Ended) (tree : RowTree) : Type 0 where
+  pub search : IsSearch most rows floors given budget tree ended
   pub exact : IsExact rows.program budget ended
 
 -- the proof of one box that is empty
@@ -30,10 +30,10 @@ pub record IsEmptyRoot (program : Program) (ended : Ended) (tree : RowTree) : Ty
   pub tree_is : tree ≡ empty_tree
 
 -- this proof is that of a search whose count is exact, or where some slot of the root has no value that of one empty box
-abbrev pub IsEnding : Rows → Bool → ℕ → ℕ → Ended → RowTree → Type 0
-IsEnding rows floors given budget ended tree = IsSearchOf rows floors given budget ended tree ⊎ IsEmptyRoot rows.program ended tree
+abbrev pub IsEnding : ℕ → Rows → Bool → ℕ → ℕ → Ended → RowTree → Type 0
+IsEnding most rows floors given budget ended tree = IsSearchOf most rows floors given budget ended tree ⊎ IsEmptyRoot rows.program ended tree
 
 -- a search came to this, or an empty root did, and there is a proof that it made
-pub record IsSearched (rows : Rows) (floors : Bool) (given budget : ℕ) (ended : Ended) : Type 0 where
+pub record IsSearched (most : ℕ) (rows : Rows) (floors : Bool) (given budget : ℕ) (ended : Ended) : Type 0 where
   pub tree : RowTree
-  pub of : IsEnding rows floors given budget ended tree
+  pub of : IsEnding most rows floors given budget ended tree

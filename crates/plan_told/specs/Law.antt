@@ -1,6 +1,7 @@
 -- That what is told of a search over the rows of a head is right.
 use Rattle.std.specs.Prelude.{◌≡◌, ◌<◌, ◌≤◌, ℕ, Bool, List, length}
 use Rattle.stn_model.specs.declared.plant.Plant.{Plant}
+use Rattle.stn_model.specs.Points.{depth_limit}
 use Rattle.stn_model.specs.Sound.{Sound}
 use Rattle.row_kit.specs.declared.domain.Domain.{Domain}
 use Rattle.row_kit.specs.declared.program.Program.{Program}
@@ -37,5 +38,5 @@ abbrev pub HeadsAreTold : Type 0
 HeadsAreTold =
     (plant : Plant) (part : Program) (rows : Rows) (judged : List Domain) (sums : List Sum) (units : List ℕ) (derivations : List Derivation) (floors : Bool) (budget : ℕ) (tree : RowTree) (ended given : Ended) (told : Told)
     → Sound plant → IsPartOf plant part → AreRanges part judged → CanHead plant part judged sums units derivations rows → 50000 < points_of part.root → 1 ≤ budget → budget ≤ 100000
-    → IsEnding rows floors (length part.root) budget ended tree → IsGivenEnded part ended given → IsTold plant given told
+    → IsEnding (depth_limit plant) rows floors (length part.root) budget ended tree → IsGivenEnded part ended given → IsTold plant given told
     → IsToldByHead plant part judged sums units derivations budget tree told

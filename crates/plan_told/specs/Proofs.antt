@@ -7,6 +7,7 @@ use Rattle.stn_model.specs.declared.plant.Plant.{Plant}
 use Rattle.stn_model.specs.declared.answer.Answer.{Answer}
 use Rattle.stn_model.specs.declared.answer.Answer.TheVariants as answer
 use Rattle.stn_model.specs.declared.answer.Outcome.{Outcome}
+use Rattle.stn_model.specs.Points.{depth_limit}
 use Rattle.time_grid.specs.PlanPoint.{plan_point}
 use Rattle.row_kit.specs.declared.domain.Domain.{Domain}
 use Rattle.row_kit.specs.declared.program.Program.{Program}
@@ -41,9 +42,9 @@ claim_of plant answer.Infeasible = claim.Infeasible
 claim_of plant (answer.BudgetSpent None earned cap) = claim.Below cap
 claim_of plant (answer.BudgetSpent (Some plan) earned cap) = claim.Between earned cap (plan_point plant plan)
 
--- how many splits may be open in a log over a root: 4,608, less one for each slot that lacks 0 or holds 0 alone
-abbrev pub depth_over : List Domain → ℕ
-depth_over root = 4608 - sum_by spared root
+-- how many splits may be open in a log over a root: the most, less one for each slot that lacks 0 or holds 0 alone
+abbrev pub depth_over : ℕ → List Domain → ℕ
+depth_over most root = most - sum_by spared root
 
 -- where an answer says that the budget was spent
 abbrev pub IfSpent : Answer → Type 0 → Type 0
@@ -80,7 +81,7 @@ pub record IsProofOver (headed : Bool) (plant : Plant) (part : Program) (judged 
   -- the slots of the part are the plant's own, all later ones a sum's or a setup's
   pub justified : IsJustified rows (length part.root) tree
   pub is : IsLogText headed plant part judged sums units derivations rows tree (larger_claim sums (claim_of plant outcome.answer)) text
-  pub valid : IsAnyVerdict plant part (plant_root plant) judged (depth_over part.root) text (Yes (claim_of plant outcome.answer))
+  pub valid : IsAnyVerdict plant part (plant_root plant) judged (depth_over (depth_limit plant) part.root) text (Yes (claim_of plant outcome.answer))
   pub cap : IsCapOf outcome.answer (tree_cap (steps_of rows) (view_of rows.program.root) tree)
   pub left_open : IfSpent outcome.answer (HasOpenBox rows (view_of rows.program.root) tree)
 
@@ -130,7 +131,7 @@ pub record IsSomeLogBegun (plant : Plant) (part : Program) (judged : List Domain
   pub rest : List ℕ
   pub is : IsLogText (is_headed part levels) plant part judged sums units derivations rows tree own (bytes ++ rest)
   -- only in a log with a head a split may have a floor
-  pub writable : IsWritable rows (is_headed part levels) tree
+  pub writable : IsWritable (depth_limit plant) rows (is_headed part levels) tree
 
 -- what an attempt leaves that did not end: the files are as they were, or the file of this name is a log that was begun
 abbrev pub LeavesSomeBegun : Plant → Program → List Domain → ℕ → List ℕ → Option FileMap → Option FileMap → Type 0

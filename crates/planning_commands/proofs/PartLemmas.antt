@@ -8,6 +8,7 @@ use Rattle.std.proofs.lemmas.Bool.{cases_Bool, cases_lt, lt-ltb}
 use Rattle.stn_model.specs.declared.plant.Plant.{Plant}
 use Rattle.stn_model.specs.declared.start.Start.{Start}
 use Rattle.stn_model.specs.declared.answer.Outcome.{Outcome}
+use Rattle.stn_model.specs.Points.{depth_limit}
 use Rattle.stn_model.specs.Answers.{IsOutcomeOf}
 use Rattle.time_grid.specs.Slots.{slots}
 use Rattle.row_kit.specs.declared.domain.Domain.{Domain}
@@ -47,7 +48,7 @@ spared-cut levels part place own within =
     rw t (elim (cases_Bool (digit levels part place == 0)) [ inl e ↦ rw e refl | inr e ↦ rw e refl ])
 
 -- so many splits less one for each level may be open in the logs of a part
-shallow-part : (plant : Plant) (levels part : ℕ) → levels ≤ length (slots plant) → depth_over (part_root plant levels part) ≤ 4608 - levels
+shallow-part : (plant : Plant) (levels part : ℕ) → levels ≤ length (slots plant) → depth_over (depth_limit plant) (part_root plant levels part) ≤ depth_limit plant - levels
 unfolding cut_root
 shallow-part plant levels part enough =
     let whole = map (slot_domain plant) (slots plant) in
@@ -60,7 +61,7 @@ has-part-proof : (plant : Plant) (levels part : ℕ) (program : Program) (log : 
     → HasProof plant program (plant_root plant) levels log outcome → HasPartProof plant levels program log outcome
 has-part-proof plant levels part program log outcome enough root has = record {
   has = has;
-  shallow = plant-deeper plant program (depth_over program.root) (4608 - levels) has.text (claim_of plant outcome.answer)
+  shallow = plant-deeper plant program (depth_over (depth_limit plant) program.root) (depth_limit plant - levels) has.text (claim_of plant outcome.answer)
       (rw root (shallow-part plant levels part enough)) has.proof.valid;
 }
 

@@ -3,6 +3,7 @@ use Rattle.std.specs.Prelude.{◌≡◌, ◌≤◌, ◌⊎◌, ℕ, ◌-◌, Lis
 use Rattle.stn_edge.specs.Files.{FileMap}
 use Rattle.stn_model.specs.declared.plant.Plant.{Plant}
 use Rattle.stn_model.specs.declared.answer.Outcome.{Outcome}
+use Rattle.stn_model.specs.Points.{depth_limit}
 use Rattle.stn_model.specs.Answers.{IsOutcomeOf}
 use Rattle.plant_text.specs.Reading.{reading}
 use Rattle.time_grid.specs.Slots.{slots}
@@ -18,11 +19,11 @@ use Rattle.answer_texts.specs.Planning.{Planned}
 use Rattle.answer_texts.specs.Changed.{counted_since}
 use Rattle.planning_commands.specs.Replanning.{LeavesPartLog}
 
--- there is a proof of the outcome whose log is valid also where at most 4,608 splits less one for each level may be open; where
--- bytes are told, they are the text of its log
+-- there is a proof of the outcome whose log is valid also where one split less may be open for each level than in a log over the plant;
+-- where bytes are told, they are the text of its log
 pub record HasPartProof (plant : Plant) (levels : ℕ) (program : Program) (log : Option (List ℕ)) (outcome : Outcome) : Type 0 where
   pub has : HasProof plant program (plant_root plant) levels log outcome
-  pub shallow : IsPlantVerdict plant program (4608 - levels) has.text (Yes (claim_of plant outcome.answer))
+  pub shallow : IsPlantVerdict plant program (depth_limit plant - levels) has.text (Yes (claim_of plant outcome.answer))
 
 -- The answer over a program of a part of the plant: a right outcome of planning among the feasible plans of the part within the
 -- budget. There is a proof of it, and where the bytes of a log are told, they are the text of its log.

@@ -2,6 +2,7 @@
 use Rattle.std.proofs.Common.{ℕ, List}
 use Rattle.std.specs.Prelude.{Option, Some, None, Result, Ok, Err, IfOk, IfSome}
 use Rattle.stn_edge.specs.Files.{FileMap, file_of}
+use Rattle.stn_model.specs.Points.{depth_limit}
 use Rattle.stn_model.specs.declared.plant.Plant.{Plant}
 use Rattle.stn_model.specs.Sound.{Sound}
 use Rattle.row_kit.specs.declared.program.Program.{Program}
@@ -14,7 +15,7 @@ use Rattle.valid_log.proofs.Saying.{of_plant}
 
 -- what a check over the plant's program answers is right of the plant, where the files are told
 pub any_checked : {E : Type 0} (plant : Plant) (program : Program) (files : Option FileMap) (name : List ℕ) (r : Result LogVerdict E) → Sound plant → IsMadeOf plant program → IsProgramOf plant program
-    → IfOk r (λ verdict. IfSome files (λ m. IsAnyVerdict plant program (plant_root plant) (plant_root plant) 4608 (file_of m name) verdict)) → IfOk r (YesSays plant)
+    → IfOk r (λ verdict. IfSome files (λ m. IsAnyVerdict plant program (plant_root plant) (plant_root plant) (depth_limit plant) (file_of m name) verdict)) → IfOk r (YesSays plant)
     → IfOk r (λ verdict. IfSome files (λ m. IsAnyChecked plant (file_of m name) verdict))
 any_checked plant program None name (Ok verdict) sound made means right says = tt
 any_checked plant program (Some m) name (Ok verdict) sound made means right says =

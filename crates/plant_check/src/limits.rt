@@ -1,5 +1,6 @@
 //! The limits of logs over a program and with a head.
 ghost use Rattle.std.specs.Prelude.{◌≡◌, ◌≤◌, length};
+ghost use Rattle.stn_model.specs.Points.{depth_limit};
 ghost use Rattle.derivations.specs.Growth.{rows_of};
 ghost use Rattle.valid_log.specs.Heads.{limits_behind, limits_with};
 
@@ -8,6 +9,7 @@ use derivations::row_count;
 use log_lines::Limits;
 use row_kit::Program;
 use setup_lines::Setups;
+use stn_model::{Plant, depth_limit};
 
 /// The limits of a log behind a head with so many sums.
 pub fn limits_with(program: &Program, depth: u32, sums: usize) -> Limits
@@ -21,6 +23,14 @@ pub fn limits_with(program: &Program, depth: u32, sums: usize) -> Limits
         points: slots,
         depth,
     }
+}
+
+/// The limits of a log of a plant, over a program of it, behind a head with so many sums.
+pub fn plant_limits(plant: &Plant, program: &Program, sums: usize) -> Limits
+    requires { sums ≤ 4096 }
+    ensures { result ≡ limits_with program.now (depth_limit plant.now) sums }
+{
+    limits_with(program, depth_limit(plant), sums)
 }
 
 /// The limits of a log behind a head, its setups and its derivations. It costs the derivations.

@@ -15,14 +15,10 @@ use row_kit::{List, Program};
 use row_set::{plant_root, program_of};
 use std::alloc::Global;
 use stn_edge::Shelf;
-use stn_model::Plant;
+use stn_model::{Plant, depth_limit};
 use valid_log::LogVerdict;
 
-/// The greatest number of splits that may be open where a node of a log begins: as many as a plant can need, whose 512 slots
-/// have at most nine splits each.
-pub const MOST_DEPTH: u32 = 4608;
-
-/// Checks the log of any version in a file against a plant. A log with a head is read in two passes, its head and what follows,
+/// Checks the log of any version in a file against a plant, of which as many splits may be open as the plant may need. A log with a head is read in two passes, its head and what follows,
 /// others once; what is held of it is its sums and derived rows, and grows with the depth of its tree. The files are as before. `Fault` comes
 /// only where a read failed.
 pub fn check_stream<F: Shelf>(
@@ -44,9 +40,8 @@ pub fn check_stream<F: Shelf>(
     let program = whole_program(alloc, plant)?;
     let ranges = plant_root(alloc, plant)?;
     let ranges = ranges.as_slice();
-    check_any(
-        alloc, plant, program, ranges, ranges, MOST_DEPTH, files, name,
-    )
+    let depth = depth_limit(plant);
+    check_any(alloc, plant, program, ranges, ranges, depth, files, name)
 }
 
 // The program of a plant.

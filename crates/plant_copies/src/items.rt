@@ -35,6 +35,7 @@ pub fn plant_copy(alloc: Global, plant: &Plant) -> Result<Plant, AllocError>
     ensures { IfOk result (λ copy. copy ≡ plant.now) }
 {
     Ok(Plant {
+        large: plant.large,
         periods: plant.periods,
         states: states(alloc, plant.states.as_slice())?,
         utilities: utilities(alloc, plant.utilities.as_slice())?,
@@ -91,6 +92,7 @@ pub fn utility_copy(alloc: Global, utility: &Utility) -> Result<Utility, AllocEr
         name: copied(alloc, utility.name.as_slice())?,
         limits: copied(alloc, utility.limits.as_slice())?,
         rate: utility.rate,
+        rates: copied(alloc, utility.rates.as_slice())?,
     })
 }
 

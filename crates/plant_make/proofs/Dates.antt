@@ -1,10 +1,10 @@
 -- The document of a plant has no date, and so none that can't be printed.
-use Rattle.std.proofs.Common.{◌≡◌, ℕ, true, List, [], ◌∷◌, map, Option, Some, None, option_map, Ordering, Less, Equal, Greater, nat_cmp, refl}
+use Rattle.std.proofs.Common.{◌≡◌, ℕ, ℤ, Bool, true, false, cond, eqb, List, [], ◌∷◌, length, map, Option, Some, None, option_map, Ordering, Less, Equal, Greater, nat_cmp, refl}
 use Rattle.std.specs.Cmp.Lexicographic.{slice_cmp}
 use Rattle.std.specs.List.{fold, AllByRecursion}
 use Rattle.std.specs.Ordering.{match_ordering}
 use Rattle.std.proofs.lemmas.Bool.{and_parts}
-use Rattle.toml.specs.Data.{Data, Members, no_members, member, has_valid_dates, items_have_valid_dates, members_have_valid_dates}
+use Rattle.toml.specs.Data.{Data, integer, Members, no_members, member, has_valid_dates, items_have_valid_dates, members_have_valid_dates}
 use Rattle.toml.specs.View.{items_of}
 use Rattle.stn_model.specs.declared.plant.Plant.{Plant}
 use Rattle.stn_model.specs.declared.plant.State.{State}
@@ -85,6 +85,10 @@ several_plain : (o : Option (List ℕ)) → HeldPlain (option_map numbers o)
 several_plain None = tt
 several_plain (Some ns) = list_plain ns
 
+maybe_plain : (there : Bool) (x : ℤ) → HeldPlain (cond there (Some (integer x)) None)
+maybe_plain true x = refl
+maybe_plain false x = tt
+
 -- ---- the records of a plant
 
 state_plain : (state : State) → Plain (made_of (state_entries state))
@@ -93,7 +97,7 @@ state_plain state = made_plain (state_entries state) (refl, (refl, (lone_plain (
 
 utility_plain : (utility : Utility) → Plain (made_of (utility_entries utility))
 unfolding utility_entries
-utility_plain utility = made_plain (utility_entries utility) (refl, (lone_plain (lone utility.limits), (several_plain (several utility.limits), (refl, tt))))
+utility_plain utility = made_plain (utility_entries utility) (refl, (lone_plain (lone utility.limits), (several_plain (several utility.limits), (maybe_plain (eqb (length utility.rates) 0) utility.rate, (some_plain integer (λ x. refl) utility.rates, tt)))))
 
 unit_plain : (unit : StnUnit) → Plain (made_of (unit_entries unit))
 unfolding unit_entries

@@ -1,7 +1,7 @@
 -- The document of a plant is not deep.
-use Rattle.std.proofs.Common.{ℕ, ◌+◌, ◌≤◌, List, [], ◌∷◌, map, Option, Some, None, option_map, arith}
+use Rattle.std.proofs.Common.{ℕ, ℤ, ◌+◌, ◌≤◌, Bool, true, false, cond, eqb, List, [], ◌∷◌, length, map, Option, Some, None, option_map, arith}
 use Rattle.std.specs.List.{AllByRecursion}
-use Rattle.toml.specs.Data.{Data, depth, items_depth, members_depth}
+use Rattle.toml.specs.Data.{Data, integer, depth, items_depth, members_depth}
 use Rattle.toml.specs.View.{items_of}
 use Rattle.stn_model.specs.declared.plant.Plant.{Plant}
 use Rattle.stn_model.specs.declared.plant.State.{State}
@@ -54,13 +54,21 @@ made_low n entries low = omega (arith, depth_of_entries n entries low)
 zero_low : 0 ≤ 1
 zero_low = omega arith
 
+none_deep : 0 ≤ 0
+none_deep = omega arith
+
+-- a number that is there or not
+maybe_low : (there : Bool) (x : ℤ) → held_depth (cond there (Some (integer x)) None) ≤ 1
+maybe_low true x = omega arith
+maybe_low false x = omega arith
+
 state_low : (state : State) → depth (made_of (state_entries state)) ≤ 2
 unfolding state_entries
 state_low state = made_low 1 (state_entries state) (zero_low, (zero_low, (lone_low (lone state.limits), (several_low (several state.limits), (zero_low, (zero_low, tt))))))
 
 utility_low : (utility : Utility) → depth (made_of (utility_entries utility)) ≤ 2
 unfolding utility_entries
-utility_low utility = made_low 1 (utility_entries utility) (zero_low, (lone_low (lone utility.limits), (several_low (several utility.limits), (zero_low, tt))))
+utility_low utility = made_low 1 (utility_entries utility) (zero_low, (lone_low (lone utility.limits), (several_low (several utility.limits), (maybe_low (eqb (length utility.rates) 0) utility.rate, (some_low 0 _ (rows_low integer 0 (λ x. none_deep) utility.rates), tt)))))
 
 unit_low : (unit : StnUnit) → depth (made_of (unit_entries unit)) ≤ 2
 unfolding unit_entries

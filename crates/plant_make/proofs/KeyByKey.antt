@@ -1,5 +1,5 @@
 -- Tables that are built key by key.
-use Rattle.std.proofs.Common.{◌≡◌, ℕ, List, map, refl, ◌∙◌}
+use Rattle.std.proofs.Common.{◌≡◌, ℕ, cond, List, map, refl, ◌∙◌}
 use Rattle.std.specs.List.{fold}
 use Rattle.toml.specs.Data.{Data, string, Members}
 use Rattle.stn_model.specs.declared.plant.Plant.{Plant}
@@ -44,7 +44,7 @@ pub plant_chain : (plant : Plant) (t0 t1 t2 t3 t4 t5 t6 t7 t8 t9 t10 t11 : Membe
     → t4 ≡ with_entry t3 (key.Utility, some_items (map (λ (utility : Utility). made_of (utility_entries utility)) plant.utilities))
     → t3 ≡ with_entry t2 (key.State, some_items (map (λ (state : State). made_of (state_entries state)) plant.states))
     → t2 ≡ with_member (key_word key.Periods) periods t1 → t1 ≡ with_member (key_word key.Version) version t0
-    → version ≡ number 2 → periods ≡ number plant.periods
+    → version ≡ number (cond plant.large 3 2) → periods ≡ number plant.periods
     → t11 ≡ fold with_entry t0 (plant_entries plant)
 unfolding plant_entries
 plant_chain plant t0 t1 t2 t3 t4 t5 t6 t7 t8 t9 t10 t11 version periods e11 e10 e9 e8 e7 e6 e5 e4 e3 e2 e1 second horizon =

@@ -6,6 +6,7 @@ pub mod Passing
 pub mod KeyByKey
 pub mod Lists
 pub mod Limits
+pub mod Rates
 pub mod Reading
 pub mod TaskReading
 pub mod PlantReading

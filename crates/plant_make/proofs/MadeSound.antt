@@ -11,12 +11,13 @@ use Rattle.std.proofs.lemmas.List.Kept.{AllPairs-cons}
 use Rattle.std.proofs.lemmas.Slice.Eq.{bytes_eq-Decides}
 use Rattle.stn_model.specs.declared.plant.Plant.{Plant}
 use Rattle.stn_model.specs.declared.plant.State.{State}
+use Rattle.stn_model.specs.declared.plant.Utility.{Utility}
 use Rattle.stn_model.specs.declared.plant.StnUnit.{StnUnit}
 use Rattle.stn_model.specs.declared.plant.Task.{Task}
 use Rattle.stn_model.specs.declared.plant.Run.{Run}
 use Rattle.stn_model.specs.declared.plant.Gap.{Gap}
 use Rattle.stn_model.specs.Plant.{duration_of}
-use Rattle.stn_model.specs.Sound.{Sound, SoundState, SoundUtility, SoundInput, SoundOutput, SoundDraw, SoundTask, SoundRun, SoundGap, SoundCounts, SoundNames, IsPart, is_name, is_name_byte}
+use Rattle.stn_model.specs.Sound.{Sound, SoundState, SoundUtility, SoundInput, SoundOutput, SoundDraw, SoundTask, SoundRun, SoundGap, SoundCounts, SmallCounts, SoundNames, IsPart, is_name, is_name_byte}
 use Rattle.plant_make.specs.Made.{number_at, of_chain, letter_name, chained, states_of, second_task, tasks_of, runs_of, units_of, gaps_of, steam_of, plant_made}
 use Rattle.plant_make.proofs.Counts.{AreShort, few_slots, few_pairs}
 
@@ -278,7 +279,13 @@ steam_sound seed chains =
       limits = refl;
       limit = All-from_recursion (λ n. n ≤ 1000000000) (replicate 12 (12 + number_at seed (15 * chains) 9)) (all_repeated 1000000000 (12 + number_at seed (15 * chains) 9) 12 (omega (arith, limit)));
       rate = omega arith;
+      rates = inl refl;
+      each_rate = λ k d within. absurd (omega arith);
     }
+
+one_rate : (seed chains : ℕ) → (steam_of seed chains).rates ≡ []
+unfolding steam_of
+one_rate seed chains = refl
 
 -- the parts of a plant that is made, by their counts
 record IsMade (seed chains : ℕ) (plant : Plant) : Type 0 where
@@ -332,8 +339,23 @@ module _ (seed chains : ℕ) (plant : Plant) (made : IsMade seed chains plant) (
     receipts = rw made.receipts (omega arith);
     deliveries = rw made.deliveries (omega arith);
     outages = rw made.outages (omega arith);
+    slots = omega (arith, few_slots plant made.periods (omega (arith, runs_long)));
+    gap_pairs = omega (arith, few_pairs plant made.periods (omega (arith, runs_long)) gaps_all_short);
+  }
+
+  small : SmallCounts plant
+  small = record {
+    states = omega (arith, states_long);
+    utilities = omega (arith, utilities_long);
+    units = omega (arith, units_long);
+    tasks = omega (arith, tasks_long);
+    runs = omega (arith, runs_long);
+    receipts = rw made.receipts (omega arith);
+    deliveries = rw made.deliveries (omega arith);
+    outages = rw made.outages (omega arith);
     slots = few_slots plant made.periods (omega (arith, runs_long));
     gap_pairs = few_pairs plant made.periods (omega (arith, runs_long)) gaps_all_short;
+    rates = rw made.utilities (all_of_one (λ (utility : Utility). utility.rates ≡ []) _ (one_rate seed chains));
   }
 
   names : SoundNames plant
@@ -348,6 +370,7 @@ module _ (seed chains : ℕ) (plant : Plant) (made : IsMade seed chains plant) (
   is_sound : Sound plant
   is_sound = record {
     counts = counts;
+    small = λ is. small;
     names = names;
     states = rw (made.periods, made.states) (All-from_recursion (SoundState 12) _ (all_chained (SoundState 12) (states_of seed) chains (λ chain below. states_sound seed chain (omega arith))));
     utilities = rw (made.periods, made.utilities) (all_of_one (SoundUtility 12) _ (steam_sound seed chains));

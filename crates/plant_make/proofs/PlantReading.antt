@@ -1,5 +1,5 @@
 -- The document of a plant is read as the plant.
-use Rattle.std.proofs.Common.{◌≡◌, ◌≢◌, ℕ, ◌≤◌, nat_lt, true, false, ◌&&◌, eqb, List, [], ◌++◌, map, take, length, get_or, AllPairs, Option, Some, option_map, unwrap_or, refl, ap, inl, inr, arith}
+use Rattle.std.proofs.Common.{◌≡◌, ◌≢◌, ℕ, ◌≤◌, nat_lt, Bool, true, false, cond, ◌&&◌, ◌||◌, eqb, List, [], ◌++◌, map, take, length, get_or, AllPairs, Option, Some, option_map, unwrap_or, refl, ap, inl, inr, arith}
 use Rattle.std.proofs.lemmas.Bool.{cases_Bool, and_parts, eqb-true}
 use Rattle.std.proofs.lemmas.Bool.Decides.{nat_tests}
 use Rattle.std.proofs.lemmas.List.{length-map, take_all}
@@ -25,7 +25,7 @@ use Rattle.plant_text.specs.Fields.{held, needed, optional, since, items_of, ite
 use Rattle.plant_text.specs.Names.{name_in, first_places}
 use Rattle.plant_text.specs.Scope.{Scope}
 use Rattle.plant_text.specs.Tables.{has_run, state_tests, state_of, utility_tests, utility_of, unit_tests, unit_of, task_tests, task_of, run_tests, run_of, gap_tests, gap_of, receipt_tests, receipt_of, delivery_tests, delivery_of, outage_tests, outage_of}
-use Rattle.plant_text.specs.Document.{is_second, scope_in, size_fields, array_fields, plant_with, plant_in, size_tests, unknown_tests, document_tests, top_place}
+use Rattle.plant_text.specs.Document.{is_second, is_third, scope_in, size_fields, array_fields, plant_with, plant_in, size_tests, unknown_tests, document_tests, top_place}
 use Rattle.plant_text.specs.Fields as fields
 use Rattle.plant_text.proofs.Faults.{passes, nothing}
 use Rattle.plant_make.specs.Entries.{table_of, number, some_items}
@@ -40,6 +40,7 @@ use Rattle.plant_make.proofs.TaskReading.{task_ok}
 abbrev scope_for : Plant → Scope
 scope_for plant = record {
   second = true;
+  third = plant.large;
   periods = plant.periods;
   states = first_places (map (λ (state : State). state.name) plant.states);
   utilities = first_places (map (λ (utility : Utility). utility.name) plant.utilities);
@@ -50,6 +51,7 @@ scope_for plant = record {
 is_scope : (plant : Plant) → Sound plant → IsScopeOf plant (scope_for plant)
 is_scope plant sound = record {
   second = refl;
+  third = refl;
   periods = refl;
   states = λ k within. named_at (λ (state : State). state.name) plant.states k no_state sound.names.states within;
   utilities = λ k within. named_at (λ (utility : Utility). utility.name) plant.utilities k no_utility sound.names.utilities within;
@@ -141,7 +143,8 @@ module _ (plant : Plant) (sound : Sound plant) where
   utilities_read : Pass (rows_tests (λ (earlier : List Utility) (d : Data). utility_tests scope (length earlier) d) (utility_of scope) [] (map utility_made plant.utilities)) × (map (utility_of scope) (map utility_made plant.utilities) ≡ plant.utilities)
   utilities_read =
       rows_read (λ (earlier : List Utility) (d : Data). utility_tests scope (length earlier) d) (utility_of scope) utility_made plant.utilities (λ earlier utility next.
-      utility_ok scope plant (length earlier) utility reads (at_next (SoundUtility plant.periods) plant.utilities earlier utility sound.utilities next) sound.counts.periods.0
+      utility_ok scope plant (length earlier) utility reads (at_next (SoundUtility plant.periods) plant.utilities earlier utility sound.utilities next)
+      (λ is. at_next (λ (utility : Utility). utility.rates ≡ []) plant.utilities earlier utility (sound.small is).rates next) sound.counts.periods.0
       (rw (← next.is no_utility) (reads.utilities (length earlier) next.within)))
 
   units_read : Pass (rows_tests (λ (earlier : List StnUnit) (d : Data). unit_tests scope (length earlier) d) unit_of [] (map unit_made plant.units)) × (map unit_of (map unit_made plant.units) ≡ plant.units)
@@ -183,7 +186,7 @@ module _ (plant : Plant) (sound : Sound plant) where
 
 -- what the document of a plant holds
 record Holds (plant : Plant) (inside : Members) : Type 0 where
-  version : held inside (needed key.Version) ≡ Some (number 2)
+  version : held inside (needed key.Version) ≡ Some (number (cond plant.large 3 2))
   periods : held inside (needed key.Periods) ≡ Some (number plant.periods)
   states : held inside (optional key.State) ≡ some_items (map state_made plant.states)
   utilities : held inside (optional key.Utility) ≡ some_items (map utility_made plant.utilities)
@@ -213,20 +216,73 @@ document_holds plant =
       outages = held_maybe (since true key.Outage) es _ refl refl;
     }
 
+-- the version of a document tells whether its plant is large
+third_by : (large : Bool) → eqb (cond large 3 2) 3 ≡ large
+third_by true = refl
+third_by false = refl
+
+second_by : (large : Bool) → (eqb (cond large 3 2) 2 || eqb (cond large 3 2) 3) ≡ true
+second_by true = refl
+second_by false = refl
+
 is_second_document : (plant : Plant) (inside : Members) → Holds plant inside → is_second inside ≡ true
-is_second_document plant inside holds = rw holds.version refl
+is_second_document plant inside holds = rw holds.version (second_by plant.large)
+
+is_third_document : (plant : Plant) (inside : Members) → Holds plant inside → is_third inside ≡ plant.large
+is_third_document plant inside holds = rw holds.version (third_by plant.large)
+
+-- the document of a plant is of version 3 where the plant is large
+pub third_document : (plant : Plant) → is_third (table_of (plant_entries plant)) ≡ plant.large
+third_document plant = is_third_document plant (table_of (plant_entries plant)) (document_holds plant)
+
+-- there are no more of a thing than a plant of its version may have
+few_by : (large : Bool) (n many few : ℕ) → n ≤ many → (large ≡ false → n ≤ few) → n ≤ cond large many few
+few_by true n many few all small = all
+few_by false n many few all small = small refl
+
+-- how many there are of each thing, by whether the plant is large
+record CountsBy (plant : Plant) : Type 0 where
+  states : length plant.states ≤ cond plant.large 160 40
+  utilities : length plant.utilities ≤ cond plant.large 64 8
+  units : length plant.units ≤ cond plant.large 96 24
+  tasks : length plant.tasks ≤ cond plant.large 160 40
+  runs : length plant.runs ≤ cond plant.large 256 64
+  receipts : length plant.receipts ≤ cond plant.large 900 256
+  deliveries : length plant.deliveries ≤ cond plant.large 900 256
+  outages : length plant.outages ≤ cond plant.large 4096 256
+  slots : slot_count plant ≤ cond plant.large 4096 512
+  gap_pairs : gap_pairs plant ≤ cond plant.large 32768 8192
+
+counts_by : (plant : Plant) → Sound plant → CountsBy plant
+counts_by plant sound =
+    let counts = sound.counts in
+    let small = sound.small in
+    record {
+      states = few_by plant.large _ 160 40 counts.states (λ is. (small is).states);
+      utilities = few_by plant.large _ 64 8 counts.utilities (λ is. (small is).utilities);
+      units = few_by plant.large _ 96 24 counts.units (λ is. (small is).units);
+      tasks = few_by plant.large _ 160 40 counts.tasks (λ is. (small is).tasks);
+      runs = few_by plant.large _ 256 64 counts.runs (λ is. (small is).runs);
+      receipts = few_by plant.large _ 900 256 counts.receipts (λ is. (small is).receipts);
+      deliveries = few_by plant.large _ 900 256 counts.deliveries (λ is. (small is).deliveries);
+      outages = few_by plant.large _ 4096 256 counts.outages (λ is. (small is).outages);
+      slots = few_by plant.large _ 4096 512 counts.slots (λ is. (small is).slots);
+      gap_pairs = few_by plant.large _ 32768 8192 counts.gap_pairs (λ is. (small is).gap_pairs);
+    }
 
 -- the document's scope is the plant's
 scope_is : (plant : Plant) (inside : Members) → Sound plant → Holds plant inside → scope_in inside ≡ scope_for plant
 unfolding scope_in
 scope_is plant inside sound holds =
     let second = is_second_document plant inside holds in
+    let third = is_third_document plant inside holds in
+    let few = counts_by plant sound in
     let periods : at_key count_of 0 inside (needed key.Periods) ≡ plant.periods = rw holds.periods refl in
-    let states = names_are state_made (λ (state : State). state.name) plant.states 40 (held inside (optional key.State)) holds.states sound.counts.states state_named in
-    let utilities = names_are utility_made (λ (utility : Utility). utility.name) plant.utilities 8 (held inside (optional key.Utility)) holds.utilities sound.counts.utilities utility_named in
-    let units = names_are unit_made (λ (unit : StnUnit). unit.name) plant.units 24 (held inside (optional key.StnUnit)) holds.units sound.counts.units unit_named in
-    let tasks = names_are (task_made plant) (λ (task : Task). task.name) plant.tasks 40 (held inside (optional key.Task)) holds.tasks sound.counts.tasks (task_named plant) in
-    rw (second, periods, states, utilities, units, tasks) refl
+    let states = names_are state_made (λ (state : State). state.name) plant.states (cond plant.large 160 40) (held inside (optional key.State)) holds.states few.states state_named in
+    let utilities = names_are utility_made (λ (utility : Utility). utility.name) plant.utilities (cond plant.large 64 8) (held inside (optional key.Utility)) holds.utilities few.utilities utility_named in
+    let units = names_are unit_made (λ (unit : StnUnit). unit.name) plant.units (cond plant.large 96 24) (held inside (optional key.StnUnit)) holds.units few.units unit_named in
+    let tasks = names_are (task_made plant) (λ (task : Task). task.name) plant.tasks (cond plant.large 160 40) (held inside (optional key.Task)) holds.tasks few.tasks (task_named plant) in
+    rw (second, third, periods, states, utilities, units, tasks) refl
 
 -- the document's plant is the plant
 plant_is : (plant : Plant) (inside : Members) → Sound plant → Holds plant inside → plant_in inside ≡ plant
@@ -246,33 +302,36 @@ plant_is plant inside sound holds =
     (rw ((states_read plant sound).1, (utilities_read plant sound).1, (units_read plant sound).1, (tasks_read plant sound).1, (runs_read plant sound).1, (gaps_read plant sound).1, (receipts_read plant sound).1, (deliveries_read plant sound).1, (outages_read plant sound).1) refl)
     )
 
+pub not_above : (most n : ℕ) → n ≤ most → nat_lt most n ≡ false
+not_above most n few = grind (arith, nat_tests)
+
 sizes_ok : (plant : Plant) → Sound plant → Pass (size_tests plant)
 unfolding size_tests
 sizes_ok plant sound =
-    let slots : nat_lt 512 (slot_count plant) ≡ false = grind (arith, nat_tests, sound.counts.slots) in
-    let pairs : nat_lt 8192 (gap_pairs plant) ≡ false = grind (arith, nat_tests, sound.counts.gap_pairs) in
-    one_more _ _ _ slots (one_more _ _ [] pairs nothing)
+    let few = counts_by plant sound in
+    one_more _ _ _ (not_above _ _ few.slots) (one_more _ _ [] (not_above _ _ few.gap_pairs) nothing)
 
 arrays_ok : (plant : Plant) (inside : Members) → Sound plant → Holds plant inside → Pass (fields.fields_tests top_place inside (array_fields (scope_for plant)))
 arrays_ok plant inside sound holds =
-    passes _ _ (maybe_tables_ok _ _ _ _ _ _ holds.states refl (rw (length-map plant.states state_made) sound.counts.states) (states_read plant sound).0)
-    (passes _ _ (maybe_tables_ok _ _ _ _ _ _ holds.utilities refl (rw (length-map plant.utilities utility_made) sound.counts.utilities) (utilities_read plant sound).0)
-    (passes _ _ (maybe_tables_ok _ _ _ _ _ _ holds.units refl (rw (length-map plant.units unit_made) sound.counts.units) (units_read plant sound).0)
-    (passes _ _ (maybe_tables_ok _ _ _ _ _ _ holds.tasks refl (rw (length-map plant.tasks (task_made plant)) sound.counts.tasks) (tasks_read plant sound).0)
-    (passes _ _ (maybe_tables_ok _ _ _ _ _ _ holds.runs refl (rw (length-map plant.runs (run_made plant)) sound.counts.runs) (runs_read plant sound).0)
+    let few = counts_by plant sound in
+    passes _ _ (maybe_tables_ok _ _ _ _ _ _ holds.states refl (rw (length-map plant.states state_made) few.states) (states_read plant sound).0)
+    (passes _ _ (maybe_tables_ok _ _ _ _ _ _ holds.utilities refl (rw (length-map plant.utilities utility_made) few.utilities) (utilities_read plant sound).0)
+    (passes _ _ (maybe_tables_ok _ _ _ _ _ _ holds.units refl (rw (length-map plant.units unit_made) few.units) (units_read plant sound).0)
+    (passes _ _ (maybe_tables_ok _ _ _ _ _ _ holds.tasks refl (rw (length-map plant.tasks (task_made plant)) few.tasks) (tasks_read plant sound).0)
+    (passes _ _ (maybe_tables_ok _ _ _ _ _ _ holds.runs refl (rw (length-map plant.runs (run_made plant)) few.runs) (runs_read plant sound).0)
     (passes _ _ (maybe_tables_ok _ _ _ _ _ _ holds.gaps refl (rw (length-map plant.gaps (gap_made plant)) sound.counts.gaps) (gaps_read plant sound).0)
-    (passes _ _ (maybe_tables_ok _ _ _ _ _ _ holds.receipts refl (rw (length-map plant.receipts (receipt_made plant)) sound.counts.receipts) (receipts_read plant sound).0)
-    (passes _ _ (maybe_tables_ok _ _ _ _ _ _ holds.deliveries refl (rw (length-map plant.deliveries (delivery_made plant)) sound.counts.deliveries) (deliveries_read plant sound).0)
-    (passes _ _ (maybe_tables_ok _ _ _ _ _ _ holds.outages refl (rw (length-map plant.outages (outage_made plant)) sound.counts.outages) (outages_read plant sound).0) nothing))))))))
+    (passes _ _ (maybe_tables_ok _ _ _ _ _ _ holds.receipts refl (rw (length-map plant.receipts (receipt_made plant)) few.receipts) (receipts_read plant sound).0)
+    (passes _ _ (maybe_tables_ok _ _ _ _ _ _ holds.deliveries refl (rw (length-map plant.deliveries (delivery_made plant)) few.deliveries) (deliveries_read plant sound).0)
+    (passes _ _ (maybe_tables_ok _ _ _ _ _ _ holds.outages refl (rw (length-map plant.outages (outage_made plant)) few.outages) (outages_read plant sound).0) nothing))))))))
 
-sizes_fields_ok : (plant : Plant) (inside : Members) → Sound plant → Holds plant inside → Pass (fields.fields_tests top_place inside (size_fields true))
+sizes_fields_ok : (plant : Plant) (inside : Members) → Sound plant → Holds plant inside → Pass (fields.fields_tests top_place inside (size_fields true plant.large))
 sizes_fields_ok plant inside sound holds =
     passes _ _ (count_ok _ _ _ _ _ _ holds.version (omega arith) (omega arith))
     (passes _ _ (count_ok _ _ _ _ _ _ holds.periods sound.counts.periods.0 sound.counts.periods.1) nothing)
 
-known_ok : (plant : Plant) → fields.has_unknown (fields.keys_of (size_fields true ++ array_fields (scope_for plant))) (table_of (plant_entries plant)) ≡ false
+known_ok : (plant : Plant) → fields.has_unknown (fields.keys_of (size_fields true plant.large ++ array_fields (scope_for plant))) (table_of (plant_entries plant)) ≡ false
 unfolding plant_entries key_word
-known_ok plant = all_known (fields.keys_of (size_fields true ++ array_fields (scope_for plant))) (plant_entries plant) refl
+known_ok plant = all_known (fields.keys_of (size_fields true plant.large ++ array_fields (scope_for plant))) (plant_entries plant) refl
 
 unknown_ok : (plant : Plant) → Sound plant → Pass (unknown_tests (table_of (plant_entries plant)))
 unfolding unknown_tests
@@ -286,7 +345,7 @@ unfolding document_tests
 document_ok plant sound =
     let inside = table_of (plant_entries plant) in
     let holds = document_holds plant in
-    let sized : Pass (fields.fields_tests top_place inside (size_fields (is_second inside))) = rw (is_second_document plant inside holds) (sizes_fields_ok plant inside sound holds) in
+    let sized : Pass (fields.fields_tests top_place inside (size_fields (is_second inside) (is_third inside))) = rw (is_second_document plant inside holds, is_third_document plant inside holds) (sizes_fields_ok plant inside sound holds) in
     let arrays : Pass (fields.fields_tests top_place inside (array_fields (scope_in inside))) = rw (scope_is plant inside sound holds) (arrays_ok plant inside sound holds) in
     let whole = plant_is plant inside sound holds in
     let counted : Pass (size_tests (plant_in inside)) = rw whole (sizes_ok plant sound) in

@@ -1,8 +1,9 @@
 -- Tables of records are read as the records.
-use Rattle.std.proofs.Common.{◌≡◌, ℕ, suc, ◌+◌, ◌-◌, ◌<◌, ◌≤◌, nat_lt, true, false, cond, not, List, length, Some, is_some, option_map, IsTrue, refl, sym, ◌∙◌, inl, inr, arith, lt-ltb}
+use Rattle.std.proofs.Common.{◌≡◌, ◌⊎◌, ℕ, pos, suc, ◌+◌, ◌-◌, ◌<◌, ◌≤◌, nat_lt, true, false, cond, not, List, [], length, unsigned_abs, Some, is_some, option_map, IsTrue, refl, sym, ◌∙◌, inl, inr, arith, lt-ltb}
+use Rattle.std.proofs.lemmas.Bool.{cases_Bool}
 use Rattle.std.proofs.lemmas.Bool.Decides.{nat_tests}
 use Rattle.std.proofs.lemmas.List.Elements.{recursion_from_All}
-use Rattle.toml.specs.Data.{string, integer}
+use Rattle.toml.specs.Data.{Members, string, integer}
 use Rattle.stn_model.specs.declared.plant.Plant.{Plant}
 use Rattle.stn_model.specs.declared.plant.State.{State}
 use Rattle.stn_model.specs.declared.plant.Utility.{Utility}
@@ -21,20 +22,22 @@ use Rattle.plant_text.specs.declared.find.Key.{Key}
 use Rattle.plant_text.specs.declared.scope.Owner.{Owner}
 use Rattle.plant_text.specs.Words.{key_word}
 use Rattle.plant_text.specs.Tests.{first_fault}
-use Rattle.plant_text.specs.Fields.{table_tests, held, needed, optional, since}
+use Rattle.plant_text.specs.Fields.{table_tests, keys_of, held, needed, optional, since}
 use Rattle.plant_text.specs.Scope.{Scope}
 use Rattle.plant_text.specs.Tables.{has_run, run_place, outage_place, state_fields, state_tests, state_of, utility_fields, utility_tests, utility_of, unit_fields, unit_tests, unit_of, run_fields, run_tests, run_more_tests, run_of, gap_fields, gap_tests, gap_of, receipt_fields, receipt_tests, receipt_of, delivery_fields, delivery_tests, delivery_of, outage_fields, outage_tests, outage_more_tests, outage_of, draw_fields, draw_tests, draw_of}
 use Rattle.plant_text.proofs.Faults.{passes, nothing}
-use Rattle.plant_make.specs.Entries.{table_of, number, numbers}
+use Rattle.plant_make.specs.Entries.{table_of, number, numbers, some_amounts}
 use Rattle.plant_make.specs.Numbers.{lone, several}
-use Rattle.plant_make.specs.Printed.{made_of, state_name, utility_name, unit_name, task_name, state_entries, utility_entries, unit_entries, run_entries, gap_entries, receipt_entries, delivery_entries, outage_entries, draw_entries}
-use Rattle.plant_make.proofs.Tables.{held_is, held_maybe, head_ok}
+use Rattle.plant_make.specs.Printed.{made_of, lone_rate, state_name, utility_name, unit_name, task_name, state_entries, utility_entries, unit_entries, run_entries, gap_entries, receipt_entries, delivery_entries, outage_entries, draw_entries}
+use Rattle.plant_make.proofs.Tables.{AreKnown, held_is, held_maybe, held_since, head_ok}
 use Rattle.plant_make.proofs.Passing.{Pass, count_ok, money_ok, name_ok, refers_ok, numbers_ok, numbers_back}
 use Rattle.plant_make.proofs.Limits.{limits_ok, always_some}
+use Rattle.plant_make.proofs.Rates.{rates_ok}
 
--- the scope is that of the plant: version 2, its horizon, and its names at their places
+-- the scope is that of the plant: version 3 where it is large, else 2, its horizon, and its names at their places
 pub record IsScopeOf (plant : Plant) (scope : Scope) : Type 0 where
   pub second : scope.second ≡ true
+  pub third : scope.third ≡ plant.large
   pub periods : scope.periods ≡ plant.periods
   pub states : (k : ℕ) → k < length plant.states → scope.states (state_at plant k).name ≡ Some k
   pub utilities : (k : ℕ) → k < length plant.utilities → scope.utilities (utility_at plant k).name ≡ Some k
@@ -172,26 +175,41 @@ unit_ok scope place unit good declared =
       rw (name) refl,
     )
 
-pub utility_ok : (scope : Scope) (plant : Plant) (place : ℕ) (utility : Utility) → IsScopeOf plant scope → SoundUtility plant.periods utility → 1 ≤ plant.periods → scope.utilities utility.name ≡ Some place
+-- a utility has no key that the version does not know
+utility_known : (scope : Scope) (place : ℕ) (inside : Members) (utility : Utility) → scope.second ≡ true → (scope.third ≡ false → utility.rates ≡ []) → AreKnown (keys_of (utility_fields scope place inside)) (utility_entries utility)
+unfolding utility_fields utility_entries key_word
+utility_known scope place inside utility second few =
+    elim (cases_Bool scope.third) [
+      | inl e ↦ rw (second, e) refl
+      | inr e ↦ rw (second, e, few e) refl
+    ]
+
+pub utility_ok : (scope : Scope) (plant : Plant) (place : ℕ) (utility : Utility) → IsScopeOf plant scope → SoundUtility plant.periods utility → (plant.large ≡ false → utility.rates ≡ []) → 1 ≤ plant.periods → scope.utilities utility.name ≡ Some place
     → Pass (utility_tests scope place (made_of (utility_entries utility))) × (utility_of scope (made_of (utility_entries utility)) ≡ utility)
 unfolding utility_tests utility_fields utility_of utility_entries key_word
-utility_ok scope plant place utility reads sound some declared =
+utility_ok scope plant place utility reads sound few some declared =
     let es = utility_entries utility in
     let inside = table_of es in
     let name : held inside (needed key.Name) ≡ Some (string utility.name) = held_is (needed key.Name) es _ refl refl in
     let limit : held inside (needed key.Limit) ≡ option_map number (lone utility.limits) = held_maybe (needed key.Limit) es (option_map number (lone utility.limits)) refl refl in
     let limits : held inside (since scope.second key.Limits) ≡ option_map numbers (several utility.limits) = held_maybe (since scope.second key.Limits) es (option_map numbers (several utility.limits)) reads.second refl in
-    let rate : held inside (optional key.Rate) ≡ Some (integer utility.rate) = held_is (optional key.Rate) es _ refl refl in
+    let by_version : scope.third ≡ false → utility.rates ≡ [] = λ small. few (sym reads.third ∙ small) in
+    let rate : held inside (optional key.Rate) ≡ lone_rate utility = held_maybe (optional key.Rate) es (lone_rate utility) refl refl in
+    let rates : held inside (since scope.third key.Rates) ≡ some_amounts utility.rates = held_since scope.third key.Rates es (some_amounts utility.rates) refl (λ small. rw (by_version small) refl) in
     let lone_key : Key = record { name = key.Limit; known = true; required = not (is_some (held inside (since scope.second key.Limits))) } in
     let long : length utility.limits ≡ scope.periods = sound.limits ∙ sym reads.periods in
     let kept = limits_ok (record { table = table.Utility; item = place + 1; inner = 0 }) lone_key (since scope.second key.Limits) (held inside (needed key.Limit)) (held inside (since scope.second key.Limits)) utility.limits scope.periods 1000000000
-    limit limits (λ absent. always_some _ _ utility.limits limit limits (omega (arith, sound.limits)) absent) refl (inr long) (recursion_from_All (λ n. n ≤ 1000000000) utility.limits sound.limit) in (
-      passes _ _ (head_ok _ _ es (rw reads.second refl))
+    limit limits (λ absent. always_some _ _ utility.limits limit limits (omega (arith, sound.limits)) absent) refl (inr long) (recursion_from_All (λ n. n ≤ 1000000000) utility.limits sound.limit) in
+    let whole : (utility.rates ≡ []) ⊎ ((length utility.rates ≡ scope.periods) × (utility.rate ≡ pos 0)) = elim sound.rates [ inl none ↦ inl none | inr all ↦ inr (all.0 ∙ sym reads.periods, all.1) ] in
+    let cost = rates_ok (record { table = table.Utility; item = place + 1; inner = 0 }) (optional key.Rate) (since scope.third key.Rates) (held inside (optional key.Rate)) (held inside (since scope.third key.Rates)) utility.rate utility.rates scope.periods 1000000
+    rate rates refl refl whole sound.rate (recursion_from_All (λ x. unsigned_abs x ≤ 1000000) utility.rates sound.each_rate) in (
+      passes _ _ (head_ok _ _ es (utility_known scope place inside utility reads.second by_version))
           (passes _ _ (name_ok _ _ _ _ _ _ name sound.name declared)
           (passes _ _ (kept.0)
           (passes _ _ (kept.1)
-          (passes _ _ (money_ok _ _ _ _ _ rate sound.rate) nothing)))),
-      rw (name, rate, kept.2) refl,
+          (passes _ _ (cost.0)
+          (passes _ _ (cost.1) nothing))))),
+      rw (name, kept.2, cost.2, cost.3) refl,
     )
 
 pub state_ok : (scope : Scope) (plant : Plant) (place : ℕ) (state : State) → IsScopeOf plant scope → SoundState plant.periods state → scope.states state.name ≡ Some place

@@ -1,5 +1,5 @@
 -- What a table of entries holds at a key, which keys it has, and how deep it is.
-use Rattle.std.proofs.Common.{◌≡◌, ℕ, ◌≤◌, Bool, true, false, not, ◌||◌, cond, List, [], ◌∷◌, Option, Some, None, Ordering, Less, Equal, Greater, nat_cmp, is_eq, refl, sym, ap, ◌∙◌, arith}
+use Rattle.std.proofs.Common.{◌≡◌, ℕ, ◌≤◌, Bool, true, false, not, ◌||◌, cond, List, [], ◌∷◌, Option, Some, None, is_none, Ordering, Less, Equal, Greater, nat_cmp, is_eq, refl, sym, ap, ◌∙◌, arith}
 use Rattle.std.specs.Cmp.Lexicographic.{slice_cmp}
 use Rattle.std.specs.List.{fold, list_all, AllByRecursion}
 use Rattle.std.specs.Option.{option_or}
@@ -11,10 +11,11 @@ use Rattle.std.proofs.lemmas.Map.Text.{is_eq-slice_cmp}
 use Rattle.std.proofs.lemmas.Slice.Eq.{bytes_eq-Decides}
 use Rattle.toml.specs.Data.{Data, Members, no_members, member, get_member, depth, members_depth}
 use Rattle.plant_text.specs.declared.fault.Place.{Place}
+use Rattle.plant_text.specs.declared.fault.KeyName.{KeyName}
 use Rattle.plant_text.specs.declared.find.Key.{Key}
 use Rattle.plant_text.specs.Words.{key_word}
 use Rattle.plant_text.specs.Tests.{first_fault}
-use Rattle.plant_text.specs.Fields.{held, is_known, has_unknown, head_tests}
+use Rattle.plant_text.specs.Fields.{held, since, is_known, has_unknown, head_tests}
 use Rattle.plant_make.specs.Entries.{Entry, with_member, with_entry, table_of}
 use Rattle.plant_make.specs.Printed.{made_of}
 
@@ -82,6 +83,11 @@ or_none (Some x) = refl
 pub held_maybe : (key : Key) (entries : List Entry) (o : Option Data) → key.known ≡ true → entry_or (key_word key.name) entries None ≡ option_or o None → held (table_of entries) key ≡ o
 held_maybe key entries o known is = held_is key entries (option_or o None) known is ∙ or_none o
 
+-- and of one that the file's version may not know, where an entry that holds something says that it does
+pub held_since : (known : Bool) (which : KeyName) (entries : List Entry) (o : Option Data) → entry_or (key_word which) entries None ≡ option_or o None → (known ≡ false → o ≡ None) → held (table_of entries) (since known which) ≡ o
+held_since true which entries o is free = held_maybe (since true which) entries o refl is
+held_since false which entries o is free = sym (free refl)
+
 not_true : (b : Bool) → b ≡ true → not b ≡ false
 not_true true e = refl
 not_true false e = absurd cc
@@ -101,20 +107,28 @@ known_with keys word d (member l e more) known rest =
     let parts = either_false (not (is_known keys l)) (has_unknown keys more) rest in
     unknown_match keys (slice_cmp nat_cmp word l) _ _ _ (rw (known, rest) refl) rest (rw parts.0 (known_with keys word d more known parts.1))
 
-known_fold : (keys : List Key) (entries : List Entry) (ms : Members) → list_all (λ (e : Entry). is_known keys (key_word e.0)) entries ≡ true → has_unknown keys ms ≡ false → has_unknown keys (fold with_entry ms entries) ≡ false
+or_false : (b : Bool) → (b || false) ≡ true → b ≡ true
+or_false true e = refl
+or_false false e = e
+
+-- each entry is of a key that is known, or holds nothing
+abbrev pub AreKnown : List Key → List Entry → Type 0
+AreKnown keys entries = list_all (λ (e : Entry). is_known keys (key_word e.0) || is_none e.1) entries ≡ true
+
+known_fold : (keys : List Key) (entries : List Entry) (ms : Members) → AreKnown keys entries → has_unknown keys ms ≡ false → has_unknown keys (fold with_entry ms entries) ≡ false
 known_fold keys [] ms known rest = rest
 known_fold keys ((which, None) ∷ es) ms known rest = known_fold keys es ms (and_parts _ _ known).1 rest
 known_fold keys ((which, Some d) ∷ es) ms known rest =
-    let parts = and_parts (is_known keys (key_word which)) (list_all (λ (e : Entry). is_known keys (key_word e.0)) es) known in
-    known_fold keys es (with_member (key_word which) d ms) parts.1 (known_with keys (key_word which) d ms parts.0 rest)
+    let parts = and_parts (is_known keys (key_word which) || false) (list_all (λ (e : Entry). is_known keys (key_word e.0) || is_none e.1) es) known in
+    known_fold keys es (with_member (key_word which) d ms) parts.1 (known_with keys (key_word which) d ms (or_false (is_known keys (key_word which)) parts.0) rest)
 
 -- a table of entries has no other keys
-pub all_known : (keys : List Key) (entries : List Entry) → list_all (λ (e : Entry). is_known keys (key_word e.0)) entries ≡ true → has_unknown keys (table_of entries) ≡ false
+pub all_known : (keys : List Key) (entries : List Entry) → AreKnown keys entries → has_unknown keys (table_of entries) ≡ false
 unfolding table_of
 all_known keys entries known = known_fold keys entries no_members known refl
 
 -- the tests of a table as a whole
-pub head_ok : (place : Place) (keys : List Key) (entries : List Entry) → list_all (λ (e : Entry). is_known keys (key_word e.0)) entries ≡ true → first_fault (head_tests place keys (made_of entries)) ≡ None
+pub head_ok : (place : Place) (keys : List Key) (entries : List Entry) → AreKnown keys entries → first_fault (head_tests place keys (made_of entries)) ≡ None
 unfolding head_tests first_fault
 head_ok place keys entries known = rw (all_known keys entries known) refl
 

@@ -1,18 +1,17 @@
 -- A text whose document is that of a plant means the plant.
-use Rattle.std.proofs.Common.{◌≡◌, ℕ, ◌≤◌, nat_lt, false, List, ◌++◌, length, Some, Ok, refl, arith}
+use Rattle.std.proofs.Common.{◌≡◌, ℕ, ◌≤◌, nat_lt, false, List, ◌++◌, length, Some, Ok, refl, ap}
 use Rattle.std.specs.Str.{IsUtf8}
-use Rattle.std.proofs.lemmas.Bool.Decides.{nat_tests}
 use Rattle.std.proofs.lemmas.Str.{is_utf8-from_IsUtf8}
 use Rattle.toml.specs.Parse.{parse_document}
 use Rattle.stn_model.specs.declared.plant.Plant.{Plant}
 use Rattle.stn_model.specs.Sound.{Sound}
-use Rattle.plant_text.specs.Document.{document_of, max_bytes, plant_tests, plant_of}
+use Rattle.plant_text.specs.Document.{document_of, top_of, is_third, max_bytes, plant_tests, plant_of}
 use Rattle.plant_text.specs.Reading.{reading}
 use Rattle.plant_make.specs.Entries.{table_of}
 use Rattle.plant_make.specs.Printed.{plant_entries}
 use Rattle.plant_make.specs.Meaning.{Means, Puts}
 use Rattle.plant_make.proofs.Passing.{one_more}
-use Rattle.plant_make.proofs.PlantReading.{document_ok}
+use Rattle.plant_make.proofs.PlantReading.{document_ok, third_document, not_above}
 
 text_means : (plant : Plant) (text : List ℕ) → Sound plant → document_of text ≡ Some (table_of (plant_entries plant)) → Means plant text
 unfolding plant_tests plant_of
@@ -23,10 +22,12 @@ text_means plant text sound document =
       is = rw document read.1;
     }
 
-text_reads : (plant : Plant) (text : List ℕ) → Means plant text → length text ≤ max_bytes → reading text ≡ Ok plant
+text_reads : (plant : Plant) (text : List ℕ) → document_of text ≡ Some (table_of (plant_entries plant)) → Means plant text → length text ≤ max_bytes plant.large → reading text ≡ Ok plant
 unfolding reading plant_tests
-text_reads plant text means short =
-    let fits : nat_lt max_bytes (length text) ≡ false = grind (arith, nat_tests) in
+text_reads plant text document means short =
+    let third : is_third (top_of text) ≡ plant.large = rw document (third_document plant) in
+    let same : max_bytes (is_third (top_of text)) ≡ max_bytes plant.large = ap max_bytes third in
+    let fits : nat_lt (max_bytes (is_third (top_of text))) (length text) ≡ false = rw same (not_above (max_bytes plant.large) (length text) short) in
     rw (one_more _ _ _ fits means.passes, means.is) refl
 
 -- appending such a text puts the plant
@@ -34,4 +35,4 @@ pub text_puts : (plant : Plant) (text old new : List ℕ) → Sound plant → Is
 text_puts plant text old new sound utf8 parsed appended =
     let document : document_of text ≡ Some (table_of (plant_entries plant)) = rw (is_utf8-from_IsUtf8 text utf8) parsed in
     let means = text_means plant text sound document in
-    record { text = text; appended = appended; document = document; means = means; reads = text_reads plant text means }
+    record { text = text; appended = appended; document = document; means = means; reads = text_reads plant text document means }

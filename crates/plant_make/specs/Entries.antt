@@ -1,5 +1,5 @@
 -- Tables of a plant file as they are printed: keys and what they hold.
-use Rattle.std.specs.Prelude.{ℕ, pos, List, [], ◌∷◌, map, Option, Some, None}
+use Rattle.std.specs.Prelude.{ℕ, ℤ, pos, List, [], ◌∷◌, map, Option, Some, None}
 use Rattle.std.specs.Ordering.{nat_cmp, match_ordering}
 use Rattle.std.specs.Cmp.Lexicographic.{slice_cmp}
 use Rattle.std.specs.List.{fold}
@@ -42,3 +42,7 @@ numbers ns = array_of (map number ns)
 abbrev pub some_items : List Data → Option Data
 some_items [] = None
 some_items (d ∷ ds) = Some (array_of (d ∷ ds))
+
+-- an array of amounts of money, left out where it is empty
+abbrev pub some_amounts : List ℤ → Option Data
+some_amounts xs = some_items (map integer xs)

@@ -1,5 +1,5 @@
 -- The plants that are made of a seed: which numbers are taken, and what each one is taken for.
-use Rattle.std.specs.Prelude.{ℕ, zero, suc, pos, ◌+◌, ◌*◌, ◌/◌, ◌%◌, ◌^◌, nat_le, if◌then◌else◌, List, [], ◌∷◌, ◌++◌, codes, replicate}
+use Rattle.std.specs.Prelude.{ℕ, zero, suc, pos, ◌+◌, ◌*◌, ◌/◌, ◌%◌, ◌^◌, nat_le, false, if◌then◌else◌, List, [], ◌∷◌, ◌++◌, codes, replicate}
 use Rattle.stn_model.specs.declared.plant.Plant.{Plant}
 use Rattle.stn_model.specs.declared.plant.State.{State}
 use Rattle.stn_model.specs.declared.plant.Utility.{Utility}
@@ -91,15 +91,16 @@ gaps_of unit =
 
 -- the steam, which takes the number after those of all chains
 unfoldable pub steam_of : ℕ → ℕ → Utility
-steam_of seed chains = record { name = codes "steam"; limits = replicate made_periods (12 + number_at seed (15 * chains) 9); rate = pos 1 }
+steam_of seed chains = record { name = codes "steam"; limits = replicate made_periods (12 + number_at seed (15 * chains) 9); rate = pos 1; rates = [] }
 
 -- a plant that has nothing but its horizon
 abbrev pub bare_plant : Plant
-bare_plant = record { periods = made_periods; states = []; utilities = []; units = []; tasks = []; runs = []; gaps = []; receipts = []; deliveries = []; outages = [] }
+bare_plant = record { large = false; periods = made_periods; states = []; utilities = []; units = []; tasks = []; runs = []; gaps = []; receipts = []; deliveries = []; outages = [] }
 
 -- the plant of a seed with so many chains
 unfoldable pub plant_made : ℕ → ℕ → Plant
 plant_made seed chains = record {
+  large = false;
   periods = made_periods;
   states = chained (states_of seed) chains;
   utilities = steam_of seed chains ∷ [];

@@ -14,10 +14,10 @@ pub record Means (plant : Plant) (text : List ℕ) : Type 0 where
   pub is : plant_of text ≡ plant
 
 -- the new bytes are the old ones followed by a text whose document is that of the plant, so that it
--- means the plant; where the text is not too long, it is read as the plant
+-- means the plant; where the text is not too long for its version, it is read as the plant
 pub record Puts (plant : Plant) (old new : List ℕ) : Type 0 where
   pub text : List ℕ
   pub appended : new ≡ old ++ text
   pub document : document_of text ≡ Some (table_of (plant_entries plant))
   pub means : Means plant text
-  pub reads : length text ≤ max_bytes → reading text ≡ Ok plant
+  pub reads : length text ≤ max_bytes plant.large → reading text ≡ Ok plant

@@ -1,5 +1,5 @@
 -- What the records of a plant are printed as: the keys of each table, in the order of the field table.
-use Rattle.std.specs.Prelude.{ℕ, List, [], ◌∷◌, map, Some, option_map}
+use Rattle.std.specs.Prelude.{ℕ, ◌==◌, if◌then◌else◌, List, [], ◌∷◌, length, map, Option, Some, None, option_map}
 use Rattle.toml.specs.Data.{Data, string, integer, table}
 use Rattle.stn_model.specs.declared.plant.Plant.{Plant}
 use Rattle.stn_model.specs.declared.plant.State.{State}
@@ -17,7 +17,7 @@ use Rattle.stn_model.specs.declared.plant.Outage.{Outage}
 use Rattle.stn_model.specs.Plant.{state_at, utility_at, task_at, unit_at}
 use Rattle.fraction.specs.Fractions.{fraction_text}
 use Rattle.plant_text.specs.declared.fault.KeyName.TheVariants as key
-use Rattle.plant_make.specs.Entries.{Entry, table_of, number, numbers, some_items}
+use Rattle.plant_make.specs.Entries.{Entry, table_of, number, numbers, some_items, some_amounts}
 use Rattle.plant_make.specs.Numbers.{lone, several, part_of}
 
 -- the table of some entries as a value
@@ -46,12 +46,17 @@ state_entries state =
     ∷ (key.Price, Some (integer state.price))
     ∷ (key.Holding, Some (integer state.holding)) ∷ []
 
+-- the one rate of a utility, where it has no rates by period
+abbrev pub lone_rate : Utility → Option Data
+lone_rate utility = if length utility.rates == 0 then Some (integer utility.rate) else None
+
 unfoldable pub utility_entries : Utility → List Entry
 utility_entries utility =
     (key.Name, Some (string utility.name))
     ∷ (key.Limit, option_map number (lone utility.limits))
     ∷ (key.Limits, option_map numbers (several utility.limits))
-    ∷ (key.Rate, Some (integer utility.rate)) ∷ []
+    ∷ (key.Rate, lone_rate utility)
+    ∷ (key.Rates, some_amounts utility.rates) ∷ []
 
 unfoldable pub unit_entries : StnUnit → List Entry
 unit_entries unit = (key.Name, Some (string unit.name)) ∷ []
@@ -123,7 +128,7 @@ task_entries plant task =
 -- the keys at the top
 unfoldable pub plant_entries : Plant → List Entry
 plant_entries plant =
-    (key.Version, Some (number 2))
+    (key.Version, Some (number (if plant.large then 3 else 2)))
     ∷ (key.Periods, Some (number plant.periods))
     ∷ (key.State, some_items (map (λ state. made_of (state_entries state)) plant.states))
     ∷ (key.Utility, some_items (map (λ utility. made_of (utility_entries utility)) plant.utilities))

@@ -6,7 +6,7 @@ ghost use Rattle.plant_make.specs.Printed.{state_entries, utility_entries, unit_
 use crate::naming::{put_name, put_state, put_task, put_unit};
 use crate::rows::Row;
 use crate::table::put;
-use crate::values::{number_value, put_limits, short_value};
+use crate::values::{number_value, put_limits, put_rates, short_value};
 use crate::written::Written;
 use plant_text::KeyName;
 use std::alloc::Global;
@@ -40,7 +40,7 @@ impl Row for Utility {
     fn put_keys(&self, alloc: Global, _plant: &Plant, _quantum: u32, table: &mut Table) -> Written {
         put_name(alloc, table, KeyName::Name, self.name.as_slice())?;
         put_limits(alloc, table, self.limits.as_slice())?;
-        put(alloc, table, KeyName::Rate, Value::Integer(self.rate))
+        put_rates(alloc, table, self)
     }
 }
 

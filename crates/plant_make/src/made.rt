@@ -114,6 +114,7 @@ fn steam(alloc: Global, seed: u32, chains: u32) -> Result<Utility, AllocError>
         name: copied(alloc, b"steam")?,
         limits: repeated(alloc, limit, PERIODS)?,
         rate: 1,
+        rates: List::new(alloc),
     })
 }
 
@@ -122,6 +123,7 @@ fn bare_plant(alloc: Global) -> Plant
     ensures { result ≡ bare_plant }
 {
     Plant {
+        large: false,
         periods: PERIODS,
         states: List::new(alloc),
         utilities: List::new(alloc),

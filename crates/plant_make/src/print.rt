@@ -1,5 +1,5 @@
 //! Printing a plant as a plant file.
-ghost use Rattle.std.specs.Prelude.{◌≡◌, Some, OnOk, OnErr, IfOk, string_bytes};
+ghost use Rattle.std.specs.Prelude.{◌≡◌, if◌then◌else◌, Some, OnOk, OnErr, IfOk, string_bytes};
 ghost use Rattle.std.specs.List.{fold};
 ghost use Rattle.toml.specs.View.{table_view};
 ghost use Rattle.toml.specs.Parse.{parse_document};
@@ -18,14 +18,26 @@ use stn_model::Plant;
 use toml::Table;
 use toml::ser::Error;
 
-/// Puts the keys at the top, of version 2.
+/// The version that a plant is printed in.
+fn version_of(plant: &Plant) -> u32
+    ensures { result ≡ (if plant.now.large then 3 else 2) }
+{
+    if plant.large { 3 } else { 2 }
+}
+
+/// Puts the keys at the top.
 #[tactic(auto, unfolding(crate::specs::Printed::plant_entries))]
 fn put_plant_keys(alloc: Global, plant: &Plant, table: &mut Table) -> Written
     requires { Sound plant.now }
     ensures { OnOk result (table_view table.new ≡ fold with_entry (table_view table.old)
         (plant_entries plant.now)) }
 {
-    put(alloc, table, KeyName::Version, short_value(2))?;
+    put(
+        alloc,
+        table,
+        KeyName::Version,
+        short_value(version_of(plant)),
+    )?;
     put(alloc, table, KeyName::Periods, short_value(plant.periods))?;
     put_rows(alloc, table, KeyName::State, plant, 0, &plant.states)?;
     put_rows(alloc, table, KeyName::Utility, plant, 0, &plant.utilities)?;
@@ -64,7 +76,7 @@ fn text_of(alloc: Global, plant: &Plant) -> Result<String, AllocError>
     }
 }
 
-/// Appends a plant file that means the plant, of version 2.
+/// Appends a plant file that means the plant: of version 3 where it is large, else of version 2.
 ///
 /// A list of limits that are all the same is written as one `limit`, and parts are written in lowest
 /// terms. After want of memory `into` is as before.

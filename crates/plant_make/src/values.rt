@@ -1,17 +1,19 @@
 //! Values of a plant file: numbers, lists of numbers, limits, parts.
-ghost use Rattle.std.specs.Prelude.{◌≡◌, ◌<◌, ◌≤◌, ◌==◌, ◌^◌, All, IfOk, OnOk, option_map};
+ghost use Rattle.std.specs.Prelude.{◌≡◌, ◌<◌, ◌≤◌, ◌==◌, ◌^◌, All, IfOk, OnOk, option_map, map};
 ghost use Rattle.std.specs.List.{list_all};
+ghost use Rattle.toml.specs.Data.{integer};
 ghost use Rattle.toml.specs.View.{view, table_view};
 ghost use Rattle.stn_model.specs.Sound.{IsPart};
-ghost use Rattle.plant_make.specs.Entries.{number, numbers, with_entry};
+ghost use Rattle.plant_make.specs.Entries.{number, numbers, some_amounts, with_entry};
 ghost use Rattle.plant_make.specs.Numbers.{lone, several, part_of};
-ghost use Rattle.plant_make.specs.Printed.{part_text};
+ghost use Rattle.plant_make.specs.Printed.{lone_rate, part_text};
 
-use crate::table::put_some;
+use crate::table::{put_items, put_some};
 use crate::written::Written;
 use fraction::Fraction;
 use plant_text::KeyName;
 use std::alloc::{AllocError, Global};
+use stn_model::Utility;
 use toml::{Table, Value};
 
 /// A whole number.
@@ -108,6 +110,40 @@ pub fn put_limits(alloc: Global, table: &mut Table, limits: &[u64]) -> Written
     put_some(alloc, table, KeyName::Limit, lone_value(limits))?;
     let several = several_value(alloc, limits)?;
     put_some(alloc, table, KeyName::Limits, several)
+}
+
+/// Amounts of money as values.
+fn amount_values(alloc: Global, amounts: &[i64]) -> Result<Vec<Value>, AllocError>
+    ensures { IfOk result (λ values. map view values.items ≡ map integer amounts.now) }
+{
+    let mut values = Vec::new(alloc);
+    for amount in amounts {
+        values.push(Value::Integer(*amount))?;
+    }
+    Ok(values)
+}
+
+/// The one rate of a utility, where it has no rates by period.
+fn rate_value(utility: &Utility) -> Option<Value>
+    ensures { option_map view result ≡ lone_rate utility.now }
+{
+    if utility.rates.is_empty() {
+        Some(Value::Integer(utility.rate))
+    } else {
+        None
+    }
+}
+
+/// Puts what a utility costs: its rates by period where it has some, else its one rate.
+pub fn put_rates(alloc: Global, table: &mut Table, utility: &Utility) -> Written
+    ensures { OnOk result
+        (table_view table.new ≡ with_entry (with_entry (table_view table.old)
+        (KeyName.Rate, lone_rate utility.now))
+        (KeyName.Rates, some_amounts utility.now.rates)) }
+{
+    put_some(alloc, table, KeyName::Rate, rate_value(utility))?;
+    let rates = amount_values(alloc, utility.rates.as_slice())?;
+    put_items(alloc, table, KeyName::Rates, rates)
 }
 
 // The part that an amount is of the quantum, in lowest terms.

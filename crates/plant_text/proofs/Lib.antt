@@ -1,5 +1,6 @@
 pub mod Members
 pub mod Faults
+pub mod Limits
 pub mod Places
 pub mod Reading
 pub mod Shares

@@ -12,7 +12,7 @@ use Rattle.plant_text.specs.declared.fault.Place.{Place}
 use Rattle.plant_text.specs.declared.fault.KeyName.{KeyName}
 use Rattle.plant_text.specs.declared.find.Key.{Key}
 use Rattle.plant_text.specs.Tests.{Test, first_fault, rows_tests}
-use Rattle.plant_text.specs.Fields.{Kind, declares, refers, count, money, numbers, Places, is_within, is_before, natural, count_of, integer_of, text_of, items_of, numbers_of, place_of, count_tests, kind_tests, value_tests}
+use Rattle.plant_text.specs.Fields.{Kind, declares, refers, count, money, numbers, amounts, Places, is_within, is_before, natural, count_of, integer_of, text_of, items_of, numbers_of, amounts_of, place_of, count_tests, money_tests, list_tests, kind_tests, value_tests}
 use Rattle.plant_text.proofs.Faults.{faults_append}
 
 -- no test of the list holds
@@ -68,14 +68,17 @@ unfolding value_tests kind_tests
 count_most place key high None e = omega arith
 count_most place key high (Some d) e = (count_passes place key.name 0 high d e).1
 
+money_passes : (place : Place) (word : KeyName) (most : ℕ) (d : Data) → Pass (money_tests place word most d) → unsigned_abs (integer_of d) ≤ most
+money_passes place word most d e =
+    let a = first_pass _ _ _ e in
+    let b = first_pass _ _ _ a.1 in
+    leb-true _ _ (not_false _ b.0)
+
 -- an amount of money is at most its bound
 pub money_most : (place : Place) (key : Key) (most : ℕ) (o : Option Data) → Pass (value_tests place key (money most) o) → unsigned_abs (unwrap_or (option_map integer_of o) (pos 0)) ≤ most
 unfolding value_tests kind_tests
 money_most place key most None e = omega arith
-money_most place key most (Some d) e =
-    let a = first_pass _ _ _ e in
-    let b = first_pass _ _ _ a.1 in
-    leb-true _ _ (not_false _ b.0)
+money_most place key most (Some d) e = money_passes place key.name most d e
 
 -- a declared name is a name, and no earlier item has it
 pub name_declared : (place : Place) (key : Key) (places : Places) (number : ℕ) (o : Option Data) → key.required ≡ true → Pass (value_tests place key (declares places number) o)
@@ -125,6 +128,15 @@ rows_pairs tests value R each earlier (x ∷ xs) apart e =
     let more = all_pairs_push R earlier (value x) apart (each earlier x both.0) in
     rw append_assoc at (rows_pairs tests value R each (earlier ++ value x ∷ []) xs more both.1)
 
+-- a list that passes is not forbidden, and has as many values as it has to, each of which passes
+list_passes : {X : Type 0} (Good : X → Type 0) (place : Place) (word : KeyName) (forbidden : Bool) (many : ℕ) (each : Data → List Test) (value : Data → X) → ((x : Data) → Pass (each x) → Good (value x))
+    → (d : Data) → Pass (list_tests place word forbidden many each value d) → (forbidden ≡ false) × (length (map value (items_of d)) ≡ many) × AllByRecursion Good (map value (items_of d))
+list_passes {X} Good place word forbidden many each value good d e =
+    let a = first_pass _ _ _ e in
+    let b = first_pass _ _ _ a.1 in
+    let c = first_pass _ _ _ b.1 in
+    (b.0, length-map (items_of d) value ∙ eqb-true _ _ (not_false _ c.0), rows_all (λ (earlier : List X) (x : Data). each x) value Good (λ earlier x h. good x h) [] (items_of d) c.1)
+
 -- numbers of a list are as many as they have to be, and at most their bound
 pub record AreNumbers (size bound : ℕ) (ns : List ℕ) : Type 0 where
   pub many : length ns ≡ size
@@ -133,13 +145,8 @@ pub record AreNumbers (size bound : ℕ) (ns : List ℕ) : Type 0 where
 numbers_passes : (place : Place) (word : KeyName) (forbidden : Bool) (many most : ℕ) (d : Data) → Pass (kind_tests place word (numbers forbidden many most) d) → AreNumbers many most (numbers_of d)
 unfolding kind_tests
 numbers_passes place word forbidden many most d e =
-    let a = first_pass _ _ _ e in
-    let b = first_pass _ _ _ a.1 in
-    let c = first_pass _ _ _ b.1 in
-    record {
-      many = length-map (items_of d) count_of ∙ eqb-true _ _ (not_false _ c.0);
-      most = rows_all (λ (earlier : List ℕ) (x : Data). count_tests place word 0 most x) count_of (λ n. n ≤ most) (λ earlier x h. (count_passes place word 0 most x h).1) [] (items_of d) c.1;
-    }
+    let are = list_passes (λ n. n ≤ most) place word forbidden many (count_tests place word 0 most) count_of (λ x h. (count_passes place word 0 most x h).1) d e in
+    record { many = are.1; most = are.2 }
 
 -- numbers that have to be there
 pub numbers_needed : (place : Place) (key : Key) (forbidden : Bool) (many most : ℕ) (o : Option Data) → key.required ≡ true → Pass (value_tests place key (numbers forbidden many most) o) → AreNumbers many most (unwrap_or (option_map numbers_of o) [])
@@ -151,3 +158,15 @@ numbers_needed place key forbidden many most (Some d) required e = numbers_passe
 pub numbers_there : (place : Place) (key : Key) (forbidden : Bool) (many most : ℕ) (d : Data) → Pass (value_tests place key (numbers forbidden many most) (Some d)) → AreNumbers many most (numbers_of d)
 unfolding value_tests
 numbers_there place key forbidden many most d e = numbers_passes place key.name forbidden many most d e
+
+-- amounts that are there: no other key forbids them, they are as many as they have to be, and each is at most the bound
+pub record AreAmounts (forbidden : Bool) (size bound : ℕ) (zs : List ℤ) : Type 0 where
+  pub lone : forbidden ≡ false
+  pub many : length zs ≡ size
+  pub most : AllByRecursion (λ z. unsigned_abs z ≤ bound) zs
+
+pub amounts_there : (place : Place) (key : Key) (forbidden : Bool) (many most : ℕ) (d : Data) → Pass (value_tests place key (amounts forbidden many most) (Some d)) → AreAmounts forbidden many most (amounts_of d)
+unfolding value_tests kind_tests
+amounts_there place key forbidden many most d e =
+    let are = list_passes (λ z. unsigned_abs z ≤ most) place key.name forbidden many (money_tests place key.name most) integer_of (money_passes place key.name most) d e in
+    record { lone = are.0; many = are.1; most = are.2 }

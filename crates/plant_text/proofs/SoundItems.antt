@@ -1,5 +1,5 @@
 -- Items whose tests pass are sound.
-use Rattle.std.proofs.Common.{◌≡◌, ℕ, zero, suc, ◌+◌, ◌≤◌, ◌⊎◌, Bool, not, List, [], length, Option, Some, None, is_some, option_map, IsTrue, replicate, refl, ◌∙◌, inl, inr, arith}
+use Rattle.std.proofs.Common.{◌≡◌, ℕ, ℤ, pos, zero, suc, ◌+◌, ◌≤◌, ◌⊎◌, Bool, not, List, [], length, Option, Some, None, is_some, option_map, unwrap_or, unsigned_abs, IsTrue, replicate, refl, ◌∙◌, inl, inr, arith}
 use Rattle.std.specs.List.{AllByRecursion}
 use Rattle.std.proofs.lemmas.Bool.{ltb-true, ltb-false}
 use Rattle.std.proofs.lemmas.List.{length-replicate}
@@ -10,10 +10,10 @@ use Rattle.stn_model.specs.declared.plant.Run.{Run}
 use Rattle.stn_model.specs.Sound.{SoundState, SoundUtility, SoundRun, SoundGap, SoundReceipt, SoundDelivery, SoundOutage, is_name}
 use Rattle.plant_text.specs.declared.fault.Place.{Place}
 use Rattle.plant_text.specs.declared.find.Key.{Key}
-use Rattle.plant_text.specs.Fields.{count, numbers, count_of, numbers_of, value_tests}
+use Rattle.plant_text.specs.Fields.{count, numbers, amounts, count_of, integer_of, numbers_of, amounts_of, value_tests}
 use Rattle.plant_text.specs.Scope.{Scope}
 use Rattle.plant_text.specs.Tables.{limits_in, state_fields, state_tests, state_of, utility_fields, utility_tests, utility_of, unit_fields, unit_tests, unit_of, run_fields, run_tests, run_more_tests, run_of, gap_fields, gap_tests, gap_of, receipt_fields, receipt_tests, receipt_of, delivery_fields, delivery_tests, delivery_of, outage_fields, outage_tests, outage_more_tests, outage_of}
-use Rattle.plant_text.proofs.Passed.{Pass, Below, AreNumbers, first_pass, both_pass, count_needed, count_most, money_most, name_declared, refers_below, numbers_there, not_false, absent}
+use Rattle.plant_text.proofs.Passed.{Pass, Below, AreNumbers, first_pass, both_pass, count_needed, count_most, money_most, name_declared, refers_below, numbers_there, amounts_there, not_false, absent}
 
 -- a number that is repeated is at most the bound that it keeps
 all_repeated : (most n : ℕ) → n ≤ most → (many : ℕ) → AllByRecursion (λ k. k ≤ most) (replicate many n)
@@ -42,6 +42,14 @@ limits_always place other lone key forbidden many most (Some d) None required on
     record { many = length-replicate many (count_of d); most = all_repeated most (count_of d) (count_most place lone most (Some d) one) many }
 limits_always place other lone key forbidden many most None (Some ds) required one list = numbers_there other key forbidden many most ds list
 limits_always place other lone key forbidden many most (Some d) (Some ds) required one list = numbers_there other key forbidden many most ds list
+
+-- the rates of a utility: none, or one for each period where there is no other rate
+pub rates_maybe : (place : Place) (key : Key) (many most : ℕ) (rate rates : Option Data) → Pass (value_tests place key (amounts (is_some rate) many most) rates)
+    → ((unwrap_or (option_map amounts_of rates) [] ≡ []) ⊎ ((length (unwrap_or (option_map amounts_of rates) []) ≡ many) × (unwrap_or (option_map integer_of rate) (pos 0) ≡ pos 0)))
+    × AllByRecursion (λ (z : ℤ). unsigned_abs z ≤ most) (unwrap_or (option_map amounts_of rates) [])
+rates_maybe place key many most rate None e = (inl refl, tt)
+rates_maybe place key many most None (Some ds) e = let are = amounts_there place key _ many most ds e in (inr (are.many, refl), are.most)
+rates_maybe place key many most (Some d) (Some ds) e = let are = amounts_there place key _ many most ds e in let lone = are.lone in absurd cc
 
 pub state_sound : (scope : Scope) (number : ℕ) (d : Data) → Pass (state_tests scope number d) → SoundState scope.periods (state_of scope d)
 unfolding state_tests state_fields state_of
@@ -72,12 +80,16 @@ utility_sound scope number d e =
     let limit = both_pass _ _ name.1 in
     let limits = both_pass _ _ limit.1 in
     let rate = both_pass _ _ limits.1 in
+    let rates = both_pass _ _ rate.1 in
     let kept = limits_always _ _ _ _ _ _ _ _ _ refl limit.0 limits.0 in
+    let paid = rates_maybe _ _ _ _ _ _ rates.0 in
     record {
       name = (name_declared _ _ _ _ _ refl name.0).0;
       limits = kept.many;
       limit = All-from_recursion (λ n. n ≤ 1000000000) _ kept.most;
       rate = money_most _ _ _ _ rate.0;
+      rates = paid.0;
+      each_rate = All-from_recursion (λ (z : ℤ). unsigned_abs z ≤ 1000000) _ paid.1;
     }
 
 pub unit_sound : (scope : Scope) (number : ℕ) (d : Data) → Pass (unit_tests scope number d) → IsTrue (is_name (unit_of d).name)

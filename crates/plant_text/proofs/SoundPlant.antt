@@ -1,6 +1,6 @@
 -- A document whose tests pass has a sound plant.
 use Rattle.std.proofs.Common.{◌≡◌, ◌≢◌, ℕ, zero, suc, ◌+◌, ◌<◌, ◌≤◌, Bool, true, false, cond, eqb, ◌&&◌, List, [], ◌∷◌, ◌++◌, map, take, length, get_or, AllPairs, Result, Ok, Err, Some, unwrap_or, IsTrue, refl, sym, ap, ◌∙◌, inl, inr, append_assoc, arith}
-use Rattle.std.specs.List.{position_from}
+use Rattle.std.specs.List.{AllByRecursion, position_from}
 use Rattle.std.specs.Str.{bytes_eq}
 use Rattle.std.proofs.lemmas.Bool.{cases_Bool, ltb-false, lt-ltb, or_parts, and_from, eq-eqb}
 use Rattle.std.proofs.lemmas.List.{append-nil, length-map, length-append, take_all, map_push, map-append, get_or-map, get_or_append_left}
@@ -28,9 +28,10 @@ use Rattle.plant_text.specs.declared.fault.KeyName.TheVariants as key
 use Rattle.plant_text.specs.Fields.{fields_tests, value_tests, count, count_of, at_key, held, items_at, needed, optional, since}
 use Rattle.plant_text.specs.Scope.{Scope}
 use Rattle.plant_text.specs.Tables.{state_fields, state_tests, state_of, utility_fields, utility_tests, utility_of, unit_fields, unit_tests, unit_of, task_fields, task_tests, task_of, has_run, run_tests, run_more_tests, run_of, gap_of, receipt_of, delivery_of, outage_of}
-use Rattle.plant_text.specs.Document.{top_place, is_second, scope_in, size_fields, array_fields, plant_with, plant_in, size_tests, unknown_tests, document_tests, document_of, plant_tests, plant_of}
+use Rattle.plant_text.specs.Document.{top_place, version_of, is_second, is_third, scope_in, size_fields, array_fields, plant_with, plant_in, size_tests, unknown_tests, document_tests, document_of, plant_tests, plant_of}
 use Rattle.plant_text.proofs.SoundItems.{state_sound, utility_sound, unit_sound, run_sound, gap_sound, receipt_sound, delivery_sound, outage_sound}
 use Rattle.plant_text.proofs.Faults.{nothing}
+use Rattle.plant_text.proofs.Limits.{under, few_of}
 use Rattle.plant_text.proofs.SoundTasks.{tables_passes, task_sound}
 use Rattle.plant_text.proofs.Passed.{Pass, Below, first_pass, both_pass, count_needed, name_declared, rows_all, rows_pairs}
 
@@ -162,6 +163,12 @@ task_names : (scope : Scope) → name_in ≡ (λ d. (task_of scope d).name)
 unfolding task_of
 task_names scope = refl
 
+-- utilities of a file that is not of version 3 have no rates by period
+no_rates : (scope : Scope) → scope.third ≡ false → (ds : List Data) → AllByRecursion (λ (u : Utility). u.rates ≡ []) (map (utility_of scope) ds)
+unfolding utility_of
+no_rates scope not_third [] = tt
+no_rates scope not_third (d ∷ ds) = (rw not_third refl, no_rates scope not_third ds)
+
 within_either : (second : Bool) (n : ℕ) → Within 1 (cond second 336 96) n → Within 1 336 n
 within_either true n h = h
 within_either false n h = (h.0, omega (arith, h.1))
@@ -172,9 +179,9 @@ plant_sound document e =
     let scope = scope_in document in
     let plant = plant_in document in
     let known = both_pass (unknown_tests document) _ e in
-    let sizes = both_pass (fields_tests top_place document (size_fields (is_second document))) _ known.1 in
+    let sizes = both_pass (fields_tests top_place document (size_fields (is_second document) (is_third document))) _ known.1 in
     let arrays = both_pass (fields_tests top_place document (array_fields scope)) (size_tests plant) sizes.1 in
-    let number = cond (is_second document) 2 1 in
+    let number = version_of (is_second document) (is_third document) in
     let most = cond (is_second document) 336 96 in
     let version = both_pass (value_tests top_place (needed key.Version) (count number number) (held document (needed key.Version))) (value_tests top_place (needed key.Periods) (count 1 most) (held document (needed key.Periods)) ++ []) sizes.0 in
     let periods = both_pass (value_tests top_place (needed key.Periods) (count 1 most) (held document (needed key.Periods))) [] version.1 in
@@ -198,35 +205,56 @@ plant_sound document e =
     let receipts = tables_passes _ _ _ _ _ nothing receipt.0 in
     let deliveries = tables_passes _ _ _ _ _ nothing delivery.0 in
     let outages = tables_passes _ _ _ _ _ nothing outage.0 in
-    let runs_few : length (items_at document (optional key.Run)) ≤ 64 = runs.few in
+    let third = is_third document in
+    let state_count = length-map (items_at document (optional key.State)) (state_of scope) in
+    let utility_count = length-map (items_at document (optional key.Utility)) (utility_of scope) in
+    let unit_count = length-map (items_at document (optional key.StnUnit)) unit_of in
+    let task_count = length-map (items_at document (optional key.Task)) (task_of scope) in
+    let run_count = length-map (items_at document (optional key.Run)) (run_of scope) in
+    let gap_count = length-map (items_at document (optional key.Gap)) (gap_of scope) in
+    let receipt_count = length-map (items_at document (optional key.Receipt)) (receipt_of scope) in
+    let delivery_count = length-map (items_at document (optional key.Delivery)) (delivery_of scope) in
+    let outage_count = length-map (items_at document (since (is_second document) key.Outage)) (outage_of scope) in
     let gaps_few : length (items_at document (optional key.Gap)) ≤ 4096 = gaps.few in
-    let receipts_few : length (items_at document (optional key.Receipt)) ≤ 256 = receipts.few in
-    let deliveries_few : length (items_at document (optional key.Delivery)) ≤ 256 = deliveries.few in
-    let outages_few : length (items_at document (since (is_second document) key.Outage)) ≤ 256 = outages.few in
-    let to_states = names_below (λ (s : State). s.name) (state_of scope) (state_names scope) (items_at document (optional key.State)) 40 states.few in
-    let to_utilities = names_below (λ (u : Utility). u.name) (utility_of scope) (utility_names scope) (items_at document (optional key.Utility)) 8 utilities.few in
-    let to_units = names_below (λ (u : StnUnit). u.name) unit_of unit_names (items_at document (optional key.StnUnit)) 24 units.few in
-    let to_tasks = names_below (λ (t : Task). t.name) (task_of scope) (task_names scope) (items_at document (optional key.Task)) 40 tasks.few in
+    let slots_few = ltb-false _ _ slots.0 in
+    let pairs_few = ltb-false _ _ pairs.0 in
+    let to_states = names_below (λ (s : State). s.name) (state_of scope) (state_names scope) (items_at document (optional key.State)) (cond third 160 40) states.few in
+    let to_utilities = names_below (λ (u : Utility). u.name) (utility_of scope) (utility_names scope) (items_at document (optional key.Utility)) (cond third 64 8) utilities.few in
+    let to_units = names_below (λ (u : StnUnit). u.name) unit_of unit_names (items_at document (optional key.StnUnit)) (cond third 96 24) units.few in
+    let to_tasks = names_below (λ (t : Task). t.name) (task_of scope) (task_names scope) (items_at document (optional key.Task)) (cond third 160 40) tasks.few in
     record {
       counts = record {
         periods = within_either (is_second document) _ (count_needed top_place (needed key.Periods) 1 most (held document (needed key.Periods)) refl periods.0);
-        states = omega (arith, length-map (items_at document (optional key.State)) (state_of scope), states.few);
-        utilities = omega (arith, length-map (items_at document (optional key.Utility)) (utility_of scope), utilities.few);
-        units = omega (arith, length-map (items_at document (optional key.StnUnit)) unit_of, units.few);
-        tasks = omega (arith, length-map (items_at document (optional key.Task)) (task_of scope), tasks.few);
-        runs = omega (arith, length-map (items_at document (optional key.Run)) (run_of scope), runs_few);
-        gaps = omega (arith, length-map (items_at document (optional key.Gap)) (gap_of scope), gaps_few);
-        receipts = omega (arith, length-map (items_at document (optional key.Receipt)) (receipt_of scope), receipts_few);
-        deliveries = omega (arith, length-map (items_at document (optional key.Delivery)) (delivery_of scope), deliveries_few);
-        outages = omega (arith, length-map (items_at document (since (is_second document) key.Outage)) (outage_of scope), outages_few);
-        slots = ltb-false _ _ slots.0;
-        gap_pairs = ltb-false _ _ pairs.0;
+        states = omega (arith, state_count, under third 40 160 _ (omega arith) states.few);
+        utilities = omega (arith, utility_count, under third 8 64 _ (omega arith) utilities.few);
+        units = omega (arith, unit_count, under third 24 96 _ (omega arith) units.few);
+        tasks = omega (arith, task_count, under third 40 160 _ (omega arith) tasks.few);
+        runs = omega (arith, run_count, under third 64 256 _ (omega arith) runs.few);
+        gaps = omega (arith, gap_count, gaps_few);
+        receipts = omega (arith, receipt_count, under third 256 900 _ (omega arith) receipts.few);
+        deliveries = omega (arith, delivery_count, under third 256 900 _ (omega arith) deliveries.few);
+        outages = omega (arith, outage_count, under third 256 4096 _ (omega arith) outages.few);
+        slots = under third 512 4096 _ (omega arith) slots_few;
+        gap_pairs = under third 8192 32768 _ (omega arith) pairs_few;
+      };
+      small = λ not_third. record {
+        states = omega (arith, state_count, few_of third 40 160 _ not_third states.few);
+        utilities = omega (arith, utility_count, few_of third 8 64 _ not_third utilities.few);
+        units = omega (arith, unit_count, few_of third 24 96 _ not_third units.few);
+        tasks = omega (arith, task_count, few_of third 40 160 _ not_third tasks.few);
+        runs = omega (arith, run_count, few_of third 64 256 _ not_third runs.few);
+        receipts = omega (arith, receipt_count, few_of third 256 900 _ not_third receipts.few);
+        deliveries = omega (arith, delivery_count, few_of third 256 900 _ not_third deliveries.few);
+        outages = omega (arith, outage_count, few_of third 256 4096 _ not_third outages.few);
+        slots = few_of third 512 4096 _ not_third slots_few;
+        gap_pairs = few_of third 8192 32768 _ not_third pairs_few;
+        rates = All-from_recursion (λ (u : Utility). u.rates ≡ []) _ (no_rates scope not_third _);
       };
       names = record {
-        states = names_own (λ (s : State). s.name) (state_of scope) (state_names scope) (λ earlier d. state_tests scope (length earlier) d) _ 40 states.few (λ earlier d h. state_fresh scope (length earlier) d h) states.pass;
-        utilities = names_own (λ (u : Utility). u.name) (utility_of scope) (utility_names scope) (λ earlier d. utility_tests scope (length earlier) d) _ 8 utilities.few (λ earlier d h. utility_fresh scope (length earlier) d h) utilities.pass;
-        units = names_own (λ (u : StnUnit). u.name) unit_of unit_names (λ earlier d. unit_tests scope (length earlier) d) _ 24 units.few (λ earlier d h. unit_fresh scope (length earlier) d h) units.pass;
-        tasks = names_own (λ (t : Task). t.name) (task_of scope) (task_names scope) (λ earlier d. task_tests scope (length earlier) d) _ 40 tasks.few (λ earlier d h. task_fresh scope (length earlier) d h) tasks.pass;
+        states = names_own (λ (s : State). s.name) (state_of scope) (state_names scope) (λ earlier d. state_tests scope (length earlier) d) _ (cond third 160 40) states.few (λ earlier d h. state_fresh scope (length earlier) d h) states.pass;
+        utilities = names_own (λ (u : Utility). u.name) (utility_of scope) (utility_names scope) (λ earlier d. utility_tests scope (length earlier) d) _ (cond third 64 8) utilities.few (λ earlier d h. utility_fresh scope (length earlier) d h) utilities.pass;
+        units = names_own (λ (u : StnUnit). u.name) unit_of unit_names (λ earlier d. unit_tests scope (length earlier) d) _ (cond third 96 24) units.few (λ earlier d h. unit_fresh scope (length earlier) d h) units.pass;
+        tasks = names_own (λ (t : Task). t.name) (task_of scope) (task_names scope) (λ earlier d. task_tests scope (length earlier) d) _ (cond third 160 40) tasks.few (λ earlier d h. task_fresh scope (length earlier) d h) tasks.pass;
         runs = rows_pairs (run_tests scope) (run_of scope) (λ a b. a.task ≡ b.task → a.unit ≢ b.unit) (λ earlier d h k x lt. not_found earlier (run_of scope d) (run_fresh scope earlier d h) k x lt) [] _ (λ i j d lt within. absurd (omega arith)) runs.pass;
       };
       states = All-from_recursion (SoundState _) _ (rows_all _ (state_of scope) (SoundState _) (λ earlier d h. state_sound scope (length earlier) d h) [] _ states.pass);
@@ -257,9 +285,9 @@ read_sound bytes (Ok plant) h =
 read_sound bytes (Err e) h = tt
 
 -- a horizon that passes is short enough
-pub horizon_small : (document : Members) (second : Bool) → Pass (fields_tests top_place document (size_fields second)) → at_key count_of 0 document (needed key.Periods) ≤ 336
-horizon_small document second e =
-    let number = cond second 2 1 in
+pub horizon_small : (document : Members) (second third : Bool) → Pass (fields_tests top_place document (size_fields second third)) → at_key count_of 0 document (needed key.Periods) ≤ 336
+horizon_small document second third e =
+    let number = version_of second third in
     let most = cond second 336 96 in
     let version = both_pass (value_tests top_place (needed key.Version) (count number number) (held document (needed key.Version))) (value_tests top_place (needed key.Periods) (count 1 most) (held document (needed key.Periods)) ++ []) e in
     let periods = both_pass (value_tests top_place (needed key.Periods) (count 1 most) (held document (needed key.Periods))) [] version.1 in

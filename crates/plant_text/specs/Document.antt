@@ -1,5 +1,5 @@
 -- A plant file as a whole: its document, its tests in order, and its plant.
-use Rattle.std.specs.Prelude.{◌≡◌, ℕ, ◌==◌, Bool, nat_lt, if◌then◌else◌, List, [], ◌∷◌, ◌++◌, length, map, take, Option, None, is_none, unwrap_or}
+use Rattle.std.specs.Prelude.{◌≡◌, ℕ, ◌==◌, ◌||◌, Bool, nat_lt, if◌then◌else◌, List, [], ◌∷◌, ◌++◌, length, map, take, Option, None, is_none, unwrap_or}
 use Rattle.std.specs.Str.{is_utf8}
 use Rattle.toml.specs.Data.{Data, Members, no_members}
 use Rattle.toml.specs.Parse.{parse_document}
@@ -30,9 +30,17 @@ use Rattle.plant_text.specs.Tables.{state_tests, state_of, utility_tests, utilit
 abbrev pub top_place : Place
 top_place = record { table = table.Top; item = 0; inner = 0 }
 
--- the file is of version 2: its key `version` is the whole number 2
+-- the whole number at the key `version`
+abbrev pub version_in : Members → ℕ
+version_in document = at_key count_of 0 document (needed key.Version)
+
+-- the file is of version 3
+abbrev pub is_third : Members → Bool
+is_third document = version_in document == 3
+
+-- the file is of version 2 or 3
 abbrev pub is_second : Members → Bool
-is_second document = at_key count_of 0 document (needed key.Version) == 2
+is_second document = version_in document == 2 || is_third document
 
 -- where the names of an array are declared; no more items are looked at than it may have
 abbrev pub names_at : Members → KeyName → ℕ → Places
@@ -42,34 +50,40 @@ names_at document name most = first_places (map name_in (take most (items_at doc
 unfoldable pub scope_in : Members → Scope
 scope_in document = record {
   second = is_second document;
+  third = is_third document;
   periods = at_key count_of 0 document (needed key.Periods);
-  states = names_at document key.State 40;
-  utilities = names_at document key.Utility 8;
-  units = names_at document key.StnUnit 24;
-  tasks = names_at document key.Task 40;
+  states = names_at document key.State (if is_third document then 160 else 40);
+  utilities = names_at document key.Utility (if is_third document then 64 else 8);
+  units = names_at document key.StnUnit (if is_third document then 96 else 24);
+  tasks = names_at document key.Task (if is_third document then 160 else 40);
 }
 
+-- the version that a file has to be of: 3 or 2 where it is, else 1
+abbrev pub version_of : Bool → Bool → ℕ
+version_of second third = if third then 3 else (if second then 2 else 1)
+
 -- the keys at the top: the version and the horizon, then the arrays
-abbrev pub size_fields : Bool → List Field
-size_fields second =
-    row (needed key.Version) (count (if second then 2 else 1) (if second then 2 else 1))
+abbrev pub size_fields : Bool → Bool → List Field
+size_fields second third =
+    row (needed key.Version) (count (version_of second third) (version_of second third))
     ∷ row (needed key.Periods) (count 1 (if second then 336 else 96)) ∷ []
 
 abbrev pub array_fields : Scope → List Field
 array_fields scope =
-    row (optional key.State) (tables 40 (rows_tests (λ (earlier : List State) (d : Data). state_tests scope (length earlier) d) (state_of scope) []))
-    ∷ row (optional key.Utility) (tables 8 (rows_tests (λ (earlier : List Utility) (d : Data). utility_tests scope (length earlier) d) (utility_of scope) []))
-    ∷ row (optional key.StnUnit) (tables 24 (rows_tests (λ (earlier : List StnUnit) (d : Data). unit_tests scope (length earlier) d) unit_of []))
-    ∷ row (optional key.Task) (tables 40 (rows_tests (λ (earlier : List Task) (d : Data). task_tests scope (length earlier) d) (task_of scope) []))
-    ∷ row (optional key.Run) (tables 64 (rows_tests (λ (earlier : List Run) (d : Data). run_tests scope earlier d) (run_of scope) []))
+    row (optional key.State) (tables (if scope.third then 160 else 40) (rows_tests (λ (earlier : List State) (d : Data). state_tests scope (length earlier) d) (state_of scope) []))
+    ∷ row (optional key.Utility) (tables (if scope.third then 64 else 8) (rows_tests (λ (earlier : List Utility) (d : Data). utility_tests scope (length earlier) d) (utility_of scope) []))
+    ∷ row (optional key.StnUnit) (tables (if scope.third then 96 else 24) (rows_tests (λ (earlier : List StnUnit) (d : Data). unit_tests scope (length earlier) d) unit_of []))
+    ∷ row (optional key.Task) (tables (if scope.third then 160 else 40) (rows_tests (λ (earlier : List Task) (d : Data). task_tests scope (length earlier) d) (task_of scope) []))
+    ∷ row (optional key.Run) (tables (if scope.third then 256 else 64) (rows_tests (λ (earlier : List Run) (d : Data). run_tests scope earlier d) (run_of scope) []))
     ∷ row (optional key.Gap) (tables 4096 (rows_tests (λ (earlier : List Gap) (d : Data). gap_tests scope (length earlier) d) (gap_of scope) []))
-    ∷ row (optional key.Receipt) (tables 256 (rows_tests (λ (earlier : List Receipt) (d : Data). receipt_tests scope (length earlier) d) (receipt_of scope) []))
-    ∷ row (optional key.Delivery) (tables 256 (rows_tests (λ (earlier : List Delivery) (d : Data). delivery_tests scope (length earlier) d) (delivery_of scope) []))
-    ∷ row (since scope.second key.Outage) (tables 256 (rows_tests (λ (earlier : List Outage) (d : Data). outage_tests scope (length earlier) d) (outage_of scope) [])) ∷ []
+    ∷ row (optional key.Receipt) (tables (if scope.third then 900 else 256) (rows_tests (λ (earlier : List Receipt) (d : Data). receipt_tests scope (length earlier) d) (receipt_of scope) []))
+    ∷ row (optional key.Delivery) (tables (if scope.third then 900 else 256) (rows_tests (λ (earlier : List Delivery) (d : Data). delivery_tests scope (length earlier) d) (delivery_of scope) []))
+    ∷ row (since scope.second key.Outage) (tables (if scope.third then 4096 else 256) (rows_tests (λ (earlier : List Outage) (d : Data). outage_tests scope (length earlier) d) (outage_of scope) [])) ∷ []
 
 -- the plant of a document, read against a scope
 unfoldable pub plant_with : Scope → Members → Plant
 plant_with scope document = record {
+  large = scope.third;
   periods = scope.periods;
   states = map (state_of scope) (items_at document (optional key.State));
   utilities = map (utility_of scope) (items_at document (optional key.Utility));
@@ -89,25 +103,25 @@ plant_in document = plant_with (scope_in document) document
 -- at the end: how many slots there are, and how many pairs of slots the gaps concern
 unfoldable pub size_tests : Plant → List Test
 size_tests plant =
-    (nat_lt 512 (slot_count plant), fault 18 (record { table = table.Run; item = 0; inner = 0 }) key.Whole)
-    ∷ (nat_lt 8192 (gap_pairs plant), fault 19 (record { table = table.Gap; item = 0; inner = 0 }) key.Whole) ∷ []
+    (nat_lt (if plant.large then 4096 else 512) (slot_count plant), fault 18 (record { table = table.Run; item = 0; inner = 0 }) key.Whole)
+    ∷ (nat_lt (if plant.large then 32768 else 8192) (gap_pairs plant), fault 19 (record { table = table.Gap; item = 0; inner = 0 }) key.Whole) ∷ []
 
 -- the tests of the keys at the top
 unfoldable pub unknown_tests : Members → List Test
 unknown_tests document =
-    (has_unknown (keys_of (size_fields (is_second document) ++ array_fields (scope_in document))) document, fault 3 top_place key.Whole) ∷ []
+    (has_unknown (keys_of (size_fields (is_second document) (is_third document) ++ array_fields (scope_in document))) document, fault 3 top_place key.Whole) ∷ []
 
 -- the tests of a document, in their order
 unfoldable pub document_tests : Members → List Test
 document_tests document =
     unknown_tests document
-    ++ (fields_tests top_place document (size_fields (is_second document))
+    ++ (fields_tests top_place document (size_fields (is_second document) (is_third document))
     ++ (fields_tests top_place document (array_fields (scope_in document))
     ++ size_tests (plant_in document)))
 
--- the longest plant file, in bytes
-abbrev pub max_bytes : ℕ
-max_bytes = 1048576
+-- the longest plant file, in bytes, by whether it is of version 3
+abbrev pub max_bytes : Bool → ℕ
+max_bytes third = if third then 4194304 else 1048576
 
 -- the document of the bytes, by the grammar of TOML
 abbrev pub document_of : List ℕ → Option Members
@@ -118,13 +132,17 @@ abbrev pub IsNoDocument : List ℕ → PlantStop → Type 0
 IsNoDocument bytes stop.Memory = Unit {0}
 IsNoDocument bytes (stop.Fault found) = (found ≡ fault 2 top_place key.Whole) × (document_of bytes ≡ None)
 
+-- what is at the top of the file; nothing where the bytes are no document
+abbrev pub top_of : List ℕ → Members
+top_of bytes = unwrap_or (document_of bytes) no_members
+
 -- the tests of a plant file, in their order
 unfoldable pub plant_tests : List ℕ → List Test
 plant_tests bytes =
-    (nat_lt max_bytes (length bytes), fault 1 top_place key.Whole)
+    (nat_lt (max_bytes (is_third (top_of bytes))) (length bytes), fault 1 top_place key.Whole)
     ∷ (is_none (document_of bytes), fault 2 top_place key.Whole)
-    ∷ document_tests (unwrap_or (document_of bytes) no_members)
+    ∷ document_tests (top_of bytes)
 
 -- the plant of the bytes, where no test holds
 unfoldable pub plant_of : List ℕ → Plant
-plant_of bytes = plant_in (unwrap_or (document_of bytes) no_members)
+plant_of bytes = plant_in (top_of bytes)

@@ -72,6 +72,8 @@ pub data Kind : Type 0 where
   money : ℕ → Kind
   -- an array of numbers: whether another key forbids it, how many, and the most that each may be
   numbers : Bool → ℕ → ℕ → Kind
+  -- an array of numbers of at most this absolute value: whether another key forbids it, and how many
+  amounts : Bool → ℕ → ℕ → Kind
   -- an array of at most so many tables, with the tests of its items
   tables : ℕ → (List Data → List Test) → Kind
 
@@ -80,6 +82,20 @@ abbrev pub count_tests : Place → KeyName → ℕ → ℕ → Data → List Tes
 count_tests place name low high d =
     (is_none (as_integer d), fault 6 place name)
     ∷ (not (is_within low high (integer_of d)), fault 7 place name) ∷ []
+
+-- the tests of a whole number that has at most an absolute value
+abbrev pub money_tests : Place → KeyName → ℕ → Data → List Test
+money_tests place name most d =
+    (is_none (as_integer d), fault 6 place name)
+    ∷ (not (nat_le (unsigned_abs (integer_of d)) most), fault 7 place name) ∷ []
+
+-- the tests of an array of so many values, each with its own tests
+abbrev pub list_tests : {X : Type 0} → Place → KeyName → Bool → ℕ → (Data → List Test) → (Data → X) → Data → List Test
+list_tests {X} place name forbidden many each value d =
+    (is_none (as_array d), fault 6 place name)
+    ∷ (forbidden, fault 21 place name)
+    ∷ (not (length (items_of d) == many), fault 17 place name)
+    ∷ rows_tests (λ (earlier : List X) (x : Data). each x) value [] (items_of d)
 
 -- the tests of a value by what it has to be
 unfoldable pub kind_tests : Place → KeyName → Kind → Data → List Test
@@ -94,14 +110,9 @@ kind_tests place name part d =
     (is_none (as_str d), fault 6 place name)
     ∷ (is_none (fraction_in (text_of d)), fault 11 place name) ∷ []
 kind_tests place name (count low high) d = count_tests place name low high d
-kind_tests place name (money most) d =
-    (is_none (as_integer d), fault 6 place name)
-    ∷ (not (nat_le (unsigned_abs (integer_of d)) most), fault 7 place name) ∷ []
-kind_tests place name (numbers forbidden many most) d =
-    (is_none (as_array d), fault 6 place name)
-    ∷ (forbidden, fault 21 place name)
-    ∷ (not (length (items_of d) == many), fault 17 place name)
-    ∷ rows_tests (λ (earlier : List ℕ) (x : Data). count_tests place name 0 most x) count_of [] (items_of d)
+kind_tests place name (money most) d = money_tests place name most d
+kind_tests place name (numbers forbidden many most) d = list_tests place name forbidden many (count_tests place name 0 most) count_of d
+kind_tests place name (amounts forbidden many most) d = list_tests place name forbidden many (money_tests place name most) integer_of d
 kind_tests place name (tables most below) d =
     (is_none (as_array d), fault 6 place name)
     ∷ (nat_lt most (length (items_of d)), fault 14 place name) ∷ below (items_of d)
@@ -135,6 +146,10 @@ items_at members key = at_key items_of [] members key
 -- the numbers of an array
 abbrev pub numbers_of : Data → List ℕ
 numbers_of d = map count_of (items_of d)
+
+-- the amounts of an array
+abbrev pub amounts_of : Data → List ℤ
+amounts_of d = map integer_of (items_of d)
 
 -- the place of the name that a value refers to
 abbrev pub place_of : Places → Data → ℕ
@@ -184,7 +199,7 @@ head_tests place keys d =
 abbrev pub table_tests : Place → List Field → Data → List Test
 table_tests place fields d = head_tests place (keys_of fields) d ++ fields_tests place (members_of d) fields
 
--- a key that each item has, one that it may have, and one that it may have from version 2 on
+-- a key that each item has, one that it may have, and one that it may have from a version on, which the file is of
 abbrev pub needed : KeyName → Key
 needed name = record { name = name; known = true; required = true }
 
@@ -192,7 +207,7 @@ abbrev pub optional : KeyName → Key
 optional name = record { name = name; known = true; required = false }
 
 abbrev pub since : Bool → KeyName → Key
-since second name = record { name = name; known = second; required = false }
+since known name = record { name = name; known = known; required = false }
 
 -- a row of the field table
 abbrev pub row : Key → Kind → Field

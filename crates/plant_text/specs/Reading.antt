@@ -1,6 +1,6 @@
 -- What reading a plant file gives: the plant of its bytes, or the first fault.
-use Rattle.std.specs.Prelude.{◌≡◌, ℕ, ◌<◌, length, List, Result, Ok, Err}
-use Rattle.std.proofs.Common.{refl}
+use Rattle.std.specs.Prelude.{◌≡◌, ℕ, ◌<◌, nat_lt, Bool, true, false, length, List, Result, Ok, Err}
+use Rattle.std.proofs.Common.{refl, arith}
 use Rattle.std.proofs.lemmas.Bool.{lt-ltb}
 use Rattle.stn_model.specs.declared.plant.Plant.{Plant}
 use Rattle.text_words.specs.Faults.{fault_or}
@@ -10,7 +10,7 @@ use Rattle.plant_text.specs.declared.fault.PlantStop.TheVariants as stop
 use Rattle.plant_text.specs.declared.fault.TableName.TheVariants as table
 use Rattle.plant_text.specs.declared.fault.KeyName.TheVariants as key
 use Rattle.plant_text.specs.Tests.{first_fault}
-use Rattle.plant_text.specs.Document.{plant_tests, plant_of}
+use Rattle.plant_text.specs.Document.{plant_tests, plant_of, top_of, is_third, max_bytes}
 
 -- what the bytes of a plant file are read as
 unfoldable pub reading : List ℕ → Result Plant PlantFault
@@ -30,7 +30,12 @@ ReadsPlant (Err e) read = Fails e read
 abbrev pub too_long : PlantFault
 too_long = record { kind = 1; table = table.Top; item = 0; inner = 0; key = key.Whole }
 
--- a file that is too long has no other fault
-pub reading-long : (bytes : List ℕ) → 1048576 < length bytes → reading bytes ≡ Err too_long
+-- such a length is above the limit of each version
+long-whatever : (third : Bool) (n : ℕ) → 4194304 < n → nat_lt (max_bytes third) n ≡ true
+long-whatever true n h = lt-ltb 4194304 n h
+long-whatever false n h = lt-ltb 1048576 n (omega arith)
+
+-- a file that is too long in each version has no other fault
+pub reading-long : (bytes : List ℕ) → 4194304 < length bytes → reading bytes ≡ Err too_long
 unfolding reading plant_tests first_fault
-reading-long bytes h = rw (lt-ltb 1048576 (length bytes) h) refl
+reading-long bytes h = rw (long-whatever (is_third (top_of bytes)) (length bytes) h) refl

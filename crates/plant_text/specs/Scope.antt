@@ -5,8 +5,10 @@ use Rattle.plant_text.specs.Fields.{Places}
 use Rattle.plant_text.specs.Names.{places_in}
 
 pub record Scope : Type 0 where
-  -- the file is of version 2
+  -- the file is of version 2 or 3
   pub second : Bool
+  -- the file is of version 3
+  pub third : Bool
   pub periods : ℕ
   pub states : Places
   pub utilities : Places
@@ -17,6 +19,7 @@ pub record Scope : Type 0 where
 abbrev pub scope_of : Context → Scope
 scope_of context = record {
   second = context.second;
+  third = context.third;
   periods = context.periods;
   states = places_in context.states;
   utilities = places_in context.utilities;

@@ -24,7 +24,7 @@ use Rattle.plant_text.specs.declared.tables.side.SidePart.{SidePart}
 use Rattle.plant_text.specs.declared.fault.KeyName.{KeyName}
 use Rattle.plant_text.specs.declared.fault.KeyName.TheVariants as key
 use Rattle.plant_text.specs.Tests.{Test, rows_tests}
-use Rattle.plant_text.specs.Fields.{fault, declares, refers, part, count, money, numbers, tables, Field, row, needed, optional, since, held, at_key, text_of, count_of, integer_of, numbers_of, place_of, part_of, whole_part, items_at, members_of, table_tests}
+use Rattle.plant_text.specs.Fields.{fault, declares, refers, part, count, money, numbers, amounts, tables, Field, row, needed, optional, since, held, at_key, text_of, count_of, integer_of, numbers_of, amounts_of, place_of, part_of, whole_part, items_at, members_of, table_tests}
 use Rattle.plant_text.specs.Scope.{Scope}
 
 -- a limit for each time or period: the list that is given, or the one number so many times, or none
@@ -63,13 +63,14 @@ state_of scope d = let inside = members_of d in record {
   holding = at_key integer_of (pos 0) inside (optional key.Holding);
 }
 
--- the keys of a utility: `limit` may be absent where `limits` is there
+-- the keys of a utility: `limit` may be absent where `limits` is there, and `rates` stands in the place of `rate`
 unfoldable pub utility_fields : Scope → ℕ → Members → List Field
 utility_fields scope number inside =
     row (needed key.Name) (declares scope.utilities number)
     ∷ row (record { name = key.Limit; known = true; required = not (is_some (held inside (since scope.second key.Limits))) }) (count 0 1000000000)
     ∷ row (since scope.second key.Limits) (numbers (is_there inside key.Limit) scope.periods 1000000000)
-    ∷ row (optional key.Rate) (money 1000000) ∷ []
+    ∷ row (optional key.Rate) (money 1000000)
+    ∷ row (since scope.third key.Rates) (amounts (is_there inside key.Rate) scope.periods 1000000) ∷ []
 
 unfoldable pub utility_tests : Scope → ℕ → Data → List Test
 utility_tests scope number d = table_tests (record { table = table.Utility; item = number + 1; inner = 0 }) (utility_fields scope number (members_of d)) d
@@ -79,6 +80,7 @@ utility_of scope d = let inside = members_of d in record {
   name = at_key text_of [] inside (needed key.Name);
   limits = limits_in (option_map count_of (held inside (optional key.Limit))) (option_map numbers_of (held inside (since scope.second key.Limits))) scope.periods;
   rate = at_key integer_of (pos 0) inside (optional key.Rate);
+  rates = at_key amounts_of [] inside (since scope.third key.Rates);
 }
 
 -- the keys of a unit

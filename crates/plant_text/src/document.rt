@@ -6,7 +6,7 @@ ghost use Rattle.plant_text.specs.Fields.{field_tests, fields_tests, at_key, cou
 ghost use Rattle.plant_text.specs.Fields as kind;
 ghost use Rattle.plant_text.specs.Names.{places_in};
 ghost use Rattle.plant_text.specs.Scope.{scope_of};
-ghost use Rattle.plant_text.specs.Document.{top_place, is_second, names_at, scope_in, size_fields, array_fields, plant_with, plant_in, size_tests, unknown_tests, document_tests};
+ghost use Rattle.plant_text.specs.Document.{top_place, version_in, version_of, is_second, is_third, names_at, scope_in, size_fields, array_fields, plant_with, plant_in, size_tests, unknown_tests, document_tests};
 
 use crate::fault::{KeyName, Place, PlantStop, TableName};
 use crate::find::{Key, find, key, unknown};
@@ -17,7 +17,9 @@ use crate::sizes::{too_many_gap_pairs, too_many_slots};
 use crate::values::{count, items_of, rows};
 use std::alloc::{AllocError, Global};
 use stn_model::limits::{
-    MAX_EVENTS, MAX_GAPS, MAX_PERIODS, MAX_RUNS, MAX_STATES, MAX_TASKS, MAX_UNITS, MAX_UTILITIES,
+    MAX_EVENTS, MAX_GAPS, MAX_OUTAGES, MAX_PERIODS, MAX_RUNS, MAX_STATES, MAX_TASKS, MAX_UNITS,
+    MAX_UTILITIES, SMALL_EVENTS, SMALL_RUNS, SMALL_STATES, SMALL_TASKS, SMALL_UNITS,
+    SMALL_UTILITIES,
 };
 use stn_model::{List, Plant};
 use toml::{Table, Value};
@@ -36,26 +38,48 @@ const NO_OWNER: Owner = Owner {
     duration: 0,
 };
 
-fn is_two(number: i64) -> bool
-    ensures { result ≡ (natural number == 2) }
+fn natural(number: i64) -> u64
+    ensures { result ≡ natural number }
 {
-    match u32::try_from(number) {
-        Ok(number) => number == 2,
-        Err(_) => false,
-    }
+    u64::try_from(number).unwrap_or(0)
 }
 
-fn is_second(document: &Table) -> bool
-    ensures { result ≡ is_second (table_view document.now) }
+/// The version that a document names; 0 where that is no number, or negative.
+fn version_in(document: &Table) -> u64
+    ensures { result ≡ version_in (table_view document.now) }
 {
     let version = match find(document, key!(needed Version)) {
         Some(version) => version,
-        None => return false,
+        None => return 0,
     };
     match version.as_integer() {
-        Some(number) => is_two(number),
-        None => false,
+        Some(number) => natural(number),
+        None => 0,
     }
+}
+
+/// Whether a document is of version 3.
+pub fn is_third(document: &Table) -> bool
+    ensures { result ≡ is_third (table_view document.now) }
+{
+    version_in(document) == 3
+}
+
+/// Whether a document is of version 2 or 3.
+fn is_second(document: &Table) -> bool
+    ensures { result ≡ is_second (table_view document.now) }
+{
+    let version = version_in(document);
+    version == 2 || version == 3
+}
+
+/// How many of something there may be, by whether the file is of version 3.
+fn most(third: bool, few: usize, many: usize) -> usize
+    requires { few ≤ many }
+    ensures is { result ≡ (if third then many else few) }
+    ensures bound { result ≤ many }
+{
+    if third { many } else { few }
 }
 
 fn first(items: &[Value], most: usize) -> &[Value]
@@ -70,8 +94,8 @@ fn first(items: &[Value], most: usize) -> &[Value]
 
 /// Reads arrays into the lists of a plant, by the rows of the field table.
 macro_rules! read_arrays {
-    ($alloc:expr, $document:expr, $context:expr, $owner:expr, $plant:expr; $($list:ident: ($($key:tt)+) $most:expr;)+) => {
-        $(array($alloc, $document, key!($($key)+), $most, $context, $owner, &mut $plant.$list)?;)+
+    ($alloc:expr, $document:expr, $context:expr, $owner:expr, $plant:expr; $($list:ident: ($($key:tt)+) $few:expr, $many:expr;)+) => {
+        $(array($alloc, $document, key!($($key)+), $few, $many, $context, $owner, &mut $plant.$list)?;)+
     };
 }
 
@@ -97,23 +121,40 @@ fn names(alloc: Global, document: &Table, name: KeyName, most: usize) -> Result<
 
 /// What the tables of a document are read against.
 #[tactic(auto, unfolding(crate::specs::Document::scope_in))]
-fn context_of(
-    alloc: Global,
-    document: &Table,
-    second: bool,
-    periods: u32,
-) -> Result<Context, AllocError>
-    requires version { second ≡ is_second (table_view document.now) }
+fn context_of(alloc: Global, document: &Table, periods: u32) -> Result<Context, AllocError>
     requires horizon { periods ≡ at_key count_of 0 (table_view document.now)
         (needed KeyName.Periods) }
     ensures { IfOk result (λ c. scope_of c ≡ scope_in (table_view document.now)) }
 {
-    let states = names(alloc, document, KeyName::State, MAX_STATES)?;
-    let utilities = names(alloc, document, KeyName::Utility, MAX_UTILITIES)?;
-    let units = names(alloc, document, KeyName::StnUnit, MAX_UNITS)?;
-    let tasks = names(alloc, document, KeyName::Task, MAX_TASKS)?;
+    let second = is_second(document);
+    let third = is_third(document);
+    let states = names(
+        alloc,
+        document,
+        KeyName::State,
+        most(third, SMALL_STATES, MAX_STATES),
+    )?;
+    let utilities = names(
+        alloc,
+        document,
+        KeyName::Utility,
+        most(third, SMALL_UTILITIES, MAX_UTILITIES),
+    )?;
+    let units = names(
+        alloc,
+        document,
+        KeyName::StnUnit,
+        most(third, SMALL_UNITS, MAX_UNITS),
+    )?;
+    let tasks = names(
+        alloc,
+        document,
+        KeyName::Task,
+        most(third, SMALL_TASKS, MAX_TASKS),
+    )?;
     Ok(Context {
         second,
+        third,
         periods,
         states,
         utilities,
@@ -154,20 +195,27 @@ fn longest_horizon(second: bool) -> u32
     if second { MAX_PERIODS } else { 96 }
 }
 
-fn version_number(second: bool) -> u32
-    ensures { result ≡ (if second then 2 else 1) }
+fn version_number(second: bool, third: bool) -> u32
+    ensures { result ≡ version_of second third }
 {
-    if second { 2 } else { 1 }
+    if third {
+        3
+    } else if second {
+        2
+    } else {
+        1
+    }
 }
 
 /// The horizon of a document, after its version.
 #[tactic(auto, using(crate::proofs::Faults::faults_append))]
-fn horizon(document: &Table, second: bool) -> Result<u32, PlantStop>
-    ensures { Gives result (fields_tests top_place (table_view document.now) (size_fields second))
+fn horizon(document: &Table, second: bool, third: bool) -> Result<u32, PlantStop>
+    ensures { Gives result
+        (fields_tests top_place (table_view document.now) (size_fields second third))
         (at_key count_of 0 (table_view document.now) (needed KeyName.Periods)) }
 {
     let place = TOP;
-    let version = version_number(second);
+    let version = version_number(second, third);
     let most = longest_horizon(second);
     count(document, place, key!(needed Version), version, version, 0)?;
     let periods = count(document, place, key!(needed Periods), 1, most, 0)?;
@@ -175,10 +223,12 @@ fn horizon(document: &Table, second: bool) -> Result<u32, PlantStop>
 }
 
 /// A plant of so many periods that has nothing.
-fn bare_plant(alloc: Global, periods: u32) -> Plant
-    ensures { result.periods ≡ periods }
+fn bare_plant(alloc: Global, large: bool, periods: u32) -> Plant
+    ensures large { result.large ≡ large }
+    ensures periods { result.periods ≡ periods }
 {
     Plant {
+        large,
         periods,
         states: List::new(alloc),
         utilities: List::new(alloc),
@@ -192,39 +242,43 @@ fn bare_plant(alloc: Global, periods: u32) -> Plant
     }
 }
 
-/// Reads the array at a key of the document, in the place of what is there.
+/// Reads the array at a key of the document, in the place of what is there; it has at most `many` items
+/// in a file of version 3, and else `few`.
 fn array<R: Row>(
     alloc: Global,
     document: &Table,
     key: Key,
-    most: usize,
+    few: usize,
+    many: usize,
     context: &Context,
     owner: Owner,
     into: &mut List<R>,
 ) -> Result<(), PlantStop>
-    requires few { most ≤ 4096 }
+    requires fewer { few ≤ many }
+    requires few { many ≤ 4096 }
     requires horizon { context.now.periods ≤ 336 }
     ensures passes { OnOk result
         (first_fault (field_tests top_place (table_view document.now)
         (record {
           key = key;
-          kind = kind.tables most
+          kind = kind.tables (if context.now.third then many else few)
               (rows_tests (R.tests (scope_of context.now) owner)
               (R.made (scope_of context.now) owner) []);
         }))
         ≡ None) }
     ensures is { OnOk result (into.new ≡ map (R.made (scope_of context.now) owner)
         (at_key items_of [] (table_view document.now) key)) }
-    ensures few { OnOk result (length into.new ≤ most) }
+    ensures few { OnOk result (length into.new ≤ many) }
     ensures err { IfErr result
         (λ e. Stops e (first_fault (field_tests top_place (table_view document.now)
         (record {
           key = key;
-          kind = kind.tables most
+          kind = kind.tables (if context.now.third then many else few)
               (rows_tests (R.tests (scope_of context.now) owner)
               (R.made (scope_of context.now) owner) []);
         })))) }
 {
+    let most = most(context.third, few, many);
     *into = rows(alloc, document, TOP, key, most, context, owner)?;
     Ok(())
 }
@@ -238,35 +292,36 @@ fn arrays(
     plant: &mut Plant,
 ) -> Result<(), PlantStop>
     requires horizon { context.now.periods ≤ 336 }
+    requires large { plant.old.large ≡ context.now.third }
     requires periods { plant.old.periods ≡ context.now.periods }
     ensures passes { OnOk result
         (first_fault (fields_tests top_place (table_view document.now)
         (array_fields (scope_of context.now))) ≡ None) }
     ensures is { OnOk result (plant.new ≡ plant_with (scope_of context.now)
         (table_view document.now)) }
-    ensures few { OnOk result (length plant.new.runs ≤ 64) }
+    ensures few { OnOk result (length plant.new.runs ≤ 256) }
     ensures err { IfErr result
         (λ e. Stops e (first_fault (fields_tests top_place (table_view document.now)
         (array_fields (scope_of context.now))))) }
 {
     let owner = NO_OWNER;
     read_arrays! { alloc, document, context, owner, plant;
-        states: (optional State) MAX_STATES;
-        utilities: (optional Utility) MAX_UTILITIES;
-        units: (optional StnUnit) MAX_UNITS;
-        tasks: (optional Task) MAX_TASKS;
-        runs: (optional Run) MAX_RUNS;
-        gaps: (optional Gap) MAX_GAPS;
-        receipts: (optional Receipt) MAX_EVENTS;
-        deliveries: (optional Delivery) MAX_EVENTS;
-        outages: (since context.second, Outage) MAX_EVENTS;
+        states: (optional State) SMALL_STATES, MAX_STATES;
+        utilities: (optional Utility) SMALL_UTILITIES, MAX_UTILITIES;
+        units: (optional StnUnit) SMALL_UNITS, MAX_UNITS;
+        tasks: (optional Task) SMALL_TASKS, MAX_TASKS;
+        runs: (optional Run) SMALL_RUNS, MAX_RUNS;
+        gaps: (optional Gap) MAX_GAPS, MAX_GAPS;
+        receipts: (optional Receipt) SMALL_EVENTS, MAX_EVENTS;
+        deliveries: (optional Delivery) SMALL_EVENTS, MAX_EVENTS;
+        outages: (since context.second, Outage) SMALL_EVENTS, MAX_OUTAGES;
     }
     Ok(())
 }
 
 #[tactic(auto, unfolding(crate::specs::Document::size_tests, crate::specs::Tests::first_fault))]
 fn check_sizes(plant: &Plant) -> Result<(), PlantStop>
-    requires runs { length plant.now.runs ≤ 64 }
+    requires runs { length plant.now.runs ≤ 256 }
     requires horizon { plant.now.periods ≤ 336 }
     ensures ok { OnOk result (first_fault (size_tests plant.now) ≡ None) }
     ensures err { IfErr result (λ e. Stops e (first_fault (size_tests plant.now))) }
@@ -298,7 +353,7 @@ fn plant_against(alloc: Global, document: &Table, context: &Context) -> Result<P
         (array_fields (scope_of context.now)) ++ size_tests (plant_with (scope_of context.now)
         (table_view document.now))) (plant_with (scope_of context.now) (table_view document.now)) }
 {
-    let mut plant = bare_plant(alloc, context.periods);
+    let mut plant = bare_plant(alloc, context.third, context.periods);
     arrays(alloc, document, context, &mut plant)?;
     check_sizes(&plant)?;
     Ok(plant)
@@ -312,7 +367,7 @@ pub fn read_document(alloc: Global, document: &Table) -> Result<Plant, PlantStop
 {
     let second = is_second(document);
     check_keys(document, second)?;
-    let periods = horizon(document, second)?;
-    let context = context_of(alloc, document, second, periods)?;
+    let periods = horizon(document, second, is_third(document))?;
+    let context = context_of(alloc, document, periods)?;
     plant_against(alloc, document, &context)
 }

@@ -45,6 +45,7 @@ pub enum KeyName {
     Price,
     Holding,
     Rate,
+    Rates,
     Quantum,
     Input,
     Output,
@@ -93,7 +94,7 @@ impl Place {
 ///
 /// | Kind | Where |
 /// |---|---|
-/// | 1 | more than 1,048,576 bytes |
+/// | 1 | more than 1,048,576 bytes, in a file of version 3 more than 4,194,304 |
 /// | 2 | no TOML document |
 /// | 3 | a key at the top that is not known |
 /// | 4 | a key of a table that is not known |
@@ -110,9 +111,9 @@ impl Place {
 /// | 15 | a run with `min` above `max` |
 /// | 16 | a run with the task and unit of an earlier one |
 /// | 17 | a list of numbers with a wrong length |
-/// | 18 | more than 512 slots |
-/// | 19 | more than 8,192 pairs of slots that a gap concerns |
-/// | 21 | both `limit` and `limits` |
+/// | 18 | more than 512 slots, in a file of version 3 more than 4,096 |
+/// | 19 | more than 8,192 pairs of slots that a gap concerns, in a file of version 3 more than 32,768 |
+/// | 21 | both `limit` and `limits`, or both `rate` and `rates` |
 /// | 22 | an outage whose `from` is not below its `to` |
 #[derive(Clone, Copy, Debug, PartialEq, Eq)]
 pub struct PlantFault {

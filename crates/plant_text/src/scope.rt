@@ -6,8 +6,10 @@ use crate::numbers::Numbers;
 /// The version of a file, its horizon, and the names that it declares.
 #[derive(Drop)]
 pub struct Context {
-    /// Whether the file is of version 2.
+    /// Whether the file is of version 2 or 3.
     pub second: bool,
+    /// Whether the file is of version 3.
+    pub third: bool,
     pub periods: u32,
     pub states: Numbers,
     pub utilities: Numbers,

@@ -1,12 +1,14 @@
 //! How large a plant is for a search: how many slots it has, and how many pairs of slots its gaps
 //! concern.
-ghost use Rattle.std.specs.Prelude.{◌≡◌, ◌<◌, ◌≤◌, ◌↔◌, IsTrue, true, length, sum_by};
+ghost use Rattle.std.specs.Prelude.{◌≡◌, ◌<◌, ◌≤◌, ◌↔◌, if◌then◌else◌, IsTrue, true, length, sum_by};
 ghost use Rattle.stn_model.specs.Plant.{gap_between};
 ghost use Rattle.stn_model.specs.Sums.{count_below};
 ghost use Rattle.stn_model.specs.Points.{has_slot, least_start, slots_of, slot_count, meets_gap, gap_pairs};
 ghost use Rattle.plant_text.specs.Sizes.{IsRow, AreRows, pairs_between};
 
-use stn_model::limits::{MAX_GAP_PAIRS, MAX_PERIODS, MAX_RUNS, MAX_SLOTS};
+use stn_model::limits::{
+    MAX_GAP_PAIRS, MAX_PERIODS, MAX_RUNS, MAX_SLOTS, SMALL_GAP_PAIRS, SMALL_SLOTS,
+};
 use stn_model::{Plant, Run, Start, end, fits, gap_of};
 
 /// As many periods as a horizon has at most.
@@ -47,17 +49,39 @@ fn slots_in(plant: &Plant, run: &Run) -> u64
     count
 }
 
-/// Whether the plant has more slots than a plant may have.
+/// How many slots the plant may have.
+fn most_slots(plant: &Plant) -> u64
+    ensures { result ≡ (if plant.now.large then 4096 else 512) }
+{
+    if plant.large {
+        MAX_SLOTS as u64
+    } else {
+        SMALL_SLOTS as u64
+    }
+}
+
+/// How many pairs of slots the gaps of the plant may concern.
+fn most_pairs(plant: &Plant) -> u64
+    ensures { result ≡ (if plant.now.large then 32768 else 8192) }
+{
+    if plant.large {
+        MAX_GAP_PAIRS as u64
+    } else {
+        SMALL_GAP_PAIRS as u64
+    }
+}
+
+/// Whether the plant has more slots than it may have.
 pub(crate) fn too_many_slots(plant: &Plant) -> bool
-    requires runs { length plant.now.runs ≤ 64 }
+    requires runs { length plant.now.runs ≤ 256 }
     requires periods { plant.now.periods ≤ 336 }
-    ensures { IsTrue result ↔ (512 < slot_count plant.now) }
+    ensures { IsTrue result ↔ ((if plant.now.large then 4096 else 512) < slot_count plant.now) }
 {
     let mut count = 0;
     for run in plant.runs.as_slice() {
         count += slots_in(plant, run);
     }
-    (MAX_SLOTS as u64) < count
+    most_slots(plant) < count
 }
 
 /// Which periods have a slot of the run.
@@ -74,7 +98,7 @@ fn slot_row(plant: &Plant, run: &Run) -> [bool; MAX_ROW]
 
 /// Which periods have a slot, for each run.
 fn slot_rows(plant: &Plant) -> [[bool; MAX_ROW]; MAX_RUNS]
-    requires runs { length plant.now.runs ≤ 64 }
+    requires runs { length plant.now.runs ≤ 256 }
     requires periods { plant.now.periods ≤ 336 }
     ensures { AreRows plant.now plant.now.runs result }
 {
@@ -130,12 +154,12 @@ fn pairs_of(plant: &Plant, a: &Run, b: &Run, row_a: &[bool], row_b: &[bool]) -> 
 
 /// How many pairs of slots the cleaning keeps apart whose first is of this run.
 fn pairs_after(plant: &Plant, a: &Run, row: &[bool], rows: &[[bool; MAX_ROW]]) -> u64
-    requires runs { length plant.now.runs ≤ 64 }
+    requires runs { length plant.now.runs ≤ 256 }
     requires periods { plant.now.periods ≤ 336 }
     requires first { IsRow plant.now a.now row.now }
     requires rows { AreRows plant.now plant.now.runs rows.now }
     ensures count { result ≡ sum_by (pairs_between plant.now a.now) plant.now.runs }
-    ensures small { result ≤ 7225344 }
+    ensures small { result ≤ 28901376 }
 {
     let mut count = 0;
     for (number, b) in plant.runs.as_slice().iter().enumerate() {
@@ -146,7 +170,7 @@ fn pairs_after(plant: &Plant, a: &Run, row: &[bool], rows: &[[bool; MAX_ROW]]) -
 
 /// How many pairs of slots the cleaning keeps apart.
 fn all_pairs(plant: &Plant, rows: &[[bool; MAX_ROW]]) -> u64
-    requires runs { length plant.now.runs ≤ 64 }
+    requires runs { length plant.now.runs ≤ 256 }
     requires periods { plant.now.periods ≤ 336 }
     requires rows { AreRows plant.now plant.now.runs rows.now }
     ensures { result ≡ gap_pairs plant.now }
@@ -160,10 +184,10 @@ fn all_pairs(plant: &Plant, rows: &[[bool; MAX_ROW]]) -> u64
 
 /// Whether the gaps of the plant concern more pairs of slots than they may.
 pub(crate) fn too_many_gap_pairs(plant: &Plant) -> bool
-    requires runs { length plant.now.runs ≤ 64 }
+    requires runs { length plant.now.runs ≤ 256 }
     requires periods { plant.now.periods ≤ 336 }
-    ensures { IsTrue result ↔ (8192 < gap_pairs plant.now) }
+    ensures { IsTrue result ↔ ((if plant.now.large then 32768 else 8192) < gap_pairs plant.now) }
 {
     let rows = slot_rows(plant);
-    (MAX_GAP_PAIRS as u64) < all_pairs(plant, &rows)
+    most_pairs(plant) < all_pairs(plant, &rows)
 }

@@ -3,7 +3,7 @@ ghost use Rattle.std.specs.Prelude.{◌≡◌, pos, ◌≤◌, length, Bool, is_
 ghost use Rattle.toml.specs.Data.{as_str, as_array};
 ghost use Rattle.toml.specs.View.{view, table_view};
 ghost use Rattle.plant_text.specs.Tests.{Gives, rows_tests};
-ghost use Rattle.plant_text.specs.Fields.{fault, held, field_tests, at_key, count_tests, count_of, integer_of, text_of, items_of, numbers_of, place_of, part_of, whole_part, kind_tests, is_within, is_before, natural};
+ghost use Rattle.plant_text.specs.Fields.{fault, held, field_tests, at_key, count_tests, money_tests, count_of, integer_of, text_of, items_of, numbers_of, amounts_of, place_of, part_of, whole_part, kind_tests, is_within, is_before, natural};
 ghost use Rattle.plant_text.specs.Fields as kind;
 ghost use Rattle.plant_text.specs.Names.{places_in};
 ghost use Rattle.plant_text.specs.Scope.{scope_of};
@@ -94,9 +94,9 @@ pub fn count(
     }
 }
 
-#[tactic(auto, unfolding(crate::specs::Fields::kind_tests, crate::specs::Tests::first_fault))]
+#[tactic(auto, unfolding(crate::specs::Tests::first_fault))]
 fn money_in(value: &Value, place: Place, name: KeyName, most: u32) -> Result<i64, PlantStop>
-    ensures { Gives result (kind_tests place name (kind.money most) (view value.now))
+    ensures { Gives result (money_tests place name most (view value.now))
         (integer_of (view value.now)) }
 {
     let number = match value.as_integer() {
@@ -111,7 +111,7 @@ fn money_in(value: &Value, place: Place, name: KeyName, most: u32) -> Result<i64
 }
 
 /// The amount of money at a key, of at most `most` in absolute value, or 0.
-#[tactic(auto, unfolding(crate::specs::Fields::value_tests, crate::specs::Tests::first_fault))]
+#[tactic(auto, unfolding(crate::specs::Fields::value_tests, crate::specs::Fields::kind_tests, crate::specs::Tests::first_fault))]
 pub fn money(table: &Table, place: Place, key: Key, most: u32) -> Result<i64, PlantStop>
     ensures { Gives result (field_tests place (table_view table.now)
         (record { key = key; kind = kind.money most })) (at_key integer_of (pos 0)
@@ -316,6 +316,68 @@ pub fn numbers(
     match present(table, place, key)? {
         None => Ok(None),
         Some(value) => Ok(Some(numbers_in(alloc, value, place, key.name, several)?)),
+    }
+}
+
+fn read_amounts(
+    alloc: Global,
+    place: Place,
+    name: KeyName,
+    most: u32,
+    items: &[Value],
+) -> Result<List<i64>, PlantStop>
+    ensures { Gives result (rows_tests (λ earlier x. money_tests place name most x) integer_of []
+        (map view items.now)) (map integer_of (map view items.now)) }
+{
+    let mut amounts = List::new(alloc);
+    for item in items {
+        let amount = money_in(item, place, name, most)?;
+        amounts.push(amount)?;
+    }
+    Ok(amounts)
+}
+
+#[tactic(auto, unfolding(crate::specs::Fields::kind_tests, crate::specs::Tests::first_fault))]
+fn amounts_in(
+    alloc: Global,
+    value: &Value,
+    place: Place,
+    name: KeyName,
+    several: Several,
+) -> Result<List<i64>, PlantStop>
+    ensures { Gives result
+        (kind_tests place name (kind.amounts several.forbidden several.many several.most)
+        (view value.now)) (amounts_of (view value.now)) }
+{
+    let items = match items_of(value) {
+        Some(items) => items,
+        None => return Err(place.stop(6, name)),
+    };
+    if several.forbidden {
+        return Err(place.stop(21, name));
+    }
+    if items.len() != several.many as usize {
+        return Err(place.stop(17, name));
+    }
+    read_amounts(alloc, place, name, several.most, items)
+}
+
+/// The amounts of money at a key, each of at most so much in absolute value; none where it is not there.
+#[tactic(auto, unfolding(crate::specs::Fields::value_tests, crate::specs::Tests::first_fault))]
+pub fn amounts(
+    alloc: Global,
+    table: &Table,
+    place: Place,
+    key: Key,
+    several: Several,
+) -> Result<List<i64>, PlantStop>
+    ensures { Gives result (field_tests place (table_view table.now)
+        (record { key = key; kind = kind.amounts several.forbidden several.many several.most }))
+        (at_key amounts_of [] (table_view table.now) key) }
+{
+    match present(table, place, key)? {
+        None => Ok(List::new(alloc)),
+        Some(value) => amounts_in(alloc, value, place, key.name, several),
     }
 }
 

@@ -24,7 +24,7 @@ impl KeyName {
             Whole "-", Version "version", Periods "periods", State "state", Utility "utility",
             StnUnit "unit", Task "task", Run "run", Gap "gap", Receipt "receipt",
             Delivery "delivery", Outage "outage", Name "name", Initial "initial", Limit "limit",
-            Limits "limits", Price "price", Holding "holding", Rate "rate", Quantum "quantum",
+            Limits "limits", Price "price", Holding "holding", Rate "rate", Rates "rates", Quantum "quantum",
             Input "input", Output "output", Draw "draw", Part "part", Delay "delay", Fixed "fixed",
             Each "each", Min "min", Max "max", Cost "cost", From "from", To "to", Time "time",
             Amount "amount", Payment "payment",

@@ -11,6 +11,7 @@ use Rattle.time_grid.specs.PlanPoint.{IsPlanOf, point_starts}
 use Rattle.time_grid.specs.Slots.{slots}
 use Rattle.row_set.specs.Parts.{plan_of_values}
 use Rattle.plan_text.specs.PlanText.{plan_of_text}
+use Rattle.plan_text.specs.Published.{most_lines}
 use Rattle.plan_text.specs.ReadsBack.{IsWritable}
 use Rattle.proof_log.specs.declared.claim.Claim.{Claim}
 use Rattle.command_replies.specs.declared.reply.Reply.{Reply}
@@ -30,7 +31,7 @@ unfolding plan_of_values
 writable-if plant point (Ok plan) sound feasible of = All-permutation (IsWritable plant) (point_starts plant (slots plant) point) plan of.starts (writable plant (plan_of_values plant point) sound feasible)
 writable-if plant point (Err e) sound feasible of = tt
 
-pub few-if : {E : Type 0} (plant : Plant) (point : List ℕ) (r : Result (List Start) E) → Sound plant → Feasible plant (plan_of_values plant point) → IfOk r (IsPlanOf plant point) → IfOk r (λ plan. length plan ≤ 512)
+pub few-if : {E : Type 0} (plant : Plant) (point : List ℕ) (r : Result (List Start) E) → Sound plant → Feasible plant (plan_of_values plant point) → IfOk r (IsPlanOf plant point) → IfOk r (λ plan. length plan ≤ most_lines plant)
 unfolding plan_of_values
 few-if plant point (Ok plan) sound feasible of =
     let same = length_permutation (point_starts plant (slots plant) point) plan of.starts in
@@ -46,7 +47,7 @@ named-printed plant (BudgetSpent None earned cap) can = tt
 named-printed plant (BudgetSpent (Some plan) earned cap) can = λ k d within. (can k d within).named
 
 -- the reply of a claim's answer tells the claim
-pub tells-if : {E : Type 0} (plant : Plant) (claim : Claim) (boxes : ℕ) (said : Answer) (r : Result Reply E) → Sound plant → TellsPlanOf plant claim said → All (IsWritable plant) (printed_plan said) → length (printed_plan said) ≤ 512 → IsInMoney said → boxes < 2 ^ 64
+pub tells-if : {E : Type 0} (plant : Plant) (claim : Claim) (boxes : ℕ) (said : Answer) (r : Result Reply E) → Sound plant → TellsPlanOf plant claim said → All (IsWritable plant) (printed_plan said) → length (printed_plan said) ≤ most_lines plant → IsInMoney said → boxes < 2 ^ 64
     → IfOk r (λ reply. (reply.status ≡ status_of said) × (reply.text.items ≡ answer_text plant boxes None said)) → IfOk r (λ reply. TellsClaim plant claim boxes reply.status reply.text.items)
 tells-if plant claim boxes said (Ok reply) sound of can few small count is = record {
   said = said;

@@ -4,6 +4,7 @@ ghost use Rattle.stn_model.specs.Feasible.{Feasible};
 ghost use Rattle.stn_model.specs.Sound.{Sound};
 ghost use Rattle.time_grid.specs.PlanPoint.{IsPlanOf};
 ghost use Rattle.row_set.specs.Parts.{plan_of_values};
+ghost use Rattle.plan_text.specs.Published.{most_lines};
 ghost use Rattle.plan_text.specs.ReadsBack.{IsWritable};
 ghost use Rattle.answer_texts.specs.Planning.{printed_plan};
 ghost use Rattle.valid_log.specs.Claims.{SaysOfPlans};
@@ -25,7 +26,7 @@ fn plan_of(alloc: Global, plant: &Plant, point: &[u8]) -> Result<List<Start>, Al
     requires feasible { Feasible plant.now (plan_of_values plant.now point.now) }
     ensures plan { IfOk result (IsPlanOf plant.now point.now) }
     ensures writable { IfOk result (λ plan. All (IsWritable plant.now) plan) }
-    ensures few { IfOk result (λ plan. length plan ≤ 512) }
+    ensures few { IfOk result (λ plan. length plan ≤ most_lines plant.now) }
 {
     let grid = Grid::new(alloc, plant)?;
     if point.len() != grid.slot_count() as usize {
@@ -41,7 +42,7 @@ fn answer_of(alloc: Global, plant: &Plant, claim: &Claim) -> Result<Answer, Allo
     requires says { SaysOfPlans plant.now claim.now }
     ensures of_claim { IfOk result (TellsPlanOf plant.now claim.now) }
     ensures writable { IfOk result (λ said. All (IsWritable plant.now) (printed_plan said)) }
-    ensures few { IfOk result (λ said. length (printed_plan said) ≤ 512) }
+    ensures few { IfOk result (λ said. length (printed_plan said) ≤ most_lines plant.now) }
 {
     match claim {
         Claim::Optimal { profit, point } => Ok(Answer::Optimal {

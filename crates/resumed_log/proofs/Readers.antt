@@ -18,8 +18,8 @@ reading-stays name out r old new others apart is =
     (is.0, (is.1.0, (is.1.1.0, (is.1.1.1.0, read_stays is.0 is.1.0 name is.1.1.0 is.1.1.1.0 None r old new (same_file name old new (others name (λ own. apart (sym own)))) is.1.1.1.1))))
 
 -- a log is walked on where another one changes
-pub walks-on : {name out : List ℕ} {r : LogReader} {old new : Option FileMap} {rows : Rows} {going later : GoingOn}
-    → OthersStay out old new → out ≢ name → CanGoOn rows later → GoesOnWalking old name r rows going → GoesOnWalking new name r rows later
+pub walks-on : {name out : List ℕ} {r : LogReader} {old new : Option FileMap} {most : ℕ} {rows : Rows} {going later : GoingOn}
+    → OthersStay out old new → out ≢ name → CanGoOn most rows later → GoesOnWalking old name r most rows going → GoesOnWalking new name r most rows later
 walks-on {name} {out} {r} {old} {new} others apart can walking = record { reading = reading-stays name out r old new others apart walking.reading; can = can }
 
 -- one file may still be read while another is written

@@ -1,5 +1,5 @@
 //! The open ends of a log, and its best plan.
-ghost use Rattle.std.specs.Prelude.{◌<◌, ◌≡◌, ◌≢◌, map, Err, IsTrue, OnOk};
+ghost use Rattle.std.specs.Prelude.{◌<◌, ◌≡◌, ◌≢◌, ℕ, map, Err, IsTrue, OnOk};
 ghost use Rattle.stn_edge.specs.Count.{Rose};
 ghost use Rattle.row_relax.specs.declared.rows.Rows.{Rows};
 ghost use Rattle.row_relax.specs.View.{Fits, view_of};
@@ -14,7 +14,7 @@ use crate::leaves::{cap_of, may_search};
 use crate::walk::Walk;
 use branch_tree::GoingOn;
 use end_advice::OpenEnd;
-use log_nodes::{Ending, Front, MOST_NODES, Node, Pair, WalkStop, enter_node, is_open, reader_at};
+use log_nodes::{Ending, Front, Node, Pair, WalkStop, enter_node, is_open, reader_at};
 use proof_log::{Claim, LogPart, LogReader};
 use proof_tree::{Capped, Relaxation};
 use row_kit::{Area, Found};
@@ -53,9 +53,9 @@ impl<'a> Gathered<'a> {
         depth: u32,
         end: &Ending,
     ) -> Result<(), AllocError>
-        requires can { CanGoOn pair.now.rows.now self.old.going }
+        requires can { CanGoOn pair.now.most pair.now.rows.now self.old.going }
         requires fits { Fits pair.now.rows.now.program (seen area.now) }
-        ensures { OnOk result (CanGoOn pair.now.rows.now self.new.going) }
+        ensures { OnOk result (CanGoOn pair.now.most pair.now.rows.now self.new.going) }
     {
         if let Ending::Point = end {
             return self.going.settle(area);
@@ -73,8 +73,8 @@ impl<'a> Gathered<'a> {
 
     // Keeps a found point, where it is worth more.
     fn note_found(&mut self, found: &Option<Found>) -> Result<(), AllocError>
-        ensures { (rows : Rows) → CanGoOn rows self.old.going
-            → OnOk result (CanGoOn rows self.new.going) }
+        ensures { (most : ℕ) (rows : Rows) → CanGoOn most rows self.old.going
+            → OnOk result (CanGoOn most rows self.new.going) }
     {
         match found {
             Some(found) if is_more(found.value, self.going.best()) => {
@@ -86,8 +86,8 @@ impl<'a> Gathered<'a> {
 
     // Keeps the point of a claim, if it names one.
     fn note_claim(&mut self, claim: &Claim) -> Result<(), AllocError>
-        ensures { (rows : Rows) → CanGoOn rows self.old.going
-            → OnOk result (CanGoOn rows self.new.going) }
+        ensures { (most : ℕ) (rows : Rows) → CanGoOn most rows self.old.going
+            → OnOk result (CanGoOn most rows self.new.going) }
     {
         match point_of(claim) {
             Some(point) => self.going.offer(point),
@@ -122,7 +122,7 @@ pub fn gather<F: Shelf>(
     gathered: &mut Gathered,
 ) -> Result<Claim, WalkStop>
     requires allowed { IsTrue (F.may_read files.old pair.log.now) }
-    requires can { CanGoOn pair.rows.now gathered.old.going }
+    requires can { CanGoOn pair.most pair.rows.now gathered.old.going }
     ensures frame { OnlyReads F.Shelf files.old files.new }
     ensures read_fault { result ≡ Err WalkStop.ReadFault
         → Rose (F.read_faults files.old) (F.read_faults files.new) }
@@ -143,8 +143,8 @@ fn gather_claim<F: Shelf>(
     gathered: &mut Gathered,
 ) -> Result<Claim, WalkStop>
     requires allowed { IsTrue (F.may_read files.old pair.log.now) }
-    requires walking { GoesOnWalking (F.files files.old) pair.log.now reader.old pair.rows.now
-        gathered.old.going }
+    requires walking { GoesOnWalking (F.files files.old) pair.log.now reader.old
+        pair.most pair.rows.now gathered.old.going }
     ensures frame { OnlyReads F.Shelf files.old files.new }
     ensures read_fault { result ≡ Err WalkStop.ReadFault
         → Rose (F.read_faults files.old) (F.read_faults files.new) }
@@ -170,11 +170,11 @@ fn gather_node<F: Shelf>(
     depth: u32,
 ) -> Result<(), WalkStop>
     requires allowed { IsTrue (F.may_read files.old walk.pair.log.now) }
-    requires walking { GoesOnWalking (F.files files.old) walk.pair.log.now reader.old walk.pair.rows.now
-        gathered.old.going }
+    requires walking { GoesOnWalking (F.files files.old) walk.pair.log.now reader.old
+        walk.pair.most walk.pair.rows.now gathered.old.going }
     requires fits { Fits walk.pair.rows.now.program (seen area.old) }
     ensures walking { OnOk result (GoesOnWalking (F.files files.new) walk.entry.pair.log.now
-        reader.new walk.entry.pair.rows.now gathered.new.going) }
+        reader.new walk.entry.pair.most walk.entry.pair.rows.now gathered.new.going) }
     ensures as_before { OnOk result (map view_of area.new ≡ map view_of area.old) }
     ensures frame { OnlyReads F.Shelf files.old files.new }
     ensures read_fault { result ≡ Err WalkStop.ReadFault
@@ -198,11 +198,11 @@ fn gather_entered<F: Shelf>(
     depth: u32,
 ) -> Result<(), WalkStop>
     requires allowed { IsTrue (F.may_read files.old walk.pair.log.now) }
-    requires walking { GoesOnWalking (F.files files.old) walk.pair.log.now reader.old walk.pair.rows.now
-        gathered.old.going }
+    requires walking { GoesOnWalking (F.files files.old) walk.pair.log.now reader.old
+        walk.pair.most walk.pair.rows.now gathered.old.going }
     requires fits { Fits walk.pair.rows.now.program (seen area.old) }
     ensures walking { OnOk result (GoesOnWalking (F.files files.new) walk.entry.pair.log.now
-        reader.new walk.entry.pair.rows.now gathered.new.going) }
+        reader.new walk.entry.pair.most walk.entry.pair.rows.now gathered.new.going) }
     ensures below { OnOk result (StandsBelow walk.entry.pair.rows.now.program
         (map view_of area.old) (map view_of area.new)) }
     ensures frame { OnlyReads F.Shelf files.old files.new }
@@ -226,11 +226,11 @@ fn gather_below<F: Shelf>(
     node: &Node,
 ) -> Result<(), WalkStop>
     requires allowed { IsTrue (F.may_read files.old walk.pair.log.now) }
-    requires walking { GoesOnWalking (F.files files.old) walk.pair.log.now reader.old walk.pair.rows.now
-        gathered.old.going }
+    requires walking { GoesOnWalking (F.files files.old) walk.pair.log.now reader.old
+        walk.pair.most walk.pair.rows.now gathered.old.going }
     requires fits { Fits walk.pair.rows.now.program (seen area.old) }
     ensures walking { OnOk result (GoesOnWalking (F.files files.new) walk.entry.pair.log.now
-        reader.new walk.entry.pair.rows.now gathered.new.going) }
+        reader.new walk.entry.pair.most walk.entry.pair.rows.now gathered.new.going) }
     ensures below { OnOk result (StandsBelow walk.entry.pair.rows.now.program
         (map view_of area.old) (map view_of area.new)) }
     ensures frame { OnlyReads F.Shelf files.old files.new }
@@ -260,11 +260,11 @@ fn gather_parts<F: Shelf>(
     pick: &RowPick,
 ) -> Result<(), WalkStop>
     requires allowed { IsTrue (F.may_read files.old walk.pair.log.now) }
-    requires walking { GoesOnWalking (F.files files.old) walk.pair.log.now reader.old walk.pair.rows.now
-        gathered.old.going }
+    requires walking { GoesOnWalking (F.files files.old) walk.pair.log.now reader.old
+        walk.pair.most walk.pair.rows.now gathered.old.going }
     requires fits { Fits walk.pair.rows.now.program (seen area.old) }
     ensures walking { OnOk result (GoesOnWalking (F.files files.new) walk.entry.pair.log.now
-        reader.new walk.entry.pair.rows.now gathered.new.going) }
+        reader.new walk.entry.pair.most walk.entry.pair.rows.now gathered.new.going) }
     ensures below { OnOk result (StandsBelow walk.entry.pair.rows.now.program
         (map view_of area.old) (map view_of area.new)) }
     ensures frame { OnlyReads F.Shelf files.old files.new }
@@ -272,7 +272,7 @@ fn gather_parts<F: Shelf>(
         → Rose (F.read_faults files.old) (F.read_faults files.new) }
     ensures no_fault { result ≢ Err WalkStop.WriteFault }
 {
-    if depth >= MOST_NODES {
+    if depth >= walk.pair.most {
         return Err(WalkStop::Other);
     }
     let mark = walk.pair.rows.mark(area);

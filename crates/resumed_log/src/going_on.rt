@@ -59,11 +59,19 @@ fn going_from<'a>(
     best: Option<Found>,
     plan: Vec<u8>,
 ) -> Result<GoingOn<'a>, AllocError>
-    requires searchable { IsSearchable task.pair.rows.now.program }
-    ensures can { IfOk result (CanGoOn task.entry.pair.rows.now) }
+    requires searchable { IsSearchable task.pair.most task.pair.rows.now.program }
+    ensures can { IfOk result (CanGoOn task.entry.pair.most task.entry.pair.rows.now) }
 {
     let rows = task.pair.rows;
-    let mut going = GoingOn::new(alloc, rows, task.given, true, task.budget, best)?;
+    let mut going = GoingOn::new(
+        alloc,
+        rows,
+        task.pair.most,
+        task.given,
+        true,
+        task.budget,
+        best,
+    )?;
     going.offer(plan.as_slice())?;
     Ok(going)
 }
@@ -77,7 +85,7 @@ pub fn write_with<H: Hinter + Drop, G: EndGuide + Drop, F: Shelf>(
     claim: &Claim,
     advice: Advice<H, G>,
 ) -> Result<Written, WalkStop>
-    requires searchable { IsSearchable task.pair.rows.now.program }
+    requires searchable { IsSearchable task.pair.most task.pair.rows.now.program }
     requires beside { CanWriteBeside (F.may_read files.old) (F.may_write files.old)
         task.pair.log.now task.pair.out.now }
     ensures frame { ReadsAndWritesOne F.Shelf task.entry.pair.out.now files.old files.new }
@@ -113,7 +121,7 @@ fn write_course<H: Hinter + Drop, G: EndGuide + Drop, F: Shelf>(
     course: Course<H, G>,
     claim: &Claim,
 ) -> Result<Written, WalkStop>
-    requires can { CanGoOn task.pair.rows.now course.going }
+    requires can { CanGoOn task.pair.most task.pair.rows.now course.going }
     requires beside { CanWriteBeside (F.may_read files.old) (F.may_write files.old)
         task.pair.log.now (out_name course.out) }
     ensures frame { ReadsAndWritesOne F.Shelf (out_name course.entry.out) files.old files.new }
@@ -134,7 +142,7 @@ fn write_proof<H: Hinter + Drop, G: EndGuide + Drop, F: Shelf>(
     files: &mut F,
     course: &mut Course<H, G>,
 ) -> Result<(), WalkStop>
-    requires can { CanGoOn task.pair.rows.now course.old.going }
+    requires can { CanGoOn task.pair.most task.pair.rows.now course.old.going }
     requires beside { CanWriteBeside (F.may_read files.old) (F.may_write files.old)
         task.pair.log.now (out_name course.old.out) }
     ensures named { out_name course.new.out ≡ out_name course.old.out }

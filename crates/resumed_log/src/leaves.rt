@@ -22,7 +22,7 @@ pub fn cap_of(rows: &Rows, area: &Area, end: &Ending) -> Capped
 
 /// Whether an open end with this number may be searched on, over an area below so many splits: it is of the share, and not too deep.
 pub fn may_search(pair: &Pair, area: &Area, depth: u32, number: u64) -> bool
-    ensures { IsTrue result → is_deep depth (seen area.now) ≡ false }
+    ensures { IsTrue result → is_deep pair.now.most depth (seen area.now) ≡ false }
 {
-    in_share(&pair.share, number) && !is_deep(area, depth)
+    in_share(&pair.share, number) && !is_deep(area, depth, pair.most)
 }

@@ -60,7 +60,7 @@ fn write_log<A: EndAdvisers, F: Shelf>(
     ensures write_fault { result ≡ Err WalkStop.WriteFault
         → Rose (F.write_faults files.old) (F.write_faults files.new) }
 {
-    if !is_searchable(&task.pair.rows.program) {
+    if !is_searchable(&task.pair.rows.program, task.pair.most) {
         return copy_whole(alloc, task, files);
     }
     let known = look(alloc, task, files)?;
@@ -77,7 +77,7 @@ struct Known {
 
 // Looks for the open ends and the best point of the old log.
 fn look<F: Shelf>(alloc: Global, task: Task, files: &mut F) -> Result<Known, WalkStop>
-    requires searchable { IsSearchable task.pair.rows.now.program }
+    requires searchable { IsSearchable task.pair.most task.pair.rows.now.program }
     requires may_read { IsTrue (F.may_read files.old task.pair.log.now) }
     ensures frame { OnlyReads F.Shelf files.old files.new }
     ensures read_fault { result ≡ Err WalkStop.ReadFault
@@ -85,7 +85,7 @@ fn look<F: Shelf>(alloc: Global, task: Task, files: &mut F) -> Result<Known, Wal
     ensures no_fault { result ≢ Err WalkStop.WriteFault }
 {
     let pair = task.pair;
-    let going = GoingOn::new(alloc, pair.rows, task.given, true, 0, None)?;
+    let going = GoingOn::new(alloc, pair.rows, pair.most, task.given, true, 0, None)?;
     let mut gathered = Gathered::new(alloc, going);
     let claim = gather(alloc, pair, task.front, files, &mut gathered)?;
     Ok(known_of(alloc, gathered, claim)?)
@@ -116,7 +116,7 @@ fn search_on<A: EndAdvisers, F: Shelf>(
     files: &mut F,
     known: Known,
 ) -> Result<(), WalkStop>
-    requires searchable { IsSearchable task.pair.rows.now.program }
+    requires searchable { IsSearchable task.pair.most task.pair.rows.now.program }
     requires beside { CanWriteBeside (F.may_read files.old) (F.may_write files.old)
         task.pair.log.now task.pair.out.now }
     ensures frame { ReadsAndWritesOne F.Shelf task.entry.pair.out.now files.old files.new }
@@ -166,7 +166,7 @@ fn search_anew<A: EndAdvisers, F: Shelf>(
     best: Option<Found>,
     claim: &Claim,
 ) -> Result<(), WalkStop>
-    requires searchable { IsSearchable task.pair.rows.now.program }
+    requires searchable { IsSearchable task.pair.most task.pair.rows.now.program }
     requires beside { CanWriteBeside (F.may_read files.old) (F.may_write files.old)
         task.pair.log.now task.pair.out.now }
     ensures frame { ReadsAndWritesOne F.Shelf task.entry.pair.out.now files.old files.new }

@@ -1,5 +1,5 @@
 //! The items of the old log and of what is searched on, written to the new one.
-ghost use Rattle.std.specs.Prelude.{◌≡◌, ◌≢◌, map, Err, IsTrue, OnOk, false};
+ghost use Rattle.std.specs.Prelude.{◌≡◌, ◌≢◌, ℕ, map, Err, IsTrue, OnOk, false};
 ghost use Rattle.stn_edge.specs.Count.{Rose};
 ghost use Rattle.row_relax.specs.declared.rows.Rows.{Rows};
 ghost use Rattle.row_relax.specs.View.{Fits, view_of};
@@ -19,7 +19,7 @@ use box_advice::Hinter;
 use branch_tree::GoingOn;
 use dual_bound::Cert;
 use end_advice::EndGuide;
-use log_nodes::{Ending, MOST_NODES, Node, Pair, WalkStop, enter_node, is_open, item_of};
+use log_nodes::{Ending, Node, Pair, WalkStop, enter_node, is_open, item_of};
 use proof_log::LogReader;
 use proof_tree::{Item, NodeTaker, Relaxation, floor_cap, greater_cap};
 use range_prop::RowCut;
@@ -84,11 +84,11 @@ pub fn write_node<H: Hinter + Drop, G: EndGuide + Drop, F: Shelf>(
 ) -> Result<(), WalkStop>
     requires beside { CanWriteBeside (F.may_read files.old) (F.may_write files.old)
         walk.pair.log.now (out_name course.old.out) }
-    requires walking { GoesOnWalking (F.files files.old) walk.pair.log.now reader.old walk.pair.rows.now
-        course.old.going }
+    requires walking { GoesOnWalking (F.files files.old) walk.pair.log.now reader.old
+        walk.pair.most walk.pair.rows.now course.old.going }
     requires fits { Fits walk.pair.rows.now.program (seen area.old) }
     ensures walking { OnOk result (GoesOnWalking (F.files files.new) walk.entry.pair.log.now
-        reader.new walk.entry.pair.rows.now course.new.going) }
+        reader.new walk.entry.pair.most walk.entry.pair.rows.now course.new.going) }
     ensures as_before { OnOk result (map view_of area.new ≡ map view_of area.old) }
     ensures named { out_name course.new.out ≡ out_name course.old.out }
     ensures frame { ReadsAndWritesOne F.Shelf (out_name course.old.out) files.old files.new }
@@ -115,11 +115,11 @@ fn write_entered<H: Hinter + Drop, G: EndGuide + Drop, F: Shelf>(
 ) -> Result<(), WalkStop>
     requires beside { CanWriteBeside (F.may_read files.old) (F.may_write files.old)
         walk.pair.log.now (out_name course.old.out) }
-    requires walking { GoesOnWalking (F.files files.old) walk.pair.log.now reader.old walk.pair.rows.now
-        course.old.going }
+    requires walking { GoesOnWalking (F.files files.old) walk.pair.log.now reader.old
+        walk.pair.most walk.pair.rows.now course.old.going }
     requires fits { Fits walk.pair.rows.now.program (seen area.old) }
     ensures walking { OnOk result (GoesOnWalking (F.files files.new) walk.entry.pair.log.now
-        reader.new walk.entry.pair.rows.now course.new.going) }
+        reader.new walk.entry.pair.most walk.entry.pair.rows.now course.new.going) }
     ensures below { OnOk result (StandsBelow walk.entry.pair.rows.now.program
         (map view_of area.old) (map view_of area.new)) }
     ensures named { out_name course.new.out ≡ out_name course.old.out }
@@ -146,11 +146,11 @@ fn write_below<H: Hinter + Drop, G: EndGuide + Drop, F: Shelf>(
 ) -> Result<(), WalkStop>
     requires beside { CanWriteBeside (F.may_read files.old) (F.may_write files.old)
         walk.pair.log.now (out_name course.old.out) }
-    requires walking { GoesOnWalking (F.files files.old) walk.pair.log.now reader.old walk.pair.rows.now
-        course.old.going }
+    requires walking { GoesOnWalking (F.files files.old) walk.pair.log.now reader.old
+        walk.pair.most walk.pair.rows.now course.old.going }
     requires fits { Fits walk.pair.rows.now.program (seen area.old) }
     ensures walking { OnOk result (GoesOnWalking (F.files files.new) walk.entry.pair.log.now
-        reader.new walk.entry.pair.rows.now course.new.going) }
+        reader.new walk.entry.pair.most walk.entry.pair.rows.now course.new.going) }
     ensures below { OnOk result (StandsBelow walk.entry.pair.rows.now.program
         (map view_of area.old) (map view_of area.new)) }
     ensures named { out_name course.new.out ≡ out_name course.old.out }
@@ -189,11 +189,11 @@ fn write_end<H: Hinter + Drop, G: EndGuide + Drop, F: Shelf>(
 ) -> Result<(), WalkStop>
     requires beside { CanWriteBeside (F.may_read files.old) (F.may_write files.old)
         walk.pair.log.now (out_name course.old.out) }
-    requires walking { GoesOnWalking (F.files files.old) walk.pair.log.now reader.old walk.pair.rows.now
-        course.old.going }
+    requires walking { GoesOnWalking (F.files files.old) walk.pair.log.now reader.old
+        walk.pair.most walk.pair.rows.now course.old.going }
     requires fits { Fits walk.pair.rows.now.program (seen area.old) }
     ensures walking { OnOk result (GoesOnWalking (F.files files.new) walk.entry.pair.log.now
-        reader.new walk.entry.pair.rows.now course.new.going) }
+        reader.new walk.entry.pair.most walk.entry.pair.rows.now course.new.going) }
     ensures below { OnOk result (StandsBelow walk.entry.pair.rows.now.program
         (map view_of area.old) (map view_of area.new)) }
     ensures named { out_name course.new.out ≡ out_name course.old.out }
@@ -224,12 +224,12 @@ fn is_searched<H: Hinter + Drop, G: EndGuide + Drop>(
     depth: u32,
     end: &Ending,
 ) -> bool
-    requires can { CanGoOn pair.rows.now course.old.going }
+    requires can { CanGoOn pair.most pair.rows.now course.old.going }
     requires fits { Fits pair.rows.now.program (seen area.now) }
-    ensures can { CanGoOn pair.entry.rows.now course.new.going }
+    ensures can { CanGoOn pair.entry.most pair.entry.rows.now course.new.going }
     ensures named { out_name course.new.out ≡ out_name course.old.out }
     ensures left { IsTrue result → HasLeft course.new.going }
-    ensures deep { IsTrue result → is_deep depth (seen area.now) ≡ false }
+    ensures deep { IsTrue result → is_deep pair.entry.most depth (seen area.now) ≡ false }
 {
     if !is_open(pair.rows, area, &pair.profit, end) {
         return false;
@@ -261,7 +261,8 @@ fn held_of(end: Ending) -> Option<(Cert, bool)> {
 
 // Allows a box more to be counted where the old proof counts that of the end which is searched on.
 fn make_room(going: &mut GoingOn, is_counted: bool)
-    ensures can { (rows : Rows) → CanGoOn rows going.old → CanGoOn rows going.new }
+    ensures can { (most : ℕ) (rows : Rows) → CanGoOn most rows going.old
+        → CanGoOn most rows going.new }
     ensures left { HasLeft going.old → HasLeft going.new }
 {
     if !is_counted {
@@ -280,11 +281,11 @@ fn search_end<H: Hinter + Drop, G: EndGuide + Drop, F: Shelf>(
     end: Ending,
 ) -> Result<(), WalkStop>
     requires may_write { IsTrue (F.may_write files.old (out_name course.old.out)) }
-    requires can { CanGoOn pair.rows.now course.old.going }
+    requires can { CanGoOn pair.most pair.rows.now course.old.going }
     requires left { HasLeft course.old.going }
     requires fits { Fits pair.rows.now.program (seen area.old) }
-    requires deep { is_deep depth (seen area.old) ≡ false }
-    ensures can { OnOk result (CanGoOn pair.entry.rows.now course.new.going) }
+    requires deep { is_deep pair.most depth (seen area.old) ≡ false }
+    ensures can { OnOk result (CanGoOn pair.entry.most pair.entry.rows.now course.new.going) }
     ensures as_before { OnOk result (map view_of area.new ≡ map view_of area.old) }
     ensures named { out_name course.new.out ≡ out_name course.old.out }
     ensures frame { WritesOne F.Shelf (out_name course.old.out) files.old files.new }
@@ -323,11 +324,11 @@ fn write_parts<H: Hinter + Drop, G: EndGuide + Drop, F: Shelf>(
 ) -> Result<(), WalkStop>
     requires beside { CanWriteBeside (F.may_read files.old) (F.may_write files.old)
         walk.pair.log.now (out_name course.old.out) }
-    requires walking { GoesOnWalking (F.files files.old) walk.pair.log.now reader.old walk.pair.rows.now
-        course.old.going }
+    requires walking { GoesOnWalking (F.files files.old) walk.pair.log.now reader.old
+        walk.pair.most walk.pair.rows.now course.old.going }
     requires fits { Fits walk.pair.rows.now.program (seen area.old) }
     ensures walking { OnOk result (GoesOnWalking (F.files files.new) walk.entry.pair.log.now
-        reader.new walk.entry.pair.rows.now course.new.going) }
+        reader.new walk.entry.pair.most walk.entry.pair.rows.now course.new.going) }
     ensures below { OnOk result (StandsBelow walk.entry.pair.rows.now.program
         (map view_of area.old) (map view_of area.new)) }
     ensures named { out_name course.new.out ≡ out_name course.old.out }
@@ -337,7 +338,7 @@ fn write_parts<H: Hinter + Drop, G: EndGuide + Drop, F: Shelf>(
     ensures write_fault { result ≡ Err WalkStop.WriteFault
         → Rose (F.write_faults files.old) (F.write_faults files.new) }
 {
-    if depth >= MOST_NODES {
+    if depth >= walk.pair.most {
         return Err(WalkStop::Other);
     }
     let mark = walk.pair.rows.mark(area);

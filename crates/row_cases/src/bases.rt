@@ -3,7 +3,7 @@ ghost use Rattle.std.specs.Prelude.{◌≤◌, length};
 
 use crate::areas::narrow;
 use crate::caps::aim_of;
-use crate::sums::has_room;
+use crate::sums::{MOST_SLOTS, has_room};
 use crate::tried::{put_outcome, round, trial};
 use case_programs::{is_part, program_of};
 use case_tables::{Sheet, Step, Tried};
@@ -54,7 +54,7 @@ fn larger(alloc: Global, program: Program) -> Result<Program, AllocError>
     requires slots { length program.root ≤ 512 }
     requires rows { length program.rows ≤ 45904 }
 {
-    let sums = choose_sums(alloc, &program, program.root.as_slice())?;
+    let sums = choose_sums(alloc, &program, program.root.as_slice(), MOST_SLOTS)?;
     let ranges = List::from_slice(alloc, program.root.as_slice())?;
     with_sums(alloc, program, ranges.as_slice(), sums.as_slice())
 }

@@ -14,19 +14,22 @@ pub fn answer(alloc: Global, program: &Program, sheet: &mut Sheet) -> Tried {
         sheet.refuse();
         return Ok(());
     }
-    let sums = choose_sums(alloc, program, program.root.as_slice())?;
+    let sums = choose_sums(alloc, program, program.root.as_slice(), MOST_SLOTS)?;
     put_sums(sums.as_slice(), sheet);
     sheet.show(sums.len());
     sheet.line(" sums");
     Ok(())
 }
 
-/// Whether a program has no more slots and rows than a log that declares sums.
+/// The most slots of a program with sums.
+pub const MOST_SLOTS: usize = 512;
+
+/// Whether a program has no more slots and rows than a log of version 3 that declares sums.
 pub fn has_room(program: &Program) -> bool
     ensures { IsTrue result → (length program.now.root ≤ 512)
         × (length program.now.rows ≤ 45904) }
 {
-    program.root.len() <= 512 && program.rows.len() <= 45_904
+    program.root.len() <= MOST_SLOTS && program.rows.len() <= 45_904
 }
 
 fn put_sums(sums: &[Sum], sheet: &mut Sheet) {

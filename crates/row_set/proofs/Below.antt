@@ -6,7 +6,7 @@ use Rattle.std.proofs.Math.IntN.{*ℤ-zero}
 use Rattle.std.proofs.lemmas.List.Elements.{All-head, All-tail}
 use Rattle.std.proofs.lemmas.List.Sums.{sum_by-cons}
 use Rattle.std.proofs.lemmas.Bool.{cond-true, cond-false, eq-eqb, ne_eqb, le-leb, lt-leb, lt-ltb, le-ltb, cases_eq, cases_lt}
-use Rattle.stn_model.specs.Sums.{total, total_below, sum_below}
+use Rattle.stn_model.specs.Sums.{total, total_below}
 use Rattle.stn_model.proofs.Totals.{total_below-agree}
 use Rattle.row_set.proofs.Signed.{times-plus}
 
@@ -115,8 +115,3 @@ below-window f p d (suc n) =
             ap₂ (λ x y. x +ℤ y) ih (cond-false (nat_le p n && nat_lt n (p + d)) (f (n - p)) (pos 0) out) ∙ (omega (arith, ints)) ∙ sym (ap (total_below f) same)
       ]
     ]
-
--- a multiple of a sum
-pub below-times : (c : ℤ) (f : ℕ → ℕ) (n : ℕ) → total_below (λ k. c *ℤ pos (f k)) n ≡ c *ℤ pos (sum_below f n)
-below-times c f zero = sym (*ℤ-zero c)
-below-times c f (suc n) = ap (λ x. x +ℤ (c *ℤ pos (f n))) (below-times c f n) ∙ sym (times-plus c (sum_below f n) (f n))

@@ -40,7 +40,7 @@ joined start one two three four a b c d s e f g h =
     ∙ append_assoc (a ++ b) c d ∙ append_assoc a b (c ++ d)
 
 -- how many rows a plant has at most
-pub length-plant_rows : (plant : Plant) → Sound plant → length (plant_rows plant) ≤ 45904
+pub length-plant_rows : (plant : Plant) → Sound plant → length (plant_rows plant) ≤ 194368
 unfolding plant_rows
 length-plant_rows plant sound =
     omega (

@@ -1,22 +1,20 @@
 -- What a start in a slot gains: its fixed part, and its part for each quantum.
-use Rattle.std.proofs.Common.{◌≡◌, ℕ, zero, suc, ◌+◌, ◌-◌, ◌*◌, ◌<◌, ◌≤◌, ◌==◌, ◌&&◌, nat_le, nat_lt, min, Bool, true, false, cond, List, [], ◌∷◌, length, get_or, take, sum, sum_by, slice_index, sym, refl, ap, ap₂, ◌∙◌, arith, add-one, ℤ, pos, ◌+ℤ◌, ◌-ℤ◌, ◌*ℤ◌}
+use Rattle.std.proofs.Common.{◌≡◌, ℕ, zero, suc, ◌+◌, ◌-◌, ◌*◌, ◌<◌, ◌≤◌, ◌==◌, ◌&&◌, nat_le, nat_lt, min, Bool, true, false, cond, List, [], ◌∷◌, length, get_or, sum_by, slice_index, sym, refl, ap, ap₂, ◌∙◌, arith, ℤ, pos, ◌+ℤ◌, ◌-ℤ◌, ◌*ℤ◌}
 use Rattle.std.specs.List.{All}
 use Rattle.std.proofs.lemmas.Int.{ints}
-use Rattle.std.proofs.Math.IntN.{*ℤ-zero}
-use Rattle.std.proofs.Math.Seq.{take-length}
-use Rattle.std.proofs.lemmas.List.Sums.{sum_by_more}
-use Rattle.std.proofs.lemmas.Bool.{cond-true, le-leb}
+use Rattle.std.proofs.Math.IntN.{*ℤ-zero, zero-*ℤ}
+use Rattle.std.proofs.lemmas.Bool.{cond-true, le-leb, leb-true}
 use Rattle.stn_model.specs.declared.plant.Plant.{Plant}
 use Rattle.stn_model.specs.declared.plant.Task.{Task}
 use Rattle.stn_model.specs.declared.plant.Input.{Input}
 use Rattle.stn_model.specs.declared.plant.Output.{Output}
 use Rattle.stn_model.specs.declared.plant.Draw.{Draw}
 use Rattle.stn_model.specs.declared.start.Start.{Start}
-use Rattle.stn_model.specs.Plant.{state_at, utility_at, task_at, no_task, duration_of, run_on, end_of, no_run, run_at}
+use Rattle.stn_model.specs.Plant.{state_at, utility_at, rate_in, task_at, no_task, duration_of, run_on, end_of, no_run, run_at}
 use Rattle.stn_model.specs.Stock.{given, taken, inflow, outflow, stock}
 use Rattle.stn_model.specs.Load.{drawn_in, drawn, load}
 use Rattle.stn_model.specs.Points.{has_slot, least_start}
-use Rattle.stn_model.specs.Sums.{total, total_below, sum_below}
+use Rattle.stn_model.specs.Sums.{total, total_below}
 use Rattle.stn_model.specs.Profit.{end_value, holding_cost, utility_cost, cost_of, start_cost, profit}
 use Rattle.stn_model.specs.Sound.{Sound, SoundTask}
 use Rattle.plain_plan.proofs.SmallProfit.{change_costs-nil, change_costs-one}
@@ -25,11 +23,11 @@ use Rattle.time_grid.specs.Slots.{IsSlotOf}
 use Rattle.time_grid.specs.PlanPoint.{start_in}
 use Rattle.time_grid.proofs.SlotList.{sum_by-same}
 use Rattle.time_grid.proofs.PointPlan.{found_run}
-use Rattle.row_set.specs.ProfitParts.{worth_from, output_worth, input_worth, fixed_cost, each_cost, fixed_profit, each_profit}
-use Rattle.row_set.proofs.Signed.{times-add, times-sub, times-plus, parts-worth, quanta-parts, quanta-price, scale-sub, total-scale}
+use Rattle.row_set.specs.ProfitParts.{worth_from, output_worth, input_worth, cost_from, fixed_cost, each_cost, fixed_profit, each_profit}
+use Rattle.row_set.proofs.Signed.{times-add, times-sub, times-plus, parts-worth, quanta-parts, quanta-price, scale-add, scale-sub, total-scale}
 use Rattle.stn_model.proofs.Totals.{total_below-agree}
 use Rattle.stn_model.proofs.Fitting.{delay-within, fit_parts}
-use Rattle.row_set.proofs.Below.{total-agree, below-add, below-sub, total-add, total-sub, below-zero, below-turn, below-total, by_items, below-from, below-window, below-times}
+use Rattle.row_set.proofs.Below.{total-agree, below-add, below-sub, total-add, total-sub, below-zero, below-turn, below-total, by_items, below-from, below-window}
 
 both-tests : (a b : Bool) (n : ℕ) → cond (a && b) n 0 ≡ cond a (cond b n 0) 0
 both-tests true b n = refl
@@ -135,8 +133,8 @@ price_of plant s = (state_at plant s).price
 abbrev holding_of : Plant → ℕ → ℤ
 holding_of plant s = (state_at plant s).holding
 
-abbrev rate_of : Plant → ℕ → ℤ
-rate_of plant u = (utility_at plant u).rate
+abbrev rate_of : Plant → ℕ → ℕ → ℤ
+rate_of plant t u = rate_in (utility_at plant u) t
 
 -- what a slot's batch gives and takes, as things that move
 given-moved : (plant : Plant) (slot : ℕ × ℕ) (v s t : ℕ) → given plant s t (start_in plant slot v) ≡ moved (λ (o : Output). o.state) (λ (o : Output). slot.1 + o.delay) (λ (o : Output). o.amount) v s t (task_in plant slot).outputs
@@ -161,26 +159,24 @@ ends_by plant slot is =
       outputs = λ k d l. let h = delay-within (task_in plant slot) k d l in omega (arith, h, ends);
     }
 
--- the sum of the first numbers of two lists
-first_sums : (xs ys : List ℕ) (v n : ℕ) → n ≤ length xs → n ≤ length ys →
-    sum_below (λ k. slice_index xs k + v * slice_index ys k) n ≡ sum (take n xs) + v * sum (take n ys)
-first_sums xs ys v zero l m = let e : v * 0 ≡ 0 = omega arith in omega (arith, e)
-first_sums xs ys v (suc n) l m =
-    let ih = first_sums xs ys v n (omega arith) (omega arith) in
-    let a : sum (take (suc n) xs) ≡ sum (take n xs) + get_or xs n 0 = rw add-one at (sum_by_more (λ (x : ℕ). x) xs n 0 (omega arith)) in
-    let b : sum (take (suc n) ys) ≡ sum (take n ys) + get_or ys n 0 = rw add-one at (sum_by_more (λ (x : ℕ). x) ys n 0 (omega arith)) in
-    let c : v * (sum (take n ys) + get_or ys n 0) ≡ v * sum (take n ys) + v * get_or ys n 0 = omega arith in
-    omega (arith, ih, a, ap (λ k. v * k) b, c)
+-- a sum of which all terms are there where a test holds, and else none
+let_in : (b : Bool) (c : ℕ → ℤ) (g : ℕ → ℕ) (n : ℕ) (x : ℤ) → (b ≡ true → total_below (λ u. c u *ℤ pos (g u)) n ≡ x) → total_below (λ u. c u *ℤ pos (cond b (g u) 0)) n ≡ cond b x (pos 0)
+let_in true c g n x e = e refl
+let_in false c g n x e = total_below-agree (λ u. c u *ℤ pos 0) (λ u. pos 0) n (λ u l. *ℤ-zero (c u)) ∙ below-zero n
 
-all_sums : (xs ys : List ℕ) (v n : ℕ) → length xs ≡ n → length ys ≡ n → sum_below (λ k. slice_index xs k + v * slice_index ys k) n ≡ sum xs + v * sum ys
-all_sums xs ys v n e f =
-    first_sums xs ys v n (omega arith) (omega arith)
-    ∙ ap₂ (λ s t. sum s + v * sum t) (ap (λ k. take k xs) (sym e) ∙ take-length xs) (ap (λ k. take k ys) (sym f) ∙ take-length ys)
+first_true : (a b : Bool) → (a && b) ≡ true → a ≡ true
+first_true true b h = refl
+first_true false b h = h
 
--- a sum of which all terms are there, or none
-let_in : (b : Bool) (c f : ℕ → ℤ) (g : ℕ → ℕ) (n : ℕ) (x : ℤ) → total_below (λ u. c u *ℤ pos (g u)) n ≡ x → total_below (λ u. c u *ℤ pos (cond b (g u) 0)) n ≡ cond b x (pos 0)
-let_in true c f g n x e = e
-let_in false c f g n x e = total_below-agree (λ u. c u *ℤ pos 0) (λ u. pos 0) n (λ u l. *ℤ-zero (c u)) ∙ below-zero n
+-- at a price for each place, a fixed part and a part for each quantum cost what the fixed part costs, and what the other costs for each
+prices-split : (r : ℕ → ℤ) (f g : ℕ → ℕ) (v n : ℕ) →
+    total_below (λ k. r k *ℤ pos (f k + v * g k)) n ≡ total_below (λ k. r k *ℤ pos (f k)) n +ℤ (total_below (λ k. r k *ℤ pos (g k)) n *ℤ pos v)
+prices-split r f g v zero = omega (arith, ints, zero-*ℤ (pos v))
+prices-split r f g v (suc n) =
+    let before = prices-split r f g v n in
+    let last = times-plus (r n) (f n) (v * g n) ∙ ap (λ x. (r n *ℤ pos (f n)) +ℤ x) (quanta-price v (g n) (r n)) in
+    let both = scale-add (total_below (λ k. r k *ℤ pos (g k)) n) (r n *ℤ pos (g n)) (pos v) in
+    omega (arith, ints, before, last, both)
 
 -- the sums that a slot's batch adds to the parts of the profit
 module _ (plant : Plant) (sound : Sound plant) (slot : ℕ × ℕ) (is : IsSlotOf plant slot) (v : ℕ) where
@@ -247,26 +243,31 @@ module _ (plant : Plant) (sound : Sound plant) (slot : ℕ × ℕ) (is : IsSlotO
   unfolding worth_from prices_in holds_in
   inputs-worth = worth-parts (λ (i : Input). i.state) (λ (i : Input). slot.1) (λ (i : Input). i.amount) v (price_of plant) (holding_of plant) plant.periods (task_in plant slot).inputs
 
-  -- what a draw takes in a period of the batch, at its rate
+  -- what a draw takes in a period of the batch, at the rate of that period
   drawn_at : ℕ → Draw → ℤ
-  drawn_at k draw = rate_of plant draw.utility *ℤ pos (slice_index draw.fixed k + v * slice_index draw.each k)
+  drawn_at k draw = rate_of plant (slot.1 + k) draw.utility *ℤ pos (slice_index draw.fixed k + v * slice_index draw.each k)
 
-  draws-at : (k : ℕ) → total_below (λ u. rate_of plant u *ℤ pos (sum_by (drawn_in u v k) (task_in plant slot).draws)) (length plant.utilities) ≡ total (drawn_at k) (task_in plant slot).draws
+  draws-at : (k : ℕ) → total_below (λ u. rate_of plant (slot.1 + k) u *ℤ pos (sum_by (drawn_in u v k) (task_in plant slot).draws)) (length plant.utilities) ≡ total (drawn_at k) (task_in plant slot).draws
   unfolding drawn_at
-  draws-at k = by_items (rate_of plant) (λ (d : Draw). d.utility) (λ (d : Draw). slice_index d.fixed k + v * slice_index d.each k) (task_in plant slot).draws (length plant.utilities) (λ j d l. (fine.draw j d l).utility)
+  draws-at k = by_items (rate_of plant (slot.1 + k)) (λ (d : Draw). d.utility) (λ (d : Draw). slice_index d.fixed k + v * slice_index d.each k) (task_in plant slot).draws (length plant.utilities) (λ j d l. (fine.draw j d l).utility)
+
+  -- the same in a period in which the batch runs
+  draws-in : (t : ℕ) → slot.1 ≤ t → total_below (λ u. rate_of plant t u *ℤ pos (sum_by (drawn_in u v (t - slot.1)) (task_in plant slot).draws)) (length plant.utilities) ≡ total (drawn_at (t - slot.1)) (task_in plant slot).draws
+  draws-in t h =
+      let same : t ≡ slot.1 + (t - slot.1) = omega arith in
+      ap (λ p. total_below (λ u. rate_of plant p u *ℤ pos (sum_by (drawn_in u v (t - slot.1)) (task_in plant slot).draws)) (length plant.utilities)) same ∙ draws-at (t - slot.1)
 
   -- what a draw costs over all periods of the batch
-  draw-cost : All (λ draw. total_below (λ k. drawn_at k draw) (duration_of (task_in plant slot)) ≡ fixed_cost plant draw +ℤ (each_cost plant draw *ℤ pos v)) (task_in plant slot).draws
-  unfolding drawn_at
+  draw-cost : All (λ draw. total_below (λ k. drawn_at k draw) (duration_of (task_in plant slot)) ≡ fixed_cost plant slot.1 draw +ℤ (each_cost plant slot.1 draw *ℤ pos v)) (task_in plant slot).draws
+  unfolding drawn_at cost_from
   draw-cost j d l =
       let draw = get_or (task_in plant slot).draws j d in
-      let sums = all_sums draw.fixed draw.each v (duration_of (task_in plant slot)) (fine.draw j d l).fixed (fine.draw j d l).each in
-      below-times (rate_of plant draw.utility) (λ k. slice_index draw.fixed k + v * slice_index draw.each k) (duration_of (task_in plant slot))
-      ∙ ap (λ n. rate_of plant draw.utility *ℤ pos n) sums
-      ∙ times-plus (rate_of plant draw.utility) (sum draw.fixed) (v * sum draw.each)
-      ∙ ap (λ x. fixed_cost plant draw +ℤ x) (quanta-price v (sum draw.each) (rate_of plant draw.utility))
+      let rate : ℕ → ℤ = λ k. rate_of plant (slot.1 + k) draw.utility in
+      prices-split rate (λ k. slice_index draw.fixed k) (λ k. slice_index draw.each k) v (duration_of (task_in plant slot))
+      ∙ ap₂ (λ m n. total_below (λ k. rate k *ℤ pos (slice_index draw.fixed k)) m +ℤ (total_below (λ k. rate k *ℤ pos (slice_index draw.each k)) n *ℤ pos v))
+      (sym (fine.draw j d l).fixed) (sym (fine.draw j d l).each)
 
-  utility_cost-one : utility_cost plant (batch ∷ []) ≡ total (fixed_cost plant) (task_in plant slot).draws +ℤ (total (each_cost plant) (task_in plant slot).draws *ℤ pos v)
+  utility_cost-one : utility_cost plant (batch ∷ []) ≡ total (fixed_cost plant slot.1) (task_in plant slot).draws +ℤ (total (each_cost plant slot.1) (task_in plant slot).draws *ℤ pos v)
   unfolding utility_cost batch drawn end_of
   utility_cost-one =
       let n = length plant.utilities in
@@ -275,25 +276,26 @@ module _ (plant : Plant) (sound : Sound plant) (slot : ℕ × ℕ) (is : IsSlotO
       let runs : ℕ → Bool = λ t. nat_le slot.1 t && nat_lt t (slot.1 + long) in
       let all : ℕ → ℤ = λ k. total (drawn_at k) draws in
       let whole : min (plant.periods - slot.1) long ≡ long = let h = (ends_by plant slot is).ends in omega (arith, h) in
-      below-turn (λ u t. rate_of plant u *ℤ pos (load plant (start_in plant slot v ∷ []) u t)) n plant.periods
-      ∙ total_below-agree (λ t. total_below (λ u. rate_of plant u *ℤ pos (load plant (start_in plant slot v ∷ []) u t)) n) (λ t. cond (runs t) (all (t - slot.1)) (pos 0)) plant.periods
+      below-turn (λ u t. rate_of plant t u *ℤ pos (load plant (start_in plant slot v ∷ []) u t)) n plant.periods
+      ∙ total_below-agree (λ t. total_below (λ u. rate_of plant t u *ℤ pos (load plant (start_in plant slot v ∷ []) u t)) n) (λ t. cond (runs t) (all (t - slot.1)) (pos 0)) plant.periods
       (λ t l.
-      total_below-agree (λ u. rate_of plant u *ℤ pos (load plant (start_in plant slot v ∷ []) u t)) (λ u. rate_of plant u *ℤ pos (cond (runs t) (sum_by (drawn_in u v (t - slot.1)) draws) 0)) n
-      (λ u m. ap (λ k. rate_of plant u *ℤ pos k) (load-one plant (start_in plant slot v) u t))
-      ∙ let_in (runs t) (rate_of plant) (rate_of plant) (λ u. sum_by (drawn_in u v (t - slot.1)) draws) n (all (t - slot.1)) (draws-at (t - slot.1)))
+      total_below-agree (λ u. rate_of plant t u *ℤ pos (load plant (start_in plant slot v ∷ []) u t)) (λ u. rate_of plant t u *ℤ pos (cond (runs t) (sum_by (drawn_in u v (t - slot.1)) draws) 0)) n
+      (λ u m. ap (λ k. rate_of plant t u *ℤ pos k) (load-one plant (start_in plant slot v) u t))
+      ∙ let_in (runs t) (rate_of plant t) (λ u. sum_by (drawn_in u v (t - slot.1)) draws) n (all (t - slot.1))
+      (λ h. draws-in t (leb-true slot.1 t (first_true (nat_le slot.1 t) (nat_lt t (slot.1 + long)) h))))
       ∙ below-window all slot.1 long plant.periods
       ∙ ap (total_below all) whole
       ∙ below-total drawn_at draws long
-      ∙ total-agree (λ draw. total_below (λ k. drawn_at k draw) long) (λ draw. fixed_cost plant draw +ℤ (each_cost plant draw *ℤ pos v)) draws draw-cost
-      ∙ total-add (fixed_cost plant) (λ draw. each_cost plant draw *ℤ pos v) draws
-      ∙ ap (λ x. total (fixed_cost plant) draws +ℤ x) (sym (total-scale (each_cost plant) (pos v) draws))
+      ∙ total-agree (λ draw. total_below (λ k. drawn_at k draw) long) (λ draw. fixed_cost plant slot.1 draw +ℤ (each_cost plant slot.1 draw *ℤ pos v)) draws draw-cost
+      ∙ total-add (fixed_cost plant slot.1) (λ draw. each_cost plant slot.1 draw *ℤ pos v) draws
+      ∙ ap (λ x. total (fixed_cost plant slot.1) draws +ℤ x) (sym (total-scale (each_cost plant slot.1) (pos v) draws))
 
   utility_cost-none : utility_cost plant [] ≡ pos 0
   unfolding utility_cost
   utility_cost-none =
-      total_below-agree (λ u. total_below (λ t. rate_of plant u *ℤ pos (load plant [] u t)) plant.periods) (λ u. pos 0) (length plant.utilities)
-      (λ u l. total_below-agree (λ t. rate_of plant u *ℤ pos (load plant [] u t)) (λ t. pos 0) plant.periods
-      (λ t m. ap (λ k. rate_of plant u *ℤ pos k) (load-none plant u t) ∙ *ℤ-zero (rate_of plant u)) ∙ below-zero plant.periods)
+      total_below-agree (λ u. total_below (λ t. rate_of plant t u *ℤ pos (load plant [] u t)) plant.periods) (λ u. pos 0) (length plant.utilities)
+      (λ u l. total_below-agree (λ t. rate_of plant t u *ℤ pos (load plant [] u t)) (λ t. pos 0) plant.periods
+      (λ t m. ap (λ k. rate_of plant t u *ℤ pos k) (load-none plant u t) ∙ *ℤ-zero (rate_of plant t u)) ∙ below-zero plant.periods)
       ∙ below-zero (length plant.utilities)
 
   start_cost-one : start_cost plant (batch ∷ []) ≡ (run_at plant slot.0).cost
@@ -312,7 +314,7 @@ module _ (plant : Plant) (sound : Sound plant) (slot : ℕ × ℕ) (is : IsSlotO
   gain-parts =
       let outs : ℤ = total (output_worth plant slot.1) (task_in plant slot).outputs in
       let ins : ℤ = total (input_worth plant slot.1) (task_in plant slot).inputs in
-      let each : ℤ = total (each_cost plant) (task_in plant slot).draws in
+      let each : ℤ = total (each_cost plant slot.1) (task_in plant slot).draws in
       let split : ((outs -ℤ ins) -ℤ each) *ℤ pos v ≡ ((outs *ℤ pos v) -ℤ (ins *ℤ pos v)) -ℤ (each *ℤ pos v) =
       scale-sub (outs -ℤ ins) each (pos v) ∙ ap (λ x. x -ℤ (each *ℤ pos v)) (scale-sub outs ins (pos v)) in
       omega (

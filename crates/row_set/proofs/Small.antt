@@ -1,5 +1,5 @@
 -- How large prices, amounts and profits are.
-use Rattle.std.proofs.Common.{◌≡◌, ℕ, ◌+◌, ◌-◌, ◌*◌, ◌<◌, ◌≤◌, ◌^◌, List, [], ◌∷◌, length, get_or, take, sum, sum_by, sym, ap, ap₂, ◌∙◌, subst, arith, ℤ, pos, ◌+ℤ◌, ◌-ℤ◌, ◌*ℤ◌, unsigned_abs, FitsSigned, to_z, of_z, mul-le-mul, le_refl}
+use Rattle.std.proofs.Common.{◌≡◌, ℕ, zero, suc, ◌+◌, ◌-◌, ◌*◌, ◌<◌, ◌≤◌, ◌^◌, List, [], ◌∷◌, length, get_or, take, slice_index, sum_by, sym, ap, ap₂, ◌∙◌, subst, arith, ℤ, pos, ◌+ℤ◌, ◌-ℤ◌, ◌*ℤ◌, unsigned_abs, FitsSigned, to_z, of_z, mul-le-mul, le_refl}
 use Rattle.std.specs.List.{All}
 use Rattle.std.proofs.lemmas.Int.{ints, to_z-of_z, to_z_pos, fits_signed_from_abs}
 use mir.Syntax.{w64}
@@ -10,11 +10,12 @@ use Rattle.stn_model.specs.declared.plant.Task.{Task}
 use Rattle.stn_model.specs.declared.plant.Output.{Output}
 use Rattle.stn_model.specs.declared.plant.Draw.{Draw}
 use Rattle.stn_model.specs.declared.plant.State.{State}
-use Rattle.stn_model.specs.Plant.{state_at, no_state, utility_at, no_utility, task_at, no_task, duration_of, no_run, run_at}
-use Rattle.stn_model.specs.Sums.{total, greatest_by}
+use Rattle.stn_model.specs.Plant.{state_at, no_state, utility_at, rate_in, task_at, no_task, duration_of, no_run, run_at}
+use Rattle.stn_model.specs.Sums.{total, total_below, greatest_by}
 use Rattle.stn_model.specs.Sound.{Sound, SoundTask}
 use Rattle.plain_plan.proofs.SmallProfit.{times-small}
 use Rattle.stn_model.proofs.Totals.{total_more}
+use Rattle.stn_model.proofs.Small.{rate_small}
 use Rattle.stn_model.proofs.Fitting.{delay-within}
 use Rattle.row_set.proofs.GainParts.{task_in}
 use Rattle.row_kit.proofs.Gathered.{IsPartWithin}
@@ -22,7 +23,7 @@ use Rattle.time_grid.specs.Slots.{IsSlotOf}
 use Rattle.std.proofs.Math.Seq.{take-length}
 use Rattle.std.proofs.lemmas.List.{get_or_default}
 use Rattle.stn_model.specs.declared.plant.Run.{Run}
-use Rattle.row_set.specs.ProfitParts.{worth_from, output_worth, input_worth, fixed_cost, each_cost, fixed_profit, each_profit, profit_part}
+use Rattle.row_set.specs.ProfitParts.{worth_from, output_worth, input_worth, cost_from, fixed_cost, each_cost, fixed_profit, each_profit, profit_part}
 
 pub amount-small : (a : ℕ) (w : ℤ) → unsigned_abs w ≤ 337000000 → unsigned_abs (pos a *ℤ w) ≤ a * 337000000
 amount-small a w h = times-small (pos a) w a 337000000 (omega arith) h
@@ -117,28 +118,37 @@ inputs-part plant task period i sound fine =
     amount-small input.amount (worth_from plant input.state period) (worth_from-small plant input.state period sound (fine.input k d l).state))
     (omega (arith, fine.taken, fine.quantum))
 
-few-small : (amounts : List ℕ) → length amounts ≤ 96 → All (λ amount. amount ≤ 1000000) amounts → sum amounts ≤ 96000000
-few-small amounts few each = omega (arith, sum_by-le (λ (amount : ℕ). amount) 1000000 amounts each, few)
+-- the first of the amounts that are drawn in a row of periods cost little
+pub cost-part : (plant : Plant) (utility period i : ℕ) (amounts : List ℕ) → Sound plant → utility < length plant.utilities → All (λ amount. amount ≤ 1000000) amounts → i ≤ length amounts →
+    unsigned_abs (total_below (λ k. rate_in (utility_at plant utility) (period + k) *ℤ pos (slice_index amounts k)) i) ≤ i * 1000000000000
+cost-part plant utility period zero amounts sound there each l = omega arith
+cost-part plant utility period (suc i) amounts sound there each l =
+    let before = cost-part plant utility period i amounts sound there each (omega arith) in
+    let last = times-small (rate_in (utility_at plant utility) (period + i)) (pos (slice_index amounts i)) 1000000 1000000 (rate_small plant sound utility (period + i) there) (each i 0 l) in
+    omega (arith, ints, before, last)
 
-pub fixed-part : (plant : Plant) (task : Task) (i : ℕ) → Sound plant → SoundTask plant task → unsigned_abs (total (fixed_cost plant) (take i task.draws)) ≤ 768000000000000
-fixed-part plant task i sound fine =
-    first-terms (fixed_cost plant) (λ draw. 1) 96000000000000 768000000000000 i task.draws
+pub cost_from-small : (plant : Plant) (utility period : ℕ) (amounts : List ℕ) → Sound plant → utility < length plant.utilities → length amounts ≤ 96 → All (λ amount. amount ≤ 1000000) amounts →
+    unsigned_abs (cost_from plant utility period amounts) ≤ 96000000000000
+unfolding cost_from
+cost_from-small plant utility period amounts sound there few each = omega (arith, few, cost-part plant utility period (length amounts) amounts sound there each (le_refl (length amounts)))
+
+pub fixed-part : (plant : Plant) (task : Task) (period i : ℕ) → Sound plant → SoundTask plant task → unsigned_abs (total (fixed_cost plant period) (take i task.draws)) ≤ 768000000000000
+fixed-part plant task period i sound fine =
+    first-terms (fixed_cost plant period) (λ draw. 1) 96000000000000 768000000000000 i task.draws
     (λ k d l.
     let draw = get_or task.draws k d in
     let is = fine.draw k d l in
-    let all = few-small draw.fixed (omega (arith, is.fixed, duration-small plant task fine)) is.fixed_small in
-    let cost = times-small (utility_at plant draw.utility).rate (pos (sum draw.fixed)) 1000000 96000000 (sound.utilities draw.utility no_utility is.utility).rate (omega (arith, all)) in
+    let cost = cost_from-small plant draw.utility period draw.fixed sound is.utility (omega (arith, is.fixed, duration-small plant task fine)) is.fixed_small in
     omega (arith, cost))
     (omega (arith, sum_by-le (λ draw. 1) 1 task.draws (λ k d l. omega arith), fine.draws))
 
-pub each-part : (plant : Plant) (task : Task) (i : ℕ) → Sound plant → SoundTask plant task → unsigned_abs (total (each_cost plant) (take i task.draws)) ≤ 768000000000000
-each-part plant task i sound fine =
-    first-terms (each_cost plant) (λ draw. 1) 96000000000000 768000000000000 i task.draws
+pub each-part : (plant : Plant) (task : Task) (period i : ℕ) → Sound plant → SoundTask plant task → unsigned_abs (total (each_cost plant period) (take i task.draws)) ≤ 768000000000000
+each-part plant task period i sound fine =
+    first-terms (each_cost plant period) (λ draw. 1) 96000000000000 768000000000000 i task.draws
     (λ k d l.
     let draw = get_or task.draws k d in
     let is = fine.draw k d l in
-    let all = few-small draw.each (omega (arith, is.each, duration-small plant task fine)) is.each_small in
-    let cost = times-small (utility_at plant draw.utility).rate (pos (sum draw.each)) 1000000 96000000 (sound.utilities draw.utility no_utility is.utility).rate (omega (arith, all)) in
+    let cost = cost_from-small plant draw.utility period draw.each sound is.utility (omega (arith, is.each, duration-small plant task fine)) is.each_small in
     omega (arith, cost))
     (omega (arith, sum_by-le (λ draw. 1) 1 task.draws (λ k d l. omega arith), fine.draws))
 
@@ -179,7 +189,7 @@ task-is plant slot run task sound is e f =
 pub machine-profit : (plant : Plant) (slot : ℕ × ℕ) (task : Task) (o i e : ℤ) → task ≡ task_in plant slot →
     o ≡ total (output_worth plant slot.1) task.outputs → unsigned_abs o ≤ 337000000000000 →
     i ≡ total (input_worth plant slot.1) task.inputs → unsigned_abs i ≤ 337000000000000 →
-    e ≡ total (each_cost plant) task.draws → unsigned_abs e ≤ 768000000000000 →
+    e ≡ total (each_cost plant slot.1) task.draws → unsigned_abs e ≤ 768000000000000 →
     to_z w64 (of_z w64 (to_z w64 (of_z w64 (to_z w64 (of_z w64 o) -ℤ to_z w64 (of_z w64 i))) -ℤ to_z w64 (of_z w64 e))) ≡ each_profit plant slot
 unfolding each_profit
 machine-profit plant slot task o i e same os om is im es em =
@@ -188,7 +198,7 @@ machine-profit plant slot task o i e same os om is im es em =
     rw first (machine-less (o -ℤ i) e (omega (arith, both)) (omega (arith, em))
     ∙ ap₂ (λ x y. x -ℤ y)
     (ap₂ (λ x y. x -ℤ y) (os ∙ ap (λ (t : Task). total (output_worth plant slot.1) t.outputs) same) (is ∙ ap (λ (t : Task). total (input_worth plant slot.1) t.inputs) same))
-    (es ∙ ap (λ (t : Task). total (each_cost plant) t.draws) same))
+    (es ∙ ap (λ (t : Task). total (each_cost plant slot.1) t.draws) same))
 
 -- the parts of the profit are small
 whole : {X : Type 0} (f : X → ℤ) (xs : List X) (most : ℕ) → ((i : ℕ) → unsigned_abs (total f (take i xs)) ≤ most) → unsigned_abs (total f xs) ≤ most
@@ -202,6 +212,6 @@ profit-small plant slot sound is =
     let cost = (sound.runs slot.0 no_run is.run).cost in
     let o = whole (output_worth plant slot.1) task.outputs 337000000000000 (λ i. outputs-part plant task slot.1 i sound fine) in
     let i = whole (input_worth plant slot.1) task.inputs 337000000000000 (λ i. inputs-part plant task slot.1 i sound fine) in
-    let f = whole (fixed_cost plant) task.draws 768000000000000 (λ i. fixed-part plant task i sound fine) in
-    let e = whole (each_cost plant) task.draws 768000000000000 (λ i. each-part plant task i sound fine) in
+    let f = whole (fixed_cost plant slot.1) task.draws 768000000000000 (λ i. fixed-part plant task slot.1 i sound fine) in
+    let e = whole (each_cost plant slot.1) task.draws 768000000000000 (λ i. each-part plant task slot.1 i sound fine) in
     record { fixed = omega (arith, ints, cost, f); per = omega (arith, ints, o, i, e) }

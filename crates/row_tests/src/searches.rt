@@ -12,6 +12,9 @@ use split_advice::PlainGuide;
 use std::alloc::{AllocError, Global};
 use std::test::Fail;
 
+// So many splits may stand one below another.
+const MOST_SPLITS: u32 = 4_608;
+
 // Offers nothing, and counts how often it is asked.
 #[derive(Drop)]
 struct Silent {
@@ -96,7 +99,7 @@ fn slot_count(rows: &Rows) -> u32 {
 
 // The rows of a program that can be searched.
 fn searchable(program: Option<Program>) -> Option<Rows>
-    ensures { IfSome result AreSearchable }
+    ensures { IfSome result (AreSearchable 4608) }
 {
     let Some(program) = program else {
         return None;
@@ -105,7 +108,7 @@ fn searchable(program: Option<Program>) -> Option<Rows>
         program,
         choices: None,
     };
-    if are_plain_searchable(&rows) {
+    if are_plain_searchable(&rows, MOST_SPLITS) {
         Some(rows)
     } else {
         None
@@ -114,13 +117,14 @@ fn searchable(program: Option<Program>) -> Option<Rows>
 
 // Searches a chain with a taker that takes so many items: why it broke off, and how often the hinter was asked.
 fn searched(alloc: Global, rows: &Rows, left: u32) -> (Option<TakeStop>, u32)
-    requires { AreSearchable rows.now }
+    requires { AreSearchable 4608 rows.now }
 {
     let mut hinter = Silent { asked: 0 };
     let mut taker = Cutoff { left };
     let ended = search_to(
         alloc,
         rows,
+        MOST_SPLITS,
         slot_count(rows),
         false,
         7,
@@ -169,13 +173,14 @@ fn wide_program(alloc: Global) -> Result<Option<Program>, AllocError> {
 
 // Dives: whether a box is left open and the count is not exact, the cap, and the boxes that were counted.
 fn dived(alloc: Global, rows: &Rows) -> Result<(bool, Capped, u32), AllocError>
-    requires { AreSearchable rows.now }
+    requires { AreSearchable 4608 rows.now }
 {
     let mut hinter = Silent { asked: 0 };
     let given = slot_count(rows);
     let (found, exact) = search_guided(
         alloc,
         rows,
+        MOST_SPLITS,
         given,
         false,
         100_000,

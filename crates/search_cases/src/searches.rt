@@ -11,9 +11,12 @@ use row_relax::Rows;
 use split_advice::PlainGuide;
 use std::alloc::{AllocError, Global};
 
+// So many splits may stand one below another.
+const MOST_SPLITS: u32 = 4_608;
+
 /// Prints what a search gives.
 pub fn answer_step(alloc: Global, rows: &Rows, verb: &str, sheet: &mut Sheet) -> Tried {
-    if !are_plain_searchable(rows) {
+    if !are_plain_searchable(rows, MOST_SPLITS) {
         sheet.refuse();
         return Ok(());
     }
@@ -51,7 +54,7 @@ fn slot_count(rows: &Rows) -> u32 {
 // `search BUDGET` with a hinter that says of points outside of every box that they are lawful, and `hint BUDGET VALUE ..` with
 // one that tells this point: the cap, the worth of the best point, and whether a box is left open.
 fn plain(alloc: Global, rows: &Rows, sheet: &mut Sheet) -> Tried
-    requires { AreSearchable rows.now }
+    requires { AreSearchable 4608 rows.now }
 {
     let budget = budget_of(sheet);
     let mut hinter = Teller {
@@ -70,13 +73,14 @@ fn search_plain<H: Hinter>(
     start: &[u8],
     hinter: &mut H,
 ) -> Result<Searched, AllocError>
-    requires searchable { AreSearchable rows.now }
+    requires searchable { AreSearchable 4608 rows.now }
     requires budget { (1 ≤ budget) × (budget ≤ 100000) }
 {
     let given = slot_count(rows);
     search(
         alloc,
         rows,
+        MOST_SPLITS,
         given,
         false,
         budget,
@@ -88,7 +92,7 @@ fn search_plain<H: Hinter>(
 
 // `begin BUDGET VALUE ..`, without plans that are offered: a search that begins with this point, which may not be lawful.
 fn begun(alloc: Global, rows: &Rows, sheet: &mut Sheet) -> Tried
-    requires { AreSearchable rows.now }
+    requires { AreSearchable 4608 rows.now }
 {
     let budget = budget_of(sheet);
     let start = bytes_of(alloc, sheet)?;
@@ -99,7 +103,7 @@ fn begun(alloc: Global, rows: &Rows, sheet: &mut Sheet) -> Tried
 
 // `floor BUDGET VALUE ..`: as `begin`, where splits may have floors, and the floor of the root's split.
 fn floored(alloc: Global, rows: &Rows, sheet: &mut Sheet) -> Tried
-    requires { AreSearchable rows.now }
+    requires { AreSearchable 4608 rows.now }
 {
     let budget = budget_of(sheet);
     let start = bytes_of(alloc, sheet)?;
@@ -115,13 +119,14 @@ fn search_floored(
     budget: u32,
     start: &[u8],
 ) -> Result<Searched, AllocError>
-    requires searchable { AreSearchable rows.now }
+    requires searchable { AreSearchable 4608 rows.now }
     requires budget { (1 ≤ budget) × (budget ≤ 100000) }
 {
     let given = slot_count(rows);
     search(
         alloc,
         rows,
+        MOST_SPLITS,
         given,
         true,
         budget,
@@ -134,7 +139,7 @@ fn search_floored(
 // `lie BUDGET` and `leave BUDGET`, with a guide that advises what is not there, and may leave every part open: the best point,
 // whether a box is left open, whether the count is exact, and the cap where none is open.
 fn guided(alloc: Global, rows: &Rows, leaves: bool, sheet: &mut Sheet) -> Tried
-    requires { AreSearchable rows.now }
+    requires { AreSearchable 4608 rows.now }
 {
     let budget = budget_of(sheet);
     let (found, exact) = search_lying(alloc, rows, budget, leaves)?;
@@ -148,7 +153,7 @@ fn search_lying(
     budget: u32,
     leaves: bool,
 ) -> Result<(Searched, bool), AllocError>
-    requires searchable { AreSearchable rows.now }
+    requires searchable { AreSearchable 4608 rows.now }
     requires budget { (1 ≤ budget) × (budget ≤ 100000) }
 {
     let mut hinter = Teller {
@@ -158,6 +163,7 @@ fn search_lying(
     search_guided(
         alloc,
         rows,
+        MOST_SPLITS,
         slot_count(rows),
         false,
         budget,
@@ -178,7 +184,7 @@ fn put_guided(found: &Searched, exact: bool, sheet: &mut Sheet) {
 // `split GIVEN VALUE`, with a guide that advises to split the first slot there, where the slots from GIVEN on are sums: the cap,
 // the best point, and where the root is split.
 fn split(alloc: Global, rows: &Rows, sheet: &mut Sheet) -> Tried
-    requires { AreSearchable rows.now }
+    requires { AreSearchable 4608 rows.now }
 {
     let given = sheet.number();
     let max = sheet.number();
@@ -194,11 +200,12 @@ fn search_splitting(
     given: u32,
     max: u8,
 ) -> Result<(Searched, bool), AllocError>
-    requires { AreSearchable rows.now }
+    requires { AreSearchable 4608 rows.now }
 {
     search_guided(
         alloc,
         rows,
+        MOST_SPLITS,
         given,
         false,
         1_000,

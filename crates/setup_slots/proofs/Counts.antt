@@ -25,7 +25,7 @@ parts_most f most xs each = omega (arith, length-flat_map f xs, sum_by-le (λ x.
 range_most : {Y : Type 0} (f : ℕ → Y) (p : ℕ → Bool) (n : ℕ) → length (map f (filter p (range_with_len 0 n))) ≤ n
 range_most f p n = omega (arith, length-map (filter p (range_with_len 0 n)) f, kept_most p (range_with_len 0 n), length-range_with_len 0 n)
 
-tasks_most : (plant : Plant) (unit : ℕ) → Sound plant → length (setup_tasks plant unit) ≤ 40
+tasks_most : (plant : Plant) (unit : ℕ) → Sound plant → length (setup_tasks plant unit) ≤ 160
 unfolding setup_tasks
 tasks_most plant unit sound = omega (arith, sound.counts.tasks, kept_most (has_slots plant unit) (range_with_len 0 (length plant.tasks)), length-range_with_len 0 (length plant.tasks))
 
@@ -33,15 +33,15 @@ between_most : (plant : Plant) (unit from to : ℕ) → Sound plant → length (
 unfolding changes_between
 between_most plant unit from to sound = let periods = sound.counts.periods in omega (arith, periods, range_most (Change from to) (is_change plant unit from to) plant.periods)
 
-from_most : (plant : Plant) (unit from : ℕ) (tasks : List ℕ) → Sound plant → length tasks ≤ 40 → length (flat_map (changes_between plant unit from) tasks) ≤ 13440
+from_most : (plant : Plant) (unit from : ℕ) (tasks : List ℕ) → Sound plant → length tasks ≤ 160 → length (flat_map (changes_between plant unit from) tasks) ≤ 53760
 from_most plant unit from tasks sound few = omega (arith, few, parts_most (changes_between plant unit from) 336 tasks (λ to. between_most plant unit from to sound))
 
-pub slots-most : (plant : Plant) (unit : ℕ) → Sound plant → length (setup_slots plant unit) ≤ 1000000
+pub slots-most : (plant : Plant) (unit : ℕ) → Sound plant → length (setup_slots plant unit) ≤ 9000000
 unfolding setup_slots changes_among
 slots-most plant unit sound =
     let tasks = setup_tasks plant unit in
     let few = tasks_most plant unit sound in
-    let changes = parts_most (λ from. flat_map (changes_between plant unit from) tasks) 13440 tasks (λ from. from_most plant unit from tasks sound few) in
+    let changes = parts_most (λ from. flat_map (changes_between plant unit from) tasks) 53760 tasks (λ from. from_most plant unit from tasks sound few) in
     omega (arith, few, changes, length-append (map First tasks) (flat_map (λ from. flat_map (changes_between plant unit from) tasks) tasks), length-map tasks First)
 
 held_most : (plant : Plant) (task : ℕ) → Sound plant → length (held_rows plant.periods task) ≤ 336
@@ -52,7 +52,7 @@ begun_most : (plant : Plant) (setups : List SetupSlot) (task : ℕ) → Sound pl
 unfolding begun_rows
 begun_most plant setups task sound = let periods = sound.counts.periods in omega (arith, periods, range_most (Begun task) (λ period. list_any (is_change_to task period) setups) plant.periods)
 
-pub rows-most : (plant : Plant) (unit : ℕ) → Sound plant → length (setup_rows plant unit) ≤ 1000000
+pub rows-most : (plant : Plant) (unit : ℕ) → Sound plant → length (setup_rows plant unit) ≤ 9000000
 unfolding rows_among
 rows-most plant unit sound =
     let tasks = setup_tasks plant unit in

@@ -17,7 +17,7 @@ pub fn setup_tasks(
     unit: u32,
     slots: &[TaskSlot],
 ) -> Result<Vec<u32>, AllocError>
-    requires few { length plant.now.tasks ≤ 40 }
+    requires few { length plant.now.tasks ≤ 160 }
     requires slots { slots.now ≡ task_slots plant.now }
     ensures { IfOk result (λ tasks. tasks.items ≡ setup_tasks plant.now unit) }
 {

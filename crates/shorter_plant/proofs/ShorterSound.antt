@@ -1,5 +1,5 @@
 -- The plant within a shorter horizon is sound.
-use Rattle.std.proofs.Common.{◌≢◌, ℕ, ◌+◌, ◌<◌, ◌≤◌, Bool, ltb, leb, List, [], length, map, filter, get_or, refl, inl, inr, arith, All, AllPairs}
+use Rattle.std.proofs.Common.{◌≡◌, ◌≢◌, ℕ, ◌+◌, ◌<◌, ◌≤◌, Bool, ltb, leb, List, [], length, map, filter, get_or, take, refl, inl, inr, arith, All, AllPairs, unsigned_abs}
 use Rattle.std.proofs.lemmas.Bool.{leb-true, ltb-true}
 use Rattle.std.proofs.lemmas.List.{length-map, length-take-le, get_or-map, take_all}
 use Rattle.std.proofs.lemmas.List.Elements.{All-map, All-filter, All-take, filter_passes}
@@ -10,7 +10,7 @@ use Rattle.stn_model.specs.declared.plant.Utility.{Utility}
 use Rattle.stn_model.specs.declared.plant.Receipt.{Receipt}
 use Rattle.stn_model.specs.declared.plant.Delivery.{Delivery}
 use Rattle.stn_model.specs.declared.plant.Outage.{Outage}
-use Rattle.stn_model.specs.Sound.{Within, Sound, SoundState, SoundUtility, SoundTask, SoundRun, SoundGap, SoundReceipt, SoundDelivery, SoundOutage, SoundCounts, SoundNames}
+use Rattle.stn_model.specs.Sound.{Within, Sound, SoundState, SoundUtility, SoundTask, SoundRun, SoundGap, SoundReceipt, SoundDelivery, SoundOutage, SoundCounts, SmallCounts, SoundNames}
 use Rattle.plant_copies.proofs.Alike.{All-each, AreAlike, task_sound, run_sound, gap_sound}
 use Rattle.shorter_plant.specs.PlantAt.{plant_at, state_until, utility_until, receipts_until, delivered_at, outage_until, outages_until}
 use Rattle.shorter_plant.proofs.Longer.{fewer_slots, fewer_pairs}
@@ -24,12 +24,16 @@ AllPairs-map R f xs keeps all = λ i j d less within.
 length-filter-le : {X : Type 0} (p : X → Bool) (xs : List X) → length (filter p xs) ≤ length xs
 length-filter-le p xs = omega (arith, length-filter p xs, count_by-le-length p xs)
 
+-- of nothing nothing is left
+take-none : {X : Type 0} (count : ℕ) (xs : List X) → xs ≡ [] → take count xs ≡ []
+take-none count xs none = rw none (take_all count [] (omega arith))
+
 state_sound : (periods horizon : ℕ) (state : State) → horizon ≤ periods → SoundState periods state → SoundState horizon (state_until horizon state)
 state_sound periods horizon state less sound = record {
   name = sound.name;
   initial = sound.initial;
   limits = elim sound.limits [
-    | inl e ↦ inl (rw e (take_all (horizon + 1) [] (omega arith)))
+    | inl e ↦ inl (take-none (horizon + 1) state.limits e)
     | inr e ↦ inr (let long = length-take-le (horizon + 1) state.limits (omega arith) in omega arith)
   ];
   limit = All-take (λ limit. limit ≤ 1000000000) (horizon + 1) state.limits sound.limit;
@@ -43,6 +47,11 @@ utility_sound periods horizon utility less sound = record {
   limits = let long = sound.limits in length-take-le horizon utility.limits (omega arith);
   limit = All-take (λ limit. limit ≤ 1000000000) horizon utility.limits sound.limit;
   rate = sound.rate;
+  rates = elim sound.rates [
+    | inl e ↦ inl (take-none horizon utility.rates e)
+    | inr both ↦ inr (let long = both.0 in length-take-le horizon utility.rates (omega arith), both.1)
+  ];
+  each_rate = All-take (λ rate. unsigned_abs rate ≤ 1000000) horizon utility.rates sound.each_rate;
 }
 
 alike : (plant : Plant) (horizon : ℕ) → AreAlike (plant_at plant horizon) plant
@@ -73,11 +82,19 @@ outages_sound plant horizon outages sound =
     (ltb-true _ _ (filter_passes (λ (outage : Outage). ltb outage.from horizon) outages k d within))
     (All-filter (λ (outage : Outage). ltb outage.from horizon) (SoundOutage plant) outages sound k d within))
 
+-- there are no more receipts, and no more outages
+fewer_receipts : (horizon : ℕ) (receipts : List Receipt) → length (receipts_until horizon receipts) ≤ length receipts
+fewer_receipts horizon receipts = length-filter-le (λ (receipt : Receipt). leb receipt.time horizon) receipts
+
+fewer_outages : (horizon : ℕ) (outages : List Outage) → length (outages_until horizon outages) ≤ length outages
+fewer_outages horizon outages =
+    let early = filter (λ (outage : Outage). ltb outage.from horizon) outages in
+    omega (arith, length-map early (outage_until horizon), length-filter-le (λ (outage : Outage). ltb outage.from horizon) outages)
+
 counts_sound : (plant : Plant) (horizon : ℕ) → Sound plant → Within 1 plant.periods horizon → SoundCounts (plant_at plant horizon)
 unfolding plant_at
 counts_sound plant horizon sound within =
     let counts = sound.counts in
-    let early = filter (λ (outage : Outage). ltb outage.from horizon) plant.outages in
     record {
       periods = (within.0, omega (arith, within.1, counts.periods.1));
       states = omega (arith, length-map plant.states (state_until horizon), counts.states);
@@ -86,12 +103,29 @@ counts_sound plant horizon sound within =
       tasks = counts.tasks;
       runs = counts.runs;
       gaps = counts.gaps;
-      receipts = omega (arith, length-filter-le (λ (receipt : Receipt). leb receipt.time horizon) plant.receipts, counts.receipts);
+      receipts = omega (arith, fewer_receipts horizon plant.receipts, counts.receipts);
       deliveries = omega (arith, length-map plant.deliveries (delivered_at horizon), counts.deliveries);
-      outages = omega (arith, length-map early (outage_until horizon), length-filter-le (λ (outage : Outage). ltb outage.from horizon) plant.outages, counts.outages);
+      outages = omega (arith, fewer_outages horizon plant.outages, counts.outages);
       slots = omega (arith, fewer_slots plant horizon sound within.1, counts.slots);
       gap_pairs = omega (arith, fewer_pairs plant horizon sound within.1, counts.gap_pairs);
     }
+
+-- a plant that is small is small within the horizon too
+small_sound : (plant : Plant) (horizon : ℕ) → Sound plant → horizon ≤ plant.periods → SmallCounts plant → SmallCounts (plant_at plant horizon)
+unfolding plant_at
+small_sound plant horizon sound less counts = record {
+  states = omega (arith, length-map plant.states (state_until horizon), counts.states);
+  utilities = omega (arith, length-map plant.utilities (utility_until horizon), counts.utilities);
+  units = counts.units;
+  tasks = counts.tasks;
+  runs = counts.runs;
+  receipts = omega (arith, fewer_receipts horizon plant.receipts, counts.receipts);
+  deliveries = omega (arith, length-map plant.deliveries (delivered_at horizon), counts.deliveries);
+  outages = omega (arith, fewer_outages horizon plant.outages, counts.outages);
+  slots = omega (arith, fewer_slots plant horizon sound less, counts.slots);
+  gap_pairs = omega (arith, fewer_pairs plant horizon sound less, counts.gap_pairs);
+  rates = All-map (λ (utility : Utility). utility.rates ≡ []) (utility_until horizon) plant.utilities (All-each (λ (utility : Utility). utility.rates ≡ []) (λ utility. take horizon utility.rates ≡ []) plant.utilities (λ utility none. take-none horizon utility.rates none) counts.rates);
+}
 
 names_sound : (plant : Plant) (horizon : ℕ) → SoundNames plant → SoundNames (plant_at plant horizon)
 unfolding plant_at
@@ -111,6 +145,7 @@ shorter_sound plant horizon sound within =
     let same = alike plant horizon in
     record {
       counts = counts_sound plant horizon sound within;
+      small = λ few. small_sound plant horizon sound within.1 (sound.small few);
       names = names_sound plant horizon sound.names;
       states = All-map (SoundState horizon) (state_until horizon) plant.states (All-each (SoundState plant.periods) (λ state. SoundState horizon (state_until horizon state)) plant.states (λ state. state_sound plant.periods horizon state within.1) sound.states);
       utilities = All-map (SoundUtility horizon) (utility_until horizon) plant.utilities (All-each (SoundUtility plant.periods) (λ utility. SoundUtility horizon (utility_until horizon utility)) plant.utilities (λ utility. utility_sound plant.periods horizon utility within.1) sound.utilities);

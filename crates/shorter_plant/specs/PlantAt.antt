@@ -11,9 +11,9 @@ use Rattle.stn_model.specs.declared.plant.Outage.{Outage}
 abbrev pub state_until : ℕ → State → State
 state_until horizon state = record state { limits = take (horizon + 1) state.limits }
 
--- the utility with its limits in the periods before the horizon
+-- the utility with its limits and rates in the periods before the horizon
 abbrev pub utility_until : ℕ → Utility → Utility
-utility_until horizon utility = record utility { limits = take horizon utility.limits }
+utility_until horizon utility = record utility { limits = take horizon utility.limits; rates = take horizon utility.rates }
 
 -- the delivery at the horizon
 abbrev pub delivered_at : ℕ → Delivery → Delivery

@@ -32,6 +32,7 @@ fn made(alloc: Global, plant: &Plant, horizon: u32) -> Result<Plant, AllocError>
     ensures { IfOk result (λ short. short ≡ plant_at plant.now horizon) }
 {
     Ok(Plant {
+        large: plant.large,
         periods: horizon,
         states: states_until(alloc, plant.states.as_slice(), horizon)?,
         utilities: utilities_until(alloc, plant.utilities.as_slice(), horizon)?,
@@ -58,7 +59,7 @@ fn states_until(alloc: Global, states: &[State], horizon: u32) -> Result<List<St
     Ok(list)
 }
 
-// The utilities, each with its limits in the periods before the horizon.
+// The utilities, each with its limits and rates in the periods before the horizon.
 fn utilities_until(
     alloc: Global,
     utilities: &[Utility],
@@ -70,6 +71,7 @@ fn utilities_until(
     for utility in utilities {
         let mut copy = utility_copy(alloc, utility)?;
         copy.limits = first(alloc, utility.limits.as_slice(), horizon as usize)?;
+        copy.rates = first(alloc, utility.rates.as_slice(), horizon as usize)?;
         list.push(copy)?;
     }
     Ok(list)

@@ -1,5 +1,5 @@
 -- What the records of a plant say of its runs, durations, gaps and outages.
-use Rattle.std.specs.Prelude.{ℕ, pos, ◌+◌, ◌==◌, ◌&&◌, ◌||◌, not, nat_le, Bool, List, [], Option, find, map, position, if◌then◌else◌, slice_index_or}
+use Rattle.std.specs.Prelude.{ℕ, ℤ, pos, ◌+◌, ◌==◌, ◌&&◌, ◌||◌, not, nat_le, Bool, List, [], Option, find, map, position, if◌then◌else◌, slice_index_or}
 use Rattle.std.specs.List.{list_all}
 use Rattle.stn_model.specs.declared.plant.Plant.{Plant}
 use Rattle.stn_model.specs.declared.plant.State.{State}
@@ -22,7 +22,7 @@ no_state = record { name = []; initial = 0; limits = []; price = pos 0; holding 
 
 -- a utility of which nothing is there, in the place of one that is not there
 abbrev pub no_utility : Utility
-no_utility = record { name = []; limits = []; rate = pos 0 }
+no_utility = record { name = []; limits = []; rate = pos 0; rates = [] }
 
 -- a unit without a name, in the place of one that is not there
 abbrev pub no_unit : StnUnit
@@ -43,6 +43,10 @@ state_at plant state = slice_index_or plant.states state no_state
 -- the utility of this number
 abbrev pub utility_at : Plant → ℕ → Utility
 utility_at plant utility = slice_index_or plant.utilities utility no_utility
+
+-- what one unit of the utility costs in a period: the rate that is listed for it, or the one rate where none is
+unfoldable pub rate_in : Utility → ℕ → ℤ
+rate_in utility period = slice_index_or utility.rates period utility.rate
 
 -- the unit of this number
 abbrev pub unit_at : Plant → ℕ → StnUnit

@@ -44,3 +44,11 @@ meets_gap plant a p b q =
 -- how many pairs of slots the cleaning keeps apart
 unfoldable pub gap_pairs : Plant → ℕ
 gap_pairs plant = sum_by (λ a. sum_below (λ p. sum_by (λ b. count_below (meets_gap plant a p b) plant.periods) plant.runs) plant.periods) plant.runs
+
+-- how many slots a program over the plant may have, those of sums and setups among them: 512, or 4,096 where the plant is large
+abbrev pub slot_limit : Plant → ℕ
+slot_limit plant = if plant.large then 4096 else 512
+
+-- how many splits of a log over the plant may stand one below another: nine for each slot that there may be
+abbrev pub depth_limit : Plant → ℕ
+depth_limit plant = if plant.large then 36864 else 4608

@@ -3,7 +3,7 @@ use Rattle.std.specs.Prelude.{ℕ, ℤ, pos, ◌*ℤ◌, ◌-ℤ◌, ◌+ℤ◌,
 use Rattle.stn_model.specs.declared.plant.Plant.{Plant}
 use Rattle.stn_model.specs.declared.plant.Run.{Run}
 use Rattle.stn_model.specs.declared.start.Start.{Start}
-use Rattle.stn_model.specs.Plant.{state_at, utility_at, run_on, cost_between}
+use Rattle.stn_model.specs.Plant.{state_at, utility_at, rate_in, run_on, cost_between}
 use Rattle.stn_model.specs.Batches.{is_next}
 use Rattle.stn_model.specs.Stock.{stock}
 use Rattle.stn_model.specs.Load.{load}
@@ -23,7 +23,7 @@ holding_cost plant plan = total_below (λ state. total_below (λ time. (state_at
 
 -- what the utilities cost
 unfoldable pub utility_cost : Plant → List Start → ℤ
-utility_cost plant plan = total_below (λ utility. total_below (λ period. (utility_at plant utility).rate *ℤ pos (load plant plan utility period)) plant.periods) (length plant.utilities)
+utility_cost plant plan = total_below (λ utility. total_below (λ period. rate_in (utility_at plant utility) period *ℤ pos (load plant plan utility period)) plant.periods) (length plant.utilities)
 
 -- the cost of a run that may be there
 abbrev pub cost_of : Option Run → ℤ

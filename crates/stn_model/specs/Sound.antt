@@ -1,5 +1,5 @@
 -- When the records of a plant make sense: each keeps its limits, names what is there, and fits the others.
-use Rattle.std.specs.Prelude.{◌≡◌, ◌≢◌, ℕ, ◌*◌, ◌<◌, ◌≤◌, ◌⊎◌, ◌||◌, ◌&&◌, ◌==◌, nat_le, Bool, false, IsTrue, List, [], ◌∷◌, length, All, AllPairs, sum_by, unsigned_abs, suc}
+use Rattle.std.specs.Prelude.{◌≡◌, ◌≢◌, ℕ, pos, ◌*◌, ◌<◌, ◌≤◌, ◌⊎◌, ◌||◌, ◌&&◌, ◌==◌, nat_le, Bool, false, IsTrue, List, [], ◌∷◌, length, All, AllPairs, sum_by, unsigned_abs, suc}
 use Rattle.std.specs.List.{list_all}
 use Rattle.std.specs.Char.{is_ascii_alphabetic, is_ascii_digit}
 use Rattle.stn_model.specs.declared.plant.Plant.{Plant}
@@ -43,12 +43,14 @@ pub record SoundState (periods : ℕ) (state : State) : Type 0 where
   pub price : unsigned_abs state.price ≤ 1000000
   pub holding : unsigned_abs state.holding ≤ 1000000
 
--- a utility keeps its ranges, and has a limit for each period
+-- a utility keeps its ranges, has a limit for each period, and one rate, or in its place one for each period
 pub record SoundUtility (periods : ℕ) (utility : Utility) : Type 0 where
   pub name : IsTrue (is_name utility.name)
   pub limits : length utility.limits ≡ periods
   pub limit : All (λ limit. limit ≤ 1000000000) utility.limits
   pub rate : unsigned_abs utility.rate ≤ 1000000
+  pub rates : (utility.rates ≡ []) ⊎ ((length utility.rates ≡ periods) × (utility.rate ≡ pos 0))
+  pub each_rate : All (λ rate. unsigned_abs rate ≤ 1000000) utility.rates
 
 -- an input takes a part of the quantum from a state that is there
 pub record SoundInput (plant : Plant) (quantum : ℕ) (input : Input) : Type 0 where
@@ -121,17 +123,31 @@ pub record SoundOutage (plant : Plant) (outage : Outage) : Type 0 where
 -- how many there are of each thing
 pub record SoundCounts (plant : Plant) : Type 0 where
   pub periods : Within 1 336 plant.periods
+  pub states : length plant.states ≤ 160
+  pub utilities : length plant.utilities ≤ 64
+  pub units : length plant.units ≤ 96
+  pub tasks : length plant.tasks ≤ 160
+  pub runs : length plant.runs ≤ 256
+  pub gaps : length plant.gaps ≤ 4096
+  pub receipts : length plant.receipts ≤ 900
+  pub deliveries : length plant.deliveries ≤ 900
+  pub outages : length plant.outages ≤ 4096
+  pub slots : slot_count plant ≤ 4096
+  pub gap_pairs : gap_pairs plant ≤ 32768
+
+-- a plant that is not large has fewer of each thing, and one rate for each utility
+pub record SmallCounts (plant : Plant) : Type 0 where
   pub states : length plant.states ≤ 40
   pub utilities : length plant.utilities ≤ 8
   pub units : length plant.units ≤ 24
   pub tasks : length plant.tasks ≤ 40
   pub runs : length plant.runs ≤ 64
-  pub gaps : length plant.gaps ≤ 4096
   pub receipts : length plant.receipts ≤ 256
   pub deliveries : length plant.deliveries ≤ 256
   pub outages : length plant.outages ≤ 256
   pub slots : slot_count plant ≤ 512
   pub gap_pairs : gap_pairs plant ≤ 8192
+  pub rates : All (λ utility. utility.rates ≡ []) plant.utilities
 
 -- the items of one table have names of their own, and no task stands twice on one unit
 pub record SoundNames (plant : Plant) : Type 0 where
@@ -144,6 +160,7 @@ pub record SoundNames (plant : Plant) : Type 0 where
 -- a sound plant: what the reader of plant files gives, and what every other call asks for
 pub record Sound (plant : Plant) : Type 0 where
   pub counts : SoundCounts plant
+  pub small : plant.large ≡ false → SmallCounts plant
   pub names : SoundNames plant
   pub states : All (SoundState plant.periods) plant.states
   pub utilities : All (SoundUtility plant.periods) plant.utilities

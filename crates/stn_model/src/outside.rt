@@ -13,16 +13,16 @@ use crate::plant::{Delivery, Plant, Receipt};
 pub fn received_by(plant: &Plant, state: u32, time: u32) -> u64
     requires { Sound plant.now }
     ensures value { result ≡ received plant.now state time }
-    ensures small { result ≤ 2 ^ 38 }
+    ensures small { result ≤ 2 ^ 40 }
 {
     brought_by_all(plant.receipts.as_slice(), state, time)
 }
 
 fn brought_by_all(receipts: &[Receipt], state: u32, time: u32) -> u64
-    requires few { length receipts.now ≤ 256 }
+    requires few { length receipts.now ≤ 900 }
     requires each { All (λ receipt. receipt.amount ≤ 2 ^ 30) receipts.now }
     ensures value { result ≡ sum_by (brought state time) receipts.now }
-    ensures small { result ≤ 2 ^ 38 }
+    ensures small { result ≤ 2 ^ 40 }
 {
     let mut sum: u64 = 0;
     for receipt in receipts {
@@ -47,16 +47,16 @@ fn brought_by(receipt: &Receipt, state: u32, time: u32) -> u64
 pub fn delivered_by(plant: &Plant, state: u32, time: u32) -> u64
     requires { Sound plant.now }
     ensures value { result ≡ delivered plant.now state time }
-    ensures small { result ≤ 2 ^ 38 }
+    ensures small { result ≤ 2 ^ 40 }
 {
     carried_by_all(plant.deliveries.as_slice(), state, time)
 }
 
 fn carried_by_all(deliveries: &[Delivery], state: u32, time: u32) -> u64
-    requires few { length deliveries.now ≤ 256 }
+    requires few { length deliveries.now ≤ 900 }
     requires each { All (λ delivery. delivery.amount ≤ 2 ^ 30) deliveries.now }
     ensures value { result ≡ sum_by (carried_off state time) deliveries.now }
-    ensures small { result ≤ 2 ^ 38 }
+    ensures small { result ≤ 2 ^ 40 }
 {
     let mut sum: u64 = 0;
     for delivery in deliveries {
@@ -81,16 +81,16 @@ fn carried_by(delivery: &Delivery, state: u32, time: u32) -> u64
 pub fn all_payments(plant: &Plant) -> i128
     requires { Sound plant.now }
     ensures value { result ≡ payments plant.now }
-    ensures small { unsigned_abs result ≤ 2 ^ 38 }
+    ensures small { unsigned_abs result ≤ 2 ^ 40 }
 {
     paid(plant.deliveries.as_slice())
 }
 
 fn paid(deliveries: &[Delivery]) -> i128
-    requires few { length deliveries.now ≤ 256 }
+    requires few { length deliveries.now ≤ 900 }
     requires each { All (λ delivery. unsigned_abs delivery.payment ≤ 2 ^ 30) deliveries.now }
     ensures value { result ≡ total (λ delivery. delivery.payment) deliveries.now }
-    ensures small { unsigned_abs result ≤ 2 ^ 38 }
+    ensures small { unsigned_abs result ≤ 2 ^ 40 }
 {
     let mut sum: i128 = 0;
     for delivery in deliveries {

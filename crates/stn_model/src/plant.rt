@@ -9,6 +9,8 @@ pub type Name = List<u8>;
 /// A plant: what there is, what it can do, and what comes and goes.
 #[derive(Drop)]
 pub struct Plant {
+    /// Whether it may have the sizes of a large plant, and rates by period: it is of version 3 of plant files.
+    pub large: bool,
     /// The horizon: periods are numbered 0 to `periods - 1`, times 0 to `periods`.
     pub periods: u32,
     pub states: List<State>,
@@ -42,8 +44,10 @@ pub struct Utility {
     pub name: Name,
     /// How much is there in each period.
     pub limits: List<u64>,
-    /// What one unit of it costs in a period, in money.
+    /// What one unit of it costs in a period, in money, where `rates` is empty.
     pub rate: i64,
+    /// What one unit of it costs in each period, in money; empty where it costs `rate` in all of them.
+    pub rates: List<i64>,
 }
 
 /// A unit of the plant: a vessel or a line that carries out one batch at a time.

@@ -7,6 +7,7 @@ ghost use Rattle.stn_model.specs.Plant.{
   run_on,
   gap_between,
   cost_between,
+  rate_in,
   is_in_use,
   end_of,
   is_between,
@@ -15,7 +16,7 @@ ghost use Rattle.stn_model.specs.Plant.{
 ghost use Rattle.stn_model.specs.Fits.{is_fit, has_size};
 ghost use Rattle.stn_model.specs.Sound.{Sound};
 
-use crate::plant::{Gap, Plant, Run, Task};
+use crate::plant::{Gap, Plant, Run, Task, Utility};
 use crate::start::Start;
 
 /// How many periods a batch of the task takes: the greatest delay of its outputs.
@@ -106,6 +107,19 @@ fn is_listed(gap: &Gap, unit: u32, from: u32, to: u32) -> bool
     ensures { result ≡ is_between unit from to gap.now }
 {
     gap.unit == unit && gap.from == from && gap.to == to
+}
+
+/// What one unit of the utility costs in a period, in money: the rate that is listed for it, or the one rate where none is.
+#[tactic(auto, unfolding(crate::specs::Plant::rate_in))]
+pub fn rate_in(utility: &Utility, period: u32) -> i64
+    ensures { result ≡ rate_in utility.now period }
+{
+    if (period as usize) < utility.rates.len() {
+        let rate = utility.rates.get(period as usize);
+        *rate
+    } else {
+        utility.rate
+    }
 }
 
 /// Whether the unit is in use from one time to another: no outage of it overlaps them.

@@ -3,6 +3,7 @@ use Rattle.std.proofs.Common.{◌≡◌, ℕ, true, false, ◌≤◌, length, ap
 use Rattle.std.specs.List.{All}
 use Rattle.std.proofs.lemmas.Bool.{lt-ltb}
 use Rattle.stn_model.specs.declared.plant.Plant.{Plant}
+use Rattle.stn_model.specs.Points.{depth_limit}
 use Rattle.stn_model.specs.Sound.{Sound}
 use Rattle.time_grid.specs.Slots.{slots}
 use Rattle.row_kit.specs.declared.domain.Domain.{Domain}
@@ -33,37 +34,38 @@ use Rattle.head_choice.specs.Heading.{IsHeaded}
 use Rattle.stn_solve.specs.laws.Telling.{CanBeTold}
 
 -- a search over rows whose points are judged by their own program is one over that program
-pub as-plain : (rows : Rows) (given budget : ℕ) (ended : Ended) (tree : RowTree) → rows.choices ≡ None → IsSearchOf rows false given budget ended tree → IsSearchOf (plain rows.program) false given budget ended tree
-as-plain rows given budget ended tree none of = subst (λ (r : Rows). IsSearchOf r false given budget ended tree) (plain-rows rows none) of
+pub as-plain : (most : ℕ) (rows : Rows) (given budget : ℕ) (ended : Ended) (tree : RowTree) → rows.choices ≡ None → IsSearchOf most rows false given budget ended tree → IsSearchOf most (plain rows.program) false given budget ended tree
+as-plain most rows given budget ended tree none of = subst (λ (r : Rows). IsSearchOf most r false given budget ended tree) (plain-rows rows none) of
 
 -- over a part's own program nothing but a search comes to an end: each slot of its root has a value
-pub plain-search : (plant : Plant) (rows : Rows) (given budget : ℕ) (ended : Ended) (tree : RowTree) → rows.choices ≡ None → IsPartOf plant rows.program → IsEnding rows false given budget ended tree → IsSearchOf (plain rows.program) false given budget ended tree
-plain-search plant rows given budget ended tree none is (inl of) = as-plain rows given budget ended tree none of
-plain-search plant rows given budget ended tree none is (inr of) = absurd (of.bare is.each_open)
+pub plain-search : (most : ℕ) (plant : Plant) (rows : Rows) (given budget : ℕ) (ended : Ended) (tree : RowTree) → rows.choices ≡ None → IsPartOf plant rows.program → IsEnding most rows false given budget ended tree → IsSearchOf most (plain rows.program) false given budget ended tree
+plain-search most plant rows given budget ended tree none is (inl of) = as-plain most rows given budget ended tree none of
+plain-search most plant rows given budget ended tree none is (inr of) = absurd (of.bare is.each_open)
 
--- a search is one by another name of the number from which on slots are sums
-from-given : (program : Program) (given own budget : ℕ) (tree : RowTree) (ended : Ended) → given ≡ own → IsSearchOf (plain program) false given budget ended tree → IsSearchOf (plain program) false own budget ended tree
-from-given program given own budget tree ended is of = subst (λ n. IsSearchOf (plain program) false n budget ended tree) is of
+-- a search is one by other names of the most splits and of the number from which on slots are sums
+from-given : (program : Program) (most limit given own budget : ℕ) (tree : RowTree) (ended : Ended) → most ≡ limit → given ≡ own → IsSearchOf most (plain program) false given budget ended tree → IsSearchOf limit (plain program) false own budget ended tree
+from-given program most limit given own budget tree ended deep is of =
+    subst (λ (n : ℕ). IsSearchOf limit (plain program) false n budget ended tree) is (subst (λ (n : ℕ). IsSearchOf n (plain program) false given budget ended tree) deep of)
 
-module _ (plant : Plant) (part : Program) (given budget : ℕ) (tree : RowTree) (ended : Ended) (sound : Sound plant) (is : IsPartOf plant part) (same : given ≡ length part.root)
-    (of : IsSearchOf (plain part) false given budget ended tree) where
+module _ (plant : Plant) (part : Program) (most given budget : ℕ) (tree : RowTree) (ended : Ended) (sound : Sound plant) (is : IsPartOf plant part) (deep : most ≡ depth_limit plant) (same : given ≡ length part.root)
+    (of : IsSearchOf most (plain part) false given budget ended tree) where
   -- its best point has a value for each slot of the plant
   pub plain-places : IfSome ended.best (λ found. length found.point ≡ length (slots plant))
-  plain-places = best-places plant part sound is false budget tree ended (from-given part given (length part.root) budget tree ended same of).search
+  plain-places = best-places plant part sound is false budget tree ended (from-given part most (depth_limit plant) given (length part.root) budget tree ended deep same of).search
 
   -- what is told of it is right
   pub plain-right : (told : Told) → IsTold plant ended told → IsToldRight plant part budget tree told
-  plain-right told says = told-right plant part sound is budget tree ended (from-given part given (length part.root) budget tree ended same of) told says
+  plain-right told says = told-right plant part sound is budget tree ended (from-given part most (depth_limit plant) given (length part.root) budget tree ended deep same of) told says
 
 module _ (plant : Plant) (part : Program) (judged : List Domain) (headed : Headed) (least : Option Found) (budget : ℕ) (tree : RowTree) (ended own : Ended) (sound : Sound plant) (is : IsPartOf plant part) (ranges : AreRanges part judged) (with_head : IsHeaded plant part judged headed) (least_is : least ≡ least_found part)
-    (some : 1 ≤ budget) (of : IsEnding headed.rows true headed.given budget ended tree) (as_given : own ≡ given_end headed.given least ended) where
+    (some : 1 ≤ budget) (of : IsEnding (depth_limit plant) headed.rows true headed.given budget ended tree) (as_given : own ≡ given_end headed.given least ended) where
   -- what the search ended with is as of the part
   own_is : IsGivenEnded part ended own
   own_is = as_given ∙ ap₂ (λ (slots : ℕ) (point : Option Found). given_end slots point ended) with_head.given least_is
 
   -- it is a search in which the slots after the part's are sums and setups
-  own_of : IsEnding headed.rows true (length part.root) budget ended tree
-  own_of = subst (λ (n : ℕ). IsEnding headed.rows true n budget ended tree) with_head.given of
+  own_of : IsEnding (depth_limit plant) headed.rows true (length part.root) budget ended tree
+  own_of = subst (λ (n : ℕ). IsEnding (depth_limit plant) headed.rows true n budget ended tree) with_head.given of
 
   -- its best point has a value for each slot of the plant
   pub headed-places : IfSome own.best (λ found. length found.point ≡ length (slots plant))

@@ -23,7 +23,7 @@ use plan_told::{Told, told_of};
 use row_relax::Rows;
 use std::alloc::{AllocError, Global};
 use stn_edge::{Shelf, Stop};
-use stn_model::{Outcome, Plant};
+use stn_model::{Outcome, Plant, depth_limit};
 
 // Plans over the rows of a part's own program, by which points are judged, with at most so many boxes.
 pub fn plan_plain<A: Advisers>(
@@ -46,6 +46,7 @@ pub fn plan_plain<A: Advisers>(
     let rules = SplitRules {
         given: slot_count(rows),
         floors: false,
+        most: depth_limit(plant),
     };
     let ended = search_only::<A>(alloc, rows, rules, budget, start)?;
     let Told { outcome, .. } = told_of(alloc, plant, ended)?;
@@ -73,6 +74,7 @@ pub fn solve_rows<A: Advisers>(
     let rules = SplitRules {
         given: slot_count(rows),
         floors: false,
+        most: depth_limit(plant),
     };
     let Searched {
         tree,
@@ -131,6 +133,7 @@ pub fn solve_plain_to<A: Advisers, F: Shelf>(
     let rules = SplitRules {
         given,
         floors: false,
+        most: depth_limit(plant),
     };
     let Logged { ended, writer } = search_logged::<A, _>(
         alloc,

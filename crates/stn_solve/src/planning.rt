@@ -1,6 +1,7 @@
 //! Planning over the rows of a part with a head, beginning with a point.
-ghost use Rattle.std.specs.Prelude.{◌≡◌, ◌≤◌, length, true, None, Err, IsTrue, IfOk, OnErr};
+ghost use Rattle.std.specs.Prelude.{◌≡◌, ◌≤◌, true, None, Err, IsTrue, IfOk, OnErr};
 ghost use Rattle.stn_edge.specs.Count.{Rose};
+ghost use Rattle.stn_model.specs.Points.{depth_limit};
 ghost use Rattle.stn_model.specs.Sound.{Sound};
 ghost use Rattle.row_relax.specs.Choices.{HaveImages};
 ghost use Rattle.proof_log.specs.Writer.{KeepsOthers};
@@ -16,7 +17,7 @@ use plan_told::Told;
 use row_kit::Found;
 use std::alloc::{AllocError, Global};
 use stn_edge::{Shelf, Stop};
-use stn_model::{Outcome, Plant};
+use stn_model::{Outcome, Plant, depth_limit};
 
 // Plans over the rows of a head, and drops the proof.
 pub fn plan_over<A: Advisers>(
@@ -29,8 +30,7 @@ pub fn plan_over<A: Advisers>(
 ) -> Result<Outcome, AllocError>
     requires sound { Sound plant.now }
     requires images { HaveImages headed.now.rows }
-    requires splits { HasFewSplits headed.now.rows.program }
-    requires rows { length headed.now.rows.program.rows ≤ 50000 }
+    requires splits { HasFewSplits (depth_limit plant.now) headed.now.rows.program }
     requires budget { (1 ≤ budget) × (budget ≤ 100000) }
     requires told { CanBeTold plant.now headed.now least budget }
     ensures { IfOk result (IsToldOver plant.now headed.now least budget point.now None) }
@@ -38,6 +38,7 @@ pub fn plan_over<A: Advisers>(
     let rules = SplitRules {
         given: headed.given,
         floors: true,
+        most: depth_limit(plant),
     };
     let ended = search_only::<A>(alloc, &headed.rows, rules, budget, point)?;
     let Told { outcome, .. } = told_given(alloc, plant, headed.given, least, ended)?;
@@ -57,15 +58,14 @@ pub fn solve_over<A: Advisers, F: Shelf>(
 ) -> Result<Outcome, Stop>
     requires sound { Sound plant.now }
     requires images { HaveImages headed.now.rows }
-    requires splits { HasFewSplits headed.now.rows.program }
-    requires rows { length headed.now.rows.program.rows ≤ 50000 }
+    requires splits { HasFewSplits (depth_limit plant.now) headed.now.rows.program }
     requires budget { (1 ≤ budget) × (budget ≤ 100000) }
     requires told { CanBeTold plant.now headed.now least budget }
     requires allowed { IsTrue (F.may_write files.old name.now) }
     ensures told { IfOk result (IsToldOver plant.now headed.now least budget point.now
         (bytes_in name.now (F.files files.new))) }
-    ensures err { OnErr result (LeavesBegun headed.now.rows true headed.now.head.items name.now
-        (F.files files.old) (F.files files.new)) }
+    ensures err { OnErr result (LeavesBegun (depth_limit plant.now) headed.now.rows true
+        headed.now.head.items name.now (F.files files.old) (F.files files.new)) }
     ensures kept { KeepsOthers
         (stored F.files F.read_faults F.may_read F.may_write name.now files.old)
         (stored F.files F.read_faults F.may_read F.may_write name.now files.new) }
@@ -76,6 +76,7 @@ pub fn solve_over<A: Advisers, F: Shelf>(
     let rules = SplitRules {
         given: headed.given,
         floors: true,
+        most: depth_limit(plant),
     };
     let head = headed.head.as_slice();
     let Logged { ended, writer } = search_logged::<A, _>(

@@ -10,7 +10,7 @@ use Rattle.std.proofs.lemmas.List.Sums.{sum_by-cons, AllPass-from_list_all, list
 use Rattle.std.proofs.lemmas.Bool.{cases_Bool, cases_order, cases_eq, true≢false, false_from_ne_true}
 use Rattle.stn_model.specs.declared.plant.Plant.{Plant}
 use Rattle.stn_model.specs.declared.start.Start.{Start}
-use Rattle.stn_model.specs.Plant.{state_at, utility_at, run_on, cost_between}
+use Rattle.stn_model.specs.Plant.{state_at, utility_at, rate_in, run_on, cost_between}
 use Rattle.stn_model.specs.Fits.{Fits}
 use Rattle.stn_model.specs.Batches.{Apart, Cleaned, is_amid, is_next}
 use Rattle.stn_model.specs.Stock.{given, taken, inflow, outflow, stock}
@@ -157,7 +157,7 @@ unfolding profit end_value holding_cost utility_cost start_cost
 profit-permutation plant P Q same =
     let worth = total_below-agree _ _ (length plant.states) (λ state _. ap (λ n. (state_at plant state).price *ℤ n) (stock-permutation plant P Q state plant.periods same)) in
     let held = total_below-agree _ _ (length plant.states) (λ state _. total_below-agree _ _ plant.periods (λ time _. ap (λ n. (state_at plant state).holding *ℤ n) (stock-permutation plant P Q state time same))) in
-    let used = total_below-agree _ _ (length plant.utilities) (λ utility _. total_below-agree _ _ plant.periods (λ period _. ap (λ n. (utility_at plant utility).rate *ℤ pos n) (load-permutation plant P Q utility period same))) in
+    let used = total_below-agree _ _ (length plant.utilities) (λ utility _. total_below-agree _ _ plant.periods (λ period _. ap (λ n. rate_in (utility_at plant utility) period *ℤ pos n) (load-permutation plant P Q utility period same))) in
     let begun = sym (total-permutation (λ start. cost_of (run_on plant start.task start.unit)) P Q same) in
     let changed = change_costs-permutation plant P Q same in
     ap₂ (λ x y. x -ℤ pos y) (ap₂ (λ x y. x -ℤ y) (ap₂ (λ x y. x -ℤ y) (ap₂ (λ x y. (x +ℤ payments plant) -ℤ y) worth held) used) begun) changed

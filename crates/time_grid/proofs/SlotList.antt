@@ -96,7 +96,7 @@ length-slots plant =
     ∙ ap (sum_by (slots_of plant)) (map-range_get_or plant.runs no_run)
 
 -- a sound plant has few slots
-pub few-slots : (plant : Plant) → Sound plant → length (slots plant) ≤ 512
+pub few-slots : (plant : Plant) → Sound plant → length (slots plant) ≤ 4096
 few-slots plant sound = omega (arith, length-slots plant, sound.counts.slots)
 
 pub product_by-append : {X : Type 0} (f : X → ℕ) (xs ys : List X) → product_by f (xs ++ ys) ≡ product_by f xs * product_by f ys

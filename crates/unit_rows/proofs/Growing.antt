@@ -20,7 +20,7 @@ pub map_done : {X Y : Type 0} (f : X → Y) (xs zs : List X) (ys : List Y) (i : 
 map_done f xs zs ys i l same e = e ∙ ap (map f) (take_all i xs l ∙ same)
 
 -- the slots are few
-pub few_parts : {Y : Type 0} (plant : Plant) (f : ℕ × ℕ → Y) (ys : List Y) → Sound plant → ys ≡ map f (slots plant) → length ys ≤ 512
+pub few_parts : {Y : Type 0} (plant : Plant) (f : ℕ × ℕ → Y) (ys : List Y) → Sound plant → ys ≡ map f (slots plant) → length ys ≤ 4096
 few_parts plant f ys sound e =
     omega (arith, ap length e, length-map (slots plant) f, few-slots plant sound)
 

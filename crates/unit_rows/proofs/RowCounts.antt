@@ -59,7 +59,7 @@ gap_rows-bounded plant =
     small_row plant (gap_part plant a b) (λ slot. record { fixed = sign_small (is_either a b slot) (lies_between plant a b slot); per = omega arith }))
 
 -- there is a busy row for each unit and period
-pub length-busy_rows : (plant : Plant) → Sound plant → length (busy_rows plant) ≤ 8064
+pub length-busy_rows : (plant : Plant) → Sound plant → length (busy_rows plant) ≤ 32256
 unfolding busy_rows unit_busy_rows
 length-busy_rows plant sound =
     let units = range_with_len 0 (length plant.units) in
@@ -151,5 +151,5 @@ gap_rows-pairs plant =
     let most = slots-most plant after in
     omega (arith, all, each, once, few, most)
 
-pub length-gap_rows : (plant : Plant) → Sound plant → length (gap_rows plant) ≤ 8192
+pub length-gap_rows : (plant : Plant) → Sound plant → length (gap_rows plant) ≤ 32768
 length-gap_rows plant sound = omega (arith, gap_rows-pairs plant, sound.counts.gap_pairs)

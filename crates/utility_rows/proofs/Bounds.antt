@@ -79,7 +79,7 @@ load_rows-bounded plant sound =
     All-row_table (IsBoundedRow (length (slots plant))) (load_row plant) (λ utility. plant.periods) (length plant.utilities) (λ utility period l m. load_row-bounded plant utility period sound l)
 
 -- how many load rows there are at most
-pub length-load_rows : (plant : Plant) → Sound plant → length (load_rows plant) ≤ 2688
+pub length-load_rows : (plant : Plant) → Sound plant → length (load_rows plant) ≤ 21504
 unfolding load_rows
 length-load_rows plant sound =
     let most = length-row_table (load_row plant) (λ utility. plant.periods) 336 (length plant.utilities) (λ i l. sound.counts.periods.1) in

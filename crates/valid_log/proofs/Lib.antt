@@ -1,4 +1,5 @@
 pub mod Items
+pub mod Depths
 pub mod FoundSound
 pub mod Points
 pub mod Saying

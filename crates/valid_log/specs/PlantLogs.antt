@@ -1,5 +1,6 @@
 -- When the verdict on a log of any version is right of a plant.
 use Rattle.std.specs.Prelude.{ℕ, List}
+use Rattle.stn_model.specs.Points.{depth_limit}
 use Rattle.stn_model.specs.declared.plant.Plant.{Plant}
 use Rattle.row_kit.specs.declared.program.Program.{Program}
 use Rattle.row_set.specs.PlantProgram.{plant_root}
@@ -15,12 +16,12 @@ IsPlantVerdict plant part depth log verdict = IsAnyVerdict plant part (plant_roo
 abbrev pub IsKeptVerdict : Plant → Program → ℕ → List ℕ → LogVerdict → Type 0
 IsKeptVerdict plant part depth log verdict = IsAnyVerdict plant part (plant_root plant) part.root depth log verdict
 
--- The verdict on a log of any version is right of the plant: it is right over the plant's program, where at most 4,608 splits may be
--- open, and the claim of a log that is valid holds of all plans.
+-- The verdict on a log of any version is right of the plant: it is right over the plant's program, where at most as many splits may be
+-- open as the plant may need, and the claim of a log that is valid holds of all plans.
 pub record IsAnyChecked (plant : Plant) (log : List ℕ) (verdict : LogVerdict) : Type 0 where
   pub program : Program
   pub of_plant : IsOfPlant plant program
-  pub right : IsPlantVerdict plant program 4608 log verdict
+  pub right : IsPlantVerdict plant program (depth_limit plant) log verdict
   pub holds : YesSays plant verdict
 
 -- The verdict on a log of any version is right of a part of the plant's choices: it is right over the part's program, where at most so

@@ -7,6 +7,7 @@ use Rattle.std.proofs.lemmas.List.{append-nil, length-drop, length-map, length-t
 use Rattle.std.proofs.lemmas.Bool.{false≢true}
 use Rattle.std.proofs.lemmas.Fmt.{decimal_digit}
 use Rattle.std.proofs.lemmas.List.Elements.{All-cons, All-nil, All-weaker}
+use Rattle.stn_model.specs.Points.{depth_limit}
 use Rattle.stn_model.specs.declared.plant.Plant.{Plant}
 use Rattle.stn_model.specs.Sound.{Sound}
 use Rattle.row_kit.specs.declared.domain.Domain.{Domain}
@@ -83,17 +84,17 @@ use Rattle.what_if.proofs.Room.{head-room, no-head-room}
 -- ---- a log over rows
 
 -- the answer yes, on a log that was read
-pub yes_log : (rows : Rows) (bytes : List ℕ) (log : Log) (claim : Claim) → IsRead (limits_of rows 4608) bytes log → IsVerdictOn rows (tree_of log.tree) log.claim (Yes claim) → IsBorneOut rows claim → IsOwnLog rows bytes (tree_of log.tree) log.claim
-yes_log rows bytes log claim read on borne =
+pub yes_log : (rows : Rows) (depth : ℕ) (bytes : List ℕ) (log : Log) (claim : Claim) → IsRead (limits_of rows depth) bytes log → IsVerdictOn rows (tree_of log.tree) log.claim (Yes claim) → IsBorneOut rows claim → IsOwnLog rows depth bytes (tree_of log.tree) log.claim
+yes_log rows depth bytes log claim read on borne =
     record { clean = read.clean; is_log = record { version = log.version; text = read.text; over = read.over }; sound_log = on.1; borne = subst (IsBorneOut rows) on.0 borne }
 
 -- bytes with a first text defect
-pub text_verdict : (rows : Rows) (bytes : List ℕ) (defect : Defect) → log_text_defect (limits_of rows 4608) bytes ≡ Some (defect.line, defect.kind) → IsVerdict rows 4608 bytes (No defect)
-text_verdict rows bytes defect is = subst (λ (found : Option (ℕ × ℕ)). IsVerdictGiven rows bytes found (No defect)) (sym is) (refl, refl)
+pub text_verdict : (rows : Rows) (depth : ℕ) (bytes : List ℕ) (defect : Defect) → log_text_defect (limits_of rows depth) bytes ≡ Some (defect.line, defect.kind) → IsVerdict rows depth bytes (No defect)
+text_verdict rows depth bytes defect is = subst (λ (found : Option (ℕ × ℕ)). IsVerdictGiven rows bytes found (No defect)) (sym is) (refl, refl)
 
 -- the answer on the bytes of a valid log is yes
-own_verdict : (rows : Rows) (bytes : List ℕ) (tree : RowTree) (claim : Claim) → IsOwnLog rows bytes tree claim → IsVerdict rows 4608 bytes (Yes claim)
-own_verdict rows bytes tree claim own =
+own_verdict : (rows : Rows) (depth : ℕ) (bytes : List ℕ) (tree : RowTree) (claim : Claim) → IsOwnLog rows depth bytes tree claim → IsVerdict rows depth bytes (Yes claim)
+own_verdict rows depth bytes tree claim own =
     subst (λ (found : Option (ℕ × ℕ)). IsVerdictGiven rows bytes found (Yes claim)) (sym own.clean)
     (record { tree = tree; is_log = own.is_log; sound_log = own.sound_log })
 
@@ -164,10 +165,10 @@ none-taken plant program ranges head none = record {
     none_ascend k lt = absurd (omega (arith, lt))
 
 -- a valid log without a head
-plain_valid : (plant : Plant) (program : Program) (ranges : List Domain) (bytes : List ℕ) (log : ValidLog) → IsFront (limits_with program 4608 0) bytes Plain → IsNoHead log.head → IsOwnLog (plain program) bytes (tree_of log.tree) log.claim
+plain_valid : (plant : Plant) (program : Program) (ranges : List Domain) (bytes : List ℕ) (log : ValidLog) → IsFront (limits_with program (depth_limit plant) 0) bytes Plain → IsNoHead log.head → IsOwnLog (plain program) (depth_limit plant) bytes (tree_of log.tree) log.claim
     → IsAnyOwnLog plant program ranges bytes log
 plain_valid plant program ranges bytes log stands none own = record {
-  right = record { front = Plain; stands = stands; right = own_verdict (plain program) bytes (tree_of log.tree) log.claim own };
+  right = record { front = Plain; stands = stands; right = own_verdict (plain program) (depth_limit plant) bytes (tree_of log.tree) log.claim own };
   is_log = record { front = Plain; stands = stands; is_log = (none.sums, none.units, none.derivations, own.is_log) };
   has_caps = none.capped;
   sound_log = record {
@@ -182,8 +183,8 @@ plain_valid plant program ranges bytes log stands none own = record {
 }
 
 -- the same of what was read
-pub plain_valid_if : {E : Type 0} (plant : Plant) (program : Program) (ranges : List Domain) (bytes : List ℕ) (r : Result ValidLog E) → IsFront (limits_with program 4608 0) bytes Plain → IfOk r (λ log. IsNoHead log.head)
-    → IfOk r (λ log. IsOwnLog (plain program) bytes (tree_of log.tree) log.claim) → IfOk r (IsAnyOwnLog plant program ranges bytes)
+pub plain_valid_if : {E : Type 0} (plant : Plant) (program : Program) (ranges : List Domain) (bytes : List ℕ) (r : Result ValidLog E) → IsFront (limits_with program (depth_limit plant) 0) bytes Plain → IfOk r (λ log. IsNoHead log.head)
+    → IfOk r (λ log. IsOwnLog (plain program) (depth_limit plant) bytes (tree_of log.tree) log.claim) → IfOk r (IsAnyOwnLog plant program ranges bytes)
 plain_valid_if plant program ranges bytes (Ok log) stands none own = plain_valid plant program ranges bytes log stands none own
 plain_valid_if plant program ranges bytes (Err e) stands none own = tt
 
@@ -209,9 +210,9 @@ judged-same ranges version = by_three (version == 3)
     by_three false = refl
 
 -- a verdict on a file with a head is one on the file
-pub head_verdict : (plant : Plant) (program : Program) (ranges : List Domain) (bytes : List ℕ) (head : Head) (verdict : LogVerdict) → IsHeadVerdict plant program ranges 4608 bytes head verdict
-    → IsHeadVerdict plant program (judged_over ranges ranges head.version) 4608 bytes head verdict
-head_verdict plant program ranges bytes head verdict right = subst (λ (judged : List Domain). IsHeadVerdict plant program judged 4608 bytes head verdict) (sym (judged-same ranges head.version)) right
+pub head_verdict : (plant : Plant) (program : Program) (ranges : List Domain) (bytes : List ℕ) (head : Head) (verdict : LogVerdict) → IsHeadVerdict plant program ranges (depth_limit plant) bytes head verdict
+    → IsHeadVerdict plant program (judged_over ranges ranges head.version) (depth_limit plant) bytes head verdict
+head_verdict plant program ranges bytes head verdict right = subst (λ (judged : List Domain). IsHeadVerdict plant program judged (depth_limit plant) bytes head verdict) (sym (judged-same ranges head.version)) right
 
 -- the version by which a head is looked at is its own
 own-version : (setups : Setups) (tail : Tail) (given : LogHead) → IsHeadVersion setups.head.version → IsHeadOf setups tail given → version_of given ≡ setups.head.version
@@ -231,7 +232,7 @@ with-given plant program ranges setups tail given rows of is =
     (subst (λ (sums : List Sum). IsWithHead plant v program ranges sums setups.units tail.derivations rows) (sym of.sums) is))
 
 -- a head below version 4 sets no unit up
-below-three : (plant : Plant) (program : Program) (setups : Setups) (tail : Tail) (given : LogHead) → IsHeadHeld plant program 4608 setups → IsHeadOf setups tail given → given.capped ≡ false → given.units ≡ []
+below-three : (plant : Plant) (program : Program) (setups : Setups) (tail : Tail) (given : LogHead) → IsHeadHeld plant program (depth_limit plant) setups → IsHeadOf setups tail given → given.capped ≡ false → given.units ≡ []
 below-three plant program setups tail given held of none = of.units ∙ by_version held.version
   where
     by_version : IsHeadVersion setups.head.version → setups.units ≡ []
@@ -241,12 +242,12 @@ below-three plant program setups tail given held of none = of.units ∙ by_versi
         absurd (false≢true (sym none ∙ capped))
 
 -- a head that is read and shown can be taken
-given-taken : (plant : Plant) (program : Program) (ranges : List Domain) (setups : Setups) (tail : Tail) (given : LogHead) (rows : Rows) → IsHeadHeld plant program 4608 setups → IsTailHeld setups.limits setups.head tail → IsHeadOf setups tail given
+given-taken : (plant : Plant) (program : Program) (ranges : List Domain) (setups : Setups) (tail : Tail) (given : LogHead) (rows : Rows) → IsHeadHeld plant program (depth_limit plant) setups → IsTailHeld setups.limits setups.head tail → IsHeadOf setups tail given
     → IsWithHead plant setups.head.version program ranges setups.head.sums setups.units tail.derivations rows → AreTaken plant program ranges given
 given-taken plant program ranges setups tail given rows held tailed of is =
-    let declared = declared_over plant program 4608 setups held in
-    let room = room_held plant program is.between ranges 4608 setups held is.with_sums in
-    let few = rows_fit plant program is.between is.wide ranges 4608 setups tail held tailed is.with_sums is.with_setups in
+    let declared = declared_over plant program (depth_limit plant) setups held in
+    let room = room_held plant program is.between ranges (depth_limit plant) setups held is.with_sums in
+    let few = rows_fit plant program is.between is.wide ranges (depth_limit plant) setups tail held tailed is.with_sums is.with_setups in
     let own = with-given plant program ranges setups tail given rows of is in
     record {
       each = subst (All (IsSumOf program ranges)) (sym of.sums) (λ i d lt. (declared i d lt, is.sums_shown i d lt));
@@ -259,14 +260,14 @@ given-taken plant program ranges setups tail given rows held tailed of is =
     }
 
 -- a valid log behind a head, its setups and its derivations, over the rows with them
-pub tailed_valid : (plant : Plant) (program : Program) (ranges : List Domain) (bytes : List ℕ) (setups : Setups) (tail : Tail) (rows : Rows) (own : Log) (log : ValidLog) → IsHeadHeld plant program 4608 setups → IsTailHeld setups.limits setups.head tail
-    → IsWithHead plant setups.head.version program ranges setups.head.sums setups.units tail.derivations rows → IsOwnLog rows (behind setups.head.version tail.bytes bytes) (tree_of own.tree) own.claim
+pub tailed_valid : (plant : Plant) (program : Program) (ranges : List Domain) (bytes : List ℕ) (setups : Setups) (tail : Tail) (rows : Rows) (own : Log) (log : ValidLog) → IsHeadHeld plant program (depth_limit plant) setups → IsTailHeld setups.limits setups.head tail
+    → IsWithHead plant setups.head.version program ranges setups.head.sums setups.units tail.derivations rows → IsOwnLog rows (depth_limit plant) (behind setups.head.version tail.bytes bytes) (tree_of own.tree) own.claim
     → IsHeadOf setups tail log.head → log.tree ≡ own.tree → log.claim ≡ given_claim (length program.root) own.claim → IsTailedLog plant program ranges bytes setups tail log
 tailed_valid plant program ranges bytes setups tail rows own log held tailed enlarged valid of tree_is claim_is = record {
   rows = rows;
   enlarged = enlarged;
   own = own.claim;
-  valid = subst (λ (tree : RowTree). IsOwnLog rows (behind setups.head.version tail.bytes bytes) tree own.claim) (ap tree_of (sym tree_is)) valid;
+  valid = subst (λ (tree : RowTree). IsOwnLog rows (depth_limit plant) (behind setups.head.version tail.bytes bytes) tree own.claim) (ap tree_of (sym tree_is)) valid;
   has_head = of;
   claim_is = claim_is;
   taken = given-taken plant program ranges setups tail log.head rows held tailed of enlarged;
@@ -279,7 +280,7 @@ set_up_valid plant program ranges bytes setups tail (Ok log) follows' is = recor
 set_up_valid plant program ranges bytes setups tail (Err e) follows' is = tt
 
 -- which is the answer yes on what stands there
-set_up_yes : (plant : Plant) (program : Program) (ranges : List Domain) (bytes : List ℕ) (setups : Setups) (log : ValidLog) → IsSetUpLog plant program ranges bytes setups log → IsSetUpVerdict plant program ranges 4608 bytes setups (Yes log.claim)
+set_up_yes : (plant : Plant) (program : Program) (ranges : List Domain) (bytes : List ℕ) (setups : Setups) (log : ValidLog) → IsSetUpLog plant program ranges bytes setups log → IsSetUpVerdict plant program ranges (depth_limit plant) bytes setups (Yes log.claim)
 set_up_yes plant program ranges bytes setups log is =
     let own = is.is_log in record {
       tail = Whole is.tail;
@@ -288,16 +289,16 @@ set_up_yes plant program ranges bytes setups log is =
         rows = own.rows;
         enlarged = own.enlarged;
         own = Yes own.own;
-        right = own_verdict own.rows (behind setups.head.version is.tail.bytes bytes) (tree_of log.tree) own.own own.valid;
+        right = own_verdict own.rows (depth_limit plant) (behind setups.head.version is.tail.bytes bytes) (tree_of log.tree) own.own own.valid;
         is = ap Yes own.claim_is;
       });
     }
 
 -- and the text of a log with that head
-behind_text : (plant : Plant) (program : Program) (ranges : List Domain) (bytes : List ℕ) (head : Head) (setups : Setups) (log : ValidLog) → AreSetups (limits_with program 4608 (length head.sums)) (setup_sizes plant) head bytes (setting.Whole setups)
+behind_text : (plant : Plant) (program : Program) (ranges : List Domain) (bytes : List ℕ) (head : Head) (setups : Setups) (log : ValidLog) → AreSetups (limits_with program (depth_limit plant) (length head.sums)) (setup_sizes plant) head bytes (setting.Whole setups)
     → IsSetUpLog plant program ranges bytes setups log → IsLogBehind plant program ranges bytes head log.head.sums log.head.units log.head.derivations (tree_of log.tree) log.claim
 behind_text plant program ranges bytes head setups log stands is =
-    let limits = limits_with program 4608 (length head.sums) in
+    let limits = limits_with program (depth_limit plant) (length head.sums) in
     let same = same_head limits (setup_sizes plant) head bytes setups stands in
     let own = is.is_log in
     let of = own.has_head in
@@ -317,11 +318,11 @@ behind_text plant program ranges bytes head setups log stands is =
     }
 
 -- a valid log with a head
-pub headed_valid : (plant : Plant) (program : Program) (ranges : List Domain) (bytes : List ℕ) (head : Head) (setups : Setups) (log : ValidLog) → IsFront (limits_with program 4608 0) bytes (Headed head) → IsKeptHead (limits_with program 4608 0) head
-    → AreSetups (limits_with program 4608 (length head.sums)) (setup_sizes plant) head bytes (setting.Whole setups) → IsSetUpLog plant program ranges bytes setups log → IsAnyOwnLog plant program ranges bytes log
+pub headed_valid : (plant : Plant) (program : Program) (ranges : List Domain) (bytes : List ℕ) (head : Head) (setups : Setups) (log : ValidLog) → IsFront (limits_with program (depth_limit plant) 0) bytes (Headed head) → IsKeptHead (limits_with program (depth_limit plant) 0) head
+    → AreSetups (limits_with program (depth_limit plant) (length head.sums)) (setup_sizes plant) head bytes (setting.Whole setups) → IsSetUpLog plant program ranges bytes setups log → IsAnyOwnLog plant program ranges bytes log
 headed_valid plant program ranges bytes head setups log stands kept set is =
     let own = is.is_log in
-    let same = same_head (limits_with program 4608 (length head.sums)) (setup_sizes plant) head bytes setups set in
+    let same = same_head (limits_with program (depth_limit plant) (length head.sums)) (setup_sizes plant) head bytes setups set in
     let version : IsHeadVersion setups.head.version = subst IsHeadVersion (sym same.0) kept.version in
     record {
       right = record {
@@ -331,7 +332,7 @@ headed_valid plant program ranges bytes head setups log stands kept set is =
       };
       is_log = record {
         front = Headed head;
-        stands = front-deeper program 4608 0 bytes head stands;
+        stands = front-deeper program (depth_limit plant) 0 bytes head stands;
         is_log =
             subst (λ (judged : List Domain). IsLogBehind plant program judged bytes head log.head.sums log.head.units log.head.derivations (tree_of log.tree) log.claim) (sym (judged-same ranges head.version))
             (behind_text plant program ranges bytes head setups log set is);
@@ -351,8 +352,8 @@ headed_valid plant program ranges bytes head setups log stands kept set is =
     }
 
 -- the same of what was read
-pub headed_valid_if : {E : Type 0} (plant : Plant) (program : Program) (ranges : List Domain) (bytes : List ℕ) (head : Head) (setups : Setups) (r : Result ValidLog E) → IsFront (limits_with program 4608 0) bytes (Headed head) → IsKeptHead (limits_with program 4608 0) head
-    → AreSetups (limits_with program 4608 (length head.sums)) (setup_sizes plant) head bytes (setting.Whole setups) → IfOk r (IsSetUpLog plant program ranges bytes setups) → IfOk r (IsAnyOwnLog plant program ranges bytes)
+pub headed_valid_if : {E : Type 0} (plant : Plant) (program : Program) (ranges : List Domain) (bytes : List ℕ) (head : Head) (setups : Setups) (r : Result ValidLog E) → IsFront (limits_with program (depth_limit plant) 0) bytes (Headed head) → IsKeptHead (limits_with program (depth_limit plant) 0) head
+    → AreSetups (limits_with program (depth_limit plant) (length head.sums)) (setup_sizes plant) head bytes (setting.Whole setups) → IfOk r (IsSetUpLog plant program ranges bytes setups) → IfOk r (IsAnyOwnLog plant program ranges bytes)
 headed_valid_if plant program ranges bytes head setups (Ok log) stands kept set is = headed_valid plant program ranges bytes head setups log stands kept set is
 headed_valid_if plant program ranges bytes head setups (Err e) stands kept set is = tt
 
@@ -378,8 +379,8 @@ tail_within limits head bytes tail (inr four) within =
     omega (arith, own, long, cut, within)
 
 -- a head lies within the bytes that it stands in front of
-pub head_within : (program : Program) (bytes : List ℕ) (head : Head) → IsHeaded (limits_with program 4608 0) bytes head → head.bytes ≤ length bytes
-head_within program bytes head is =
+pub head_within : (program : Program) (depth : ℕ) (bytes : List ℕ) (head : Head) → IsHeaded (limits_with program depth 0) bytes head → head.bytes ≤ length bytes
+head_within program depth bytes head is =
     let own : head.bytes ≡ length (head_text head.version head.sums) = ap (λ (h : Head). h.bytes) is.kept.is in
     let long : length bytes ≡ length (head_text head.version head.sums) + length (drop head.bytes bytes) = ap length is.is ∙ length-append (head_text head.version head.sums) (drop head.bytes bytes) in
     omega (arith, own, long)
@@ -399,7 +400,7 @@ setups_within limits sizes head bytes setups (inr four) within =
 
 -- a file whose head has a defect in its meaning has that one, or the first text defect behind its head
 pub unshown_file : (plant : Plant) (program : Program) (ranges : List Domain) (bytes rest : List ℕ) (setups : Setups) (tail : Tail) (limits : Limits) (unshown defect : Defect) → HasHeadDefect plant program ranges setups tail unshown.line unshown.kind
-    → limits ≡ limits_behind setups tail → rest ≡ behind setups.head.version tail.bytes bytes → defect ≡ unshown_defect tail.count unshown.line unshown.kind (log_text_defect limits rest) → IsTailVerdict plant program ranges 4608 bytes setups (Whole tail) (No defect)
+    → limits ≡ limits_behind setups tail → rest ≡ behind setups.head.version tail.bytes bytes → defect ≡ unshown_defect tail.count unshown.line unshown.kind (log_text_defect limits rest) → IsTailVerdict plant program ranges (depth_limit plant) bytes setups (Whole tail) (No defect)
 unshown_file plant program ranges bytes rest setups tail limits unshown defect has same are is = inl (record {
   line = unshown.line;
   kind = unshown.kind;
@@ -410,13 +411,13 @@ unshown_file plant program ranges bytes rest setups tail limits unshown defect h
 -- a file whose head is shown has the defect behind it, over the rows with the head
 pub shown_defect : (plant : Plant) (program : Program) (ranges : List Domain) (bytes rest : List ℕ) (setups : Setups) (tail : Tail) (rows : Rows) (stop own : LogStop) (defect : Defect)
     → IsWithHead plant setups.head.version program ranges setups.head.sums setups.units tail.derivations rows → rest ≡ behind setups.head.version tail.bytes bytes
-    → ((before : Defect) → own ≡ StopDefect before → IsVerdict rows 4608 rest (No before)) → IsStopInFile tail.count own stop → stop ≡ StopDefect defect → IsTailVerdict plant program ranges 4608 bytes setups (Whole tail) (No defect)
+    → ((before : Defect) → own ≡ StopDefect before → IsVerdict rows (depth_limit plant) rest (No before)) → IsStopInFile tail.count own stop → stop ≡ StopDefect defect → IsTailVerdict plant program ranges (depth_limit plant) bytes setups (Whole tail) (No defect)
 shown_defect plant program ranges bytes rest setups tail rows stop own defect enlarged are each in_lines is =
     let found = in_lines defect is in inr (record {
       rows = rows;
       enlarged = enlarged;
       own = No found.0;
-      right = subst (λ (text : List ℕ). IsVerdict rows 4608 text (No found.0)) are (each found.0 found.1.0);
+      right = subst (λ (text : List ℕ). IsVerdict rows (depth_limit plant) text (No found.0)) are (each found.0 found.1.0);
       is = ap No found.1.1;
     })
 
@@ -505,7 +506,7 @@ valid-claim_over plant bytes head proof claim valid =
     subst (λ (n : ℕ). IsClaimOver n claim) own (claim-over plant program (plant_root plant) bytes valid.is_log.front head proof claim (ap length (sym valid.checked.of_plant.made.root_is)) valid.is_log.is_log)
 
 -- a defect over a plant's program is one of the log of the plant
-pub defective_for : (plant : Plant) (program : Program) (bytes : List ℕ) (defect : Defect) → Sound plant → IsMadeOf plant program → IsProgramOf plant program → IsAnyVerdict plant program (plant_root plant) (plant_root plant) 4608 bytes (No defect)
+pub defective_for : (plant : Plant) (program : Program) (bytes : List ℕ) (defect : Defect) → Sound plant → IsMadeOf plant program → IsProgramOf plant program → IsAnyVerdict plant program (plant_root plant) (plant_root plant) (depth_limit plant) bytes (No defect)
     → IsAnyChecked plant bytes (No defect)
 defective_for plant program bytes defect sound made means right =
     record { program = program; of_plant = of_plant plant program sound made means; right = right; holds = tt }

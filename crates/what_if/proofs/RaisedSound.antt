@@ -11,7 +11,7 @@ use Rattle.stn_model.specs.declared.plant.State.{State}
 use Rattle.stn_model.specs.Fits.{is_fit}
 use Rattle.stn_model.specs.Plant.{end_of, gap_between, is_in_use, no_state, run_on}
 use Rattle.stn_model.specs.Points.{gap_pairs, has_slot, meets_gap, slot_count, slots_of}
-use Rattle.stn_model.specs.Sound.{Sound, SoundCounts, SoundNames, SoundState}
+use Rattle.stn_model.specs.Sound.{Sound, SmallCounts, SoundCounts, SoundNames, SoundState}
 use Rattle.what_if.specs.Raised.{raised, raised_limit, raised_states, with_limits, with_states}
 
 -- a raised limit lies in its range
@@ -62,7 +62,7 @@ module _ (plant : Plant) (states : List State) (same : length states ≡ length 
   unfolding other
   counts-other counts = record {
     periods = counts.periods;
-    states = subst (λ (n : ℕ). n ≤ 40) (sym same) counts.states;
+    states = subst (λ (n : ℕ). n ≤ 160) (sym same) counts.states;
     utilities = counts.utilities;
     units = counts.units;
     tasks = counts.tasks;
@@ -71,8 +71,24 @@ module _ (plant : Plant) (states : List State) (same : length states ≡ length 
     receipts = counts.receipts;
     deliveries = counts.deliveries;
     outages = counts.outages;
+    slots = subst (λ (n : ℕ). n ≤ 4096) (sym slots-same) counts.slots;
+    gap_pairs = subst (λ (n : ℕ). n ≤ 32768) (sym gap_pairs-same) counts.gap_pairs;
+  }
+
+  small-other : SmallCounts plant → SmallCounts other
+  unfolding other
+  small-other counts = record {
+    states = subst (λ (n : ℕ). n ≤ 40) (sym same) counts.states;
+    utilities = counts.utilities;
+    units = counts.units;
+    tasks = counts.tasks;
+    runs = counts.runs;
+    receipts = counts.receipts;
+    deliveries = counts.deliveries;
+    outages = counts.outages;
     slots = subst (λ (n : ℕ). n ≤ 512) (sym slots-same) counts.slots;
     gap_pairs = subst (λ (n : ℕ). n ≤ 8192) (sym gap_pairs-same) counts.gap_pairs;
+    rates = counts.rates;
   }
 
   names-other : SoundNames plant → AllPairs (λ a b. a.name ≢ b.name) states → SoundNames other
@@ -84,6 +100,7 @@ module _ (plant : Plant) (states : List State) (same : length states ≡ length 
   unfolding other
   sound-other sound each names = record {
     counts = counts-other sound.counts;
+    small = λ is. small-other (sound.small is);
     names = names-other sound.names names;
     states = each;
     utilities = sound.utilities;

@@ -1,5 +1,6 @@
 //! What stands at the front of the bytes of a log, behind the sums of its head, and behind its setups.
 ghost use Rattle.std.specs.Prelude.{◌≤◌, ◌<◌, ◌^◌, IfOk};
+ghost use Rattle.stn_model.specs.Points.{depth_limit};
 ghost use Rattle.stn_model.specs.Sound.{Sound};
 ghost use Rattle.sum_lines.specs.Front.{IsFront, KeepsLimits};
 ghost use Rattle.sum_lines.specs.Head.{IsHeadVersion};
@@ -8,7 +9,7 @@ ghost use Rattle.plant_check.specs.Heads.{AreSetupsHeld, IsFrontHeld};
 
 use derivation_lines::TailFront;
 use log_lines::Limits;
-use plant_check::{MOST_DEPTH, limits_with, read_setups, read_tail};
+use plant_check::{plant_limits, read_setups, read_tail};
 use row_kit::Program;
 use setup_lines::SetupFront;
 use std::alloc::{AllocError, Global};
@@ -16,14 +17,20 @@ use stn_edge::FixedShelf;
 use stn_model::Plant;
 use sum_lines::{Front, Head, read_head};
 
-// What stands at the front of the bytes.
-pub(crate) fn front_of(alloc: Global, program: &Program, bytes: &[u8]) -> Result<Front, AllocError>
-    ensures front { IfOk result (IsFront (limits_with program.now 4608 0) bytes.now) }
-    ensures kept { IfOk result (KeepsLimits (limits_with program.now 4608 0)) }
+// What stands at the front of the bytes, for a plant.
+pub(crate) fn front_of(
+    alloc: Global,
+    plant: &Plant,
+    program: &Program,
+    bytes: &[u8],
+) -> Result<Front, AllocError>
+    ensures front { IfOk result
+        (IsFront (limits_with program.now (depth_limit plant.now) 0) bytes.now) }
+    ensures kept { IfOk result (KeepsLimits (limits_with program.now (depth_limit plant.now) 0)) }
 {
     let mut shelf = FixedShelf::new(alloc);
     shelf.put_file("log", bytes)?;
-    let limits = limits_with(program, MOST_DEPTH, 0);
+    let limits = plant_limits(plant, program, 0);
     match read_head(alloc, &limits, &mut shelf, "log") {
         Ok(front) => Ok(front),
         Err(_) => Err(AllocError),

@@ -1,5 +1,6 @@
 //! A log behind a head, read of its bytes and checked.
 ghost use Rattle.std.specs.Prelude.{◌≡◌, ◌≤◌, ◌==◌, if◌then◌else◌, codes, length, Err, IfOk};
+ghost use Rattle.stn_model.specs.Points.{depth_limit};
 ghost use Rattle.stn_model.specs.Sound.{Sound};
 ghost use Rattle.row_set.specs.Parts.{IsPartOf};
 ghost use Rattle.log_lines.specs.declared.defect.Defect.{Defect};
@@ -32,12 +33,12 @@ use crate::judging::own_log;
 use crate::old::{LogHead, ValidLog};
 use derivation_lines::{Tail, TailFront};
 use log_lines::{Defect, Limits};
-use plant_check::{MOST_DEPTH, given_claim, in_file, judge_head, limits_behind, limits_with};
+use plant_check::{given_claim, in_file, judge_head, limits_behind, plant_limits};
 use proof_log::{Log, LogStop, read_log};
 use row_kit::{Domain, Program};
 use setup_lines::{SetupFront, Setups};
 use std::alloc::{AllocError, Global};
-use stn_model::Plant;
+use stn_model::{Plant, depth_limit};
 use sum_lines::{Front, Head};
 
 // The log of bytes with a head, where it is valid over the program of a plant with the head, or its first defect.
@@ -52,13 +53,13 @@ pub(crate) fn headed_log(
     requires sound { Sound plant.now }
     requires part { IsPartOf plant.now program }
     requires ranges { AreRanges program ranges.now }
-    requires stands { IsFront (limits_with program 4608 0) bytes.now (Front.Headed head) }
-    requires kept { IsKeptHead (limits_with program 4608 0) head }
+    requires stands { IsFront (limits_with program (depth_limit plant.now) 0) bytes.now (Front.Headed head) }
+    requires kept { IsKeptHead (limits_with program (depth_limit plant.now) 0) head }
     ensures log { IfOk result (IsAnyOwnLog plant.now program ranges.now bytes.now) }
     ensures defect { (defect : Defect) → result ≡ Err (LogStop.Defect defect)
-        → IsHeadVerdict plant.now program ranges.now 4608 bytes.now head (No defect) }
+        → IsHeadVerdict plant.now program ranges.now (depth_limit plant.now) bytes.now head (No defect) }
 {
-    let limits = limits_with(&program, MOST_DEPTH, head.sums.len());
+    let limits = plant_limits(plant, &program, head.sums.len());
     match setups_of(alloc, plant, &limits, head, bytes)? {
         SetupFront::Whole(setups) => set_up_log(alloc, plant, program, ranges, setups, bytes),
         SetupFront::Bad(defect) => Err(LogStop::Defect(defect)),
@@ -77,12 +78,12 @@ fn set_up_log(
     requires sound { Sound plant.now }
     requires part { IsPartOf plant.now program }
     requires ranges { AreRanges program ranges.now }
-    requires held { IsHeadHeld plant.now program 4608 setups }
+    requires held { IsHeadHeld plant.now program (depth_limit plant.now) setups }
     requires some { 1 ≤ setups.head.bytes }
     requires within { setups.head.bytes ≤ length bytes.now }
     ensures log { IfOk result (IsSetUpLog plant.now program ranges.now bytes.now setups) }
     ensures defect { (defect : Defect) → result ≡ Err (LogStop.Defect defect)
-        → IsSetUpVerdict plant.now program ranges.now 4608 bytes.now setups (No defect) }
+        → IsSetUpVerdict plant.now program ranges.now (depth_limit plant.now) bytes.now setups (No defect) }
 {
     match tail_of(alloc, &setups.limits, &setups.head, bytes)? {
         TailFront::Whole(tail) => tailed_log(alloc, plant, program, ranges, setups, tail, bytes),
@@ -103,22 +104,30 @@ fn tailed_log(
     requires sound { Sound plant.now }
     requires part { IsPartOf plant.now program }
     requires ranges { AreRanges program ranges.now }
-    requires held { IsHeadHeld plant.now program 4608 setups }
+    requires held { IsHeadHeld plant.now program (depth_limit plant.now) setups }
     requires some { 1 ≤ setups.head.bytes }
     requires within { setups.head.bytes ≤ length bytes.now }
     requires follows { IsTail setups.limits setups.head bytes.now (Whole tail) }
     requires tailed { IsTailHeld setups.limits setups.head tail }
     ensures log { IfOk result (IsTailedLog plant.now program ranges.now bytes.now setups tail) }
     ensures defect { (defect : Defect) → result ≡ Err (LogStop.Defect defect)
-        → IsTailVerdict plant.now program ranges.now 4608 bytes.now setups (Whole tail)
+        → IsTailVerdict plant.now program ranges.now (depth_limit plant.now) bytes.now setups (Whole tail)
         (No defect) }
 {
     let slots = program.root.len();
     let limits = limits_behind(&setups, &tail);
     let rest = behind(alloc, setups.head.version, tail.bytes, bytes)?;
-    match judge_head(alloc, plant, program, MOST_DEPTH, ranges, &setups, &tail)? {
+    match judge_head(
+        alloc,
+        plant,
+        program,
+        depth_limit(plant),
+        ranges,
+        &setups,
+        &tail,
+    )? {
         Err(defect) => Err(unshown_stop(alloc, &limits, tail.count, defect, rest.as_slice())),
-        Ok(rows) => match own_log(alloc, &rows, rest.as_slice()) {
+        Ok(rows) => match own_log(alloc, plant, &rows, rest.as_slice()) {
             Ok(log) => Ok(given_log(alloc, slots, setups, tail, log)?),
             Err(stop) => Err(stop_in_file(tail.count, stop)),
         },

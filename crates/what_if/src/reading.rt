@@ -1,5 +1,6 @@
 //! An old log of any version, read of its bytes.
 ghost use Rattle.std.specs.Prelude.{◌≡◌, Err, IfOk};
+ghost use Rattle.stn_model.specs.Points.{depth_limit};
 ghost use Rattle.stn_model.specs.Sound.{Sound};
 ghost use Rattle.proof_tree.specs.Tree.{tree_of};
 ghost use Rattle.row_relax.specs.Choices.{plain};
@@ -52,29 +53,35 @@ fn any_log(
     requires ranges { AreRanges program ranges.now }
     ensures log { IfOk result (IsAnyOwnLog plant.now program ranges.now bytes.now) }
     ensures defect { (defect : Defect) → result ≡ Err (LogStop.Defect defect)
-        → IsAnyVerdict plant.now program ranges.now ranges.now 4608 bytes.now (No defect) }
+        → IsAnyVerdict plant.now program ranges.now ranges.now (depth_limit plant.now) bytes.now
+        (No defect) }
 {
-    match front_of(alloc, &program, bytes) {
-        Ok(Front::Plain) => plain_log(alloc, program, bytes),
+    match front_of(alloc, plant, &program, bytes) {
+        Ok(Front::Plain) => plain_log(alloc, plant, program, bytes),
         Ok(Front::Bad(defect)) => Err(LogStop::Defect(defect)),
         Ok(Front::Headed(head)) => headed_log(alloc, plant, program, ranges, head, bytes),
         Err(_) => Err(LogStop::Memory),
     }
 }
 
-// The log of bytes without a head, of version 1 or 2.
-fn plain_log(alloc: Global, program: Program, bytes: &[u8]) -> Result<ValidLog, LogStop>
+// The log of bytes without a head, of version 1 or 2, for a plant.
+fn plain_log(
+    alloc: Global,
+    plant: &Plant,
+    program: Program,
+    bytes: &[u8],
+) -> Result<ValidLog, LogStop>
     ensures head { IfOk result (λ log. IsNoHead log.head) }
-    ensures log { IfOk result (λ log. IsOwnLog (plain program) bytes.now (tree_of log.tree)
-        log.claim) }
+    ensures log { IfOk result (λ log. IsOwnLog (plain program) (depth_limit plant.now) bytes.now
+        (tree_of log.tree) log.claim) }
     ensures defect { (defect : Defect) → result ≡ Err (LogStop.Defect defect)
-        → IsVerdict (plain program) 4608 bytes.now (No defect) }
+        → IsVerdict (plain program) (depth_limit plant.now) bytes.now (No defect) }
 {
     let rows = Rows {
         program,
         choices: None,
     };
-    let log = own_log(alloc, &rows, bytes)?;
+    let log = own_log(alloc, plant, &rows, bytes)?;
     Ok(ValidLog {
         head: no_head(alloc),
         tree: log.tree,

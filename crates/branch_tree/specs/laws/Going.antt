@@ -1,5 +1,5 @@
 -- Searches that go on at boxes of a proof that stands. Only clauses of private functions cite it.
-use Rattle.std.specs.Prelude.{◌≡◌, ◌<◌, ⊤, List, length, None, Some}
+use Rattle.std.specs.Prelude.{◌≡◌, ℕ, ◌<◌, ⊤, List, length, None, Some}
 use Rattle.dual_bound.specs.declared.cert.Cert.{Cert}
 use Rattle.proof_tree.specs.declared.capped.Capped.{Capped}
 use Rattle.proof_tree.specs.Views.{View}
@@ -9,8 +9,9 @@ use Rattle.branch_tree.specs.declared.going_on.GoingOn.{GoingOn}
 use Rattle.branch_tree.specs.laws.Grounds.{IsGround, program_of, rows_of}
 use Rattle.branch_tree.specs.laws.Handed.{BoxHanded}
 
--- a search over these rows can go on: it has a place for each slot, and offers no point of its own
-pub record CanGoOn (rows : Rows) (going : GoingOn) : Type 0 where
+-- a search over these rows, in which at most so many splits stand one below another, can go on: it has a place for each slot, and offers no point of its own
+pub record CanGoOn (most : ℕ) (rows : Rows) (going : GoingOn) : Type 0 where
+  pub limited : going.ground.most ≡ most
   pub over : going.ground.rows.now ≡ rows
   pub indexed : IsGround going.ground
   pub places : length going.reached.point.items ≡ length (program_of going.ground).root

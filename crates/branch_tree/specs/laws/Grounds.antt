@@ -47,7 +47,7 @@ IsAmong rows view point = (image : List ℕ) × IsImageIn rows point image × Is
 
 -- the program of the rows can be searched, and the index is that of its rows
 pub record IsGround (ground : Ground) : Type 0 where
-  pub searchable : IsSearchable (program_of ground)
+  pub searchable : IsSearchable ground.most (program_of ground)
   pub index : IsIndex (program_of ground).rows ground.index
   pub lists : length ground.index ≡ length (program_of ground).root
 
@@ -56,7 +56,7 @@ pub record StandsIn (ground : Ground) (view : View) (depth : ℕ) (reached : Rea
   pub indexed : IsGround ground
   pub fits : Fits (program_of ground) view
   pub places : length reached.point.items ≡ length (program_of ground).root
-  pub deep : depth + view_splits view ≤ 4608
+  pub deep : depth + view_splits view ≤ ground.most
   -- but for rows with an entry of the slot that was split last, each row has room
   pub room : IfSome reached.changed (λ slot. (slot < length (program_of ground).root) × HaveRoomBut (program_of ground).rows (slot ∷ []) (domains_of view))
   -- the point that is to be offered is lawful, and has an image in the area

@@ -18,24 +18,24 @@ use Rattle.log_nodes.specs.OpenEnds.{in_share}
 use Rattle.log_nodes.specs.laws.Nodes.{Below, below_items, tree_with}
 
 -- two proofs were read, of which the second goes on from the first
-pub record HasGrown (rows : Rows) (profit : Option ℤ) (share : Option Share) (depth n : ℕ) (view : View) (reads reads_out : List RowItem → Type 0) (growth : Growth) : Type 0 where
+pub record HasGrown (most : ℕ) (rows : Rows) (profit : Option ℤ) (share : Option Share) (depth n : ℕ) (view : View) (reads reads_out : List RowItem → Type 0) (growth : Growth) : Type 0 where
   pub tree : RowTree
   pub grown : RowTree
   pub read : reads (tree_items tree)
   pub read_out : reads_out (tree_items grown)
-  pub is : IsGrowth rows profit share depth n view tree grown growth
+  pub is : IsGrowth most rows profit share depth n view tree grown growth
 
 -- what stands below two nodes was read, over a view after the cuts of the first, and the proof of the second goes on from that of the first
-pub record HasGrownBelow (rows : Rows) (profit : Option ℤ) (share : Option Share) (depth n : ℕ) (view : View) (node other : Node) (reads reads_out : List RowItem → Type 0) (growth : Growth) : Type 0 where
+pub record HasGrownBelow (most : ℕ) (rows : Rows) (profit : Option ℤ) (share : Option Share) (depth n : ℕ) (view : View) (node other : Node) (reads reads_out : List RowItem → Type 0) (growth : Growth) : Type 0 where
   pub below : Below node.end
   pub below_out : Below other.end
   pub read : reads (below_items node.end below)
   pub read_out : reads_out (below_items other.end below_out)
   pub is : (v : View) → after_cuts (row_steps rows.program) v node.cuts ≡ Some view
-      → IsGrowth rows profit share depth n v (tree_with node.cuts node.found node.end below) (tree_with other.cuts other.found other.end below_out) growth
+      → IsGrowth most rows profit share depth n v (tree_with node.cuts node.found node.end below) (tree_with other.cuts other.found other.end below_out) growth
 
 -- both parts of a split of a view were read in both logs, and those of the second go on from those of the first
-pub record HasGrownParts (rows : Rows) (profit : Option ℤ) (share : Option Share) (depth n : ℕ) (view : View) (pick : RowPick) (reads reads_out : List RowItem → Type 0) (growth : Growth) : Type 0 where
+pub record HasGrownParts (most : ℕ) (rows : Rows) (profit : Option ℤ) (share : Option Share) (depth n : ℕ) (view : View) (pick : RowPick) (reads reads_out : List RowItem → Type 0) (growth : Growth) : Type 0 where
   pub first : RowTree
   pub second : RowTree
   pub first_out : RowTree
@@ -45,8 +45,8 @@ pub record HasGrownParts (rows : Rows) (profit : Option ℤ) (share : Option Sha
   pub goes_on : IsSomeAnd ((row_steps rows.program).left view pick) (λ x. GoesOn (row_steps rows.program) profit (in_share share) n x first first_out
       × IsSomeAnd ((row_steps rows.program).right view pick) (λ y. GoesOn (row_steps rows.program) profit (in_share share) (n + open_ends (row_steps rows.program) profit x first) y second second_out))
   pub ends : growth.ends ≡ count_if ((row_steps rows.program).left view pick) (λ x. open_ends (row_steps rows.program) profit x first) + count_if ((row_steps rows.program).right view pick) (λ y. open_ends (row_steps rows.program) profit y second)
-  pub deep : growth.deep ≡ count_if ((row_steps rows.program).left view pick) (λ x. deep_ends (row_steps rows.program) profit is_deep (depth + 1) x first)
-      + count_if ((row_steps rows.program).right view pick) (λ y. deep_ends (row_steps rows.program) profit is_deep (depth + 1) y second)
+  pub deep : growth.deep ≡ count_if ((row_steps rows.program).left view pick) (λ x. deep_ends (row_steps rows.program) profit (is_deep most) (depth + 1) x first)
+      + count_if ((row_steps rows.program).right view pick) (λ y. deep_ends (row_steps rows.program) profit (is_deep most) (depth + 1) y second)
   pub floors : growth.floors ≡ count_if ((row_steps rows.program).left view pick) (λ x. floors_above (row_steps rows.program) profit x first) + count_if ((row_steps rows.program).right view pick) (λ y. floors_above (row_steps rows.program) profit y second)
   pub before : growth.before ≡ counted first + counted second
   pub after : growth.after ≡ counted first_out + counted second_out

@@ -1,6 +1,7 @@
 -- The logs of all parts, checked.
 use Rattle.std.specs.Prelude.{◌≡◌, ◌≢◌, ◌⊎◌, ◌↔◌, Bool, true, ℕ, ◌+◌, ◌*◌, ◌-◌, ◌^◌, ◌<◌, ⊤, List, [], ◌++◌, length, slice_index_or}
 use Rattle.std.specs.List.{range_with_len}
+use Rattle.stn_model.specs.Points.{depth_limit}
 use Rattle.stn_model.specs.declared.plant.Plant.{Plant}
 use Rattle.time_grid.specs.Slots.{slots}
 use Rattle.row_kit.specs.declared.program.Program.{Program}
@@ -58,7 +59,7 @@ limits_declared plant limits declared = let set = limits_set plant limits declar
 
 -- the limits of the heads of the logs of a plant's parts
 abbrev pub head_limits : Plant → ℕ → Limits
-head_limits plant levels = record { rows = length (plant_rows plant); slots = length (slots plant); points = length (slots plant); depth = 4608 - levels }
+head_limits plant levels = record { rows = length (plant_rows plant); slots = length (slots plant); points = length (slots plant); depth = depth_limit plant - levels }
 
 -- the limits of the logs of a plant's parts over their rows with what they declare
 abbrev pub part_limits : Plant → ℕ → Declared → Limits
@@ -174,7 +175,7 @@ IsCompared declared (head.Bad defect) claim said = said ≡ check.Bad defect
 pub record IsFoundLog (plant : Plant) (levels part : ℕ) (bytes : List ℕ) (declared : Declared) (version head_bytes : ℕ) (claim : Claim) : Type 0 where
   pub program : Program
   pub of_part : IsPartProgram plant levels part program
-  pub right : IsAnyPartChecked plant program (4608 - levels) bytes (verdict.Yes claim)
+  pub right : IsAnyPartChecked plant program (depth_limit plant - levels) bytes (verdict.Yes claim)
   pub own : LogHead
   pub stands : IsLogFront plant (head_limits plant levels) bytes (head.Whole own)
   pub declares : declared ≡ own.declared

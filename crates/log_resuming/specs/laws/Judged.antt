@@ -16,17 +16,18 @@ use Rattle.log_resuming.specs.declared.opened.Opened.{Opened}
 use Rattle.log_resuming.specs.Opened.{IsOpened, front_of}
 use Rattle.log_resuming.specs.Resumed.{IsNoLess, IsNoMore, IsOpenClaim, IsResumed, cap_of, profit_of}
 
--- the proof of a log with this head goes on from that of a log that is opened, as going on from it comes to
-pub record IsMeasured (bytes bytes_out : List ℕ) (budget : ℕ) (share : Option Share) (log : Opened) (head : LogHead) (old_claim claim : Claim) (boxes : ℕ) : Type 0 where
+-- the proof of a log with this head goes on from that of a log that is opened, as going on from it comes to where at most so many splits may
+-- stand one below another
+pub record IsMeasured (most : ℕ) (bytes bytes_out : List ℕ) (budget : ℕ) (share : Option Share) (log : Opened) (head : LogHead) (old_claim claim : Claim) (boxes : ℕ) : Type 0 where
   pub tree : RowTree
   pub grown : RowTree
   pub text : IsTextBehind (front_of log.head) bytes tree
   pub text_out : IsTextBehind (front_of head) bytes_out grown
   pub growth : Growth
-  pub goes_on : IsGrowth log.rows (profit_of old_claim) share 0 0 (view_of log.rows.program.root) tree grown growth
+  pub goes_on : IsGrowth most log.rows (profit_of old_claim) share 0 0 (view_of log.rows.program.root) tree grown growth
   pub boxes_are : boxes ≡ growth.after
   pub within : growth.after ≤ growth.before + budget
-  pub exactly : share ≡ None → IsOpenClaim claim → growth.deep ≡ 0 → growth.floors ≡ 0 → IsSearchable log.rows.program → growth.after ≡ growth.before + budget
+  pub exactly : share ≡ None → IsOpenClaim claim → growth.deep ≡ 0 → growth.floors ≡ 0 → IsSearchable most log.rows.program → growth.after ≡ growth.before + budget
   pub profit : IsNoLess (profit_of old_claim) (profit_of claim)
   pub cap : IsNoMore (cap_of old_claim) (cap_of claim)
 

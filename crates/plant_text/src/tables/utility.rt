@@ -7,7 +7,7 @@ use crate::find::{has, key, read_fields};
 use crate::rows::Row;
 use crate::scope::{Context, Owner};
 use crate::tables::limits::limits;
-use crate::values::{Several, count_if_there, money, name};
+use crate::values::{Several, amounts, count_if_there, money, name};
 use std::alloc::Global;
 use stn_model::Utility;
 use stn_model::limits::{MAX_AMOUNT, MAX_PRICE};
@@ -37,12 +37,23 @@ impl Row for Utility {
             many: context.periods,
             most: MAX_AMOUNT as u32,
         };
+        let by_period = Several {
+            forbidden: has(value, key!(optional Rate)),
+            many: context.periods,
+            most: MAX_PRICE,
+        };
         read_fields! { value, place;
             name: (needed Name) = name(alloc; &context.utilities, earlier.len());
             limit: (needed Limit unless listed) = count_if_there(; 0, MAX_AMOUNT as u32);
             limits: (since context.second, Limits) = limits(alloc; several, limit);
             rate: (optional Rate) = money(; MAX_PRICE);
+            rates: (since context.third, Rates) = amounts(alloc; by_period);
         }
-        Ok(Utility { name, limits, rate })
+        Ok(Utility {
+            name,
+            limits,
+            rate,
+            rates,
+        })
     }
 }

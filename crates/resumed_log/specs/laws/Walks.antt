@@ -7,10 +7,10 @@ use Rattle.branch_tree.specs.declared.going_on.GoingOn.{GoingOn}
 use Rattle.branch_tree.specs.laws.Going.{CanGoOn}
 use Rattle.log_nodes.specs.Reading.{IsReading}
 
--- a log of this name is read on, item by item, and a search over these rows can go on
-pub record GoesOnWalking (told : Option FileMap) (name : List ℕ) (reader : LogReader) (rows : Rows) (going : GoingOn) : Type 0 where
+-- a log of this name is read on, item by item, and a search over these rows, in which at most so many splits stand one below another, can go on
+pub record GoesOnWalking (told : Option FileMap) (name : List ℕ) (reader : LogReader) (most : ℕ) (rows : Rows) (going : GoingOn) : Type 0 where
   pub reading : IsReading told name reader
-  pub can : CanGoOn rows going
+  pub can : CanGoOn most rows going
 
 -- one file may be read while another is written
 pub record CanWriteBeside (reads writes : List ℕ → Bool) (log out : List ℕ) : Type 0 where

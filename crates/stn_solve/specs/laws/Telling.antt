@@ -2,6 +2,7 @@
 use Rattle.std.specs.Prelude.{◌≡◌, ℕ, true, List, [], ◌∷◌, ◌++◌, length, flat_map, Option, IfSome}
 use Rattle.stn_model.specs.declared.plant.Plant.{Plant}
 use Rattle.stn_model.specs.declared.answer.Outcome.{Outcome}
+use Rattle.stn_model.specs.Points.{depth_limit}
 use Rattle.time_grid.specs.Slots.{slots}
 use Rattle.row_kit.specs.declared.found.Found.{Found}
 use Rattle.proof_tree.specs.Items.{tree_items}
@@ -31,15 +32,15 @@ pub record IsToldLarger (plant : Plant) (sums : List Sum) (ended : Ended) (large
 abbrev pub end_over : Headed → Option Found → Ended → Ended
 end_over headed least ended = given_end headed.given least ended
 
--- a tree is a proof that a search over the rows of a head made, with floors
-abbrev pub IsEndOver : Headed → ℕ → Ended → RowTree → Type 0
-IsEndOver headed budget ended tree = IsEnding headed.rows true headed.given budget ended tree
+-- a tree is a proof that a search over the rows of a head made, with floors, in which at most so many splits stand one below another
+abbrev pub IsEndOver : ℕ → Headed → ℕ → Ended → RowTree → Type 0
+IsEndOver most headed budget ended tree = IsEnding most headed.rows true headed.given budget ended tree
 
 -- whatever a search over the rows of a head ends with, it can be told: its best point has a value for each slot of the plant, and the sums
 -- have values at the point of the claim that are bytes
 pub record CanBeTold (plant : Plant) (headed : Headed) (least : Option Found) (budget : ℕ) : Type 0 where
-  pub places : (ended : Ended) (tree : RowTree) → IsEndOver headed budget ended tree → IfSome (end_over headed least ended).best (λ found. length found.point ≡ length (slots plant))
-  pub bytes : (ended : Ended) (tree : RowTree) (told : Told) → IsEndOver headed budget ended tree → IsTold plant (end_over headed least ended) told → IfPoint told.claim (HaveBytes headed.sums)
+  pub places : (ended : Ended) (tree : RowTree) → IsEndOver (depth_limit plant) headed budget ended tree → IfSome (end_over headed least ended).best (λ found. length found.point ≡ length (slots plant))
+  pub bytes : (ended : Ended) (tree : RowTree) (told : Told) → IsEndOver (depth_limit plant) headed budget ended tree → IsTold plant (end_over headed least ended) told → IfPoint told.claim (HaveBytes headed.sums)
 
 -- the text of a log behind a head, of this proof and of what is told with the values of the sums
 abbrev pub text_over : Headed → RowTree → Told → List ℕ
@@ -50,7 +51,7 @@ text_over headed tree told =
 pub record IsToldOver (plant : Plant) (headed : Headed) (least : Option Found) (budget : ℕ) (point : List ℕ) (log : Option (List ℕ)) (outcome : Outcome) : Type 0 where
   pub ended : Ended
   pub tree : RowTree
-  pub of : IsEndOver headed budget ended tree
+  pub of : IsEndOver (depth_limit plant) headed budget ended tree
   pub begun : IsWorth (choices_of headed.rows) point ended.best
   pub told : Told
   pub tells : IsTold plant (end_over headed least ended) told

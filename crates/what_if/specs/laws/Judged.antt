@@ -1,5 +1,6 @@
 -- Stands in specs/ since clauses of private functions cite it; no public clause does.
 use Rattle.std.specs.Prelude.{◌≡◌, ◌==◌, ℕ, false, List, [], length, None}
+use Rattle.stn_model.specs.Points.{depth_limit}
 use Rattle.stn_model.specs.declared.plant.Plant.{Plant}
 use Rattle.row_kit.specs.declared.domain.Domain.{Domain}
 use Rattle.row_kit.specs.declared.program.Program.{Program}
@@ -25,16 +26,17 @@ use Rattle.what_if.specs.Estimate.{AreTaken}
 use Rattle.what_if.specs.Head.{HasCaps}
 use Rattle.what_if.specs.OldLogs.{IsSoundOver}
 
--- the bytes are the text of a log over rows, of this proof and this claim, without a defect of its text or its meaning; the claim is borne out
-pub record IsOwnLog (rows : Rows) (bytes : List ℕ) (tree : RowTree) (claim : Claim) : Type 0 where
-  pub clean : log_text_defect (limits_of rows 4608) bytes ≡ None
+-- the bytes are the text of a log over rows, of this proof and this claim, without a defect of its text, where so many splits may be open, or
+-- its meaning; the claim is borne out
+pub record IsOwnLog (rows : Rows) (depth : ℕ) (bytes : List ℕ) (tree : RowTree) (claim : Claim) : Type 0 where
+  pub clean : log_text_defect (limits_of rows depth) bytes ≡ None
   pub is_log : IsLog rows bytes tree claim
   pub sound_log : IsSoundLog rows tree claim
   pub borne : IsBorneOut rows claim
 
 -- the answer on a log of any version over a plant's program is yes: it has this head, and its proof is without a defect over the rows with it
 pub record IsAnyOwnLog (plant : Plant) (program : Program) (ranges : List Domain) (bytes : List ℕ) (log : ValidLog) : Type 0 where
-  pub right : IsAnyVerdict plant program ranges ranges 4608 bytes (Yes log.claim)
+  pub right : IsAnyVerdict plant program ranges ranges (depth_limit plant) bytes (Yes log.claim)
   pub is_log : IsAnyLog plant program ranges ranges bytes log.head.sums log.head.units log.head.derivations (tree_of log.tree) log.claim
   pub has_caps : HasCaps is_log.front log.head.capped
   pub sound_log : IsSoundOver plant program ranges log.head (tree_of log.tree) log.claim
@@ -65,7 +67,7 @@ pub record IsTailedLog (plant : Plant) (program : Program) (ranges : List Domain
   pub rows : Rows
   pub enlarged : IsWithHead plant setups.head.version program ranges setups.head.sums setups.units tail.derivations rows
   pub own : Claim
-  pub valid : IsOwnLog rows (behind setups.head.version tail.bytes bytes) (tree_of log.tree) own
+  pub valid : IsOwnLog rows (depth_limit plant) (behind setups.head.version tail.bytes bytes) (tree_of log.tree) own
   pub has_head : IsHeadOf setups tail log.head
   pub claim_is : log.claim ≡ given_claim (length program.root) own
   pub taken : AreTaken plant program ranges log.head

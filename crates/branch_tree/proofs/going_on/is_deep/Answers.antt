@@ -8,4 +8,4 @@ use Rattle.branch_tree.proofs.going_on.is_deep.Goals as goal
 pub returns : goal.returns
 returns c =
     let splits = c.splits_in.ensures.count ∙ ap (sum_by splits_of) (sym (domains-views c.args.area.now)) in
-    ap (nat_lt 4608) (ap₂ (λ depth more. depth + more) c.from.ensures splits)
+    ap₂ nat_lt c.from.ensures (ap₂ (λ depth more. depth + more) c.from-2.ensures splits)

@@ -12,5 +12,5 @@ pub returns-in-Ok-clause-ok : goal.returns-in-Ok-clause-ok
 returns-in-Ok-clause-ok g c =
     let found = c.in-Ok.ensures.ok in
     let same = c.with_tree.ensures.tree found.tree (found.handed.0.grown [] c.new-taker.ensures) in
-    subst (λ (tree : RowTree). IsSearch c.args.rows.now c.args.floors c.args.given c.args.budget tree (ended_of c.with_tree.result)) (sym same)
-    (subst (λ (ended : Ended). IsSearch c.args.rows.now c.args.floors c.args.given c.args.budget found.tree ended) (sym c.with_tree.ensures.ended) found.search)
+    subst (λ (tree : RowTree). IsSearch c.args.most c.args.rows.now c.args.floors c.args.given c.args.budget tree (ended_of c.with_tree.result)) (sym same)
+    (subst (λ (ended : Ended). IsSearch c.args.most c.args.rows.now c.args.floors c.args.given c.args.budget found.tree ended) (sym c.with_tree.ensures.ended) found.search)

@@ -6,7 +6,7 @@ use Rattle.row_kit.specs.Domain.{IsNormal}
 use Rattle.derivations.specs.declared.derivation.Derivation.{Derivation}
 use Rattle.derivations.specs.Anew.{IsWithAnew}
 use Rattle.derivations.specs.Growth.{rows_of}
-use Rattle.head_choice.proofs.HeadChosen.{wide-can, wide-normal, wide-rows, wide-slots, wide-splits, wide-total}
+use Rattle.head_choice.proofs.HeadChosen.{wide-can, wide-normal, wide-slots, wide-splits}
 use Rattle.head_choice.proofs.heading.with_head.Goals as goal
 
 pub with_declared-requires-clause-same_slots : goal.with_declared-requires-clause-same_slots
@@ -14,9 +14,6 @@ with_declared-requires-clause-same_slots g c = wide-slots c.args.plant.now c.arg
 
 pub with_declared-requires-clause-normal : goal.with_declared-requires-clause-normal
 with_declared-requires-clause-normal g c = wide-normal c.args.plant.now c.args.part c.args.judged c.in_ok-wide.wide c.in_ok-wide.ensures
-
-pub with_declared-requires-clause-few_rows : goal.with_declared-requires-clause-few_rows
-with_declared-requires-clause-few_rows g c = wide-rows c.args.plant.now c.args.part c.args.judged c.in_ok-wide.wide c.in_ok-wide.ensures
 
 pub grown-requires-clause-same_slots : goal.grown-requires-clause-same_slots
 grown-requires-clause-same_slots g c = ap length c.as_slice.ensures ∙ wide-slots c.args.plant.now c.args.part c.args.judged c.in_ok-wide.wide c.in_ok-wide.ensures
@@ -27,7 +24,7 @@ grown-requires-clause-normal g c = subst (All IsNormal) (sym c.as_slice.ensures)
 pub grown-requires-clause-few_rows : goal.grown-requires-clause-few_rows
 grown-requires-clause-few_rows g c =
     let few = c.in_ok-derivations.ensures.declared.few_rows in
-    subst (λ (ds : List Derivation). length c.in_ok-wide.wide.set.program.rows + rows_of ds ≤ 400000) (sym c.as_slice-2.ensures) (omega (arith, few))
+    subst (λ (ds : List Derivation). length c.in_ok-wide.wide.set.program.rows + rows_of ds ≤ 400000) (sym c.as_slice-2.ensures) few
 
 pub returns : goal.returns
 returns g c =
@@ -48,5 +45,4 @@ returns g c =
       head = made.text;
       given = c.len-given.ensures;
       few_splits = wide-splits plant part judged wide is rows derivations made.declared anew;
-      few_rows = wide-total plant part judged wide is rows derivations made.declared anew;
     }

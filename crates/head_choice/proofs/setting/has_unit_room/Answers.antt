@@ -4,6 +4,9 @@ use Rattle.setup_slots.specs.Several.{rows_with, slots_with}
 use Rattle.head_choice.proofs.UnitsSet.{rows-end, rows-on, slots-end, slots-on}
 use Rattle.head_choice.proofs.setting.has_unit_room.Goals as goal
 
+pub are_few_splits-requires-clause-own : goal.are_few_splits-requires-clause-own
+are_few_splits-requires-clause-own c = omega (arith, c.len-own.ensures, c.args.program.now.few_slots)
+
 pub loop-unit-preserved : goal.loop-unit-preserved
 loop-unit-preserved c =
     let plant = c.args.plant.now in
@@ -13,8 +16,8 @@ loop-unit-preserved c =
     record {
       slots = inv.slots ∙ slots-on plant units i c.loop-unit.slots c.in_ok-more_slots.more_slots c.loop-unit-test.true c.in_ok-more_slots.ensures.slots;
       rows = inv.rows ∙ rows-on plant units i c.loop-unit.rows c.in_ok-more_slots.more_rows c.loop-unit-test.true c.in_ok-more_slots.ensures.rows;
-      few_slots = c.if-slots-gt-MOST_SLOTS.false;
-      few_rows = c.if-rows-gt-MOST_ROWS.false;
+      few_slots = (c.are_few-in-loop-unit.ensures c.if-not-are_few-2.false).0;
+      few_rows = (c.are_few-in-loop-unit.ensures c.if-not-are_few-2.false).1;
     }
 
 pub returns : goal.returns

@@ -9,4 +9,4 @@ pub returns-in-Open-clause-answer : goal.returns-in-Open-clause-answer
 returns-in-Open-clause-answer g c =
     let found = c.in-Open.is in
     checked_open c.args.plant.now c.args.period.number (kept_starts c.args.period.number c.args.plan.now) (option_map (λ m. file_of m c.args.log.now) (g.F.Shelf.files c.args.files.now)) ⊤ c.in-Open.rows.program c.check_log_of.result
-    (rw found at c.in_ok-rows.ensures) c.check_log_of.ensures.answer
+    (rw found at c.in_ok-rows.ensures) (rw c.depth_limit.ensures at c.check_log_of.ensures.answer)

@@ -84,10 +84,10 @@ grown-returns-in-Some-3-clause-grown g t c =
     let same_now = c.in_ok-other.ensures.same ∙ same_mid in
     let read = subst (λ (o : Option Node). IfSome o (λ n. ReadsOn told log a (node_items n) b)) c.in-Some.is c.in_ok-node.ensures.read in
     let read_out = subst (λ (files : Option FileMap). ReadsOn files out a_out (node_items other) b_out) same_mid (subst (λ (o : Option Node). IfSome o (λ n. ReadsOn mid out a_out (node_items n) b_out)) c.in-Some-2.is c.in_ok-other.ensures.read) in
-    let below = subst (λ (o : Option Growth). IfSome o (HasGrownBelow rows c.args.pair.profit c.args.pair.share c.args.place.depth c.args.place.number (seen c.cut_down.new.area) node other (λ items. ReadsOn now log b items e) (λ items. ReadsOn now out b_out items e_out)))
+    let below = subst (λ (o : Option Growth). IfSome o (HasGrownBelow c.args.pair.most rows c.args.pair.profit c.args.pair.share c.args.place.depth c.args.place.number (seen c.cut_down.new.area) node other (λ items. ReadsOn now log b items e) (λ items. ReadsOn now out b_out items e_out)))
     c.in-Some-3.is c.in_ok-growth.ensures.grown in
     let there = subst (λ (cuts : List RowCut). after_cuts (row_steps rows.program) (seen c.args.area.now) cuts ≡ Some (seen c.cut_down.new.area)) c.as_slice.ensures (c.cut_down.ensures.cuts c.if-not-cut_down.false) in
-    node-grown rows c.args.pair.profit c.args.pair.share c.args.place.depth c.args.place.number (seen c.args.area.now) (seen c.cut_down.new.area) node other (λ items. ReadsOn now log b items e) (λ items. ReadsOn now out b_out items e_out)
+    node-grown c.args.pair.most rows c.args.pair.profit c.args.pair.share c.args.place.depth c.args.place.number (seen c.args.area.now) (seen c.cut_down.new.area) node other (λ items. ReadsOn now log b items e) (λ items. ReadsOn now out b_out items e_out)
     (λ items. ReadsOn told log a items e) (λ items. ReadsOn told out a_out items e_out) c.in-Some-3.growth there (behind-items told now log a b e (node_items node) same_now read) (behind-items told now out a_out b_out e_out (node_items other) same_now read_out) below
 
 -- ---- below a node
@@ -131,11 +131,11 @@ grown_split-returns-in-Some-clause-grown g t c =
     let rows = c.args.pair.rows.now in
     let reads : List RowItem → Type 0 = λ items. ReadsOn told log c.args.readers.now.log items c.grown_parts.new.readers.log in
     let reads_out : List RowItem → Type 0 = λ items. ReadsOn told out c.args.readers.now.out items c.grown_parts.new.readers.out in
-    let parts = subst (λ (o : Option Growth). IfSome o (HasGrownParts rows c.args.pair.profit c.args.pair.share c.args.place.depth c.args.place.number (seen c.trim.new.area) c.args.pick.now reads reads_out)) c.in-Some.is c.in_ok-growth.ensures.grown in
+    let parts = subst (λ (o : Option Growth). IfSome o (HasGrownParts c.args.pair.most rows c.args.pair.profit c.args.pair.share c.args.place.depth c.args.place.number (seen c.trim.new.area) c.args.pick.now reads reads_out)) c.in-Some.is c.in_ok-growth.ensures.grown in
     let profit = c.args.pair.profit in
     let floor : (if c.leaves_open.result then 1 else 0) ≡ floor_above rows profit (seen c.args.area.now) c.args.pick.now c.args.cert.now =
     ap (λ (above : Bool). if above then 1 else 0) (c.leaves_open.ensures ∙ ap (leaves_open profit) (c.floor_cap-floor.ensures ∙ ap floor_cap c.trim.ensures.floor)) in
-    split-if rows profit c.args.pair.share c.args.place.depth c.args.place.number (seen c.args.area.now) (seen c.trim.new.area) c.args.node.now c.args.other.now c.args.pick.now c.args.cert.now (if c.leaves_open.result then 1 else 0) reads reads_out c.in-Some.growth c.with_split.result
+    split-if c.args.pair.most rows profit c.args.pair.share c.args.place.depth c.args.place.number (seen c.args.area.now) (seen c.trim.new.area) c.args.node.now c.args.other.now c.args.pick.now c.args.cert.now (if c.leaves_open.result then 1 else 0) reads reads_out c.in-Some.growth c.with_split.result
     c.requires.splits (c.is_same_node.ensures c.if-not-is_same_node.false) c.trim.ensures.trimmed floor parts c.with_split.ensures
 
 -- ---- the parts of a split
@@ -226,9 +226,9 @@ grown_parts-returns-clause-grown g t c =
     let again = back-there (map view_of c.args.area.now) (map view_of c.left.new.area) (map view_of c.grown.new.area) (map view_of c.back.new.area) c.mark-mark.result c.mark-mark.ensures left.1 before c.back.ensures.views in
     let moves = subst (λ (views : List View). MovesTo ((row_steps rows.program).right (present views) pick) views (map view_of c.right.new.area) c.right.result) again c.right.ensures.moves in
     let right = moved-there ((row_steps c.args.pair.rows.now.program).right (seen c.args.area.now) c.args.pick.now) (map view_of c.args.area.now) (map view_of c.right.new.area) c.right.result c.if-not-right.false moves in
-    let first = subst (λ (o : Option Growth). IfSome o (HasGrown rows profit share (c.args.place.depth + 1) c.args.place.number (seen c.left.new.area) (λ items. ReadsOn told log a items b) (λ items. ReadsOn told out a_out items b_out))) c.in-Some.is c.in_ok-first.ensures.grown in
-    let second = subst (λ (o : Option Growth). IfSome o (HasGrown rows profit share (c.args.place.depth + 1) c.in-Some-sum_of.number (seen c.right.new.area) (λ items. ReadsOn now log b items e) (λ items. ReadsOn now out b_out items e_out))) c.in-Some-2.is c.in_ok-second.ensures.grown in
+    let first = subst (λ (o : Option Growth). IfSome o (HasGrown c.args.pair.most rows profit share (c.args.place.depth + 1) c.args.place.number (seen c.left.new.area) (λ items. ReadsOn told log a items b) (λ items. ReadsOn told out a_out items b_out))) c.in-Some.is c.in_ok-first.ensures.grown in
+    let second = subst (λ (o : Option Growth). IfSome o (HasGrown c.args.pair.most rows profit share (c.args.place.depth + 1) c.in-Some-sum_of.number (seen c.right.new.area) (λ items. ReadsOn now log b items e) (λ items. ReadsOn now out b_out items e_out))) c.in-Some-2.is c.in_ok-second.ensures.grown in
     let number = subst (λ (o : Option ℕ). IfSome o (λ n. n ≡ c.args.place.number + c.in-Some.first.ends)) c.in-Some-sum_of.is c.sum_of.ensures in
-    both-if rows profit share c.args.place.depth c.args.place.number c.in-Some-sum_of.number (seen c.args.area.now) (seen c.left.new.area) (seen c.right.new.area) pick (λ items. ReadsOn told log a items b) (λ items. ReadsOn told out a_out items b_out)
+    both-if c.args.pair.most rows profit share c.args.place.depth c.args.place.number c.in-Some-sum_of.number (seen c.args.area.now) (seen c.left.new.area) (seen c.right.new.area) pick (λ items. ReadsOn told log a items b) (λ items. ReadsOn told out a_out items b_out)
     (λ items. ReadsOn now log b items e) (λ items. ReadsOn now out b_out items e_out) (λ items. ReadsOn told log a items e) (λ items. ReadsOn told out a_out items e_out) c.in-Some.first c.in-Some-2.second c.both.result left.0 right.0 first second number
     (behind-tree told now log a b e same) (behind-tree told now out a_out b_out e_out same) c.both.ensures

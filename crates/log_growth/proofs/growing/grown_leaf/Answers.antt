@@ -19,13 +19,13 @@ returns-then-is_same_node-clause-grown g c =
     let end = leaf_of c.args.node.now.end in
     let reads : List RowItem → Type 0 = λ items. ReadsOn told pair.log.now c.args.readers.now.log items c.args.readers.now.log in
     let reads_out : List RowItem → Type 0 = λ items. ReadsOn told pair.out.now c.args.readers.now.out items c.args.readers.now.out in
-    let counts : IsEndCount rows pair.profit c.args.place.depth view end c.leaf_growth-as_before.result = record {
+    let counts : IsEndCount c.args.pair.most rows pair.profit c.args.place.depth view end c.leaf_growth-as_before.result = record {
       ends = c.leaf_growth-as_before.ensures.ends ∙ ap (λ (b : Bool). if b then 1 else 0) c.is_open-open.ensures;
-      deep = c.leaf_growth-as_before.ensures.deep ∙ ap (λ (b : Bool). if b then 1 else 0) (c.is_deep_end-deep.ensures ∙ ap (λ (b : Bool). b && is_deep c.args.place.depth view) c.is_open-open.ensures);
+      deep = c.leaf_growth-as_before.ensures.deep ∙ ap (λ (b : Bool). if b then 1 else 0) (c.is_deep_end-deep.ensures ∙ ap (λ (b : Bool). b && is_deep c.args.pair.most c.args.place.depth view) c.is_open-open.ensures);
       floors = c.leaf_growth-as_before.ensures.floors;
       before = c.leaf_growth-as_before.ensures.before;
     } in
-    same-end rows pair.profit pair.share c.args.place.depth c.args.place.number view c.args.node.now c.args.other.now reads reads_out c.leaf_growth-as_before.result c.requires.leaf (c.is_same_node.ensures c.if-is_same_node.true)
+    same-end c.args.pair.most rows pair.profit pair.share c.args.place.depth c.args.place.number view c.args.node.now c.args.other.now reads reads_out c.leaf_growth-as_before.result c.requires.leaf (c.is_same_node.ensures c.if-is_same_node.true)
     (reads-none told pair.log.now c.args.readers.now.log) (reads-none told pair.out.now c.args.readers.now.out) counts c.leaf_growth-as_before.ensures.after
 
 pub returns-in-Some-clause-grown : goal.returns-in-Some-clause-grown
@@ -38,9 +38,9 @@ returns-in-Some-clause-grown g c =
     let whole = c.leaf_growth-as_before.result in
     let reads : List RowItem → Type 0 = λ items. ReadsOn told pair.log.now c.args.readers.now.log items c.args.readers.now.log in
     let reads_out : List RowItem → Type 0 = λ items. ReadsOn told pair.out.now c.args.readers.now.out items c.skip_below.new.reader in
-    let counts : IsEndCount rows pair.profit c.args.place.depth view end (record whole { after = c.in-Some.after }) = record {
+    let counts : IsEndCount c.args.pair.most rows pair.profit c.args.place.depth view end (record whole { after = c.in-Some.after }) = record {
       ends = c.leaf_growth-as_before.ensures.ends ∙ ap (λ (b : Bool). if b then 1 else 0) c.is_open-open.ensures;
-      deep = c.leaf_growth-as_before.ensures.deep ∙ ap (λ (b : Bool). if b then 1 else 0) (c.is_deep_end-deep.ensures ∙ ap (λ (b : Bool). b && is_deep c.args.place.depth view) c.is_open-open.ensures);
+      deep = c.leaf_growth-as_before.ensures.deep ∙ ap (λ (b : Bool). if b then 1 else 0) (c.is_deep_end-deep.ensures ∙ ap (λ (b : Bool). b && is_deep c.args.pair.most c.args.place.depth view) c.is_open-open.ensures);
       floors = c.leaf_growth-as_before.ensures.floors;
       before = c.leaf_growth-as_before.ensures.before;
     } in
@@ -49,5 +49,5 @@ returns-in-Some-clause-grown g c =
     let begins = may.begins grows in
     let opened = subst (λ (b : Bool). IsTrue b) c.is_open-open.ensures (may.opened grows) in
     let below = subst (λ (o : Option ℕ). IfSome o (HasBelow reads_out c.args.other.now.end)) c.in-Some.is c.in_ok-after.ensures.below in
-    new-end rows pair.profit pair.share c.args.place.depth c.args.place.number view c.args.node.now c.args.other.now reads reads_out (record whole { after = c.in-Some.after }) begins.0 c.requires.leaf (reads-none told pair.log.now c.args.readers.now.log)
+    new-end c.args.pair.most rows pair.profit pair.share c.args.place.depth c.args.place.number view c.args.node.now c.args.other.now reads reads_out (record whole { after = c.in-Some.after }) begins.0 c.requires.leaf (reads-none told pair.log.now c.args.readers.now.log)
     (may.searched grows) opened begins.1 below counts

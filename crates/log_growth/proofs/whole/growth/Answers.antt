@@ -36,8 +36,8 @@ returns-then-out_ends-clause-grown g c =
     let rows = c.args.pair.rows.now in
     let readers = c.grown.new.readers in
     let same = c.in_ok-growth.ensures.same in
-    let has = subst (λ (o : Option Growth). IfSome o (HasGrown rows c.args.pair.profit c.args.pair.share 0 0 (seen c.in_ok-area.area) (λ items. ReadsOn told log c.in_ok-begin_behind.field-0 items readers.log) (λ items. ReadsOn told out c.in_ok-begin_behind-2.field-0 items readers.out))) c.in-Some.is c.in_ok-growth.ensures.grown in
-    let root = subst (λ (area : List (List Domain)). HasGrown rows c.args.pair.profit c.args.pair.share 0 0 (seen area) (λ items. ReadsOn told log c.in_ok-begin_behind.field-0 items readers.log) (λ items. ReadsOn told out c.in_ok-begin_behind-2.field-0 items readers.out) c.in-Some.growth) c.in_ok-area.ensures.root has in
+    let has = subst (λ (o : Option Growth). IfSome o (HasGrown c.args.pair.most rows c.args.pair.profit c.args.pair.share 0 0 (seen c.in_ok-area.area) (λ items. ReadsOn told log c.in_ok-begin_behind.field-0 items readers.log) (λ items. ReadsOn told out c.in_ok-begin_behind-2.field-0 items readers.out))) c.in-Some.is c.in_ok-growth.ensures.grown in
+    let root = subst (λ (area : List (List Domain)). HasGrown c.args.pair.most rows c.args.pair.profit c.args.pair.share 0 0 (seen area) (λ items. ReadsOn told log c.in_ok-begin_behind.field-0 items readers.log) (λ items. ReadsOn told out c.in_ok-begin_behind-2.field-0 items readers.out) c.in-Some.growth) c.in_ok-area.ensures.root has in
     let end = subst (λ (files : Option FileMap). EndsClean files log readers.log) same (c.in_ok-ends.ensures.end c.if-ends.true) in
     let end_out = subst (λ (files : Option FileMap). EndsClean files out readers.out) (c.in_ok-ends.ensures.same ∙ same) (c.in_ok-out_ends.ensures.end c.if-out_ends.true) in
-    are-grown told log out rows c.args.pair.profit c.args.pair.share c.args.log c.args.out c.in-Some.growth c.in_ok-begin_behind.field-0 readers.log c.in_ok-begin_behind-2.field-0 readers.out (c.in_ok-begin_behind.ensures told log) (c.in_ok-begin_behind-2.ensures told out) root end end_out
+    are-grown told log out c.args.pair.most rows c.args.pair.profit c.args.pair.share c.args.log c.args.out c.in-Some.growth c.in_ok-begin_behind.field-0 readers.log c.in_ok-begin_behind-2.field-0 readers.out (c.in_ok-begin_behind.ensures told log) (c.in_ok-begin_behind-2.ensures told out) root end end_out

@@ -2,6 +2,7 @@
 use Rattle.std.proofs.Common.{◌≡◌, ℕ, ◌∙◌, Option, subst}
 use Rattle.std.specs.Prelude.{IfSome}
 use Rattle.stn_edge.specs.Files.{FileMap, file_of}
+use Rattle.stn_model.specs.Points.{depth_limit}
 use Rattle.log_parts.specs.Heads.{lines_on}
 use Rattle.valid_log.specs.declared.verdict.LogVerdict.{LogVerdict}
 use Rattle.valid_log.specs.Claims.{YesSays}
@@ -32,6 +33,7 @@ returns-in-Some-2-clause-judged g c =
     let same_now = c.in_ok-out.ensures.frame.same ∙ same_mid in
     let checked = subst (λ (verdict : LogVerdict). IfSome told (λ m. IsAnyChecked plant (file_of m out) verdict)) c.in-Yes.is c.in_ok-claim.ensures.checked in
     let opened = subst (λ (files : Option FileMap). IfSome files (λ m. IsOpened plant (file_of m out) own)) same_mid (subst (λ (o : Option Opened). IfSome o (λ it. IfSome mid (λ m. IsOpened plant (file_of m out) it))) c.in-Some.is c.in_ok-out.ensures.opened) in
-    let is = subst (λ (o : Option ℕ). IfSome o (λ n. IfSome now (λ m. IsMeasured (file_of m name) (file_of m out) c.args.going.budget c.args.going.share log own.head c.args.old.now c.in-Yes.claim n))) c.in-Some-2.is c.in_ok-boxes.ensures.measured in
-    let measured = subst (λ (files : Option FileMap). IfSome files (λ m. IsMeasured (file_of m name) (file_of m out) c.args.going.budget c.args.going.share log own.head c.args.old.now c.in-Yes.claim c.in-Some-2.boxes)) same_now is in
+    let is = subst (λ (o : Option ℕ). IfSome o (λ n. IfSome now (λ m. IsMeasured c.depth_limit.result (file_of m name) (file_of m out) c.args.going.budget c.args.going.share log own.head c.args.old.now c.in-Yes.claim n))) c.in-Some-2.is c.in_ok-boxes.ensures.measured in
+    let here = subst (λ (most : ℕ). IfSome now (λ m. IsMeasured most (file_of m name) (file_of m out) c.args.going.budget c.args.going.share log own.head c.args.old.now c.in-Yes.claim c.in-Some-2.boxes)) c.depth_limit.ensures is in
+    let measured = subst (λ (files : Option FileMap). IfSome files (λ m. IsMeasured (depth_limit plant) (file_of m name) (file_of m out) c.args.going.budget c.args.going.share log own.head c.args.old.now c.in-Yes.claim c.in-Some-2.boxes)) same_now here in
     judges told plant name out c.args.going.budget c.args.going.share log own c.args.old.now c.in-Yes.claim c.in-Some-2.boxes checked opened (c.declares_same.ensures c.if-not-declares_same.false) c.if-head-ne-NEWEST.false measured

@@ -15,5 +15,5 @@ returns-in-Some-clause-measured g c =
     let log = c.args.opened.now in
     let right = c.is_right.ensures in
     let yes = c.if-is_right.true in
-    let are = subst (λ (o : Option Growth). IfSome o (λ own. IfSome told (λ m. AreGrown log.rows c.profit_of.result c.args.going.share c.front_of-log.result c.front_of-out.result (file_of m name) (file_of m out) own))) c.in-Some.is c.in_ok-growth.ensures.grown in
-    measured told name out c.args.going.budget c.args.going.share log c.args.head.now c.args.old.now c.args.new.now c.in-Some.growth (rw (c.profit_of.ensures, c.front_of-log.ensures, c.front_of-out.ensures) at are) (right.within yes) (right.exactly yes) (right.profit yes) (right.cap yes)
+    let are = subst (λ (o : Option Growth). IfSome o (λ own. IfSome told (λ m. AreGrown c.args.most log.rows c.profit_of.result c.args.going.share c.front_of-log.result c.front_of-out.result (file_of m name) (file_of m out) own))) c.in-Some.is c.in_ok-growth.ensures.grown in
+    measured c.args.most told name out c.args.going.budget c.args.going.share log c.args.head.now c.args.claims.old.now c.args.claims.new.now c.in-Some.growth (rw (c.profit_of.ensures, c.front_of-log.ensures, c.front_of-out.ensures) at are) (right.within yes) (right.exactly yes) (right.profit yes) (right.cap yes)

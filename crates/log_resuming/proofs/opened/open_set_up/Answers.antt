@@ -1,5 +1,6 @@
 -- The derivations behind the setups of a head.
 use Rattle.std.proofs.Common.{IfSome, ◌≡◌, subst}
+use Rattle.stn_model.specs.Points.{depth_limit}
 use Rattle.stn_edge.specs.Files.{file_of}
 use Rattle.log_parts.specs.laws.Checked.{head_with}
 use Rattle.valid_log.specs.Heads.{IsWithHead}
@@ -11,7 +12,7 @@ use Rattle.log_resuming.proofs.Opening.{opened-tailed}
 use Rattle.log_resuming.proofs.opened.open_set_up.Goals as goal
 
 pub read_tail-requires-clause-rows : goal.read_tail-requires-clause-rows
-read_tail-requires-clause-rows g c = (held_small c.args.plant.now c.args.program 4608 c.args.setups c.requires.held).rows
+read_tail-requires-clause-rows g c = (held_small c.args.plant.now c.args.program (depth_limit c.args.plant.now) c.args.setups c.requires.held).rows
 
 pub open_tailed-requires-clause-tailed : goal.open_tailed-requires-clause-tailed
 open_tailed-requires-clause-tailed g c = subst (IsFrontHeld c.args.setups.limits c.args.setups.head) c.in-Whole.is c.in_ok-tail.ensures.held

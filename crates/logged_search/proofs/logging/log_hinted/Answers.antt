@@ -1,5 +1,5 @@
 -- A log is begun, and takes the items of the proof of a search.
-use Rattle.std.proofs.Common.{◌∙◌, refl, inr, subst, List, ℕ, IfSome}
+use Rattle.std.proofs.Common.{◌∙◌, refl, inr, subst, List, ℕ, IfSome, arith}
 use Rattle.branch_tree.proofs.Stopping.{at_err}
 use Rattle.proof_log.specs.Writer.{writing}
 use Rattle.plan_told.specs.Proofs.{bytes_in}
@@ -10,7 +10,7 @@ use Rattle.logged_search.proofs.logging.log_hinted.Goals as goal
 
 pub returns-in_err-writer-clause-err : goal.returns-in_err-writer-clause-err
 returns-in_err-writer-clause-err g c =
-    at_err _ _ (begun-clear c.args.rows.now c.args.rules.floors c.args.head.now c.args.name.now (g.F.Shelf.files c.args.files.now) (g.F.Shelf.files c.begin_with.new.files) c.in_err-writer.ensures.err)
+    at_err _ _ (begun-clear c.args.rules.most c.args.rows.now c.args.rules.floors c.args.head.now c.args.name.now (g.F.Shelf.files c.args.files.now) (g.F.Shelf.files c.begin_with.new.files) (let splits = c.requires.searchable.program.few_splits in omega (arith, splits)) c.in_err-writer.ensures.err)
 
 pub returns-in_err-writer-clause-kept : goal.returns-in_err-writer-clause-kept
 returns-in_err-writer-clause-kept g c = record {
@@ -42,8 +42,8 @@ returns-in-Ok-clause-kept g c =
 
 pub returns-in-Err-clause-err : goal.returns-in-Err-clause-err
 returns-in-Err-clause-err g c =
-    let begun = begun-broken g.F.Shelf.files g.F.Shelf.read_faults g.F.Shelf.may_read g.F.Shelf.may_write c.args.rows.now c.args.rules.floors c.args.head.now c.in_ok-writer.writer c.search_hinted.new.taker c.begin_with.new.files c.search_hinted.new.out c.in_ok-writer.ensures.whole c.in-Err.ensures.err in
-    inr (subst (λ (name : List ℕ). IfSome (bytes_in name (g.F.Shelf.files c.search_hinted.new.out)) (IsBegun c.args.rows.now c.args.rules.floors c.args.head.now)) c.in_ok-writer.ensures.name begun)
+    let begun = begun-broken g.F.Shelf.files g.F.Shelf.read_faults g.F.Shelf.may_read g.F.Shelf.may_write c.args.rules.most c.args.rows.now c.args.rules.floors c.args.head.now c.in_ok-writer.writer c.search_hinted.new.taker c.begin_with.new.files c.search_hinted.new.out c.in_ok-writer.ensures.whole c.in-Err.ensures.err in
+    inr (subst (λ (name : List ℕ). IfSome (bytes_in name (g.F.Shelf.files c.search_hinted.new.out)) (IsBegun c.args.rules.most c.args.rows.now c.args.rules.floors c.args.head.now)) c.in_ok-writer.ensures.name begun)
 
 pub returns-in-Err-clause-kept : goal.returns-in-Err-clause-kept
 returns-in-Err-clause-kept g c =

@@ -10,10 +10,10 @@ search_open-requires-clause-searchable g c = record { images = c.requires.images
 
 pub returns-else-is_searchable-clause-ended : goal.returns-else-is_searchable-clause-ended
 returns-else-is_searchable-clause-ended g c =
-    let bare = not-open c.args.rows.now.program c.is_searchable.result c.requires.splits c.requires.rows c.is_searchable.ensures.1 c.if-is_searchable.false in
+    let bare = not-open c.args.rules.most c.args.rows.now.program c.is_searchable.result c.requires.splits c.is_searchable.ensures.1 c.if-is_searchable.false in
     record { tree = empty_tree; of = inr (record { bare = bare; ended_is = c.empty_end.ensures; tree_is = refl }) }
 
 pub returns-else-is_searchable-clause-begun : goal.returns-else-is_searchable-clause-begun
 returns-else-is_searchable-clause-begun g c = λ lawful.
-    let bare = not-open c.args.rows.now.program c.is_searchable.result c.requires.splits c.requires.rows c.is_searchable.ensures.1 c.if-is_searchable.false in
+    let bare = not-open c.args.rules.most c.args.rows.now.program c.is_searchable.result c.requires.splits c.is_searchable.ensures.1 c.if-is_searchable.false in
     (let image = c.requires.images c.args.start.now lawful in absurd (empty-none c.args.rows.now.program bare image.0 image.1.lawful.lies))

@@ -7,5 +7,5 @@ use Rattle.plan_sim.proofs.profit.cost_of_levels.Given as goal
 abbrev pub invariant-loop-state : goal.invariant-loop-state
 invariant-loop-state l = record {
   value : l.sum ≡ total_below (level_cost l.plant l.stocks) l.state;
-  small : unsigned_abs l.sum ≤ l.state * 2 ^ 119;
+  small : unsigned_abs l.sum ≤ l.state * (336 * 2 ^ 110);
 }

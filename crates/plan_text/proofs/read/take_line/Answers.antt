@@ -6,9 +6,9 @@ pub returns-then-is_comment : goal.returns-then-is_comment
 unfolding after_line
 returns-then-is_comment c = search rules
 
-pub returns-then-len-eq-MAX_STARTS : goal.returns-then-len-eq-MAX_STARTS
+pub returns-then-len-most_starts : goal.returns-then-len-most_starts
 unfolding after_line
-returns-then-len-eq-MAX_STARTS c = search rules
+returns-then-len-most_starts c = search rules
 
 pub returns-in_ok-push-in-Ok : goal.returns-in_ok-push-in-Ok
 unfolding after_line

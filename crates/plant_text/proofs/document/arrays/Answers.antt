@@ -2,6 +2,7 @@ use Rattle.std.proofs.Common.{refl}
 use Rattle.std.proofs.lemmas.Result.{err_from_is_err_and}
 use Rattle.plant_text.specs.Document.{plant_with}
 use Rattle.plant_text.proofs.Faults.{passes, nothing, stops_after, stops_at}
+use Rattle.plant_text.proofs.Limits.{same_either}
 use Rattle.plant_text.proofs.document.arrays.Goals as goal
 
 pub returns-in_err-array-clause-err : goal.returns-in_err-array-clause-err
@@ -32,26 +33,26 @@ returns-in_err-array-5-clause-err c =
 pub returns-in_err-array-6-clause-err : goal.returns-in_err-array-6-clause-err
 returns-in_err-array-6-clause-err c =
     let p = err_from_is_err_and c.from_residual-in_err-array-6.result c.from_residual-in_err-array-6.ensures.1 in
-    rw (p.1, p.2) (stops_after c.in_err-array-6.field-0.0 _ _ c.in_ok-array.ensures.passes (stops_after c.in_err-array-6.field-0.0 _ _ c.in_ok-array-2.ensures.passes (stops_after c.in_err-array-6.field-0.0 _ _ c.in_ok-array-3.ensures.passes (stops_after c.in_err-array-6.field-0.0 _ _ c.in_ok-array-4.ensures.passes (stops_after c.in_err-array-6.field-0.0 _ _ c.in_ok-array-5.ensures.passes (stops_at c.in_err-array-6.field-0.0 _ _ c.in_err-array-6.ensures.err))))))
+    rw (p.1, p.2) (stops_after c.in_err-array-6.field-0.0 _ _ c.in_ok-array.ensures.passes (stops_after c.in_err-array-6.field-0.0 _ _ c.in_ok-array-2.ensures.passes (stops_after c.in_err-array-6.field-0.0 _ _ c.in_ok-array-3.ensures.passes (stops_after c.in_err-array-6.field-0.0 _ _ c.in_ok-array-4.ensures.passes (stops_after c.in_err-array-6.field-0.0 _ _ c.in_ok-array-5.ensures.passes (stops_at c.in_err-array-6.field-0.0 _ _ (rw (same_either c.args.context.now.third 4096) at c.in_err-array-6.ensures.err)))))))
 
 pub returns-in_err-array-7-clause-err : goal.returns-in_err-array-7-clause-err
 returns-in_err-array-7-clause-err c =
     let p = err_from_is_err_and c.from_residual-in_err-array-7.result c.from_residual-in_err-array-7.ensures.1 in
-    rw (p.1, p.2) (stops_after c.in_err-array-7.field-0.0 _ _ c.in_ok-array.ensures.passes (stops_after c.in_err-array-7.field-0.0 _ _ c.in_ok-array-2.ensures.passes (stops_after c.in_err-array-7.field-0.0 _ _ c.in_ok-array-3.ensures.passes (stops_after c.in_err-array-7.field-0.0 _ _ c.in_ok-array-4.ensures.passes (stops_after c.in_err-array-7.field-0.0 _ _ c.in_ok-array-5.ensures.passes (stops_after c.in_err-array-7.field-0.0 _ _ c.in_ok-array-6.ensures.passes (stops_at c.in_err-array-7.field-0.0 _ _ c.in_err-array-7.ensures.err)))))))
+    rw (p.1, p.2) (stops_after c.in_err-array-7.field-0.0 _ _ c.in_ok-array.ensures.passes (stops_after c.in_err-array-7.field-0.0 _ _ c.in_ok-array-2.ensures.passes (stops_after c.in_err-array-7.field-0.0 _ _ c.in_ok-array-3.ensures.passes (stops_after c.in_err-array-7.field-0.0 _ _ c.in_ok-array-4.ensures.passes (stops_after c.in_err-array-7.field-0.0 _ _ c.in_ok-array-5.ensures.passes (stops_after c.in_err-array-7.field-0.0 _ _ (rw (same_either c.args.context.now.third 4096) at c.in_ok-array-6.ensures.passes) (stops_at c.in_err-array-7.field-0.0 _ _ c.in_err-array-7.ensures.err)))))))
 
 pub returns-in_err-array-8-clause-err : goal.returns-in_err-array-8-clause-err
 returns-in_err-array-8-clause-err c =
     let p = err_from_is_err_and c.from_residual-in_err-array-8.result c.from_residual-in_err-array-8.ensures.1 in
-    rw (p.1, p.2) (stops_after c.in_err-array-8.field-0.0 _ _ c.in_ok-array.ensures.passes (stops_after c.in_err-array-8.field-0.0 _ _ c.in_ok-array-2.ensures.passes (stops_after c.in_err-array-8.field-0.0 _ _ c.in_ok-array-3.ensures.passes (stops_after c.in_err-array-8.field-0.0 _ _ c.in_ok-array-4.ensures.passes (stops_after c.in_err-array-8.field-0.0 _ _ c.in_ok-array-5.ensures.passes (stops_after c.in_err-array-8.field-0.0 _ _ c.in_ok-array-6.ensures.passes (stops_after c.in_err-array-8.field-0.0 _ _ c.in_ok-array-7.ensures.passes (stops_at c.in_err-array-8.field-0.0 _ _ c.in_err-array-8.ensures.err))))))))
+    rw (p.1, p.2) (stops_after c.in_err-array-8.field-0.0 _ _ c.in_ok-array.ensures.passes (stops_after c.in_err-array-8.field-0.0 _ _ c.in_ok-array-2.ensures.passes (stops_after c.in_err-array-8.field-0.0 _ _ c.in_ok-array-3.ensures.passes (stops_after c.in_err-array-8.field-0.0 _ _ c.in_ok-array-4.ensures.passes (stops_after c.in_err-array-8.field-0.0 _ _ c.in_ok-array-5.ensures.passes (stops_after c.in_err-array-8.field-0.0 _ _ (rw (same_either c.args.context.now.third 4096) at c.in_ok-array-6.ensures.passes) (stops_after c.in_err-array-8.field-0.0 _ _ c.in_ok-array-7.ensures.passes (stops_at c.in_err-array-8.field-0.0 _ _ c.in_err-array-8.ensures.err))))))))
 
 pub returns-in_err-array-9-clause-err : goal.returns-in_err-array-9-clause-err
 returns-in_err-array-9-clause-err c =
     let p = err_from_is_err_and c.from_residual-in_err-array-9.result c.from_residual-in_err-array-9.ensures.1 in
-    rw (p.1, p.2) (stops_after c.in_err-array-9.field-0.0 _ _ c.in_ok-array.ensures.passes (stops_after c.in_err-array-9.field-0.0 _ _ c.in_ok-array-2.ensures.passes (stops_after c.in_err-array-9.field-0.0 _ _ c.in_ok-array-3.ensures.passes (stops_after c.in_err-array-9.field-0.0 _ _ c.in_ok-array-4.ensures.passes (stops_after c.in_err-array-9.field-0.0 _ _ c.in_ok-array-5.ensures.passes (stops_after c.in_err-array-9.field-0.0 _ _ c.in_ok-array-6.ensures.passes (stops_after c.in_err-array-9.field-0.0 _ _ c.in_ok-array-7.ensures.passes (stops_after c.in_err-array-9.field-0.0 _ _ c.in_ok-array-8.ensures.passes (stops_at c.in_err-array-9.field-0.0 _ _ c.in_err-array-9.ensures.err)))))))))
+    rw (p.1, p.2) (stops_after c.in_err-array-9.field-0.0 _ _ c.in_ok-array.ensures.passes (stops_after c.in_err-array-9.field-0.0 _ _ c.in_ok-array-2.ensures.passes (stops_after c.in_err-array-9.field-0.0 _ _ c.in_ok-array-3.ensures.passes (stops_after c.in_err-array-9.field-0.0 _ _ c.in_ok-array-4.ensures.passes (stops_after c.in_err-array-9.field-0.0 _ _ c.in_ok-array-5.ensures.passes (stops_after c.in_err-array-9.field-0.0 _ _ (rw (same_either c.args.context.now.third 4096) at c.in_ok-array-6.ensures.passes) (stops_after c.in_err-array-9.field-0.0 _ _ c.in_ok-array-7.ensures.passes (stops_after c.in_err-array-9.field-0.0 _ _ c.in_ok-array-8.ensures.passes (stops_at c.in_err-array-9.field-0.0 _ _ c.in_err-array-9.ensures.err)))))))))
 
 pub returns-clause-passes : goal.returns-clause-passes
-returns-clause-passes c = passes _ _ c.in_ok-array.ensures.passes (passes _ _ c.in_ok-array-2.ensures.passes (passes _ _ c.in_ok-array-3.ensures.passes (passes _ _ c.in_ok-array-4.ensures.passes (passes _ _ c.in_ok-array-5.ensures.passes (passes _ _ c.in_ok-array-6.ensures.passes (passes _ _ c.in_ok-array-7.ensures.passes (passes _ _ c.in_ok-array-8.ensures.passes (passes _ _ c.in_ok-array-9.ensures.passes nothing))))))))
+returns-clause-passes c = passes _ _ c.in_ok-array.ensures.passes (passes _ _ c.in_ok-array-2.ensures.passes (passes _ _ c.in_ok-array-3.ensures.passes (passes _ _ c.in_ok-array-4.ensures.passes (passes _ _ c.in_ok-array-5.ensures.passes (passes _ _ (rw (same_either c.args.context.now.third 4096) at c.in_ok-array-6.ensures.passes) (passes _ _ c.in_ok-array-7.ensures.passes (passes _ _ c.in_ok-array-8.ensures.passes (passes _ _ c.in_ok-array-9.ensures.passes nothing))))))))
 
 pub returns-clause-is : goal.returns-clause-is
 unfolding plant_with
-returns-clause-is c = rw (c.requires.periods, c.in_ok-array.ensures.is, c.in_ok-array-2.ensures.is, c.in_ok-array-3.ensures.is, c.in_ok-array-4.ensures.is, c.in_ok-array-5.ensures.is, c.in_ok-array-6.ensures.is, c.in_ok-array-7.ensures.is, c.in_ok-array-8.ensures.is, c.in_ok-array-9.ensures.is) refl
+returns-clause-is c = rw (c.requires.large, c.requires.periods, c.in_ok-array.ensures.is, c.in_ok-array-2.ensures.is, c.in_ok-array-3.ensures.is, c.in_ok-array-4.ensures.is, c.in_ok-array-5.ensures.is, c.in_ok-array-6.ensures.is, c.in_ok-array-7.ensures.is, c.in_ok-array-8.ensures.is, c.in_ok-array-9.ensures.is) refl

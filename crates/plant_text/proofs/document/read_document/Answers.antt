@@ -12,10 +12,10 @@ pub plant_against-requires : goal.plant_against-requires
 unfolding scope_in
 plant_against-requires c =
     let same : c.in_ok-context.context.periods ≡ at_key count_of 0 (table_view c.args.document.now) (needed key.Periods) = ap (λ (scope : Scope). scope.periods) c.in_ok-context.ensures in
-    rw same (horizon_small (table_view c.args.document.now) c.is_second-second.result c.in_ok-periods.ensures.0)
+    rw same (horizon_small (table_view c.args.document.now) c.is_second-second.result c.is_third.result c.in_ok-periods.ensures.0)
 
 pub returns : goal.returns
 unfolding document_tests plant_in
 returns c =
-    rw (← c.is_second-second.ensures, ← c.in_ok-context.ensures)
+    rw (← c.is_second-second.ensures, ← c.is_third.ensures, ← c.in_ok-context.ensures)
     (gives_after c.plant_against.result _ _ _ c.in_ok-check_keys.ensures.ok (gives_after c.plant_against.result _ _ _ c.in_ok-periods.ensures.0 c.plant_against.ensures))

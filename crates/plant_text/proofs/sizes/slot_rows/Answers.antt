@@ -9,7 +9,7 @@ pub loop-number-preserved : goal.loop-number-preserved
 loop-number-preserved c =
     let runs = c.as_slice-run-items.result.now in
     let here : c.loop-number.number < length runs = omega arith in
-    let few : length runs ≤ 64 = rw c.as_slice-run-items.ensures c.requires.runs in
+    let few : length runs ≤ 256 = rw c.as_slice-run-items.ensures c.requires.runs in
     record {
       all = omega (arith, length-set c.loop-number.rows c.loop-number.number c.slot_row.result);
       each = row_more c.args.plant.now runs c.loop-number.rows c.loop-number.number (record { task = 0; unit = 0; min = 0; max = 0; cost = pos 0 }) c.slot_row.result here (omega arith) c.loop-number.invariant.each c.slot_row.ensures;
@@ -18,7 +18,7 @@ loop-number-preserved c =
 pub returns : goal.returns
 returns c =
     let same = c.as_slice-run-items.ensures in
-    let few : length c.args.plant.now.runs ≤ 64 = c.requires.runs in
+    let few : length c.args.plant.now.runs ≤ 256 = c.requires.runs in
     let rows = c.loop-number.rows in
     record {
       all = omega arith;

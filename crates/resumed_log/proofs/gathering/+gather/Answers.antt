@@ -23,7 +23,7 @@ pub gather_entered-gather_below-requires : goal.gather_entered-gather_below-requ
 gather_entered-gather_below-requires g t c =
     let log = c.args.walk.pair.log.now in
     let allowed : IsTrue (g.F.Shelf.may_read c.enter_node.new.files log) = subst (λ (may : List ℕ → Bool). IsTrue (may log)) (sym c.in_ok-node.ensures.frame.readable) c.requires.allowed in
-    let walking : GoesOnWalking (g.F.Shelf.files c.enter_node.new.files) log c.enter_node.new.reader c.args.walk.pair.rows.now c.args.gathered.now.going = record { reading = c.in_ok-node.ensures.reading; can = c.requires.walking.can } in
+    let walking : GoesOnWalking (g.F.Shelf.files c.enter_node.new.files) log c.enter_node.new.reader c.args.walk.pair.most c.args.walk.pair.rows.now c.args.gathered.now.going = record { reading = c.in_ok-node.ensures.reading; can = c.requires.walking.can } in
     let fits : Fits c.args.walk.pair.rows.now.program (seen c.enter_node.new.area) = c.in_ok-node.ensures.below.fits in
     search rules
 
@@ -52,7 +52,7 @@ pub gather_parts-gather_node-requires-2 : goal.gather_parts-gather_node-requires
 gather_parts-gather_node-requires-2 g t c =
     let log = c.args.walk.pair.log.now in
     let allowed : IsTrue (g.F.Shelf.may_read c.gather_node.new.files log) = subst (λ (may : List ℕ → Bool). IsTrue (may log)) (sym c.in_ok-gather_node.ensures.frame.readable) c.requires.allowed in
-    let walking : GoesOnWalking (g.F.Shelf.files c.gather_node.new.files) log c.gather_node.new.reader c.args.walk.pair.rows.now c.gather_node.new.gathered.going = c.in_ok-gather_node.ensures.walking in
+    let walking : GoesOnWalking (g.F.Shelf.files c.gather_node.new.files) log c.gather_node.new.reader c.args.walk.pair.most c.args.walk.pair.rows.now c.gather_node.new.gathered.going = c.in_ok-gather_node.ensures.walking in
     let fits : Fits c.args.walk.pair.rows.now.program (seen c.right.new.area) = c.right.ensures.fits in
     search rules
 

@@ -31,7 +31,7 @@ write_node-returns-clause-as_before g t c = below-back c.mark-mark.result c.mark
 pub write_entered-write_below-requires : goal.write_entered-write_below-requires
 write_entered-write_below-requires g t c =
     let beside : CanWriteBeside (g.F.Shelf.may_read c.enter_node.new.files) (g.F.Shelf.may_write c.enter_node.new.files) c.args.walk.pair.log.now (out_name c.args.course.now.out) = still-beside c.in_ok-node.ensures.frame.readable c.in_ok-node.ensures.frame.writable refl c.requires.beside in
-    let walking : GoesOnWalking (g.F.Shelf.files c.enter_node.new.files) c.args.walk.pair.log.now c.enter_node.new.reader c.args.walk.pair.rows.now c.args.course.now.going = record { reading = c.in_ok-node.ensures.reading; can = c.requires.walking.can } in
+    let walking : GoesOnWalking (g.F.Shelf.files c.enter_node.new.files) c.args.walk.pair.log.now c.enter_node.new.reader c.args.walk.pair.most c.args.walk.pair.rows.now c.args.course.now.going = record { reading = c.in_ok-node.ensures.reading; can = c.requires.walking.can } in
     let fits : Fits c.args.walk.pair.rows.now.program (seen c.enter_node.new.area) = c.in_ok-node.ensures.below.fits in
     search rules
 
@@ -86,7 +86,7 @@ write_below-write_end-requires g t c =
     let found = c.in_ok-put_found.ensures in
     let kept = both-then (c.is_searched.ensures.named ∙ head.named) (both-writes head.frame) (both-writes found.frame) in
     let beside : CanWriteBeside (g.F.Shelf.may_read c.put_found.new.files) (g.F.Shelf.may_write c.put_found.new.files) c.args.walk.pair.log.now (out_name c.put_found.new.out) = still-beside (found.frame.readable ∙ head.frame.readable) (found.frame.writable ∙ head.frame.writable) (found.named ∙ c.is_searched.ensures.named ∙ head.named) c.requires.beside in
-    let walking : GoesOnWalking (g.F.Shelf.files c.put_found.new.files) c.args.walk.pair.log.now c.args.reader.now c.args.walk.pair.rows.now c.is_searched.new.course.going = walks-on kept.others c.requires.beside.apart c.is_searched.ensures.can c.requires.walking in
+    let walking : GoesOnWalking (g.F.Shelf.files c.put_found.new.files) c.args.walk.pair.log.now c.args.reader.now c.args.walk.pair.most c.args.walk.pair.rows.now c.is_searched.new.course.going = walks-on kept.others c.requires.beside.apart c.is_searched.ensures.can c.requires.walking in
     let fits : Fits c.args.walk.pair.rows.now.program (seen c.args.area.now) = c.requires.fits in
     search rules
 
@@ -106,7 +106,7 @@ pub write_end-write_parts-requires : goal.write_end-write_parts-requires
 write_end-write_parts-requires g t c =
     let put = c.in_ok-put.ensures in
     let beside : CanWriteBeside (g.F.Shelf.may_read c.put.new.files) (g.F.Shelf.may_write c.put.new.files) c.args.walk.pair.log.now (out_name c.put.new.out) = still-beside put.frame.readable put.frame.writable put.named c.requires.beside in
-    let walking : GoesOnWalking (g.F.Shelf.files c.put.new.files) c.args.walk.pair.log.now c.args.reader.now c.args.walk.pair.rows.now c.args.course.now.going = walks-on put.frame.others c.requires.beside.apart c.requires.walking.can c.requires.walking in
+    let walking : GoesOnWalking (g.F.Shelf.files c.put.new.files) c.args.walk.pair.log.now c.args.reader.now c.args.walk.pair.most c.args.walk.pair.rows.now c.args.course.now.going = walks-on put.frame.others c.requires.beside.apart c.requires.walking.can c.requires.walking in
     let fits : Fits c.args.walk.pair.rows.now.program (seen c.trim.new.area) = c.trim.ensures.fits in
     search rules
 
@@ -117,7 +117,7 @@ pub write_end-returns-in-Split-clause-frame : goal.write_end-returns-in-Split-cl
 write_end-returns-in-Split-clause-frame g t c = both-then c.in_ok-put.ensures.named (both-writes c.in_ok-put.ensures.frame) c.write_parts.ensures.frame
 
 pub write_end-settle-requires-clause-can : goal.write_end-settle-requires-clause-can
-write_end-settle-requires-clause-can g t c = (c.args.walk.pair.rows.now, c.requires.walking.can)
+write_end-settle-requires-clause-can g t c = (c.args.walk.pair.most, (c.args.walk.pair.rows.now, c.requires.walking.can))
 
 pub write_end-settle-requires-clause-slots : goal.write_end-settle-requires-clause-slots
 write_end-settle-requires-clause-slots g t c =
@@ -125,7 +125,7 @@ write_end-settle-requires-clause-slots g t c =
 
 pub write_end-returns-in_ok-settle-in-Point-clause-walking : goal.write_end-returns-in_ok-settle-in-Point-clause-walking
 write_end-returns-in_ok-settle-in-Point-clause-walking g t c =
-    walks-on c.in_ok-put.ensures.frame.others c.requires.beside.apart (c.in_ok-settle-in-Point.ensures c.args.walk.pair.rows.now c.requires.walking.can) c.requires.walking
+    walks-on c.in_ok-put.ensures.frame.others c.requires.beside.apart (c.in_ok-settle-in-Point.ensures c.args.walk.pair.most c.args.walk.pair.rows.now c.requires.walking.can) c.requires.walking
 
 pub write_end-returns-in_err-settle-in-Point-clause-frame : goal.write_end-returns-in_err-settle-in-Point-clause-frame
 write_end-returns-in_err-settle-in-Point-clause-frame g t c = both-writes c.in_ok-put.ensures.frame
@@ -134,7 +134,7 @@ pub write_end-returns-in_default : goal.write_end-returns-in_default
 write_end-returns-in_default g t c =
     let program = c.args.walk.pair.rows.now.program in
     let views = map view_of c.args.area.now in
-    let walking : GoesOnWalking (g.F.Shelf.files c.put.new.files) c.args.walk.pair.log.now c.args.reader.now c.args.walk.pair.rows.now c.args.course.now.going =
+    let walking : GoesOnWalking (g.F.Shelf.files c.put.new.files) c.args.walk.pair.log.now c.args.reader.now c.args.walk.pair.most c.args.walk.pair.rows.now c.args.course.now.going =
     walks-on c.in_ok-put.ensures.frame.others c.requires.beside.apart c.requires.walking.can c.requires.walking in
     let below : StandsBelow program views views = below-same refl c.requires.fits in
     let frame : ReadsAndWritesOne g.F.Shelf (out_name c.args.course.now.out) c.args.files.now c.put.new.files = both-writes c.in_ok-put.ensures.frame in
@@ -158,7 +158,7 @@ pub write_parts-write_node-requires-2 : goal.write_parts-write_node-requires-2
 write_parts-write_node-requires-2 g t c =
     let first = c.in_ok-write_node.ensures in
     let beside : CanWriteBeside (g.F.Shelf.may_read c.write_node.new.files) (g.F.Shelf.may_write c.write_node.new.files) c.args.walk.pair.log.now (out_name c.write_node.new.course.out) = still-beside first.frame.readable first.frame.writable first.named c.requires.beside in
-    let walking : GoesOnWalking (g.F.Shelf.files c.write_node.new.files) c.args.walk.pair.log.now c.write_node.new.reader c.args.walk.pair.rows.now c.write_node.new.course.going = first.walking in
+    let walking : GoesOnWalking (g.F.Shelf.files c.write_node.new.files) c.args.walk.pair.log.now c.write_node.new.reader c.args.walk.pair.most c.args.walk.pair.rows.now c.write_node.new.course.going = first.walking in
     let fits : Fits c.args.walk.pair.rows.now.program (seen c.right.new.area) = c.right.ensures.fits in
     search rules
 

@@ -1,26 +1,32 @@
 -- What a search at an end has put, or has begun to put: all other files stay.
-use Rattle.std.proofs.Common.{[], inl, inr, sym, subst, true}
+use Rattle.std.proofs.Common.{◌≡◌, ℕ, [], inl, inr, sym, subst, true, false}
 use Rattle.proof_log.specs.Writer.{KeepsOthers, writing}
 use Rattle.row_relax.specs.declared.rows.Rows.{Rows}
 use Rattle.row_relax.specs.View.{Fits}
+use Rattle.branch_tree.specs.Deep.{is_deep}
 use Rattle.log_nodes.specs.laws.Seen.{seen}
 use Rattle.resumed_log.specs.laws.Beside.{kept-none}
 use Rattle.resumed_log.proofs.Puts.{stopped-took, wrote-one}
 use Rattle.resumed_log.proofs.writing.search_end.Goals as goal
 
 pub search-requires-clause-can : goal.search-requires-clause-can
-search-requires-clause-can g c = (c.args.pair.rows.now, c.make_room.ensures.can c.args.pair.rows.now c.requires.can)
+search-requires-clause-can g c = (c.args.pair.most, (c.args.pair.rows.now, c.make_room.ensures.can c.args.pair.most c.args.pair.rows.now c.requires.can))
 
 pub search-requires-clause-fits : goal.search-requires-clause-fits
 search-requires-clause-fits g c =
-    let can = c.make_room.ensures.can c.args.pair.rows.now c.requires.can in
+    let can = c.make_room.ensures.can c.args.pair.most c.args.pair.rows.now c.requires.can in
     subst (λ (rows : Rows). Fits rows.program (seen c.args.area.now)) (sym can.over) c.requires.fits
+
+pub search-requires-clause-deep : goal.search-requires-clause-deep
+search-requires-clause-deep g c =
+    let can = c.make_room.ensures.can c.args.pair.most c.args.pair.rows.now c.requires.can in
+    subst (λ (most : ℕ). is_deep most c.args.depth (seen c.args.area.now) ≡ false) (sym can.limited) c.requires.deep
 
 pub search-requires-clause-room : goal.search-requires-clause-room
 search-requires-clause-room g c = c.make_room.ensures.left c.requires.left
 
 pub returns-clause-can : goal.returns-clause-can
-returns-clause-can g c = c.in_ok-cap.ensures.can c.args.pair.rows.now (c.make_room.ensures.can c.args.pair.rows.now c.requires.can)
+returns-clause-can g c = c.in_ok-cap.ensures.can c.args.pair.most c.args.pair.rows.now (c.make_room.ensures.can c.args.pair.most c.args.pair.rows.now c.requires.can)
 
 pub returns-clause-named : goal.returns-clause-named
 returns-clause-named g c =

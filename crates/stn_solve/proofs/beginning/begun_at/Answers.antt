@@ -1,14 +1,15 @@
 -- A lawful point is followed by the values of the sums.
 use Rattle.std.proofs.Common.{List, sym, ap, ◌∙◌, subst}
-use Rattle.row_set.proofs.Limits.{part-rows, part-slots}
+use Rattle.row_set.proofs.Limits.{part-rows}
 use Rattle.sum_slots.specs.declared.sum.Sum.{Sum}
 use Rattle.sum_slots.specs.Larger.{completed}
 use Rattle.plan_told.specs.Claims.{HaveBytes}
 use Rattle.stn_solve.proofs.BegunTold.{begun-bytes}
+use Rattle.stn_solve.proofs.Searchable.{part-few}
 use Rattle.stn_solve.proofs.beginning.begun_at.Goals as goal
 
 pub with_head-requires-clause-few_slots : goal.with_head-requires-clause-few_slots
-with_head-requires-clause-few_slots g c = part-slots c.args.plant.now c.args.part c.requires.sound c.requires.part
+with_head-requires-clause-few_slots g c = part-few c.args.plant.now c.args.part c.requires.sound c.requires.part
 
 pub with_head-requires-clause-few_rows : goal.with_head-requires-clause-few_rows
 with_head-requires-clause-few_rows g c = part-rows c.args.plant.now c.args.part c.requires.sound c.requires.part

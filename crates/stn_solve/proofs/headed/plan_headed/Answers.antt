@@ -13,9 +13,6 @@ plan_over-requires-clause-images g c = headed-images c.args.plant.now c.args.par
 pub plan_over-requires-clause-splits : goal.plan_over-requires-clause-splits
 plan_over-requires-clause-splits g c = c.in_ok-headed.ensures.headed.few_splits
 
-pub plan_over-requires-clause-rows : goal.plan_over-requires-clause-rows
-plan_over-requires-clause-rows g c = c.in_ok-headed.ensures.headed.few_rows
-
 pub plan_over-requires-clause-told : goal.plan_over-requires-clause-told
 plan_over-requires-clause-told g c = can-be-told c.args.plant.now c.args.part c.args.judged c.in_ok-headed.field-0.headed c.in_ok-headed.field-0.least c.args.budget c.requires.sound c.requires.part c.requires.ranges c.in_ok-headed.ensures.headed c.in_ok-headed.ensures.least c.requires.budget.0 c.requires.many c.requires.budget.1
 

@@ -2,6 +2,7 @@
 use Rattle.std.proofs.Common.{true, ◌∙◌}
 use Rattle.std.proofs.lemmas.Result.{IfOk-weaker, on_err_weaker}
 use Rattle.stn_model.specs.declared.answer.Outcome.{Outcome}
+use Rattle.stn_model.specs.Points.{depth_limit}
 use Rattle.plan_told.specs.Proofs.{bytes_in}
 use Rattle.logged_search.specs.Logging.{LeavesBegun, stored}
 use Rattle.logged_search.proofs.LogsLeft.{headed-left, keeps-none}
@@ -15,9 +16,6 @@ solve_over-requires-clause-images g c = headed-images c.args.plant.now c.args.pa
 
 pub solve_over-requires-clause-splits : goal.solve_over-requires-clause-splits
 solve_over-requires-clause-splits g c = c.in_ok-headed.ensures.headed.few_splits
-
-pub solve_over-requires-clause-rows : goal.solve_over-requires-clause-rows
-solve_over-requires-clause-rows g c = c.in_ok-headed.ensures.headed.few_rows
 
 pub solve_over-requires-clause-told : goal.solve_over-requires-clause-told
 solve_over-requires-clause-told g c = can-be-told c.args.plant.now c.args.part c.args.judged c.in_ok-headed.field-0.headed c.in_ok-headed.field-0.least c.args.budget c.requires.sound c.requires.part c.requires.ranges c.in_ok-headed.ensures.headed c.in_ok-headed.ensures.least c.requires.budget.0 c.requires.many c.requires.budget.1
@@ -39,7 +37,7 @@ returns-clause-err g c = λ levels has.
     let headed = c.in_ok-headed.field-0.headed in
     let is = c.in_ok-headed.ensures.headed in
     on_err_weaker c.solve_over.result
-    (λ (left : LeavesBegun headed.rows true headed.head.items c.args.name.now (g.F.Shelf.files c.args.files.now) (g.F.Shelf.files c.solve_over.new.files)).
+    (λ (left : LeavesBegun (depth_limit c.args.plant.now) headed.rows true headed.head.items c.args.name.now (g.F.Shelf.files c.args.files.now) (g.F.Shelf.files c.solve_over.new.files)).
     headed-left c.args.plant.now c.args.part headed.rows c.args.judged levels headed.sums is.units is.derivations headed.head.items c.args.name.now is.can has is.head (g.F.Shelf.files c.args.files.now) (g.F.Shelf.files c.solve_over.new.files) left)
     c.solve_over.ensures.err
 

@@ -1,6 +1,7 @@
 -- What is told of a search is right, and its log is the text of the proof with the claim.
 use Rattle.std.proofs.Common.{ℕ, false, List, [], ◌∷◌, ◌++◌, ap, ◌∙◌, inr, flat_map}
 use Rattle.branch_tree.proofs.Stopping.{at_err}
+use Rattle.stn_model.specs.Points.{depth_limit}
 use Rattle.proof_tree.specs.Items.{tree_items}
 use Rattle.log_lines.specs.declared.line.Line.TheVariants.{End}
 use Rattle.proof_log.specs.Log.{claim_lines, item_lines, lines_text, log_text}
@@ -11,6 +12,7 @@ use Rattle.logged_search.specs.Logging.{stored}
 use Rattle.logged_search.proofs.LogsLeft.{kept-finished, keeps-none, logged-begun, logged-broke, logged-whole, plain-left, plain-text, plain-told, told-bytes}
 use Rattle.stn_solve.proofs.BegunTold.{told-earns, worth-plain}
 use Rattle.stn_solve.proofs.SearchTold.{plain-places, plain-right, plain-search}
+use Rattle.stn_solve.proofs.Limited.{left-at, logged-at}
 use Rattle.stn_solve.proofs.Searchable.{part-searchable}
 use Rattle.stn_solve.proofs.plain.solve_plain_to.Goals as goal
 
@@ -18,34 +20,31 @@ pub search_logged-requires-clause-images : goal.search_logged-requires-clause-im
 search_logged-requires-clause-images g c = plain-images c.args.rows.now c.requires.plain
 
 pub search_logged-requires-clause-splits : goal.search_logged-requires-clause-splits
-search_logged-requires-clause-splits g c = (part-searchable c.args.plant.now c.args.rows.now.program c.requires.sound c.requires.part).few_splits
-
-pub search_logged-requires-clause-rows : goal.search_logged-requires-clause-rows
-search_logged-requires-clause-rows g c = (part-searchable c.args.plant.now c.args.rows.now.program c.requires.sound c.requires.part).few_rows
+search_logged-requires-clause-splits g c = (part-searchable c.args.plant.now c.args.rows.now.program c.depth_limit.result c.depth_limit.ensures c.requires.sound c.requires.part).few_splits
 
 pub told_of-requires-clause-places : goal.told_of-requires-clause-places
 told_of-requires-clause-places g c =
     let logged = c.in_ok-ended.ensures.logged in
-    plain-places c.args.plant.now c.args.rows.now.program c.slot_count-given.result c.args.budget logged.tree c.in_ok-ended.field-0.ended c.requires.sound c.requires.part c.slot_count-given.ensures
-    (plain-search c.args.plant.now c.args.rows.now c.slot_count-given.result c.args.budget c.in_ok-ended.field-0.ended logged.tree c.requires.plain c.requires.part logged.is)
+    plain-places c.args.plant.now c.args.rows.now.program c.depth_limit.result c.slot_count-given.result c.args.budget logged.tree c.in_ok-ended.field-0.ended c.requires.sound c.requires.part c.depth_limit.ensures c.slot_count-given.ensures
+    (plain-search c.depth_limit.result c.args.plant.now c.args.rows.now c.slot_count-given.result c.args.budget c.in_ok-ended.field-0.ended logged.tree c.requires.plain c.requires.part logged.is)
 
 pub returns-in_err-ended-clause-err : goal.returns-in_err-ended-clause-err
-returns-in_err-ended-clause-err g c = λ judged levels none. at_err _ _ (plain-left c.args.plant.now c.args.rows.now judged levels _ c.args.name.now c.requires.plain none (c.as_slice.ensures.value ∙ c.in_ok-head.ensures) _ _ c.in_err-ended.ensures.err)
+returns-in_err-ended-clause-err g c = λ judged levels none. at_err _ _ (plain-left c.args.plant.now c.args.rows.now judged levels _ c.args.name.now c.requires.plain none (c.as_slice.ensures.value ∙ c.in_ok-head.ensures) _ _ (left-at c.depth_limit.result (depth_limit c.args.plant.now) c.args.rows.now false _ c.args.name.now _ _ c.depth_limit.ensures c.in_err-ended.ensures.err))
 
 pub returns-in_err-told-clause-err : goal.returns-in_err-told-clause-err
 returns-in_err-told-clause-err g c = λ judged levels none.
-    at_err _ _ (inr (plain-told c.args.plant.now c.args.rows.now judged levels _ c.args.name.now c.requires.plain none (c.as_slice.ensures.value ∙ c.in_ok-head.ensures) _ (logged-begun c.args.rows.now false _ c.args.name.now _ c.in_ok-ended.ensures.logged)))
+    at_err _ _ (inr (plain-told c.args.plant.now c.args.rows.now judged levels _ c.args.name.now c.requires.plain none (c.as_slice.ensures.value ∙ c.in_ok-head.ensures) _ (logged-begun (depth_limit c.args.plant.now) c.args.rows.now false _ c.args.name.now _ (logged-at c.depth_limit.result (depth_limit c.args.plant.now) c.args.rows.now false c.slot_count-given.result c.args.budget c.in_ok-ended.field-0.ended _ c.args.name.now _ c.depth_limit.ensures c.in_ok-ended.ensures.logged))))
 
 pub returns-in_err-finish-clause-err : goal.returns-in_err-finish-clause-err
 returns-in_err-finish-clause-err g c = λ judged levels none.
     at_err _ _ (inr (plain-told c.args.plant.now c.args.rows.now judged levels _ c.args.name.now c.requires.plain none (c.as_slice.ensures.value ∙ c.in_ok-head.ensures) _
-    (logged-broke c.args.rows.now false _ c.args.name.now _ _ c.in_ok-told.told.claim c.in_ok-ended.ensures.logged c.in_err-finish.ensures.broke)))
+    (logged-broke (depth_limit c.args.plant.now) c.args.rows.now false _ c.args.name.now _ _ c.in_ok-told.told.claim (logged-at c.depth_limit.result (depth_limit c.args.plant.now) c.args.rows.now false c.slot_count-given.result c.args.budget c.in_ok-ended.field-0.ended _ c.args.name.now _ c.depth_limit.ensures c.in_ok-ended.ensures.logged) c.in_err-finish.ensures.broke)))
 
 pub returns-clause-outcome : goal.returns-clause-outcome
 returns-clause-outcome g c =
     let logged = c.in_ok-ended.ensures.logged in
-    (plain-right c.args.plant.now c.args.rows.now.program c.slot_count-given.result c.args.budget logged.tree c.in_ok-ended.field-0.ended c.requires.sound c.requires.part c.slot_count-given.ensures
-    (plain-search c.args.plant.now c.args.rows.now c.slot_count-given.result c.args.budget c.in_ok-ended.field-0.ended logged.tree c.requires.plain c.requires.part logged.is) c.in_ok-told.told c.in_ok-told.ensures).outcome
+    (plain-right c.args.plant.now c.args.rows.now.program c.depth_limit.result c.slot_count-given.result c.args.budget logged.tree c.in_ok-ended.field-0.ended c.requires.sound c.requires.part c.depth_limit.ensures c.slot_count-given.ensures
+    (plain-search c.depth_limit.result c.args.plant.now c.args.rows.now c.slot_count-given.result c.args.budget c.in_ok-ended.field-0.ended logged.tree c.requires.plain c.requires.part logged.is) c.in_ok-told.told c.in_ok-told.ensures).outcome
 
 pub returns-clause-proof : goal.returns-clause-proof
 returns-clause-proof g c = λ judged levels none.
@@ -54,9 +53,9 @@ returns-clause-proof g c = λ judged levels none.
     let items = tree_items logged.tree in
     let told = c.in_ok-told.told in
     let at = writing g.F.Shelf.files g.F.Shelf.read_faults g.F.Shelf.may_read g.F.Shelf.may_write c.in_ok-ended.field-0.writer c.search_logged.new.files in
-    let right = plain-right c.args.plant.now part c.slot_count-given.result c.args.budget logged.tree c.in_ok-ended.field-0.ended c.requires.sound c.requires.part c.slot_count-given.ensures
-    (plain-search c.args.plant.now c.args.rows.now c.slot_count-given.result c.args.budget c.in_ok-ended.field-0.ended logged.tree c.requires.plain c.requires.part logged.is) told c.in_ok-told.ensures in
-    let whole = logged-whole c.args.rows.now false _ c.args.name.now at logged in
+    let right = plain-right c.args.plant.now part c.depth_limit.result c.slot_count-given.result c.args.budget logged.tree c.in_ok-ended.field-0.ended c.requires.sound c.requires.part c.depth_limit.ensures c.slot_count-given.ensures
+    (plain-search c.depth_limit.result c.args.plant.now c.args.rows.now c.slot_count-given.result c.args.budget c.in_ok-ended.field-0.ended logged.tree c.requires.plain c.requires.part logged.is) told c.in_ok-told.ensures in
+    let whole = logged-whole c.depth_limit.result c.args.rows.now false _ c.args.name.now at logged in
     plain-has c.args.plant.now part judged levels _ told.outcome logged.tree none right.proof
     (told-bytes c.args.name.now at.name (g.F.Shelf.files c.finish.new.files) _ _ logged.named (ap (λ (head : List ℕ). head ++ lines_text (flat_map item_lines items ++ (claim_lines told.claim ++ End ∷ []))) (c.as_slice.ensures.value ∙ c.in_ok-head.ensures) ∙ plain-text items told.claim ∙ ap (log_text 2 items) right.claim) (c.in_ok-finish.ensures.file _ items whole))
 

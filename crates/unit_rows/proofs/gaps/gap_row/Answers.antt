@@ -8,7 +8,7 @@ use Rattle.unit_rows.proofs.gaps.gap_row.Goals as goal
 
 pub entries_of-requires : goal.entries_of-requires
 entries_of-requires c =
-    let few : length c.in_ok-parts.parts.items ≤ 512 = few_parts c.args.plant.now (gap_part c.args.plant.now c.args.first c.args.second) c.in_ok-parts.parts.items c.requires.sound c.in_ok-parts.ensures in
+    let few : length c.in_ok-parts.parts.items ≤ 4096 = few_parts c.args.plant.now (gap_part c.args.plant.now c.args.first c.args.second) c.in_ok-parts.parts.items c.requires.sound c.in_ok-parts.ensures in
     omega (arith, few, ap length c.deref.ensures.value)
 
 pub returns : goal.returns

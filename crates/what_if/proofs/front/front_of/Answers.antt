@@ -12,5 +12,5 @@ returns-in-Ok-clause-front c =
     let name : List ℕ = codes "log" in
     let put = ap (λ (s : FixedFiles). file_of s.files name) c.in_ok-put_file.ensures.ok in
     let is : file_of c.put_file.new.self.files name ≡ c.args.bytes.now = put ∙ file_of-insert c.new-shelf.result.files name c.args.bytes.now in
-    let front = subst (λ bytes. IsFront c.limits_with-limits.result bytes c.in-Ok.front) is c.in-Ok.ensures.front in
-    subst (λ (limits : Limits). IsFront limits c.args.bytes.now c.in-Ok.front) c.limits_with-limits.ensures front
+    let front = subst (λ bytes. IsFront c.plant_limits-limits.result bytes c.in-Ok.front) is c.in-Ok.ensures.front in
+    subst (λ (limits : Limits). IsFront limits c.args.bytes.now c.in-Ok.front) c.plant_limits-limits.ensures front

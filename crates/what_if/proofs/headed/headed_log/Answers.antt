@@ -1,5 +1,6 @@
 -- What stands behind the sums gives the defect, or the log behind it is looked at.
 use Rattle.std.proofs.Common.{◌≡◌, ◌+◌, ◌∙◌, length, ap, arith, subst, sym}
+use Rattle.stn_model.specs.Points.{depth_limit}
 use Rattle.log_lines.specs.declared.grammar.Limits.{Limits}
 use Rattle.setup_lines.specs.declared.setups.SetupFront.TheVariants as setting
 use Rattle.setup_lines.specs.declared.setups.Setups.{Setups}
@@ -15,13 +16,13 @@ pub set_up_log-requires-clause-held : goal.set_up_log-requires-clause-held
 set_up_log-requires-clause-held c =
     let setups = c.in-Whole.setups in
     let sizes = setup_sizes c.args.plant.now in
-    let held = subst (AreSetupsHeld c.limits_with-limits.result sizes c.args.head) c.in-Whole.is c.in_ok-setups.ensures.held in
-    held_of c.args.plant.now c.args.program 4608 c.args.head setups c.requires.kept (subst (λ (limits : Limits). IsSetupsHeld limits sizes c.args.head setups) (c.limits_with-limits.ensures ∙ ap (limits_with c.args.program 4608) c.len.ensures) held)
+    let held = subst (AreSetupsHeld c.plant_limits-limits.result sizes c.args.head) c.in-Whole.is c.in_ok-setups.ensures.held in
+    held_of c.args.plant.now c.args.program (depth_limit c.args.plant.now) c.args.head setups c.requires.kept (subst (λ (limits : Limits). IsSetupsHeld limits sizes c.args.head setups) (c.plant_limits-limits.ensures ∙ ap (limits_with c.args.program (depth_limit c.args.plant.now)) c.len.ensures) held)
 
 pub set_up_log-requires-clause-some : goal.set_up_log-requires-clause-some
 set_up_log-requires-clause-some c =
     let setups = c.in-Whole.setups in
-    let held = subst (AreSetupsHeld c.limits_with-limits.result (setup_sizes c.args.plant.now) c.args.head) c.in-Whole.is c.in_ok-setups.ensures.held in
+    let held = subst (AreSetupsHeld c.plant_limits-limits.result (setup_sizes c.args.plant.now) c.args.head) c.in-Whole.is c.in_ok-setups.ensures.held in
     let own : setups.head.bytes ≡ c.args.head.bytes + length (setups_text setups.units) = ap (λ (s : Setups). s.head.bytes) held.kept.is in
     omega (arith, own, c.requires.kept.bytes_least)
 
@@ -29,25 +30,25 @@ pub set_up_log-requires-clause-within : goal.set_up_log-requires-clause-within
 set_up_log-requires-clause-within c =
     let setups = c.in-Whole.setups in
     let sizes = setup_sizes c.args.plant.now in
-    let stands = subst (AreSetups c.limits_with-limits.result sizes c.args.head c.args.bytes.now) c.in-Whole.is c.in_ok-setups.ensures.stands in
-    setups_within c.limits_with-limits.result sizes c.args.head c.args.bytes.now setups stands (head_within c.args.program c.args.bytes.now c.args.head c.requires.stands)
+    let stands = subst (AreSetups c.plant_limits-limits.result sizes c.args.head c.args.bytes.now) c.in-Whole.is c.in_ok-setups.ensures.stands in
+    setups_within c.plant_limits-limits.result sizes c.args.head c.args.bytes.now setups stands (head_within c.args.program (depth_limit c.args.plant.now) c.args.bytes.now c.args.head c.requires.stands)
 
 pub returns-in-Whole-clause-log : goal.returns-in-Whole-clause-log
 returns-in-Whole-clause-log c =
     let setups = c.in-Whole.setups in
     let sizes = setup_sizes c.args.plant.now in
-    let stands = subst (AreSetups c.limits_with-limits.result sizes c.args.head c.args.bytes.now) c.in-Whole.is c.in_ok-setups.ensures.stands in
+    let stands = subst (AreSetups c.plant_limits-limits.result sizes c.args.head c.args.bytes.now) c.in-Whole.is c.in_ok-setups.ensures.stands in
     headed_valid_if c.args.plant.now c.args.program c.args.ranges.now c.args.bytes.now c.args.head setups c.set_up_log.result c.requires.stands c.requires.kept
-    (subst (λ (limits : Limits). AreSetups limits sizes c.args.head c.args.bytes.now (setting.Whole setups)) (c.limits_with-limits.ensures ∙ ap (limits_with c.args.program 4608) c.len.ensures) stands) c.set_up_log.ensures.log
+    (subst (λ (limits : Limits). AreSetups limits sizes c.args.head c.args.bytes.now (setting.Whole setups)) (c.plant_limits-limits.ensures ∙ ap (limits_with c.args.program (depth_limit c.args.plant.now)) c.len.ensures) stands) c.set_up_log.ensures.log
 
 pub returns-in-Whole-clause-defect : goal.returns-in-Whole-clause-defect
 returns-in-Whole-clause-defect c defect is =
     let setups = c.in-Whole.setups in
     let sizes = setup_sizes c.args.plant.now in
-    let stands = subst (AreSetups c.limits_with-limits.result sizes c.args.head c.args.bytes.now) c.in-Whole.is c.in_ok-setups.ensures.stands in
+    let stands = subst (AreSetups c.plant_limits-limits.result sizes c.args.head c.args.bytes.now) c.in-Whole.is c.in_ok-setups.ensures.stands in
     record {
       setups = setting.Whole setups;
-      set_up = subst (λ (limits : Limits). AreSetups limits sizes c.args.head c.args.bytes.now (setting.Whole setups)) (c.limits_with-limits.ensures ∙ ap (limits_with c.args.program 4608) c.len.ensures) stands;
+      set_up = subst (λ (limits : Limits). AreSetups limits sizes c.args.head c.args.bytes.now (setting.Whole setups)) (c.plant_limits-limits.ensures ∙ ap (limits_with c.args.program (depth_limit c.args.plant.now)) c.len.ensures) stands;
       right = c.set_up_log.ensures.defect defect is;
     }
 
@@ -55,9 +56,9 @@ pub returns-in-Bad-clause-defect : goal.returns-in-Bad-clause-defect
 returns-in-Bad-clause-defect c defect is =
     let sizes = setup_sizes c.args.plant.now in
     let own : c.in-Bad.defect ≡ defect = cc in
-    let stands = subst (AreSetups c.limits_with-limits.result sizes c.args.head c.args.bytes.now) c.in-Bad.is c.in_ok-setups.ensures.stands in
+    let stands = subst (AreSetups c.plant_limits-limits.result sizes c.args.head c.args.bytes.now) c.in-Bad.is c.in_ok-setups.ensures.stands in
     record {
       setups = setting.Bad c.in-Bad.defect;
-      set_up = subst (λ (limits : Limits). AreSetups limits sizes c.args.head c.args.bytes.now (setting.Bad c.in-Bad.defect)) (c.limits_with-limits.ensures ∙ ap (limits_with c.args.program 4608) c.len.ensures) stands;
+      set_up = subst (λ (limits : Limits). AreSetups limits sizes c.args.head c.args.bytes.now (setting.Bad c.in-Bad.defect)) (c.plant_limits-limits.ensures ∙ ap (limits_with c.args.program (depth_limit c.args.plant.now)) c.len.ensures) stands;
       right = ap No (sym own);
     }

@@ -1,5 +1,6 @@
 -- What is found over the plant's program is so of the plant.
 use Rattle.std.proofs.Common.{List, Err, sym, ap, ◌∙◌, subst}
+use Rattle.stn_model.specs.Points.{depth_limit}
 use Rattle.row_kit.specs.declared.domain.Domain.{Domain}
 use Rattle.sum_slots.specs.Shown.{AreRanges}
 use Rattle.sum_slots.proofs.Ranges.{own-ranges}
@@ -24,5 +25,5 @@ returns-in-Ok c =
 pub returns-in-Err-Defect : goal.returns-in-Err-Defect
 returns-in-Err-Defect c =
     defective_for c.args.plant.now c.in_ok-program.program c.args.bytes.now c.in-Err-Defect.defect c.requires c.in_ok-program.ensures.made c.in_ok-program.ensures.means
-    (subst (λ (ranges : List Domain). IsAnyVerdict c.args.plant.now c.in_ok-program.program ranges ranges 4608 c.args.bytes.now (No c.in-Err-Defect.defect)) (c.as_slice.ensures ∙ c.in_ok-ranges.ensures)
+    (subst (λ (ranges : List Domain). IsAnyVerdict c.args.plant.now c.in_ok-program.program ranges ranges (depth_limit c.args.plant.now) c.args.bytes.now (No c.in-Err-Defect.defect)) (c.as_slice.ensures ∙ c.in_ok-ranges.ensures)
     (c.in-Err-Defect.ensures.defect c.in-Err-Defect.defect (ap Err c.in-Err-Defect.field-0-is)))

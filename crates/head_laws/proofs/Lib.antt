@@ -1,0 +1,9 @@
+pub mod Parts
+pub mod Words
+pub mod HeadLinesSaid
+pub mod HeadDefects
+pub mod HeadFound
+pub mod SetupDefects
+pub mod TailLinesSaid
+pub mod TailDefects
+pub mod TailFound

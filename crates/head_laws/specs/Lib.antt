@@ -1,0 +1,5 @@
+pub mod HeadLines
+pub mod HeadDefects
+pub mod SetupDefects
+pub mod TailLines
+pub mod TailDefects
